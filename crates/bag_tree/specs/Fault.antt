@@ -1,0 +1,20 @@
+-- The numbers of the faults of trees, and when a call refuses for one.
+use Rattle.std.specs.Prelude.{◌≡◌, ℕ, Option, Some, None, Result, Ok, Err}
+use Rattle.bag_tree.specs.declared.fault.TreeFault.{TreeFault}
+use Rattle.bag_tree.specs.declared.fault.TreeFault.TheVariants.{Listing, NotAFile, TooDeep, TooMany, TextTooLong, Device, Memory, BadPath}
+
+abbrev pub number_of : TreeFault → ℕ
+number_of Listing = 1
+number_of NotAFile = 2
+number_of TooDeep = 3
+number_of TooMany = 4
+number_of TextTooLong = 5
+number_of Device = 6
+number_of Memory = 7
+number_of BadPath = 8
+
+-- a call that finds this fault answers it, and one that finds none succeeds or finds no memory
+abbrev pub RefusesFor : {T : Type 0} → Option TreeFault → Result T TreeFault → Type 0
+RefusesFor found (Ok done) = found ≡ None
+RefusesFor found (Err Memory) = found ≡ None
+RefusesFor found (Err fault) = found ≡ Some fault

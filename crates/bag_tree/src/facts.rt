@@ -1,0 +1,120 @@
+ghost use Rattle.std.specs.Prelude.{◌≡◌, ℕ, List, IfOk, Option};
+ghost use Rattle.std.specs.Option.{option_copied};
+
+use crate::digests::Digests;
+use crate::path::is_read_text;
+use crate::tree::{Tree, TreeFile};
+use std::alloc::{AllocError, Global};
+use std::marker::Model;
+
+/// What a checker is told of one file: its path, its digests, and its bytes where it is one of the
+/// texts that describe a bag.
+#[derive(Drop)]
+pub struct FileFacts {
+    path: String,
+    digests: Digests,
+    text: Option<Vec<u8>>,
+}
+
+impl Model for FileFacts {
+    ghost use Rattle.std.specs.Prelude.{string_bytes};
+    ghost use Rattle.std.specs.Option.{option_map};
+    ghost use Rattle.bag_tree.specs.Facts.{FileFact};
+
+    ghost Value = { FileFact };
+
+    ghost view = { λ f. record { path = string_bytes f.path; digests = f.digests; text = option_map (λ t. t.items) f.text } };
+}
+
+impl FileFacts {
+    ghost use Rattle.bag_tree.specs.Facts.{fact_of_file};
+
+    /// The facts of one file of a tree.
+    fn of(alloc: Global, file: &TreeFile) -> Result<FileFacts, AllocError>
+        ensures { IfOk result (λ facts. facts ≡ fact_of_file file.now) }
+    {
+        let path = String::from_str(alloc, file.path())?;
+        let digests = Digests::of(file.bytes());
+        let text = if is_read_text(file.path().as_bytes()) {
+            Some(Vec::from_slice(alloc, file.bytes())?)
+        } else {
+            None
+        };
+        Ok(FileFacts {
+            path,
+            digests,
+            text,
+        })
+    }
+
+    /// The path, relative to the tree's own folder.
+    pub fn path(&self) -> &str
+        ensures { result.now ≡ self.now.path }
+    {
+        self.path.as_str()
+    }
+
+    /// The digests of the file's bytes.
+    pub fn digests(&self) -> &Digests
+        ensures { result.now ≡ self.now.digests }
+    {
+        &self.digests
+    }
+
+    /// The file's bytes, where it is one of the texts that describe a bag.
+    pub fn text(&self) -> Option<&[u8]>
+        ensures { option_copied result ≡ self.now.text }
+    {
+        match &self.text {
+            None => None,
+            Some(text) => Some(text.as_slice()),
+        }
+    }
+}
+
+/// What a checker is told of a tree: the facts of each file, and whether the payload's folder stands.
+#[derive(Drop)]
+pub struct Facts {
+    files: Vec<FileFacts>,
+    payload: bool,
+}
+
+impl Model for Facts {
+    ghost use Rattle.bag_tree.specs.Facts.{TreeFacts};
+
+    ghost Value = { TreeFacts };
+
+    ghost view = { λ f. record { files = f.files.items; payload = f.payload } };
+}
+
+impl Facts {
+    /// The facts of each file, in the tree's order.
+    pub fn files(&self) -> &[FileFacts]
+        ensures { result.now ≡ self.now.files }
+    {
+        self.files.as_slice()
+    }
+
+    /// Whether the payload's folder `data` stands.
+    pub fn payload_stands(&self) -> bool
+        ensures { result ≡ self.now.payload }
+    {
+        self.payload
+    }
+}
+
+ghost use Rattle.bag_tree.specs.Facts.{facts_of_tree};
+
+/// What a checker is told of this tree. The one refusal is want of memory.
+pub fn facts_of(alloc: Global, tree: &Tree) -> Result<Facts, AllocError>
+    ensures { IfOk result (λ facts. facts ≡ facts_of_tree tree.now) }
+{
+    let mut files = Vec::new(alloc);
+    for file in tree.files() {
+        files.push(FileFacts::of(alloc, file)?)?;
+    }
+    Ok(Facts {
+        files,
+        payload: tree.payload_stands(),
+    })
+}

@@ -1,0 +1,54 @@
+ghost use Rattle.std.specs.Prelude.{◌≡◌, length};
+ghost use Rattle.bag_tree.specs.Path.{parts_of, is_unsafe_part, is_unsafe, is_below, is_text_named, is_read_text};
+
+/// A path has at most so many parts.
+pub const DEEPEST_PATH: usize = 32;
+
+/// Whether a path has a part that names no entry of its own folder: an empty one, `.` or `..`.
+/// A path that begins or ends with a slash has an empty part, and so has the path of no bytes.
+pub fn has_unsafe_part(path: &[u8]) -> bool
+    ensures { result ≡ is_unsafe path.now }
+{
+    path.split(|b| *b == b'/').any(|part| is_special(part))
+}
+
+/// Whether a path of the tree is one of the texts that describe a bag and are read whole:
+/// `bagit.txt`, and `manifest-X.txt` and `tagmanifest-X.txt` for any X, at the tree's own level.
+pub fn is_read_text(path: &[u8]) -> bool
+    ensures { result ≡ is_read_text path.now }
+{
+    part_count(path) == 1
+        && (path == b"bagit.txt".as_slice()
+            || is_text_named(b"manifest-", path)
+            || is_text_named(b"tagmanifest-", path))
+}
+
+fn is_text_named(front: &[u8], path: &[u8]) -> bool
+    ensures { result ≡ is_text_named front.now path.now }
+{
+    path.starts_with(front) && path.ends_with(b".txt")
+}
+
+fn is_special(part: &[u8]) -> bool
+    ensures { result ≡ is_unsafe_part part.now }
+{
+    matches!(part, [] | [b'.'] | [b'.', b'.'])
+}
+
+/// How many parts a path has.
+pub(crate) fn part_count(path: &[u8]) -> usize
+    ensures { result ≡ length (parts_of path.now) }
+{
+    path.split(|b| *b == b'/').count()
+}
+
+/// Whether a path lies below a folder.
+#[tactic(auto, using(crate::proofs::Below::is_below_split, std::proofs::lemmas::Bool::Decides::nat_tests))]
+pub(crate) fn lies_below(folder: &[u8], path: &[u8]) -> bool
+    ensures { result ≡ is_below folder.now path.now }
+{
+    if path.len() <= folder.len() || !path.starts_with(folder) {
+        return false;
+    }
+    path[folder.len()] == b'/'
+}
