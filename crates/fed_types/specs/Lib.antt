@@ -1,0 +1,9 @@
+pub mod Ballots
+pub mod Faults
+pub mod Laws
+pub mod Lists
+pub mod Quorums
+pub mod Sites
+pub mod Slots
+pub mod Voters
+pub mod Words

@@ -1,1 +1,26 @@
+//! The words that the sites of a federation share: who they are, how their ballots are ordered,
+//! what a slot is, and which sets of sites are quorums.
 #![tactic(auto)]
+
+mod bag_id;
+mod ballot;
+mod limits;
+mod members;
+mod quorums;
+mod site_no;
+mod slot;
+mod type_fault;
+mod voters;
+
+pub use bag_id::BagId;
+pub use ballot::Ballot;
+pub use limits::{GREATEST_SITE, LONGEST_OBJECT, MOST_MEMBERS};
+pub use members::Members;
+pub use quorums::Quorums;
+pub use site_no::SiteNo;
+pub use slot::Slot;
+pub use type_fault::TypeFault;
+pub use voters::Voters;
+
+#[cfg(test)]
+mod tests;

@@ -1,0 +1,20 @@
+-- Slots: an object's name and a version.
+use Rattle.std.specs.Prelude.{ℕ, ◌≤◌, List, length, Bool, ◌==◌, ◌&&◌, bytes_eq}
+use Rattle.fed_types.specs.declared.limits.TheConstants.{LONGEST_OBJECT}
+
+-- a slot by the bytes of its object's name, and its version
+pub record SlotName : Type 0 where
+  pub object : List ℕ
+  pub version : ℕ
+
+-- a name has at least one byte, and no more than the most
+abbrev pub IsObjectName : List ℕ → Type 0
+IsObjectName bytes = (1 ≤ length bytes) × (length bytes ≤ LONGEST_OBJECT)
+
+-- what is true of every slot
+abbrev pub IsSlotName : SlotName → Type 0
+IsSlotName s = IsObjectName s.object × (1 ≤ s.version)
+
+-- whether two slots are one: the same version of the same object
+unfoldable pub same_slot : SlotName → SlotName → Bool
+same_slot a b = (a.version == b.version) && bytes_eq a.object b.object

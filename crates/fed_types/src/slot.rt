@@ -1,0 +1,100 @@
+ghost use Rattle.std.specs.Prelude.{◌≡◌, ◌≤◌, ◌↔◌, ◌++◌, length, string_bytes, IsOk, IfOk, IsErrOf};
+ghost use Rattle.std.specs.Hash as fed;
+ghost use Rattle.fed_types.specs.Slots.{IsObjectName, same_slot};
+ghost use Rattle.fed_types.specs.Laws.Slots.{same_slot_laws, same_slot_equivalence, same_slot_hash};
+
+use crate::limits::LONGEST_OBJECT;
+use crate::type_fault::TypeFault;
+use std::alloc::{AllocError, Global};
+use std::hash::{Hash, Hasher};
+use std::marker::Model;
+
+/// A slot: an object's name, 1 to `LONGEST_OBJECT` bytes, and a version, at least 1. A clause sees
+/// a `SlotName`.
+#[derive(Debug, Drop)]
+pub struct Slot {
+    object: String,
+    version: u32,
+}
+
+impl Model for Slot {
+    ghost use Rattle.std.specs.Prelude.{string_bytes};
+    ghost use Rattle.fed_types.specs.Slots.{SlotName, IsSlotName};
+
+    ghost Value = { SlotName };
+
+    ghost view = { λ s. record { object = string_bytes s.object; version = s.version } };
+
+    ghost invariant = { λ s. IsSlotName (record { object = string_bytes s.object; version = s.version }) };
+}
+
+impl Slot {
+    /// The slot of this object and version. `BadObject` where the name has not 1 to
+    /// `LONGEST_OBJECT` bytes, else `ZeroVersion` where the version is 0.
+    pub fn new(object: String, version: u32) -> Result<Slot, TypeFault>
+        ensures ok { IsOk result ↔ (IsObjectName (string_bytes object) × (1 ≤ version)) }
+        ensures value { IfOk result (λ s. s ≡ record { object = string_bytes object; version = version }) }
+        ensures bad_object { IsErrOf result TypeFault.BadObject ↔ ¬ IsObjectName (string_bytes object) }
+        ensures zero_version { IsErrOf result TypeFault.ZeroVersion ↔ (IsObjectName (string_bytes object) × (version ≡ 0)) }
+    {
+        if object.is_empty() || LONGEST_OBJECT < object.len() {
+            return Err(TypeFault::BadObject);
+        }
+        if version == 0 {
+            return Err(TypeFault::ZeroVersion);
+        }
+        Ok(Slot { object, version })
+    }
+
+    /// The object's name, 1 to `LONGEST_OBJECT` bytes.
+    pub fn object(&self) -> &str
+        ensures value { result.now ≡ self.now.object }
+        ensures in_range { IsObjectName result.now }
+    {
+        self.object.as_str()
+    }
+
+    /// The version, at least 1.
+    pub fn version(&self) -> u32
+        ensures value { result ≡ self.now.version }
+        ensures in_range { 1 ≤ result }
+    {
+        self.version
+    }
+
+    /// The same slot once more.
+    pub fn copy(&self, alloc: Global) -> Result<Slot, AllocError>
+        ensures { IfOk result (λ s. s ≡ self.now) }
+    {
+        Ok(Slot {
+            object: String::from_str(alloc, self.object.as_str())?,
+            version: self.version,
+        })
+    }
+}
+
+impl PartialEq for Slot {
+    ghost eq = { same_slot };
+
+    ghost laws = { same_slot_laws };
+
+    #[tactic(auto, unfolding(crate::specs::Slots::same_slot))]
+    fn eq(&self, other: &Slot) -> bool {
+        self.version == other.version && self.object == other.object
+    }
+}
+
+impl Eq for Slot {
+    ghost laws = { same_slot_equivalence };
+}
+
+impl Hash for Slot {
+    ghost hash_input = { λ s. fed.str s.object ++ fed.u32 s.version };
+
+    ghost respects_eq = { same_slot_hash };
+
+    fn hash<H: Hasher>(&self, state: &mut H) {
+        self.object.hash(state);
+        self.version.hash(state);
+    }
+}

@@ -1,0 +1,36 @@
+ghost use Rattle.std.specs.Prelude.{◌≡◌};
+
+use crate::limits::{GREATEST_SITE, LONGEST_OBJECT, MOST_MEMBERS};
+use thiserror::Error;
+
+/// Why a number or a name is out of range.
+#[derive(Clone, Copy, Debug, PartialEq, Eq, Error)]
+pub enum TypeFault {
+    #[error("a federation has 1 to {most} members", most = MOST_MEMBERS)]
+    BadCount,
+    #[error("a site number is 1 to {greatest}", greatest = GREATEST_SITE)]
+    BadSite,
+    #[error("an object's name has 1 to {longest} bytes", longest = LONGEST_OBJECT)]
+    BadObject,
+    #[error("a version is at least 1")]
+    ZeroVersion,
+    #[error("a round is at least 1")]
+    ZeroRound,
+}
+
+impl TypeFault {
+    ghost use Rattle.fed_types.specs.Faults.{fault_number};
+
+    /// The number by which the fault is told, 1 to 5.
+    pub fn number(self) -> u8
+        ensures { result ≡ fault_number self }
+    {
+        match self {
+            TypeFault::BadCount => 1,
+            TypeFault::BadSite => 2,
+            TypeFault::BadObject => 3,
+            TypeFault::ZeroVersion => 4,
+            TypeFault::ZeroRound => 5,
+        }
+    }
+}

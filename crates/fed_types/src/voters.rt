@@ -1,0 +1,79 @@
+ghost use Rattle.std.specs.Prelude.{◌≡◌, ◌<◌, ◌||◌, ◌==◌, ℕ, [], IsTrue};
+ghost use Rattle.fed_types.specs.Lists.{is_in};
+ghost use Rattle.fed_types.specs.Voters.{with_voter};
+ghost use Rattle.fed_types.specs.Quorums.{majority};
+
+use crate::members::Members;
+use crate::site_no::SiteNo;
+use std::marker::Model;
+
+/// A set of sites. A clause sees the ascending list of their numbers.
+#[derive(Clone, Copy, Debug)]
+pub struct Voters {
+    // Bit n is 1 exactly where site n is in the set.
+    word: u64,
+}
+
+impl Model for Voters {
+    ghost use Rattle.std.specs.Prelude.{ℕ, List, ◌<◌, ◌^◌};
+    ghost use Rattle.std.proofs.Common.{ap};
+    ghost use Rattle.fed_types.specs.Words.{bits_below, word_of};
+    ghost use Rattle.fed_types.specs.Laws.Words.{word_of-bits_below};
+
+    ghost Value = { List ℕ };
+
+    ghost view = { λ v. bits_below v.word 64 };
+
+    ghost invariant = { λ v. v.word < 2 ^ 64 };
+
+    ghost inverse = { λ ns. record { word = word_of ns } };
+
+    ghost inverse_ok = { λ v h. ap (λ w. record { word = w }) (word_of-bits_below v.word h) };
+}
+
+impl Voters {
+    /// The empty set.
+    #[tactic(auto, unfolding(crate::specs::Words::bits_below))]
+    pub fn new() -> Voters
+        ensures { result ≡ [] }
+    {
+        Voters { word: 0 }
+    }
+
+    /// Puts the site into the set; one that is there already changes nothing.
+    pub fn add(&mut self, site: SiteNo)
+        ensures value { self.new ≡ with_voter self.old site }
+        ensures added { (n : ℕ) → is_in self.new n ≡ (site == n || is_in self.old n) }
+        ensures again { IsTrue (is_in self.old site) → self.new ≡ self.old }
+    {
+        self.word |= 1 << site.number();
+    }
+
+    /// Whether the site is in the set.
+    pub fn has(&self, site: SiteNo) -> bool
+        ensures { result ≡ is_in self.now site }
+    {
+        self.holds(site.number())
+    }
+
+    /// Whether more than half of the members are in the set. Sites that aren't members don't
+    /// count.
+    pub fn is_quorum(&self, members: &Members) -> bool
+        ensures { result ≡ (majority members.now).is_quorum self.now }
+    {
+        let count = members.count();
+        let mut present = 0;
+        for number in 1..=count {
+            present += u8::from(self.holds(number));
+        }
+        2 * present > count
+    }
+
+    // Whether the site of this number is in the set.
+    fn holds(&self, number: u8) -> bool
+        requires { number < 64 }
+        ensures { result ≡ is_in self.now number }
+    {
+        self.word >> number & 1 == 1
+    }
+}
