@@ -1,5 +1,5 @@
 -- Trees of files, which files may be added to one, and what a tree is then.
-use Rattle.std.specs.Prelude.{ℕ, Bool, true, false, ◌&&◌, ◌||◌, ◌==◌, if◌then◌else◌, List, [], ◌∷◌, ◌++◌, length, Option, Some, None, nat_lt, nat_le}
+use Rattle.std.specs.Prelude.{ℕ, Bool, true, false, ◌&&◌, ◌||◌, if◌then◌else◌, List, [], ◌∷◌, ◌++◌, length, Option, Some, None, nat_lt, nat_le}
 use Rattle.std.specs.List.{list_any}
 use Rattle.std.specs.Str.{bytes_eq}
 use Rattle.bag_tree.specs.declared.fault.TreeFault.{TreeFault}
@@ -12,16 +12,16 @@ pub record File : Type 0 where
   pub path : List ℕ
   pub bytes : List ℕ
 
--- a finite map from paths to bytes, in the order in which the files came, and whether `data` was made by itself
+-- a finite map from paths to bytes, in the order in which the files came, and whether `data` was added as a folder
 pub record Files : Type 0 where
   pub files : List File
   pub folder : Bool
 
--- a tree of nothing
+-- an empty tree
 abbrev pub no_files : Files
 no_files = record { files = []; folder = false }
 
--- `data` stands where it was made, or where a file lies in it
+-- `data` stands where it was added, or where a file lies in it
 abbrev pub payload_stands : Files → Bool
 payload_stands tree = tree.folder || list_any (λ file. is_payload file.path) tree.files
 
@@ -29,7 +29,7 @@ payload_stands tree = tree.folder || list_any (λ file. is_payload file.path) tr
 abbrev pub clash : List ℕ → List ℕ → Bool
 clash a b = bytes_eq a b || is_below a b || is_below b a
 
--- no file of this tree can have the path: it is unsafe, it is that of the payload's folder, or a file stands in its way
+-- no further file of this tree can have the path: it is unsafe, it is that of the payload's folder, or a file stands in its way
 abbrev pub is_bad_path : Files → List ℕ → Bool
 is_bad_path tree path = is_unsafe path || bytes_eq path payload_folder || list_any (λ file. clash file.path path) tree.files
 

@@ -29,8 +29,8 @@ pub enum TreeFault {
     /// A growth was refused.
     #[error("out of memory")]
     Memory,
-    /// A path that no file of this tree can have.
-    #[error("the tree can have no file of this path")]
+    /// A path that no further file of this tree can have.
+    #[error("the tree can have no further file of this path")]
     BadPath,
 }
 

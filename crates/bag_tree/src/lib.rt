@@ -11,5 +11,8 @@ mod tree;
 pub use digests::Digests;
 pub use facts::{Facts, FileFacts, facts_of};
 pub use fault::TreeFault;
-pub use path::{DEEPEST_PATH, has_unsafe_part, is_read_text};
+pub use path::{DEEPEST_PATH, has_unsafe_part, is_payload, is_read_text};
 pub use tree::{LONGEST_TEXT, MOST_FILES, Tree, TreeFile};
+
+#[cfg(test)]
+mod tests;

@@ -1,7 +1,7 @@
 ghost use Rattle.std.specs.Prelude.{◌≡◌, length};
-ghost use Rattle.bag_tree.specs.Path.{parts_of, is_unsafe_part, is_unsafe, is_below, is_text_named, is_read_text};
+ghost use Rattle.bag_tree.specs.Path.{parts_of, is_unsafe_part, is_unsafe, is_below, is_payload, is_text_named, is_read_text};
 
-/// A path has at most so many parts.
+/// A path has at most this many parts.
 pub const DEEPEST_PATH: usize = 32;
 
 /// Whether a path has a part that names no entry of its own folder: an empty one, `.` or `..`.
@@ -21,6 +21,13 @@ pub fn is_read_text(path: &[u8]) -> bool
         && (path == b"bagit.txt".as_slice()
             || is_text_named(b"manifest-", path)
             || is_text_named(b"tagmanifest-", path))
+}
+
+/// Whether a path lies in the payload's folder `data`.
+pub fn is_payload(path: &[u8]) -> bool
+    ensures { result ≡ is_payload path.now }
+{
+    lies_below(b"data", path)
 }
 
 fn is_text_named(front: &[u8], path: &[u8]) -> bool

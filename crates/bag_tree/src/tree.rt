@@ -2,14 +2,16 @@ ghost use Rattle.std.specs.Prelude.{◌≡◌, ◌++◌, ◌∷◌, [], List, �
 ghost use Rattle.bag_tree.specs.Fault.{RefusesFor};
 
 use crate::fault::TreeFault;
-use crate::path::{DEEPEST_PATH, has_unsafe_part, is_read_text, lies_below, part_count};
+use crate::path::{
+    DEEPEST_PATH, has_unsafe_part, is_payload, is_read_text, lies_below, part_count,
+};
 use std::alloc::{AllocError, Global};
 use std::marker::Model;
 
-/// A tree has at most so many files.
+/// A tree has at most this many files.
 pub const MOST_FILES: usize = 100_000;
 
-/// A text that describes a bag has at most so many bytes, 64 MiB.
+/// A text that describes a bag has at most this many bytes, 64 MiB.
 pub const LONGEST_TEXT: usize = 67_108_864;
 
 /// The payload's folder, relative to the bag.
@@ -134,7 +136,7 @@ impl Tree {
         Ok(())
     }
 
-    /// Whether the tree can have no file of this path.
+    /// Whether the tree can have no further file of this path.
     fn has_no_place(&self, path: &str) -> bool
         ensures { result ≡ is_bad_path self.now path.now }
     {
@@ -152,12 +154,10 @@ ghost use Rattle.std.specs.List.{list_any};
 fn has_payload(files: &[TreeFile]) -> bool
     ensures { result ≡ list_any (λ file. is_payload file.path) files.now }
 {
-    files
-        .iter()
-        .any(|file| lies_below(PAYLOAD_FOLDER.as_bytes(), file.path().as_bytes()))
+    files.iter().any(|file| is_payload(file.path().as_bytes()))
 }
 
-/// Whether a file has this path, lies in it, or has it in the file's own.
+/// Whether a file has this path, lies below it, or has it below itself.
 fn has_clash(files: &[TreeFile], path: &str) -> bool
     ensures { result ≡ list_any (λ file. clash file.path path.now) files.now }
 {
