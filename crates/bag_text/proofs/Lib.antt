@@ -1,0 +1,9 @@
+pub mod Lists
+pub mod LineLaws
+pub mod BlankLaws
+pub mod GapLaws
+pub mod PathLaws
+pub mod EntryLaws
+pub mod ManifestLaws
+pub mod DeclarationLaws
+pub mod FieldLaws

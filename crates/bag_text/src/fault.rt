@@ -1,0 +1,32 @@
+ghost use Rattle.std.specs.Prelude.{◌≡◌};
+ghost use Rattle.bag_text.specs.declared.fault.TextFault.TheVariants.{Memory};
+
+use std::alloc::{AllocError, AllocFailed};
+use thiserror::Error;
+
+/// Why a text wasn't read.
+#[derive(Debug, Drop, Error)]
+pub enum TextFault {
+    /// The line of this number, counted from 1, isn't of its form, is missing, or is one too many.
+    #[error("line {0} is malformed")]
+    Malformed(usize),
+    /// There was no memory for what was read.
+    #[error("out of memory")]
+    Memory,
+}
+
+impl From<AllocError> for TextFault {
+    ghost from_gives = { λ _ fault. fault ≡ Memory };
+
+    fn from(_error: AllocError) -> TextFault {
+        TextFault::Memory
+    }
+}
+
+impl<T: Drop> From<AllocFailed<T>> for TextFault {
+    ghost from_gives = { λ _ fault. fault ≡ Memory };
+
+    fn from(_error: AllocFailed<T>) -> TextFault {
+        TextFault::Memory
+    }
+}
