@@ -1,6 +1,6 @@
 -- The first fault of a tree, step by step.
-use Rattle.std.proofs.Common.{◌≡◌, ℕ, Bool, true, false, ◌||◌, cond, not, List, [], ◌∷◌, Option, Some, None, Result, Ok, Err, refl, sym, ap, ◌∙◌}
-use Rattle.std.specs.Prelude.{codes, is_some, unwrap_or}
+use Rattle.std.proofs.Common.{◌≡◌, ℕ, Bool, true, false, ◌||◌, cond, not, List, Option, Some, None, Result, Ok, Err, refl, ap, ◌∙◌}
+use Rattle.std.specs.Prelude.{codes, is_some}
 use Rattle.std.specs.List.{list_any}
 use Rattle.sha2.specs.Sha512.{sha512}
 use Rattle.fed_types.specs.declared.bag_id.BagId.{BagId}
@@ -9,7 +9,7 @@ use Rattle.bag_text.specs.ListedFile.{ListedFile}
 use Rattle.bag_text.specs.Reading.{entries_of}
 use Rattle.bag_tree.specs.Facts.{FileFact, TreeFacts}
 use Rattle.bag_check.specs.declared.fault.BagFault.{BagFault}
-use Rattle.bag_check.specs.declared.fault.BagFault.TheVariants.{NoDeclaration, NoPayloadFolder, NoSha512Manifest, MalformedLine, UnsafePath, DuplicateEntry, MissingFile, UnlistedFile, WrongDigest, BadDeclaration, UnsupportedVersion, UnsupportedEncoding, HasFetch, UnknownAlgorithm, Memory}
+use Rattle.bag_check.specs.declared.fault.BagFault.TheVariants.{NoDeclaration, NoPayloadFolder, NoSha512Manifest, MalformedLine, UnsafePath, DuplicateEntry, MissingFile, UnlistedFile, WrongDigest, Memory}
 use Rattle.bag_check.specs.Manifests.{has_file, text_at, sha512_manifest, passes, is_malformed}
 use Rattle.bag_check.specs.Check.{is_astray, repeats, is_unlisted, is_wrong, holds, first_fault, fault_of_entries, answer, identity_of, check_of, Checks}
 use Rattle.bag_check.proofs.Texts.{has_file-text_at}

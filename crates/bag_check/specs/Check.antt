@@ -1,5 +1,5 @@
 -- When a tree of files is a valid bag (RFC 8493, 3), and what checking it answers.
-use Rattle.std.specs.Prelude.{◌≡◌, Bool, true, false, not, ◌&&◌, ◌||◌, if◌then◌else◌, List, [], ◌∷◌, ℕ, Option, Some, None, unwrap_or, is_some, Result, Ok, Err, codes}
+use Rattle.std.specs.Prelude.{◌≡◌, Bool, false, not, ◌&&◌, ◌||◌, if◌then◌else◌, List, [], ◌∷◌, Option, Some, None, unwrap_or, Result, Ok, Err, codes}
 use Rattle.std.specs.List.{list_any, find}
 use Rattle.std.specs.Str.{bytes_eq}
 use Rattle.sha2.specs.Sha512.{sha512}
@@ -10,7 +10,7 @@ use Rattle.bag_tree.specs.Path.{is_unsafe, is_payload}
 use Rattle.bag_tree.specs.Facts.{FileFact, TreeFacts}
 use Rattle.bag_check.specs.declared.fault.BagFault.{BagFault}
 use Rattle.bag_check.specs.declared.fault.BagFault.TheVariants.{NoDeclaration, BadDeclaration, UnsupportedVersion, UnsupportedEncoding, HasFetch, NoPayloadFolder, NoSha512Manifest, UnknownAlgorithm, MalformedLine, UnsafePath, DuplicateEntry, MissingFile, UnlistedFile, WrongDigest, Memory}
-use Rattle.bag_check.specs.Manifests.{Manifest, has_file, text_at, sha512_manifest, payload_manifests, digest_by, passes, is_malformed, entries, is_listed}
+use Rattle.bag_check.specs.Manifests.{has_file, text_at, sha512_manifest, payload_manifests, digest_by, passes, is_malformed, entries, is_listed}
 
 -- an entry's path is unsafe, or not in the payload's folder
 abbrev pub is_astray : ListedFile → Bool

@@ -1,4 +1,5 @@
-ghost use Rattle.std.specs.Prelude.{◌≡◌, ℕ, List, IfOk, Option};
+ghost use Rattle.std.specs.Prelude.{◌≡◌, IfOk, is_some};
+ghost use Rattle.bag_tree.specs.Path.{is_read_text};
 ghost use Rattle.std.specs.Option.{option_copied};
 
 use crate::digests::Digests;
@@ -19,11 +20,16 @@ pub struct FileFacts {
 impl Model for FileFacts {
     ghost use Rattle.std.specs.Prelude.{string_bytes};
     ghost use Rattle.std.specs.Option.{option_map};
+    ghost use Rattle.std.specs.Prelude.{◌≡◌, is_some};
+    ghost use Rattle.bag_tree.specs.Path.{is_read_text};
     ghost use Rattle.bag_tree.specs.Facts.{FileFact};
 
     ghost Value = { FileFact };
 
     ghost view = { λ f. record { path = string_bytes f.path; digests = f.digests; text = option_map (λ t. t.items) f.text } };
+
+    // The bytes are there exactly where they are of a text that is read.
+    ghost invariant = { λ f. is_some f.text ≡ is_read_text (string_bytes f.path) };
 }
 
 impl FileFacts {
@@ -63,7 +69,8 @@ impl FileFacts {
 
     /// The file's bytes, where it is one of the texts that describe a bag.
     pub fn text(&self) -> Option<&[u8]>
-        ensures { option_copied result ≡ self.now.text }
+        ensures value { option_copied result ≡ self.now.text }
+        ensures read { is_some self.now.text ≡ is_read_text self.now.path }
     {
         match &self.text {
             None => None,

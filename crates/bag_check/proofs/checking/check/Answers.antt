@@ -1,9 +1,7 @@
-use Rattle.std.proofs.Common.{◌≡◌, ℕ, Bool, true, false, List, Option, Some, None, Result, Ok, Err, ap, sym, ◌∙◌}
+use Rattle.std.proofs.Common.{◌≡◌, ℕ, List, Some, None, Ok, ap, sym, ◌∙◌}
 use Rattle.std.specs.Prelude.{codes}
-use Rattle.std.specs.Option.{option_copied}
 use Rattle.fed_types.specs.declared.bag_id.BagId.{BagId}
 use Rattle.bag_text.specs.declared.algorithm.Algorithm.TheVariants.{Sha512}
-use Rattle.bag_tree.specs.Facts.{FileFact}
 use Rattle.bag_check.specs.Manifests.{has_file, text_at, sha512_manifest}
 use Rattle.bag_check.specs.Check.{fault_of_entries}
 use Rattle.bag_check.proofs.Steps.{no_declaration, no_folder, no_manifest, malformed, checked, identified, Checks-err}
