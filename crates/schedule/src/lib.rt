@@ -1,1 +1,23 @@
+//! Schedules: texts of commands, one a line, that a federation of sites runs.
 #![tactic(auto)]
+
+mod command;
+mod command_printing;
+mod command_reading;
+mod fault;
+mod line;
+mod parsing;
+mod plan;
+mod printing;
+mod value;
+mod word;
+
+pub use command::{Command, Content, FilePath, TreeNo};
+pub use fault::ParseFault;
+pub use parsing::parse;
+pub use plan::Schedule;
+pub use printing::print;
+pub use word::{ESCAPED, push_escaped};
+
+#[cfg(test)]
+mod tests;

@@ -1,0 +1,33 @@
+-- What a run of the program answers to the bytes of a schedule.
+use Rattle.std.specs.Prelude.{◌≡◌, ℕ, Bool, List, [], ◌∷◌, ◌++◌, take, Option, Result, Ok, Err, codes}
+use Rattle.std.specs.Io.KnownBytes.{Appends}
+use Rattle.std.specs.Fmt.{decimal}
+use Rattle.schedule.specs.Plans.{Plan, plan_of}
+use Rattle.simulator.specs.Runs.{run_of}
+use Rattle.simulator.specs.Texts.{text_of}
+
+-- an exit status, and what is written
+pub record Outcome : Type 0 where
+  pub status : ℕ
+  pub text : List ℕ
+
+-- the text of the written run, or the one line of the fault
+abbrev pub outcome_for : Bool → Result Plan ℕ → Outcome
+outcome_for identities (Ok plan) = record { status = 0; text = text_of identities (run_of plan).lines }
+outcome_for identities (Err line) = record { status = 1; text = codes "schedule line " ++ decimal line ++ 10 ∷ [] }
+
+-- the outcome for the bytes of a schedule
+unfoldable pub outcome_of : Bool → List ℕ → Outcome
+outcome_of identities bytes = outcome_for identities (plan_of bytes)
+
+-- the outcome where a growth was refused
+abbrev pub no_memory : Outcome
+no_memory = record { status = 1; text = codes "memory" ++ 10 ∷ [] }
+
+-- a writer was told the whole outcome
+abbrev pub Tells : Option (List ℕ) → Option (List ℕ) → ℕ → Outcome → Type 0
+Tells old new status outcome = (status ≡ outcome.status) × Appends old new outcome.text
+
+-- a writer was told a beginning of the outcome's text
+abbrev pub BeginsToTell : Option (List ℕ) → Option (List ℕ) → Outcome → Type 0
+BeginsToTell old new outcome = (n : ℕ) × Appends old new (take n outcome.text)

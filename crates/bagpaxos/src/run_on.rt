@@ -1,0 +1,92 @@
+//! One run of the program on the bytes of a schedule.
+
+ghost use Rattle.std.specs.Prelude.{◌≡◌, ◌⊎◌, ℕ, take, IfOk, IfSome, OnErr, IsErrOf, string_bytes};
+ghost use Rattle.std.specs.Io.KnownBytes.{Keeps, Appends};
+ghost use Rattle.bagpaxos.specs.Outcomes.{outcome_of, no_memory, Tells, BeginsToTell};
+
+use crate::reading::{ReadFault, read_whole};
+use crate::writing::write_whole;
+use schedule::{ParseFault, parse};
+use simulator::{Options, run, text};
+use std::alloc::{AllocError, Global};
+use std::io::{Read, Write};
+use thiserror::Error;
+
+/// Why a run of the program did not come to its end.
+#[derive(Clone, Copy, Debug, PartialEq, Eq, Error)]
+pub enum ProgramFault {
+    /// A read failed, and nothing was written.
+    #[error("input unread")]
+    Input,
+    /// A write failed, and a beginning of the text was written.
+    #[error("output unwritten")]
+    Output,
+}
+
+/// An exit status, and the text to write.
+#[derive(Drop)]
+struct Answer {
+    status: u8,
+    text: String,
+}
+
+/// Reads a schedule, runs it, and writes what the run says. The exit status is 0, or 1 where the
+/// text is no schedule: then its line `schedule line N` is written alone. Where a growth was
+/// refused, the line `memory` is written alone, and the status is 1.
+pub fn run_on<R: Read, W: Write>(
+    alloc: Global,
+    input: &mut R,
+    output: &mut W,
+    options: Options,
+) -> Result<u8, ProgramFault>
+    ensures ok { IfOk result (λ status. IfSome (R.remaining input.old) (λ bytes.
+        Tells (W.contents output.old) (W.contents output.new) status (outcome_of options.identities bytes)
+        ⊎ Tells (W.contents output.old) (W.contents output.new) status no_memory)) }
+    ensures input { IsErrOf result ProgramFault.Input → Keeps (W.contents output.old) (W.contents output.new) }
+    ensures output { IsErrOf result ProgramFault.Output → IfSome (R.remaining input.old) (λ bytes.
+        BeginsToTell (W.contents output.old) (W.contents output.new) (outcome_of options.identities bytes)
+        ⊎ BeginsToTell (W.contents output.old) (W.contents output.new) no_memory) }
+{
+    let bytes = match read_whole(alloc, input) {
+        Ok(bytes) => bytes,
+        Err(ReadFault::Input) => return Err(ProgramFault::Input),
+        Err(ReadFault::Memory) => return tell(output, 1, "memory\n"),
+    };
+    match answer_to(alloc, bytes.as_slice(), options) {
+        Ok(answer) => tell(output, answer.status, answer.text.as_str()),
+        Err(AllocError) => tell(output, 1, "memory\n"),
+    }
+}
+
+/// The status and the text for the bytes of a schedule.
+#[tactic(auto, unfolding(crate::specs::Outcomes::outcome_of))]
+fn answer_to(alloc: Global, bytes: &[u8], options: Options) -> Result<Answer, AllocError>
+    ensures status { IfOk result (λ a. a.status ≡ (outcome_of options.identities bytes.now).status) }
+    ensures text { IfOk result (λ a. string_bytes a.text ≡ (outcome_of options.identities bytes.now).text) }
+{
+    match parse(alloc, bytes) {
+        Ok(schedule) => {
+            let trace = run(alloc, &schedule)?;
+            Ok(Answer {
+                status: 0,
+                text: text(alloc, &trace, options)?,
+            })
+        }
+        Err(ParseFault::Line(line)) => Ok(Answer {
+            status: 1,
+            text: format!(in alloc; "schedule line {line}\n")?,
+        }),
+        Err(ParseFault::Memory) => Err(AllocError),
+    }
+}
+
+/// Writes a text, and gives the status.
+fn tell<W: Write>(output: &mut W, status: u8, text: &str) -> Result<u8, ProgramFault>
+    ensures ok { IfOk result (λ given. (given ≡ status) × Appends (W.contents output.old) (W.contents output.new) text.now) }
+    ensures err { OnErr result ((result ≡ Err ProgramFault.Output) × ((n : ℕ) × Appends (W.contents output.old) (W.contents output.new) (take n text.now))) }
+{
+    match write_whole(output, text.as_bytes()) {
+        Ok(()) => Ok(status),
+        Err(_) => Err(ProgramFault::Output),
+    }
+}

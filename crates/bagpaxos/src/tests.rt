@@ -1,0 +1,164 @@
+use crate::run_on::{ProgramFault, run_on};
+use simulator::Options;
+use std::alloc::Global;
+use std::io;
+use std::io::{ErrorKind, Read, Write};
+use std::test::Fail;
+
+/// The empty bag is deposited at site 1 and asked for there.
+const EMPTY_BAG: &str = "federation 7 3
+tree 1
+folder 1
+file 1 bagit.txt 42616749742d56657273696f6e3a20312e300a5461672d46696c652d4368617261637465722d456e636f64696e673a205554462d380a
+file 1 manifest-sha512.txt -
+deposit 1 1 a 1
+query 1 a 1
+";
+
+const SAID: &str = "registered 1 a 1 #1\nreply 1 a 1 pending #1\n";
+
+const BY_TREE: Options = Options {
+    sent: false,
+    identities: false,
+};
+
+/// A reader that gives a few bytes at a time, is interrupted before each piece, and may fail.
+#[derive(Drop)]
+struct Pieces<'a> {
+    rest: &'a [u8],
+    size: usize,
+    is_interrupted: bool,
+    pieces_before_fault: usize,
+}
+
+impl Read for Pieces<'_> {
+    fn read(&mut self, buf: &mut [u8]) -> io::Result<usize> {
+        self.is_interrupted = !self.is_interrupted;
+        if self.is_interrupted {
+            return Err(io::Error::from(ErrorKind::Interrupted));
+        }
+        if self.pieces_before_fault == 0 {
+            return Err(io::Error::from(ErrorKind::Other));
+        }
+        self.pieces_before_fault -= 1;
+        let count = self.size.min(self.rest.len()).min(buf.len());
+        let (front, rest) = self.rest.split_at(count);
+        buf[..count].copy_from_slice(front);
+        self.rest = rest;
+        Ok(count)
+    }
+}
+
+/// A writer that takes one byte at a time, is interrupted before each, and has room for only so many.
+#[derive(Drop)]
+struct Narrow {
+    taken: Vec<u8>,
+    room: usize,
+    is_interrupted: bool,
+}
+
+impl Write for Narrow {
+    fn write(&mut self, buf: &[u8]) -> io::Result<usize> {
+        self.is_interrupted = !self.is_interrupted;
+        if self.is_interrupted {
+            return Err(io::Error::from(ErrorKind::Interrupted));
+        }
+        if self.taken.len() >= self.room {
+            return Err(io::Error::from(ErrorKind::Other));
+        }
+        match buf {
+            [] => Ok(0),
+            [first, ..] => {
+                self.taken.push(*first)?;
+                Ok(1)
+            }
+        }
+    }
+
+    fn flush(&mut self) -> io::Result<()> {
+        Ok(())
+    }
+}
+
+fn in_pieces(text: &str, size: usize, pieces_before_fault: usize) -> Pieces<'_> {
+    Pieces {
+        rest: text.as_bytes(),
+        size,
+        is_interrupted: false,
+        pieces_before_fault,
+    }
+}
+
+fn with_room(alloc: Global, room: usize) -> Narrow {
+    Narrow {
+        taken: Vec::new(alloc),
+        room,
+        is_interrupted: false,
+    }
+}
+
+#[test]
+fn the_empty_bag(rt: HostRuntime) -> Result<(), Fail> {
+    let mut input = EMPTY_BAG.as_bytes();
+    let mut output = Vec::new(rt.alloc());
+    assert_eq!(rt; run_on(rt.alloc(), &mut input, &mut output, BY_TREE), Ok(0));
+    assert_eq!(rt; output.as_slice(), SAID.as_bytes());
+    Ok(())
+}
+
+#[test]
+fn faults_of_schedules(rt: HostRuntime) -> Result<(), Fail> {
+    for (text, said) in [
+        ("", "schedule line 1\n"),
+        ("federation 7 3\ndeposit 1 1 a 0\n", "schedule line 2\n"),
+        ("# nothing\n\nquery 1 a 1", "schedule line 3\n"),
+    ] {
+        let mut input = text.as_bytes();
+        let mut output = Vec::new(rt.alloc());
+        assert_eq!(rt; run_on(rt.alloc(), &mut input, &mut output, BY_TREE), Ok(1));
+        assert_eq!(rt; output.as_slice(), said.as_bytes());
+    }
+    Ok(())
+}
+
+#[test]
+fn pieces_of_every_size(rt: HostRuntime) -> Result<(), Fail> {
+    for size in [1, 7, 100, 10_000] {
+        let mut input = in_pieces(EMPTY_BAG, size, usize::MAX);
+        let mut output = with_room(rt.alloc(), usize::MAX);
+        assert_eq!(rt; run_on(rt.alloc(), &mut input, &mut output, BY_TREE), Ok(0));
+        assert_eq!(rt; output.taken.as_slice(), SAID.as_bytes());
+    }
+    Ok(())
+}
+
+#[test]
+fn a_read_that_fails(rt: HostRuntime) -> Result<(), Fail> {
+    for before in 0..4 {
+        let mut input = in_pieces(EMPTY_BAG, 100, before);
+        let mut output = Vec::new(rt.alloc());
+        assert_eq!(rt;
+            run_on(rt.alloc(), &mut input, &mut output, BY_TREE),
+            Err(ProgramFault::Input)
+        );
+        assert_eq!(rt; output.len(), 0);
+    }
+    Ok(())
+}
+
+#[test]
+fn a_write_that_fails(rt: HostRuntime) -> Result<(), Fail> {
+    for room in 0..SAID.len() {
+        let mut input = EMPTY_BAG.as_bytes();
+        let mut output = with_room(rt.alloc(), room);
+        assert_eq!(rt;
+            run_on(rt.alloc(), &mut input, &mut output, BY_TREE),
+            Err(ProgramFault::Output)
+        );
+        assert_eq!(rt;
+            output.taken.as_slice(),
+            SAID.as_bytes().get(..room).unwrap_or(b"")
+        );
+    }
+    Ok(())
+}

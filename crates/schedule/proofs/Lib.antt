@@ -1,0 +1,9 @@
+pub mod LineLemmas
+pub mod NumberLemmas
+pub mod TextLemmas
+pub mod PlanLemmas
+pub mod Utf8Lemmas
+pub mod WordLemmas
+pub mod SpelledWords
+pub mod SpelledCommands
+pub mod SpelledLines

@@ -1,0 +1,12 @@
+use Rattle.std.proofs.Common.{arith}
+use Rattle.schedule.proofs.SpelledCommands.{IsSpelled-tree, IsSpelled-folder}
+use Rattle.schedule.proofs.TextLemmas.{OnOk-always}
+use Rattle.schedule.proofs.command_printing.push_command.Goals as goal
+
+pub returns-in-Tree-clause-again : goal.returns-in-Tree-clause-again
+returns-in-Tree-clause-again c =
+    rw c.in-Tree.is (OnOk-always c.writeln.result (IsSpelled-tree c.in-Tree.tree (omega arith) (omega arith)))
+
+pub returns-in-Folder-clause-again : goal.returns-in-Folder-clause-again
+returns-in-Folder-clause-again c =
+    rw c.in-Folder.is (OnOk-always c.writeln-in-Folder.result (IsSpelled-folder c.in-Folder.tree (omega arith) (omega arith)))

@@ -1,0 +1,96 @@
+-- The commands, each by the words that spell it.
+use Rattle.std.specs.Prelude.{ℕ, List, [], ◌∷◌, Option, Some, None, codes, if◌then◌else◌}
+use Rattle.std.specs.Str.{bytes_eq}
+use Rattle.fed_types.specs.declared.limits.TheConstants.{MOST_MEMBERS}
+use Rattle.fed_types.specs.Sites.{Membership}
+use Rattle.fed_types.specs.Slots.{SlotName}
+use Rattle.schedule.specs.declared.command.Command.{Command}
+use Rattle.schedule.specs.declared.command.Command.TheVariants.{Tree, Folder, File, Deposit, Query}
+use Rattle.schedule.specs.Words.{◌>>=◌, number_in, text_of, object_of, content_of}
+
+-- the greatest numbers of one byte, four and eight: those of a site that a word may spell, of a tree or a version, and of a federation
+abbrev pub greatest_u8 : ℕ
+greatest_u8 = 255
+
+abbrev pub greatest_u32 : ℕ
+greatest_u32 = 4294967295
+
+abbrev pub greatest_u64 : ℕ
+greatest_u64 = 18446744073709551615
+
+-- S is any number of a byte: whether it is a member is asked when the schedule runs
+abbrev pub site_of : List ℕ → Option ℕ
+site_of word = number_in 0 greatest_u8 word
+
+-- T
+abbrev pub tree_of : List ℕ → Option ℕ
+tree_of word = number_in 1 greatest_u32 word
+
+-- OBJ V
+unfoldable pub slot_of : List ℕ → List ℕ → Option SlotName
+slot_of object version = do
+  o ← object_of object
+  v ← number_in 1 greatest_u32 version
+  Some (record { object = o; version = v })
+
+-- `federation F N`
+unfoldable pub federation_of : List (List ℕ) → Option Membership
+federation_of (name ∷ federation ∷ count ∷ []) =
+    if bytes_eq name (codes "federation")
+    then (do
+      f ← number_in 0 greatest_u64 federation
+      n ← number_in 1 MOST_MEMBERS count
+      Some (record { federation = f; count = n }))
+    else None
+federation_of words = None
+
+-- `tree T`
+unfoldable pub tree_command : List (List ℕ) → Option Command
+tree_command (tree ∷ []) = do
+  t ← tree_of tree
+  Some (Tree t)
+tree_command words = None
+
+-- `folder T`
+unfoldable pub folder_command : List (List ℕ) → Option Command
+folder_command (tree ∷ []) = do
+  t ← tree_of tree
+  Some (Folder t)
+folder_command words = None
+
+-- `file T PATH HEX`
+unfoldable pub file_command : List (List ℕ) → Option Command
+file_command (tree ∷ path ∷ content ∷ []) = do
+  t ← tree_of tree
+  p ← text_of path
+  c ← content_of content
+  Some (File t p c)
+file_command words = None
+
+-- `deposit S T OBJ V`
+unfoldable pub deposit_command : List (List ℕ) → Option Command
+deposit_command (site ∷ tree ∷ object ∷ version ∷ []) = do
+  s ← site_of site
+  t ← tree_of tree
+  slot ← slot_of object version
+  Some (Deposit s t slot)
+deposit_command words = None
+
+-- `query S OBJ V`
+unfoldable pub query_command : List (List ℕ) → Option Command
+query_command (site ∷ object ∷ version ∷ []) = do
+  s ← site_of site
+  slot ← slot_of object version
+  Some (Query s slot)
+query_command words = None
+
+-- the command that the words spell, if they spell one
+unfoldable pub command_of : List (List ℕ) → Option Command
+command_of [] = None
+command_of (name ∷ arguments) =
+    if bytes_eq name (codes "tree") then tree_command arguments
+    else if bytes_eq name (codes "folder") then folder_command arguments
+    else if bytes_eq name (codes "file") then file_command arguments
+    else if bytes_eq name (codes "deposit") then deposit_command arguments
+    else if bytes_eq name (codes "query") then query_command arguments
+    else None

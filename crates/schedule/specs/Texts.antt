@@ -1,0 +1,47 @@
+-- The one text in which a schedule is printed.
+use Rattle.std.specs.Prelude.{ℕ, ◌==◌, if◌then◌else◌, List, [], ◌∷◌, ◌++◌, length, replicate, Option, Some, None, codes}
+use Rattle.std.specs.List.{flat_map, join_with_byte}
+use Rattle.std.specs.Fmt.{decimal}
+use Rattle.hex.specs.Hex.{encode_lower}
+use Rattle.percent_encoding.specs.Percent.{percent_encode}
+use Rattle.fed_types.specs.Sites.{Membership}
+use Rattle.schedule.specs.declared.command.Command.{Command}
+use Rattle.schedule.specs.declared.command.Command.TheVariants.{Tree, Folder, File, Deposit, Query}
+use Rattle.schedule.specs.declared.word.TheConstants.{ESCAPED}
+use Rattle.schedule.specs.Plans.{Plan}
+
+-- a name or a path as a word: bytes 00 to 20, 25, and all from 7F on, escaped with capital letters
+abbrev pub escaped : List ℕ → List ℕ
+escaped text = percent_encode ESCAPED text
+
+-- bytes as a word: in lower case, and `-` for none
+abbrev pub hex_word : List ℕ → List ℕ
+hex_word bytes = if length bytes == 0 then codes "-" else encode_lower bytes
+
+-- the words that spell a command
+abbrev pub words_for : Command → List (List ℕ)
+words_for (Tree t) = codes "tree" ∷ decimal t ∷ []
+words_for (Folder t) = codes "folder" ∷ decimal t ∷ []
+words_for (File t path content) = codes "file" ∷ decimal t ∷ escaped path ∷ hex_word content ∷ []
+words_for (Deposit s t slot) = codes "deposit" ∷ decimal s ∷ decimal t ∷ escaped slot.object ∷ decimal slot.version ∷ []
+words_for (Query s slot) = codes "query" ∷ decimal s ∷ escaped slot.object ∷ decimal slot.version ∷ []
+
+-- words with one space between them, and the end of the line
+abbrev pub line_of_words : List (List ℕ) → List ℕ
+line_of_words words = join_with_byte 32 words ++ 10 ∷ []
+
+-- a command's line, or an empty one
+abbrev pub printed_line : Option Command → List ℕ
+printed_line None = 10 ∷ []
+printed_line (Some command) = line_of_words (words_for command)
+
+-- the words that name a federation's members, and their line
+abbrev pub federation_words : Membership → List (List ℕ)
+federation_words m = codes "federation" ∷ decimal m.federation ∷ decimal m.count ∷ []
+
+abbrev pub federation_line : Membership → List ℕ
+federation_line m = line_of_words (federation_words m)
+
+-- each line of a schedule at its number, those that are skipped empty
+unfoldable pub schedule_text : Plan → List ℕ
+schedule_text plan = replicate plan.skipped 10 ++ federation_line plan.members ++ flat_map printed_line plan.lines

@@ -1,0 +1,49 @@
+-- The words of a line, and the numbers, names and bytes that a word may spell.
+use Rattle.std.specs.Prelude.{ℕ, ◌+◌, ◌*◌, ◌-◌, ◌&&◌, ◌==◌, not, if◌then◌else◌, List, [], ◌∷◌, length, filter, Option, Some, None, Result, Ok, Err, nat_le, codes}
+use Rattle.std.specs.List.{slice_split}
+use Rattle.std.specs.Str.{bytes_eq, all_ascii_digits, is_utf8}
+use Rattle.hex.specs.declared.error.FromHexError.{FromHexError}
+use Rattle.hex.specs.Hex.{decode_of}
+use Rattle.percent_encoding.specs.Percent.{percent_decode}
+use Rattle.fed_types.specs.declared.limits.TheConstants.{LONGEST_OBJECT}
+
+infixl 10 ◌>>=◌
+-- the second step, if the first found something
+abbrev pub ◌>>=◌ : {A B : Type 0} → Option A → (A → Option B) → Option B
+None >>= f = None
+(Some x) >>= f = f x
+
+-- what spaces separate: one or more between two words, any number at both ends
+unfoldable pub words_of : List ℕ → List (List ℕ)
+words_of line = filter (λ word. not (length word == 0)) (slice_split (λ b. b == 32) line)
+
+-- the number that decimal digits spell behind those that spelled n
+abbrev pub value_after : ℕ → List ℕ → ℕ
+value_after n [] = n
+value_after n (digit ∷ digits) = value_after (10 * n + (digit - 48)) digits
+
+-- one or more ASCII digits, of a value from low to high
+unfoldable pub number_in : ℕ → ℕ → List ℕ → Option ℕ
+number_in low high word =
+    if not (length word == 0) && all_ascii_digits word && nat_le low (value_after 0 word) && nat_le (value_after 0 word) high
+    then Some (value_after 0 word)
+    else None
+
+-- the bytes of a word with its escapes undone, where they are UTF-8
+unfoldable pub text_of : List ℕ → Option (List ℕ)
+text_of word = if is_utf8 (percent_decode word) then Some (percent_decode word) else None
+
+-- an object's name: such a text of 1 to `LONGEST_OBJECT` bytes
+unfoldable pub object_of : List ℕ → Option (List ℕ)
+object_of word = do
+  name ← text_of word
+  if nat_le 1 (length name) && nat_le (length name) LONGEST_OBJECT then Some name else None
+
+-- the bytes that were decoded
+abbrev pub decoded : Result (List ℕ) FromHexError → Option (List ℕ)
+decoded (Ok bytes) = Some bytes
+decoded (Err e) = None
+
+-- `-` for no bytes, else two hex digits of either case for each byte; a word has at least one byte, so at least two digits
+unfoldable pub content_of : List ℕ → Option (List ℕ)
+content_of word = if bytes_eq word (codes "-") then Some [] else decoded (decode_of word)

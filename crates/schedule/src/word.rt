@@ -1,0 +1,17 @@
+ghost use Rattle.std.specs.Prelude.{◌≡◌, ◌++◌, OnOk, OnErr, string_bytes};
+ghost use Rattle.schedule.specs.Texts.{escaped};
+
+use percent_encoding::{AsciiSet, CONTROLS, ascii_set, utf8_percent_encode};
+use std::alloc::AllocError;
+
+/// The ASCII bytes that are escaped in a word of a schedule and of what a run prints: the controls
+/// 00 to 1F and 7F, the space, and the percent sign. Bytes above 7F are escaped too.
+pub const ESCAPED: AsciiSet = ascii_set!(CONTROLS.add(b' ').add(b'%'));
+
+/// Appends a name or a path as a word. Refused, it leaves the text as it was.
+pub fn push_escaped(text: &mut String, name: &str) -> Result<(), AllocError>
+    ensures ok { OnOk result (string_bytes text.new ≡ string_bytes text.old ++ escaped name.now) }
+    ensures err { OnErr result (string_bytes text.new ≡ string_bytes text.old) }
+{
+    utf8_percent_encode(name, ESCAPED).append_to(text)
+}

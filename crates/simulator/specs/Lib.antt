@@ -1,0 +1,5 @@
+pub mod Sites
+pub mod Worlds
+pub mod Trees
+pub mod Runs
+pub mod Texts

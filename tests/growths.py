@@ -1,0 +1,63 @@
+"""Refuses each growth of the program's stored run in turn, the first, the second and so on until none is left to refuse.
+Each answer has to be the whole one, or `memory` with status 1. gdb runs this: see the script `growths` beside it."""
+import os
+import gdb
+
+SCHEDULE = os.environ["SCHEDULE"]
+WANTED = open(os.environ["WANTED"], "rb").read()
+SAID = os.environ["SAID"]
+
+
+class Growth(gdb.Breakpoint):
+    """Counts the calls for memory, and stops at the one that is to be refused."""
+
+    calls = 0
+    refused = 0
+
+    def stop(self):
+        Growth.calls += 1
+        return Growth.calls == Growth.refused
+
+
+def run(refused):
+    """Runs the program with that call for memory refused. Returns whether there was one, its status, and what it printed."""
+    Growth.calls, Growth.refused = 0, refused
+    gdb.execute(f"run run < {SCHEDULE} > {SAID}", to_string=True)
+    was_refused = Growth.calls == refused
+    if was_refused:
+        # at the function's first instruction: return a null pointer from it
+        gdb.execute("set $rax = 0")
+        gdb.execute("set $rip = *(unsigned long *)$rsp")
+        gdb.execute("set $rsp = $rsp + 8")
+        gdb.execute("continue", to_string=True)
+    status = gdb.parse_and_eval("$_exitcode")
+    with open(SAID, "rb") as said:
+        return was_refused, None if status.type.code == gdb.TYPE_CODE_VOID else int(status), said.read()
+
+
+for setting in ("confirm off", "pagination off", "disable-randomization off", "startup-with-shell on"):
+    gdb.execute(f"set {setting}")
+Growth("*rattle_alloc")
+Growth("*rattle_realloc")
+passed, failed, whole, without_memory = 0, 0, 0, 0
+refused = 0
+while True:
+    refused += 1
+    gdb.execute("set $_exitcode = (void)0")
+    was_refused, status, said = run(refused)
+    if (status, said) == (0, WANTED):
+        whole += 1
+        passed += 1
+    elif was_refused and (status, said) == (1, b"memory\n"):
+        without_memory += 1
+        passed += 1
+    else:
+        failed += 1
+        print(f"FAILED with growth {refused} refused: status {status}, and it printed {said!r}")
+    if not was_refused or refused > 5000:
+        break
+print(f"growths refused: {refused - 1}; answers without memory: {without_memory}, whole ones: {whole}")
+if without_memory == 0 or whole == 0:
+    failed += 1
+print(f"{passed} passed, {failed} failed")
+gdb.execute(f"quit {1 if failed else 0}")
