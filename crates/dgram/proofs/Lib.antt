@@ -1,6 +1,0 @@
-pub mod Texts
-pub mod Bytes
-pub mod Fields
-pub mod Codes
-pub mod Bodies
-pub mod Whole

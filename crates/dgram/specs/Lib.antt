@@ -1,6 +1,0 @@
-pub mod Faults
-pub mod Limits
-pub mod Messages
-pub mod Layout
-pub mod Reading
-pub mod Decoded
