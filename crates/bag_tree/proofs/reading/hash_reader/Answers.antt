@@ -13,7 +13,7 @@ reads-init g c = taken_none c.in_ok-hashing.hashing c.args.path.now _ c.in_ok-ha
 
 pub returns-in-Ok-eq0-clause-facts : goal.returns-in-Ok-eq0-clause-facts
 returns-in-Ok-eq0-clause-facts g c =
-    known_so _ (λ bytes. c.finish.result ≡ fact_of_file record {path = c.args.path.now; bytes = bytes}) (g.R.Read.remaining c.args.input.now) (λ bytes h. c.finish.ensures c.args.path.now bytes h.0)
+    known_so _ (λ bytes. c.finish.result ≡ fact_of_file record { path = c.args.path.now; bytes = bytes }) (g.R.Read.remaining c.args.input.now) (λ bytes h. c.finish.ensures c.args.path.now bytes h.0)
     (taken_end c.reads.hashing c.args.path.now _ _ _ c.in-Ok-eq0.field-0 c.read.new.buf c.reads.invariant c.in-Ok-eq0.field-0-test (search rules) c.in-Ok-eq0.ensures.bytes)
 
 pub returns-in-Ok-eq0-clause-fits : goal.returns-in-Ok-eq0-clause-fits
@@ -34,7 +34,7 @@ returns-in_err-feed-in-Ok-clause-faults g c =
     (refused_as c.args.path.now (t.0 ++ take c.in-Ok.count c.read.new.buf) c.in_err-feed-in-Ok.field-0.0 (c.in_err-feed-in-Ok.ensures.refused c.args.path.now t.0 t.1))
 
 pub reads-preserved : goal.reads-preserved
-reads-preserved g c = elim c.match-read.branch
-    [ in-Ok+in_ok-feed-in-Ok w ↦ rw w.hashing-is (taken_more c.reads.hashing _ c.args.path.now _ _ _ (take w.in-Ok.count c.read.new.buf) c.reads.invariant w.in-Ok.ensures.bytes.0 (w.in_ok-feed-in-Ok.ensures.ok c.args.path.now c.reads.invariant.0 c.reads.invariant.1) (w.in_ok-feed-in-Ok.ensures.refused c.args.path.now c.reads.invariant.0 c.reads.invariant.1))
-    | in-Err+else-ne w ↦ rw w.hashing-is (taken_kept c.reads.hashing c.args.path.now _ _ _ c.reads.invariant w.in-Err.ensures.bytes)
-    ]
+reads-preserved g c = elim c.match-read.branch [
+  | in-Ok+in_ok-feed-in-Ok w ↦ rw w.hashing-is (taken_more c.reads.hashing _ c.args.path.now _ _ _ (take w.in-Ok.count c.read.new.buf) c.reads.invariant w.in-Ok.ensures.bytes.0 (w.in_ok-feed-in-Ok.ensures.ok c.args.path.now c.reads.invariant.0 c.reads.invariant.1) (w.in_ok-feed-in-Ok.ensures.refused c.args.path.now c.reads.invariant.0 c.reads.invariant.1))
+  | in-Err+else-ne w ↦ rw w.hashing-is (taken_kept c.reads.hashing c.args.path.now _ _ _ c.reads.invariant w.in-Err.ensures.bytes)
+]
