@@ -1,2 +1,4 @@
-pub mod Texts
+pub mod Keyed
+pub mod Repeats
+pub mod Readings
 pub mod Steps

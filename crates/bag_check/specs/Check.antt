@@ -1,5 +1,5 @@
 -- When a tree of files is a valid bag (RFC 8493, 3), and what checking it answers.
-use Rattle.std.specs.Prelude.{◌≡◌, ℕ, Bool, true, false, not, ◌&&◌, ◌||◌, List, [], ◌∷◌, Option, Some, None, unwrap_or, Result, Ok, Err, codes}
+use Rattle.std.specs.Prelude.{◌≡◌, ℕ, Bool, true, false, not, ◌&&◌, ◌||◌, List, [], ◌∷◌, Option, Some, None, unwrap_or, Result, Ok, Err, is_err, codes}
 use Rattle.std.specs.List.{list_any, find}
 use Rattle.std.specs.Str.{bytes_eq, str_eq_ignore_ascii_case}
 use Rattle.sha2.specs.Sha512.{sha512}
@@ -22,20 +22,17 @@ use Rattle.bag_check.specs.Manifests.{Manifest, file_at, has_file, text_at, sha5
 -- the text is there, and it isn't the two lines of a declaration
 abbrev pub is_bad_declaration : Option (List ℕ) → Bool
 is_bad_declaration None = false
-is_bad_declaration (Some text) = is_malformed_declaration (declaration_of text)
-  where
-    is_malformed_declaration : Result (List ℕ × List ℕ) ℕ → Bool
-    is_malformed_declaration (Ok declared) = false
-    is_malformed_declaration (Err line) = true
+is_bad_declaration (Some text) = is_err (declaration_of text)
+
+-- what was read declares a version and an encoding that don't pass the test
+abbrev pub fails : (List ℕ → List ℕ → Bool) → Result (List ℕ × List ℕ) ℕ → Bool
+fails test (Ok (version, encoding)) = not (test version encoding)
+fails test (Err line) = false
 
 -- the text is a declaration, and its version and its encoding don't pass the test
 abbrev pub declares_other : (List ℕ → List ℕ → Bool) → Option (List ℕ) → Bool
-declares_other passes None = false
-declares_other passes (Some text) = differs (declaration_of text)
-  where
-    differs : Result (List ℕ × List ℕ) ℕ → Bool
-    differs (Ok (version, encoding)) = not (passes version encoding)
-    differs (Err line) = false
+declares_other test None = false
+declares_other test (Some text) = fails test (declaration_of text)
 
 abbrev pub is_supported_version : List ℕ → Bool
 is_supported_version version = bytes_eq version (codes "1.0") || bytes_eq version (codes "0.97")

@@ -31,7 +31,7 @@ front_of Payload = codes "manifest-"
 front_of Tag = codes "tagmanifest-"
 
 -- the name of the manifest, as `manifest-sha512.txt` or `tagmanifest-md5.txt`
-abbrev pub manifest_name : Kind → Algorithm → List ℕ
+unfoldable pub manifest_name : Kind → Algorithm → List ℕ
 manifest_name kind algorithm = front_of kind ++ algorithm_name algorithm ++ codes ".txt"
 
 abbrev pub kinds : List Kind
@@ -45,11 +45,11 @@ abbrev pub sha512_manifest : List ℕ
 sha512_manifest = manifest_name Payload Sha512
 
 -- the path is that of a manifest, of any algorithm or none: a file at the tree's own level
-abbrev pub is_manifest : List ℕ → Bool
+unfoldable pub is_manifest : List ℕ → Bool
 is_manifest path = length (parts_of path) == 1 && list_any (λ kind. is_text_named (front_of kind) path) kinds
 
 -- the path is that of a manifest of an algorithm that is read
-abbrev pub is_known_manifest : List ℕ → Bool
+unfoldable pub is_known_manifest : List ℕ → Bool
 is_known_manifest path = list_any (λ kind. list_any (λ algorithm. bytes_eq path (manifest_name kind algorithm)) algorithms) kinds
 
 -- a manifest: its kind, its algorithm and its bytes
@@ -63,9 +63,17 @@ abbrev pub manifest_in : Kind → Algorithm → Option (List ℕ) → List Manif
 manifest_in kind algorithm None = []
 manifest_in kind algorithm (Some text) = record { kind = kind; algorithm = algorithm; text = text } ∷ []
 
+-- the manifest of this kind and algorithm, where there is one
+unfoldable pub manifest_at : Kind → Algorithm → List FileFact → List Manifest
+manifest_at kind algorithm files = manifest_in kind algorithm (text_at (manifest_name kind algorithm) files)
+
+-- the manifests of this kind, of every algorithm that is read
+unfoldable pub manifests_of_kind : Kind → List FileFact → List Manifest
+manifests_of_kind kind files = flat_map (λ algorithm. manifest_at kind algorithm files) algorithms
+
 -- the manifests of the tree, of every kind and algorithm that is read
 unfoldable pub manifests_of : TreeFacts → List Manifest
-manifests_of facts = flat_map (λ kind. flat_map (λ algorithm. manifest_in kind algorithm (text_at (manifest_name kind algorithm) facts.files)) algorithms) kinds
+manifests_of facts = flat_map (λ kind. manifests_of_kind kind facts.files) kinds
 
 -- every line of the manifest has its form, and what it lists passes this test
 abbrev pub passes : (List ListedFile → Bool) → Result (List ListedFile) ℕ → Bool
