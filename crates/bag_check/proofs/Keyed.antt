@@ -1,5 +1,5 @@
 -- Maps and sets whose keys are texts, one key on.
-use Rattle.std.proofs.Common.{◌≡◌, ℕ, Bool, true, false, ◌||◌, cond, List, Option, Some, None, refl, sym, ap, ◌∙◌}
+use Rattle.std.proofs.Common.{◌≡◌, ℕ, ◌+◌, ◌<◌, Bool, true, false, ◌||◌, cond, List, [], ◌∷◌, ◌++◌, length, take, get_or, Option, Some, None, refl, sym, ap, ◌∙◌}
 use Rattle.std.specs.Prelude.{is_some}
 use Rattle.std.specs.Borrow.{Bor}
 use Rattle.std.specs.BTreeMap as tree
@@ -12,7 +12,11 @@ use Rattle.std.specs.Option.{option_copied, option_or}
 use Rattle.std.specs.Str.{bytes_eq}
 use Rattle.std.proofs.lemmas.Map.Text.{is_eq-slice_cmp, btree_map_updates_str}
 use Rattle.std.proofs.lemmas.Slice.Eq.{bytes_eq-Decides}
+use Rattle.std.specs.List.{find}
+use Rattle.std.proofs.lemmas.List.{take_more}
+use Rattle.std.proofs.lemmas.List.Folds.{find-append}
 use Rattle.bag_tree.specs.Facts.{FileFact}
+use Rattle.bag_check.specs.Manifests.{file_at}
 
 -- what the map has at a text, and whether the set has it
 abbrev pub at_text : List ℕ → BTreeMap (Bor (List ℕ)) (Bor FileFact) → Option FileFact
@@ -64,3 +68,9 @@ at_text-kept path file m present q = go (bytes_eq path q) refl
     go : (b : Bool) → bytes_eq path q ≡ b → at_text q m ≡ option_or (at_text q m) (cond b (Some file) None)
     go true e = some_or (tree.get_by (λ k. slice_cmp nat_cmp q k.now) m) (Some file) (rw ((bytes_eq-Decides path q).0 e) at present)
     go false e = sym (or_none (at_text q m))
+
+-- the first file of a path, one file on
+pub file_at_next : (q : List ℕ) (files : List FileFact) (place : ℕ) (file : FileFact) → place < length files → file ≡ get_or files place file
+    → option_or (file_at q (take place files)) (cond (bytes_eq file.path q) (Some file) None) ≡ file_at q (take (place + 1) files)
+file_at_next q files place file within is =
+    sym (ap (file_at q) (take_more files place file within ∙ ap (λ f. take place files ++ f ∷ []) (sym is)) ∙ find-append (λ (f : FileFact). bytes_eq f.path q) (take place files) (file ∷ []))

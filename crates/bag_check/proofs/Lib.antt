@@ -1,3 +1,4 @@
+pub mod Bools
 pub mod Keyed
 pub mod Repeats
 pub mod Readings

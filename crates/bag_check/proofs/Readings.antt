@@ -64,7 +64,7 @@ module _ (kind : Kind) (files : List FileFact) (all : List Algorithm) (place : �
   pub fails_here : (fault : BagFault) → FailsToRead (manifest_at kind algorithm files) fault → FailsToRead (manifests_by kind files all) fault
   fails_here fault h =
       let P : List Manifest → Type 0 = λ ms. FailsToRead ms fault in
-      let Q : List Algorithm → Type 0 = λ as. FailsToRead (manifests_by kind files as) fault in
+      let Q : List Algorithm → Type 0 = λ some. FailsToRead (manifests_by kind files some) fault in
       let upto : FailsToRead (manifests_by kind files (take (place + 1) all)) fault = subst P (sym next) (fails_second (manifests_by kind files (take place all)) (manifest_at kind algorithm files) fault h) in
       subst Q (take-append-drop (place + 1) all)
       (subst P (sym (flat_map-append (λ (a : Algorithm). manifest_at kind a files) (take (place + 1) all) (drop (place + 1) all)))

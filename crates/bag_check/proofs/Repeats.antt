@@ -1,5 +1,5 @@
 -- A path that is listed twice, one entry on.
-use Rattle.std.proofs.Common.{◌≡◌, ℕ, ◌+◌, ◌<◌, Bool, true, false, ◌||◌, cond, List, [], ◌∷◌, ◌++◌, length, take, drop, get_or, refl, sym, ap, ◌∙◌}
+use Rattle.std.proofs.Common.{◌≡◌, ℕ, ◌+◌, ◌<◌, Bool, true, false, ◌||◌, not, List, [], ◌∷◌, ◌++◌, length, take, drop, get_or, refl, sym, ap, ◌∙◌}
 use Rattle.std.specs.List.{list_any}
 use Rattle.std.specs.Str.{bytes_eq}
 use Rattle.std.proofs.lemmas.List.{take_more, take-append-drop}
@@ -29,15 +29,17 @@ repeats-snoc (first ∷ entries) entry =
     rw (list_any-append (λ (e : ListedFile). bytes_eq e.path first.path) entries (entry ∷ []), repeats-snoc entries entry, bytes_eq-sym first.path entry.path)
     (mixed (is_listed first.path entries) (bytes_eq entry.path first.path) (repeats entries) (is_listed entry.path entries))
 
+kept : (a b c d : Bool) → (c ≡ true → d ≡ true) → (a || c) ≡ true → ((a || b) || d) ≡ true
+kept true b c d goes h = refl
+kept false b c d goes h = rw (goes h) (or-true b)
+
 -- what repeats goes on to
 repeats-more : (entries more : List ListedFile) → repeats entries ≡ true → repeats (entries ++ more) ≡ true
 unfolding repeats
 repeats-more [] more h = cc
-repeats-more (first ∷ entries) more h = rw (list_any-append (λ (e : ListedFile). bytes_eq e.path first.path) entries more) (go (is_listed first.path entries) refl)
-  where
-    go : (b : Bool) → is_listed first.path entries ≡ b → ((b || is_listed first.path more) || repeats (entries ++ more)) ≡ true
-    go true e = refl
-    go false e = rw (repeats-more entries more (rw e at h)) (or-true (is_listed first.path more))
+repeats-more (first ∷ entries) more h =
+    rw (list_any-append (λ (e : ListedFile). bytes_eq e.path first.path) entries more)
+    (kept (is_listed first.path entries) (is_listed first.path more) (repeats entries) (repeats (entries ++ more)) (repeats-more entries more) h)
 
 module _ (entries : List ListedFile) (place : ℕ) (entry : ListedFile) (within : place < length entries) (is : entry ≡ get_or entries place entry) where
   next : take (place + 1) entries ≡ take place entries ++ entry ∷ []
@@ -55,3 +57,16 @@ module _ (entries : List ListedFile) (place : ℕ) (entry : ListedFile) (within 
   listed_next q =
       ap (is_listed q) next ∙ (list_any-append (λ (e : ListedFile). bytes_eq e.path q) (take place entries) (entry ∷ [])
       ∙ (ap (λ t. is_listed q (take place entries) || t) (or-false (bytes_eq entry.path q)) ∙ or_comm (is_listed q (take place entries)) (bytes_eq entry.path q)))
+
+-- a test that each element passes alike
+pub same_any : {X : Type 0} (p q : X → Bool) → ((x : X) → p x ≡ q x) → (xs : List X) → list_any p xs ≡ list_any q xs
+same_any p q same [] = refl
+same_any p q same (x ∷ xs) = rw (same x, same_any p q same xs) refl
+
+pub not_added : (added there : Bool) → added ≡ not there → added ≡ false → there ≡ true
+not_added added true e h = refl
+not_added added false e h = sym h ∙ e
+
+pub newly_added : (added there : Bool) → added ≡ not there → added ≡ true → there ≡ false
+newly_added added false e h = refl
+newly_added added true e h = sym h ∙ e

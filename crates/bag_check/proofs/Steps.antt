@@ -120,6 +120,10 @@ Checks-err : (found : Result BagId BagFault) (fault : BagFault) → found ≡ Er
 Checks-err found Memory h = tt
 Checks-err found fault h = h
 
+pub tag_files_are : (facts : TreeFacts) (files : List FileFact) (payload : Bool) (fault : Option BagFault) → files ≡ facts.files → payload ≡ facts.payload → fault ≡ fault_of_tag_files files payload
+    → fault_of_tag_files facts.files facts.payload ≡ fault
+tag_files_are facts files payload fault same stands found = cc
+
 module _ (facts : TreeFacts) where
   check_of-is : (fault : Option BagFault) → option_or (fault_of_tag_files facts.files facts.payload) (later_steps facts) ≡ fault → check_of facts ≡ answer facts fault
   unfolding check_of

@@ -48,9 +48,13 @@ sha512_manifest = manifest_name Payload Sha512
 unfoldable pub is_manifest : List ℕ → Bool
 is_manifest path = length (parts_of path) == 1 && list_any (λ kind. is_text_named (front_of kind) path) kinds
 
+-- the path is that of a manifest of this kind, of an algorithm that is read
+unfoldable pub is_known_of_kind : Kind → List ℕ → Bool
+is_known_of_kind kind path = list_any (λ algorithm. bytes_eq path (manifest_name kind algorithm)) algorithms
+
 -- the path is that of a manifest of an algorithm that is read
 unfoldable pub is_known_manifest : List ℕ → Bool
-is_known_manifest path = list_any (λ kind. list_any (λ algorithm. bytes_eq path (manifest_name kind algorithm)) algorithms) kinds
+is_known_manifest path = list_any (λ kind. is_known_of_kind kind path) kinds
 
 -- a manifest: its kind, its algorithm and its bytes
 pub record Manifest : Type 0 where

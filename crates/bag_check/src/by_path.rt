@@ -80,8 +80,9 @@ fn put<'a>(
         ≡ option_or (option_copied (get_by (λ k. slice_cmp nat_cmp q k.now) by_path.old))
         (cond (bytes_eq file.now.path q) (Some file.now) None)) }
 {
-    if !by_path.contains_key(file.path()) {
-        by_path.insert(file.path(), file)?;
+    let path = file.path();
+    if !by_path.contains_key(path) {
+        by_path.insert(path, file)?;
     }
     Ok(())
 }

@@ -1,4 +1,5 @@
 ghost use Rattle.std.specs.Prelude.{◌≡◌, codes};
+ghost use Rattle.std.specs.List.{list_any};
 ghost use Rattle.bag_text.specs.Reading.{declaration_of};
 ghost use Rattle.bag_check.specs.Check.{is_supported_version, is_supported_encoding};
 ghost use Rattle.bag_check.specs.Manifests.{text_at};
@@ -68,14 +69,20 @@ fn fault_of_names(files: &[FileFacts], payload: bool) -> Option<BagFault>
         Some(BagFault::NoPayloadFolder)
     } else if !has_file(files, Kind::Payload.manifest_name(Algorithm::Sha512)) {
         Some(BagFault::NoSha512Manifest)
-    } else if files.iter().any(|file| is_unknown(file)) {
+    } else if some_unknown(files) {
         Some(BagFault::UnknownAlgorithm)
     } else {
         None
     }
 }
 
-/// Whether a file is a manifest of an algorithm that isn't read.
+/// Whether a manifest is of an algorithm that isn't read.
+fn some_unknown(files: &[FileFacts]) -> bool
+    ensures { result ≡ list_any is_unknown files.now }
+{
+    files.iter().any(|file| is_unknown(file))
+}
+
 #[tactic(auto, unfolding(crate::specs::Order::is_unknown))]
 fn is_unknown(file: &FileFacts) -> bool
     ensures { result ≡ is_unknown file.now }

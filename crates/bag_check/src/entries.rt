@@ -1,11 +1,11 @@
-ghost use Rattle.std.specs.Prelude.{◌≡◌, ℕ, List, IfOk, Option};
+ghost use Rattle.std.specs.Prelude.{◌≡◌, ℕ, not, ◌&&◌, List, IfOk};
 ghost use Rattle.std.specs.Cmp.Lexicographic.{slice_cmp};
 ghost use Rattle.std.specs.Ordering.{nat_cmp};
 ghost use Rattle.std.specs.List.{list_any};
-ghost use Rattle.std.specs.Option.{option_copied};
 ghost use Rattle.std.specs.BTreeSet.{contains_by};
+ghost use Rattle.bag_tree.specs.Path.{is_payload};
 ghost use Rattle.bag_check.specs.Manifests.{is_listed};
-ghost use Rattle.bag_check.specs.Check.{is_astray, is_wrong, repeats, is_unlisted, digest_by, has_other_digest};
+ghost use Rattle.bag_check.specs.Check.{is_astray, is_wrong, repeats, is_unlisted, digest_by};
 ghost use Rattle.bag_check.specs.Order.{fault_of_listings, has_astray, has_repeat, has_missing, has_unlisted, has_wrong};
 
 use crate::by_path::FilesByPath;
@@ -18,6 +18,7 @@ use std::alloc::{AllocError, Global};
 use std::collections::BTreeSet;
 
 /// The first fault of what the manifests list. Each is asked of all manifests before the next one.
+#[tactic(auto, unfolding(crate::specs::Order::fault_of_listings))]
 pub(crate) fn fault_of_listings(
     alloc: Global,
     listings: &[Listing],
@@ -25,15 +26,15 @@ pub(crate) fn fault_of_listings(
 ) -> Result<Option<BagFault>, AllocError>
     ensures { IfOk result (λ fault. fault ≡ fault_of_listings files.now listings.now) }
 {
-    let fault = if listings.iter().any(|listing| has_astray(listing)) {
+    let fault = if some_astray(listings) {
         Some(BagFault::UnsafePath)
     } else if some_repeat(alloc, listings)? {
         Some(BagFault::DuplicateEntry)
-    } else if listings.iter().any(|listing| has_missing(files, listing)) {
+    } else if some_missing(files, listings) {
         Some(BagFault::MissingFile)
     } else if some_unlisted(alloc, files, listings)? {
         Some(BagFault::UnlistedFile)
-    } else if listings.iter().any(|listing| has_wrong(files, listing)) {
+    } else if some_wrong(files, listings) {
         Some(BagFault::WrongDigest)
     } else {
         None
@@ -42,6 +43,12 @@ pub(crate) fn fault_of_listings(
 }
 
 // ---- paths that are unsafe, or on the wrong side of the payload's folder
+
+fn some_astray(listings: &[Listing]) -> bool
+    ensures { result ≡ list_any has_astray listings.now }
+{
+    listings.iter().any(|listing| has_astray(listing))
+}
 
 fn has_astray(listing: &Listing) -> bool
     ensures { result ≡ has_astray listing.now }
@@ -89,7 +96,8 @@ fn repeats(alloc: Global, entries: &[Entry]) -> Result<bool, AllocError>
 {
     let mut seen = BTreeSet::new(alloc);
     for entry in entries {
-        if !seen.insert(entry.path())? {
+        let added = seen.insert(entry.path())?;
+        if !added {
             return Ok(true);
         }
     }
@@ -97,6 +105,12 @@ fn repeats(alloc: Global, entries: &[Entry]) -> Result<bool, AllocError>
 }
 
 // ---- listed files that aren't there
+
+fn some_missing(files: &FilesByPath<'_>, listings: &[Listing]) -> bool
+    ensures { result ≡ list_any (has_missing files.now) listings.now }
+{
+    listings.iter().any(|listing| has_missing(files, listing))
+}
 
 fn has_missing(files: &FilesByPath<'_>, listing: &Listing) -> bool
     ensures { result ≡ has_missing files.now listing.now }
@@ -139,10 +153,22 @@ fn leaves_out(alloc: Global, entries: &[Entry], files: &[FileFacts]) -> Result<b
     ensures { IfOk result (λ found. found ≡ list_any (is_unlisted entries.now) files.now) }
 {
     let listed = listed_paths(alloc, entries)?;
-    let found = files
-        .iter()
-        .any(|file| is_payload(file.path().as_bytes()) && !listed.contains(file.path()));
-    Ok(found)
+    Ok(some_outside(&listed, files))
+}
+
+/// Whether a payload file is none of the listed ones.
+fn some_outside(listed: &BTreeSet<&str>, files: &[FileFacts]) -> bool
+    ensures { result ≡ list_any (λ file. is_payload file.path
+        && not (contains_by (λ k. slice_cmp nat_cmp file.path k.now) listed.now)) files.now }
+{
+    files.iter().any(|file| is_outside(listed, file))
+}
+
+fn is_outside(listed: &BTreeSet<&str>, file: &FileFacts) -> bool
+    ensures { result ≡ (is_payload file.now.path
+        && not (contains_by (λ k. slice_cmp nat_cmp file.now.path k.now) listed.now)) }
+{
+    is_payload(file.path().as_bytes()) && !listed.contains(file.path())
 }
 
 fn listed_paths(alloc: Global, entries: &[Entry]) -> Result<BTreeSet<&str>, AllocError>
@@ -157,6 +183,12 @@ fn listed_paths(alloc: Global, entries: &[Entry]) -> Result<BTreeSet<&str>, Allo
 }
 
 // ---- digests that aren't those of their files
+
+fn some_wrong(files: &FilesByPath<'_>, listings: &[Listing]) -> bool
+    ensures { result ≡ list_any (has_wrong files.now) listings.now }
+{
+    listings.iter().any(|listing| has_wrong(files, listing))
+}
 
 fn has_wrong(files: &FilesByPath<'_>, listing: &Listing) -> bool
     ensures { result ≡ has_wrong files.now listing.now }

@@ -1,4 +1,4 @@
-ghost use Rattle.std.specs.Prelude.{◌≡◌};
+ghost use Rattle.std.specs.Prelude.{◌≡◌, ◌==◌, length};
 
 use bag_text::Algorithm;
 
@@ -10,9 +10,6 @@ pub enum Kind {
     /// It lists files beside the payload's folder.
     Tag,
 }
-
-/// All kinds of manifests.
-pub(crate) const KINDS: [Kind; 2] = [Kind::Payload, Kind::Tag];
 
 /// The algorithms of which manifests are read.
 pub(crate) const ALGORITHMS: [Algorithm; 4] = [
@@ -53,16 +50,23 @@ impl Kind {
     }
 }
 
-ghost use Rattle.bag_tree.specs.Path.{is_text_named};
-ghost use Rattle.bag_check.specs.Manifests.{is_manifest, is_known_manifest};
+
+ghost use Rattle.bag_tree.specs.Path.{parts_of, is_text_named};
+ghost use Rattle.bag_check.specs.Manifests.{is_manifest, is_known_of_kind, is_known_manifest};
 
 /// Whether a path is that of a manifest, of whichever algorithm: a file at the bag's own level.
-#[tactic(auto, unfolding(crate::specs::Manifests::is_manifest))]
+#[tactic(auto, using(crate::proofs::Bools::or_false), unfolding(crate::specs::Manifests::is_manifest))]
 pub(crate) fn is_manifest(path: &[u8]) -> bool
     ensures { result ≡ is_manifest path.now }
 {
+    is_at_top(path)
+        && (is_text_named(Kind::Payload.front(), path) || is_text_named(Kind::Tag.front(), path))
+}
+
+fn is_at_top(path: &[u8]) -> bool
+    ensures { result ≡ (length (parts_of path.now) == 1) }
+{
     path.split(|byte| *byte == b'/').count() == 1
-        && KINDS.iter().any(|kind| is_text_named(kind.front(), path))
 }
 
 fn is_text_named(front: &[u8], path: &[u8]) -> bool
@@ -72,13 +76,19 @@ fn is_text_named(front: &[u8], path: &[u8]) -> bool
 }
 
 /// Whether a path is that of a manifest that is read.
-#[tactic(auto, unfolding(crate::specs::Manifests::is_known_manifest))]
+#[tactic(auto, using(crate::proofs::Bools::or_false), unfolding(crate::specs::Manifests::is_known_manifest))]
 pub(crate) fn is_known_manifest(path: &[u8]) -> bool
     ensures { result ≡ is_known_manifest path.now }
 {
-    KINDS.iter().any(|kind| {
-        ALGORITHMS
-            .iter()
-            .any(|algorithm| path == kind.manifest_name(*algorithm))
-    })
+    is_known_of_kind(Kind::Payload, path) || is_known_of_kind(Kind::Tag, path)
+}
+
+#[tactic(auto, using(crate::proofs::Bools::or_false), unfolding(crate::specs::Manifests::is_known_of_kind))]
+fn is_known_of_kind(kind: Kind, path: &[u8]) -> bool
+    ensures { result ≡ is_known_of_kind kind path.now }
+{
+    path == kind.manifest_name(Algorithm::Md5)
+        || path == kind.manifest_name(Algorithm::Sha1)
+        || path == kind.manifest_name(Algorithm::Sha256)
+        || path == kind.manifest_name(Algorithm::Sha512)
 }
