@@ -1,6 +1,7 @@
 -- Reading manifests, one manifest on.
 use Rattle.std.proofs.Common.{◌≡◌, ℕ, ◌+◌, ◌<◌, Bool, true, false, ◌||◌, List, [], ◌∷◌, ◌++◌, length, take, drop, get_or, Some, None, Result, Ok, Err, refl, sym, ap, ◌∙◌, append_assoc, append-nil, subst}
 use Rattle.std.specs.List.{list_any, flat_map}
+use Rattle.std.specs.Result.{IsErrAnd, IfErr}
 use Rattle.std.proofs.Math.Bool.{or-true, or-false}
 use Rattle.std.proofs.lemmas.Grind.{flat_map-append}
 use Rattle.std.proofs.lemmas.List.{take_more, take-append-drop}
@@ -49,9 +50,12 @@ fails_second a b fault h = absurd h
 abbrev pub manifests_by : Kind → List FileFact → List Algorithm → List Manifest
 manifests_by kind files = flat_map (λ algorithm. manifest_at kind algorithm files)
 
-module _ (kind : Kind) (files : List FileFact) (all : List Algorithm) (place : ℕ) (algorithm : Algorithm) (within : place < length all) (is : algorithm ≡ get_or all place algorithm) where
+module _ (kind : Kind) (files : List FileFact) (all : List Algorithm) (place : ℕ) (other : Algorithm) (within : place < length all) where
+  abbrev algorithm : Algorithm
+  algorithm = get_or all place other
+
   next : manifests_by kind files (take (place + 1) all) ≡ manifests_by kind files (take place all) ++ manifest_at kind algorithm files
-  next = ap (manifests_by kind files) (take_more all place algorithm within ∙ ap (λ a. take place all ++ a ∷ []) (sym is))
+  next = ap (manifests_by kind files) (take_more all place other within)
       ∙ (flat_map-append (λ (a : Algorithm). manifest_at kind a files) (take place all) (algorithm ∷ [])
       ∙ ap (λ x. manifests_by kind files (take place all) ++ x) (append-nil (manifest_at kind algorithm files)))
 
@@ -77,6 +81,32 @@ of_kind kind files = refl
 pub of_both : (facts : TreeFacts) → manifests_of facts ≡ manifests_of_kind Payload facts.files ++ manifests_of_kind Tag facts.files
 unfolding manifests_of
 of_both facts = ap (λ x. manifests_of_kind Payload facts.files ++ x) (append-nil (manifests_of_kind Tag facts.files))
+
+pub reads_kinds : (facts : TreeFacts) (files files_too : List FileFact) (empty between after : List Listed) → files ≡ facts.files → files_too ≡ facts.files → empty ≡ []
+    → Reads (manifests_of_kind Payload files) empty between → Reads (manifests_of_kind Tag files_too) between after → Reads (manifests_of facts) [] after
+reads_kinds facts files files_too empty between after same same_too none payload tags =
+    let P : List Manifest → Type 0 = λ ms. Reads ms [] after in
+    let F : List FileFact → Type 0 = λ fs. Reads (manifests_of_kind Payload fs) [] between in
+    let E : List Listed → Type 0 = λ before. Reads (manifests_of_kind Payload files) before between in
+    let G : List FileFact → Type 0 = λ fs. Reads (manifests_of_kind Tag fs) between after in
+    subst P (sym (of_both facts)) (reads_both (manifests_of_kind Payload facts.files) (manifests_of_kind Tag facts.files) [] between after (subst F same (subst E none payload)) (subst G same_too tags))
+
+pub fails_payload : (facts : TreeFacts) (files : List FileFact) (fault : BagFault) → files ≡ facts.files → FailsToRead (manifests_of_kind Payload files) fault → FailsToRead (manifests_of facts) fault
+fails_payload facts files fault same h =
+    let P : List Manifest → Type 0 = λ ms. FailsToRead ms fault in
+    let F : List FileFact → Type 0 = λ fs. FailsToRead (manifests_of_kind Payload fs) fault in
+    subst P (sym (of_both facts)) (fails_first (manifests_of_kind Payload facts.files) (manifests_of_kind Tag facts.files) fault (subst F same h))
+
+pub fails_tag : (facts : TreeFacts) (files : List FileFact) (fault : BagFault) → files ≡ facts.files → FailsToRead (manifests_of_kind Tag files) fault → FailsToRead (manifests_of facts) fault
+fails_tag facts files fault same h =
+    let P : List Manifest → Type 0 = λ ms. FailsToRead ms fault in
+    let F : List FileFact → Type 0 = λ fs. FailsToRead (manifests_of_kind Tag fs) fault in
+    subst P (sym (of_both facts)) (fails_second (manifests_of_kind Payload facts.files) (manifests_of_kind Tag facts.files) fault (subst F same h))
+
+-- an error that a `?` hands on
+pub handed_on : {X : Type 0} (answer : Result X BagFault) (fault : BagFault) (P : BagFault → Type 0) → IsErrAnd answer (λ other. other ≡ fault) → P fault → IfErr answer P
+handed_on (Ok x) fault P is h = absurd is
+handed_on (Err other) fault P is h = subst P (sym is) h
 
 -- ---- one manifest
 

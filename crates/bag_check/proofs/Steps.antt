@@ -1,7 +1,9 @@
 -- The first fault of a tree, as it is looked for.
-use Rattle.std.proofs.Common.{◌≡◌, ℕ, Bool, true, false, ◌||◌, ◌&&◌, cond, not, List, [], ◌∷◌, ◌++◌, Option, Some, None, Result, Ok, Err, refl, sym, ap, ◌∙◌}
+use Rattle.std.proofs.Common.{◌≡◌, ℕ, Bool, true, false, ◌||◌, ◌&&◌, cond, not, List, [], ◌∷◌, ◌++◌, Option, Some, None, Result, Ok, Err, refl, sym, ap, subst, ◌∙◌}
 use Rattle.std.specs.Prelude.{codes, is_some, is_err, unwrap_or}
 use Rattle.std.specs.List.{list_any, flat_map}
+use Rattle.std.specs.Result.{IsErrAnd}
+use Rattle.sha2.specs.Sha512.{sha512}
 use Rattle.std.specs.Option.{option_or, option_map}
 use Rattle.std.proofs.lemmas.List.Folds.{list_any-append}
 use Rattle.std.proofs.Math.Bool.{or-false}
@@ -123,6 +125,22 @@ Checks-err found fault h = h
 pub tag_files_are : (facts : TreeFacts) (files : List FileFact) (payload : Bool) (fault : Option BagFault) → files ≡ facts.files → payload ≡ facts.payload → fault ≡ fault_of_tag_files files payload
     → fault_of_tag_files facts.files facts.payload ≡ fault
 tag_files_are facts files payload fault same stands found = cc
+
+pub listings_are : (facts : TreeFacts) (files by_path : List FileFact) (found slice : List Listed) (fault : Option BagFault) → files ≡ facts.files → by_path ≡ files → slice ≡ found
+    → fault ≡ fault_of_listings by_path slice → fault_of_listings facts.files found ≡ fault
+listings_are facts files by_path found slice fault same indexed sliced h = cc
+
+pub identified : (facts : TreeFacts) (files : List FileFact) (bag : BagId) → files ≡ facts.files → bag ≡ record { 0 = sha512 (unwrap_or (text_at sha512_manifest files) []) } → bag ≡ identity_of facts
+identified facts files bag same h =
+    let P : List FileFact → Type 0 = λ fs. bag ≡ record { 0 = sha512 (unwrap_or (text_at sha512_manifest fs) []) } in
+    subst P same h
+
+-- an error that a `?` hands on
+pub checks_handed_on : (found answer : Result BagId BagFault) (fault : BagFault) → IsErrAnd answer (λ other. other ≡ fault) → Checks found (Err fault) → Checks found answer
+checks_handed_on found (Ok bag) fault is h = absurd is
+checks_handed_on found (Err other) fault is h =
+    let P : BagFault → Type 0 = λ f. Checks found (Err f) in
+    subst P (sym is) h
 
 module _ (facts : TreeFacts) where
   check_of-is : (fault : Option BagFault) → option_or (fault_of_tag_files facts.files facts.payload) (later_steps facts) ≡ fault → check_of facts ≡ answer facts fault

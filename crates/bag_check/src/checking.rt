@@ -1,4 +1,6 @@
-ghost use Rattle.std.specs.Prelude.{◌≡◌};
+ghost use Rattle.std.specs.Prelude.{◌≡◌, [], unwrap_or};
+ghost use Rattle.sha2.specs.Sha512.{sha512};
+ghost use Rattle.bag_check.specs.Manifests.{text_at, sha512_manifest};
 ghost use Rattle.bag_check.specs.Check.{check_of, Checks};
 
 use crate::by_path::FilesByPath;
@@ -9,7 +11,7 @@ use crate::lookups::text_at;
 use crate::manifests::Kind;
 use crate::reading::listings;
 use bag_text::Algorithm;
-use bag_tree::Facts;
+use bag_tree::{Facts, FileFacts};
 use fed_types::BagId;
 use sha2::{Digest, Sha512};
 use std::alloc::Global;
@@ -28,6 +30,13 @@ pub fn check(alloc: Global, facts: &Facts) -> Result<BagId, BagFault>
     if let Some(fault) = fault_of_listings(alloc, listings.as_slice(), &by_path)? {
         return Err(fault);
     }
-    let text = text_at(files, Kind::Payload.manifest_name(Algorithm::Sha512)).unwrap_or(&[]);
-    Ok(BagId(Sha512::digest(text)))
+    Ok(identity(files))
+}
+
+/// The SHA-512 of the bytes of `manifest-sha512.txt`, as they stand.
+fn identity(files: &[FileFacts]) -> BagId
+    ensures { result ≡ record { 0 = sha512 (unwrap_or (text_at sha512_manifest files.now) []) } }
+{
+    let text = text_at(files, Kind::Payload.manifest_name(Algorithm::Sha512));
+    BagId(Sha512::digest(text.unwrap_or(&[])))
 }
