@@ -5,12 +5,10 @@ use Rattle.std.specs.Str.{bytes_eq, str_eq_ignore_ascii_case}
 use Rattle.sha2.specs.Sha512.{sha512}
 use Rattle.fed_types.specs.declared.bag_id.BagId.{BagId}
 use Rattle.bag_text.specs.declared.algorithm.Algorithm.{Algorithm}
-use Rattle.bag_text.specs.declared.algorithm.Algorithm.TheVariants.{Md5, Sha1, Sha256, Sha512}
 use Rattle.bag_text.specs.ListedFile.{ListedFile}
 use Rattle.bag_text.specs.Reading.{declaration_of}
-use Rattle.bag_tree.specs.declared.digests.Digests.{Digests}
 use Rattle.bag_tree.specs.Path.{is_unsafe, is_payload}
-use Rattle.bag_tree.specs.Facts.{FileFact, TreeFacts}
+use Rattle.bag_tree.specs.Facts.{FileFact, TreeFacts, digest_by}
 use Rattle.bag_check.specs.declared.fault.BagFault.{BagFault}
 use Rattle.bag_check.specs.declared.fault.BagFault.TheVariants.{NoDeclaration, BadDeclaration, UnsupportedVersion, UnsupportedEncoding, HasFetch, NoPayloadFolder, NoSha512Manifest, UnknownAlgorithm, MalformedLine, UnsafePath, DuplicateEntry, MissingFile, UnlistedFile, WrongDigest, Memory}
 use Rattle.bag_check.specs.declared.manifests.Kind.{Kind}
@@ -60,13 +58,6 @@ repeats (entry ∷ entries) = is_listed entry.path entries || repeats entries
 -- a payload file that isn't listed
 abbrev pub is_unlisted : List ListedFile → FileFact → Bool
 is_unlisted entries file = is_payload file.path && not (is_listed file.path entries)
-
--- a file's digest by the algorithm
-abbrev pub digest_by : Algorithm → Digests → List ℕ
-digest_by Md5 digests = digests.md5
-digest_by Sha1 digests = digests.sha1
-digest_by Sha256 digests = digests.sha256
-digest_by Sha512 digests = digests.sha512
 
 -- the file is there, and its digest is another
 abbrev pub has_other_digest : Algorithm → List ℕ → Option FileFact → Bool

@@ -5,7 +5,7 @@ ghost use Rattle.std.specs.List.{list_any};
 ghost use Rattle.std.specs.BTreeSet.{contains_by};
 ghost use Rattle.bag_tree.specs.Path.{is_payload};
 ghost use Rattle.bag_check.specs.Manifests.{is_listed};
-ghost use Rattle.bag_check.specs.Check.{is_astray, is_wrong, repeats, is_unlisted, digest_by};
+ghost use Rattle.bag_check.specs.Check.{is_astray, is_wrong, repeats, is_unlisted};
 ghost use Rattle.bag_check.specs.Order.{fault_of_listings, has_astray, has_repeat, has_missing, has_unlisted, has_wrong};
 
 use crate::by_path::FilesByPath;
@@ -13,7 +13,7 @@ use crate::fault::BagFault;
 use crate::manifests::Kind;
 use crate::reading::Listing;
 use bag_text::{Algorithm, Entry};
-use bag_tree::{Digests, FileFacts, has_unsafe_part, is_payload};
+use bag_tree::{FileFacts, has_unsafe_part, is_payload};
 use std::alloc::{AllocError, Global};
 use std::collections::BTreeSet;
 
@@ -205,18 +205,6 @@ fn is_wrong(algorithm: Algorithm, files: &FilesByPath<'_>, entry: &Entry) -> boo
 {
     match files.file_at(entry.path()) {
         None => false,
-        Some(file) => digest_by(algorithm, file.digests()) != entry.digest(),
-    }
-}
-
-/// A file's digest by an algorithm.
-fn digest_by(algorithm: Algorithm, digests: &Digests) -> &[u8]
-    ensures { result.now ≡ digest_by algorithm digests.now }
-{
-    match algorithm {
-        Algorithm::Md5 => &digests.md5,
-        Algorithm::Sha1 => &digests.sha1,
-        Algorithm::Sha256 => &digests.sha256,
-        Algorithm::Sha512 => &digests.sha512,
+        Some(file) => file.digests().by(algorithm) != entry.digest(),
     }
 }
