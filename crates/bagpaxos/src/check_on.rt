@@ -1,6 +1,6 @@
 //! One check of a folder.
 
-ghost use Rattle.std.specs.Prelude.{◌≡◌, ◌⊎◌, IfOk, IfSome, IsErrOf, string_bytes};
+ghost use Rattle.std.specs.Prelude.{◌≡◌, ◌⊎◌, IfErr, IfOk, IfSome, IsErrOf, string_bytes};
 ghost use Rattle.bagpaxos.specs.Outcomes.{no_memory, Tells, BeginsToTell};
 ghost use Rattle.bagpaxos.specs.Verdicts.{verdict_of, IsReached, outcome_of_verdict};
 
@@ -37,7 +37,7 @@ pub fn check_on<F: Folders, W: Write>(
     ensures output { IsErrOf result ProgramFault.Output → IfSome (F.gives folders.old) (λ gives.
         ((verdict : Verdict) × IsReached (verdict_of (gives path.now)) verdict × BeginsToTell (W.contents output.old) (W.contents output.new) (outcome_of_verdict verdict))
         ⊎ BeginsToTell (W.contents output.old) (W.contents output.new) no_memory) }
-    ensures input { IfErr result (λ fault. fault ≡ ProgramFault.Output) }
+    ensures fault { IfErr result (λ fault. fault ≡ ProgramFault.Output) }
 {
     let verdict = verdict_on(alloc, folders, path);
     match line_of(alloc, verdict) {
