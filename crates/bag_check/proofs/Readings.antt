@@ -30,9 +30,10 @@ unfolding some_malformed listings
 reads_none before = (refl, sym (append-nil before))
 
 pub reads_both : (a b : List Manifest) (before between after : List Listed) → Reads a before between → Reads b between after → Reads (a ++ b) before after
-reads_both a b before between after (sound, found) (sound_too, more) =
-    (some_malformed-append a b ∙ (ap (λ t. t || some_malformed b) sound ∙ sound_too),
-    more ∙ (ap (λ x. x ++ listings b) found ∙ (append_assoc before (listings a) (listings b) ∙ ap (λ x. before ++ x) (sym (listings-append a b)))))
+reads_both a b before between after (sound, found) (sound_too, more) = (
+  some_malformed-append a b ∙ (ap (λ t. t || some_malformed b) sound ∙ sound_too),
+  more ∙ (ap (λ x. x ++ listings b) found ∙ (append_assoc before (listings a) (listings b) ∙ ap (λ x. before ++ x) (sym (listings-append a b)))),
+)
 
 -- reading fails where reading a part fails
 pub fails_first : (a b : List Manifest) (fault : BagFault) → FailsToRead a fault → FailsToRead (a ++ b) fault
