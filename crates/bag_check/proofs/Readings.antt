@@ -1,8 +1,8 @@
 -- Reading manifests, one manifest on.
-use Rattle.std.proofs.Common.{◌≡◌, ℕ, ◌+◌, ◌<◌, Bool, true, false, ◌||◌, List, [], ◌∷◌, ◌++◌, length, take, drop, get_or, Some, None, Result, Ok, Err, refl, sym, ap, ◌∙◌, append_assoc, append-nil, subst}
-use Rattle.std.specs.List.{list_any, flat_map}
+use Rattle.std.proofs.Common.{◌≡◌, ℕ, ◌+◌, ◌<◌, ◌||◌, List, [], ◌∷◌, ◌++◌, length, take, drop, get_or, Some, None, Result, Ok, Err, refl, sym, ap, ◌∙◌, append_assoc, append-nil, subst}
+use Rattle.std.specs.List.{flat_map}
 use Rattle.std.specs.Result.{IsErrAnd, IfErr}
-use Rattle.std.proofs.Math.Bool.{or-true, or-false}
+use Rattle.std.proofs.Math.Bool.{or-true}
 use Rattle.std.proofs.lemmas.Grind.{flat_map-append}
 use Rattle.std.proofs.lemmas.List.{take_more, take-append-drop}
 use Rattle.std.proofs.lemmas.List.Folds.{list_any-append}
@@ -14,7 +14,7 @@ use Rattle.bag_check.specs.declared.fault.BagFault.{BagFault}
 use Rattle.bag_check.specs.declared.fault.BagFault.TheVariants.{MalformedLine, Memory}
 use Rattle.bag_check.specs.declared.manifests.Kind.{Kind}
 use Rattle.bag_check.specs.declared.manifests.Kind.TheVariants.{Payload, Tag}
-use Rattle.bag_check.specs.Manifests.{Manifest, text_at, manifest_name, manifest_in, manifest_at, manifests_of_kind, manifests_of, algorithms, is_malformed, entries}
+use Rattle.bag_check.specs.Manifests.{Manifest, text_at, manifest_name, manifest_at, manifests_of_kind, manifests_of, algorithms, is_malformed, entries}
 use Rattle.bag_check.specs.Order.{Listed, listed_in, listings, some_malformed, Reads, FailsToRead}
 
 listings-append : (a b : List Manifest) → listings (a ++ b) ≡ listings a ++ listings b
@@ -30,9 +30,10 @@ unfolding some_malformed listings
 reads_none before = (refl, sym (append-nil before))
 
 pub reads_both : (a b : List Manifest) (before between after : List Listed) → Reads a before between → Reads b between after → Reads (a ++ b) before after
-reads_both a b before between after (sound, found) (sound_too, more) =
-    (some_malformed-append a b ∙ (ap (λ t. t || some_malformed b) sound ∙ sound_too),
-    more ∙ (ap (λ x. x ++ listings b) found ∙ (append_assoc before (listings a) (listings b) ∙ ap (λ x. before ++ x) (sym (listings-append a b)))))
+reads_both a b before between after (sound, found) (sound_too, more) = (
+  some_malformed-append a b ∙ (ap (λ t. t || some_malformed b) sound ∙ sound_too),
+  more ∙ (ap (λ x. x ++ listings b) found ∙ (append_assoc before (listings a) (listings b) ∙ ap (λ x. before ++ x) (sym (listings-append a b)))),
+)
 
 -- reading fails where reading a part fails
 pub fails_first : (a b : List Manifest) (fault : BagFault) → FailsToRead a fault → FailsToRead (a ++ b) fault

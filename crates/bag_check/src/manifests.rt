@@ -50,7 +50,6 @@ impl Kind {
     }
 }
 
-
 ghost use Rattle.bag_tree.specs.Path.{parts_of, is_text_named};
 ghost use Rattle.bag_check.specs.Manifests.{is_manifest, is_known_of_kind, is_known_manifest};
 

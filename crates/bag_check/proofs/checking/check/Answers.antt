@@ -1,10 +1,6 @@
-use Rattle.std.proofs.Common.{◌≡◌, List, [], Some, None, Ok, Result, ap, sym, subst, ◌∙◌}
-use Rattle.bag_tree.specs.Facts.{FileFact}
+use Rattle.std.proofs.Common.{Some, None, Ok, ap, sym, ◌∙◌}
 use Rattle.fed_types.specs.declared.bag_id.BagId.{BagId}
-use Rattle.bag_check.specs.declared.fault.BagFault.{BagFault}
-use Rattle.bag_check.specs.Manifests.{manifests_of}
-use Rattle.bag_check.specs.Check.{check_of, Checks}
-use Rattle.bag_check.specs.Order.{Listed, Reads, fault_of_tag_files, fault_of_listings}
+use Rattle.bag_check.specs.Check.{check_of}
 use Rattle.bag_check.proofs.Steps.{faulty_tag_files, not_read, faulty_listing, valid, tag_files_are, checks_handed_on, listings_are, identified}
 use Rattle.bag_check.proofs.checking.check.Goals as goal
 

@@ -25,9 +25,9 @@ loop-entry-preserved c =
     let absent : has_text c.path.result.now before ≡ false = newly_added c.in_ok-added.added _ c.in_ok-added.ensures.added c.if-not-added.false in
     record {
       seen = λ q. has_text-inserted c.path.result before c.insert.new.self c.in_ok-added.ensures.updates q
-      ∙ (ap (λ p. bytes_eq p q || has_text q before) c.path.ensures
-      ∙ (ap (λ t. bytes_eq entry.path q || t) (c.loop-entry.invariant.seen q)
-      ∙ sym (listed_next entries c.loop-entry.entry-index entry c.loop-entry-test.true c.entry-item.is q)));
+          ∙ (ap (λ p. bytes_eq p q || has_text q before) c.path.ensures
+          ∙ (ap (λ t. bytes_eq entry.path q || t) (c.loop-entry.invariant.seen q)
+          ∙ sym (listed_next entries c.loop-entry.entry-index entry c.loop-entry-test.true c.entry-item.is q)));
       once = repeat_passed entries c.loop-entry.entry-index entry c.loop-entry-test.true c.entry-item.is c.loop-entry.invariant.once
-      (sym (c.loop-entry.invariant.seen entry.path) ∙ (ap (λ p. has_text p before) (sym c.path.ensures) ∙ absent));
+          (sym (c.loop-entry.invariant.seen entry.path) ∙ (ap (λ p. has_text p before) (sym c.path.ensures) ∙ absent));
     }

@@ -1,5 +1,4 @@
-use Rattle.std.proofs.Common.{◌≡◌, Some, Ok, Err, ap, sym, ◌∙◌}
-use Rattle.bag_text.specs.Reading.{entries_of}
+use Rattle.std.proofs.Common.{◌≡◌, Some, ap, sym, ◌∙◌}
 use Rattle.bag_check.specs.Manifests.{text_at, manifest_name}
 use Rattle.bag_check.proofs.Readings.{no_manifest, one_read, one_malformed}
 use Rattle.bag_check.proofs.reading.read.Goals as goal

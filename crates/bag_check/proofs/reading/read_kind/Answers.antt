@@ -1,4 +1,4 @@
-use Rattle.std.proofs.Common.{◌≡◌, ℕ, List, sym, subst, take, length}
+use Rattle.std.proofs.Common.{List, sym, subst}
 use Rattle.std.proofs.lemmas.List.{take_all}
 use Rattle.bag_text.specs.declared.algorithm.Algorithm.{Algorithm}
 use Rattle.bag_check.specs.declared.fault.BagFault.{BagFault}
