@@ -13,9 +13,9 @@ use Rattle.bag_tree.specs.Facts.{FileFact, TreeFacts}
 use Rattle.fed_types.specs.declared.bag_id.BagId.{BagId}
 use Rattle.bag_check.specs.declared.fault.BagFault.{BagFault}
 use Rattle.bag_check.specs.declared.fault.BagFault.TheVariants.{NoDeclaration, BadDeclaration, UnsupportedVersion, UnsupportedEncoding, HasFetch, NoPayloadFolder, NoSha512Manifest, UnknownAlgorithm, MalformedLine, UnsafePath, DuplicateEntry, MissingFile, UnlistedFile, WrongDigest, Memory}
-use Rattle.bag_check.specs.Manifests.{Manifest, file_at, has_file, text_at, sha512_manifest, is_manifest, is_known_manifest, manifests_of, passes, is_malformed, entries}
+use Rattle.bag_check.specs.Manifests.{is_unknown, Manifest, file_at, has_file, text_at, sha512_manifest, is_manifest, is_known_manifest, manifests_of, passes, is_malformed, entries}
 use Rattle.bag_check.specs.Check.{is_bad_declaration, declares_other, fails, is_supported_version, is_supported_encoding, is_astray, repeats, is_unlisted, is_wrong, if_payload, some_manifest, holds, first_fault, answer, identity_of, check_of, Checks}
-use Rattle.bag_check.specs.Order.{fault_of_declared, fault_of_declaration, is_unknown, fault_of_names, fault_of_tag_files, Listed, listed_in, listings, some_malformed, Reads, FailsToRead, has_astray, has_repeat, has_missing, has_unlisted, has_wrong, fault_of_listings}
+use Rattle.bag_check.specs.Order.{fault_of_declared, fault_of_declaration, fault_of_names, fault_of_tag_files, Listed, listed_in, listings, some_malformed, Reads, FailsToRead, has_astray, has_repeat, has_missing, has_unlisted, has_wrong, fault_of_listings}
 
 -- ---- what `bagit.txt` declares
 

@@ -1,4 +1,6 @@
--- When a tree of files is a valid bag (RFC 8493, 3), and what checking it answers.
+-- When a tree of files is a valid bag (RFC 8493, 3), within the limits of this project, and what checking it answers. Those limits are
+-- the faults UnsupportedVersion, UnsupportedEncoding, HasFetch, NoSha512Manifest and UnknownAlgorithm: RFC 8493 knows bags that have them.
+-- Of a tag manifest is asked that what it lists is there and has its digests, and not that it lists every manifest.
 use Rattle.std.specs.Prelude.{◌≡◌, ℕ, Bool, false, not, ◌&&◌, ◌||◌, List, [], ◌∷◌, Option, Some, None, unwrap_or, Result, Ok, Err, is_err, codes}
 use Rattle.std.specs.List.{list_any, find}
 use Rattle.std.specs.Str.{bytes_eq, str_eq_ignore_ascii_case}
@@ -13,7 +15,7 @@ use Rattle.bag_check.specs.declared.fault.BagFault.{BagFault}
 use Rattle.bag_check.specs.declared.fault.BagFault.TheVariants.{NoDeclaration, BadDeclaration, UnsupportedVersion, UnsupportedEncoding, HasFetch, NoPayloadFolder, NoSha512Manifest, UnknownAlgorithm, MalformedLine, UnsafePath, DuplicateEntry, MissingFile, UnlistedFile, WrongDigest, Memory}
 use Rattle.bag_check.specs.declared.manifests.Kind.{Kind}
 use Rattle.bag_check.specs.declared.manifests.Kind.TheVariants.{Payload, Tag}
-use Rattle.bag_check.specs.Manifests.{Manifest, file_at, has_file, text_at, sha512_manifest, is_manifest, is_known_manifest, manifests_of, passes, is_malformed, entries, is_listed}
+use Rattle.bag_check.specs.Manifests.{Manifest, file_at, has_file, text_at, sha512_manifest, is_unknown, manifests_of, passes, is_malformed, entries, is_listed}
 
 -- ---- what `bagit.txt` declares
 
@@ -72,7 +74,7 @@ is_wrong algorithm files entry = has_other_digest algorithm entry.digest (file_a
 abbrev pub some_manifest : (Manifest → List ListedFile → Bool) → TreeFacts → Bool
 some_manifest test facts = list_any (λ manifest. passes (test manifest) (entries manifest)) (manifests_of facts)
 
--- the same of the payload manifests alone
+-- the test, asked of payload manifests alone
 abbrev pub if_payload : Kind → Bool → Bool
 if_payload Payload test = test
 if_payload Tag test = false
@@ -88,7 +90,7 @@ holds UnsupportedEncoding facts = declares_other (λ version encoding. is_suppor
 holds HasFetch facts = has_file (codes "fetch.txt") facts.files
 holds NoPayloadFolder facts = not facts.payload
 holds NoSha512Manifest facts = not (has_file sha512_manifest facts.files)
-holds UnknownAlgorithm facts = list_any (λ file. is_manifest file.path && not (is_known_manifest file.path)) facts.files
+holds UnknownAlgorithm facts = list_any is_unknown facts.files
 holds MalformedLine facts = list_any (λ manifest. is_malformed (entries manifest)) (manifests_of facts)
 holds UnsafePath facts = some_manifest (λ manifest entries. list_any (is_astray manifest.kind) entries) facts
 holds DuplicateEntry facts = some_manifest (λ manifest entries. if_payload manifest.kind (repeats entries)) facts
@@ -123,7 +125,7 @@ answer facts (Some fault) = Err fault
 unfoldable pub check_of : TreeFacts → Result BagId BagFault
 check_of facts = answer facts (first_fault facts)
 
--- what a check answers where this is found; it may find no memory
+-- a check answers what is found, or that no memory was found
 abbrev pub Checks : Result BagId BagFault → Result BagId BagFault → Type 0
 Checks found (Ok bag) = found ≡ Ok bag
 Checks found (Err Memory) = Unit {0}

@@ -1,5 +1,5 @@
 -- The manifests of a tree of files, and what they list (RFC 8493, 2.1.3 and 2.2.1).
-use Rattle.std.specs.Prelude.{ℕ, Bool, true, false, ◌&&◌, ◌==◌, List, [], ◌∷◌, ◌++◌, length, Option, Some, None, unwrap_or, is_some, Result, Ok, Err, codes}
+use Rattle.std.specs.Prelude.{ℕ, Bool, true, false, not, ◌&&◌, ◌==◌, List, [], ◌∷◌, ◌++◌, length, Option, Some, None, unwrap_or, is_some, Result, Ok, Err, codes}
 use Rattle.std.specs.List.{list_any, find, flat_map}
 use Rattle.std.specs.Option.{option_map}
 use Rattle.std.specs.Str.{bytes_eq}
@@ -21,7 +21,7 @@ file_at path files = find (λ file. bytes_eq file.path path) files
 abbrev pub has_file : List ℕ → List FileFact → Bool
 has_file path files = is_some (file_at path files)
 
--- the bytes of the text of this path, where there is one
+-- The bytes of the text of this path, where there is one. The facts of a file of such a name always have its bytes: `FileFacts` keeps that.
 abbrev pub text_at : List ℕ → List FileFact → Option (List ℕ)
 text_at path files = option_map (λ file. unwrap_or file.text []) (file_at path files)
 
@@ -55,6 +55,10 @@ is_known_of_kind kind path = list_any (λ algorithm. bytes_eq path (manifest_nam
 -- the path is that of a manifest of an algorithm that is read
 unfoldable pub is_known_manifest : List ℕ → Bool
 is_known_manifest path = list_any (λ kind. is_known_of_kind kind path) kinds
+
+-- a manifest of an algorithm that isn't read
+unfoldable pub is_unknown : FileFact → Bool
+is_unknown file = is_manifest file.path && not (is_known_manifest file.path)
 
 -- a manifest: its kind, its algorithm and its bytes
 pub record Manifest : Type 0 where

@@ -1,6 +1,6 @@
 -- The faults in the order in which checking looks for them, for the contracts of private functions: the check proves that
 -- the first fault found so is the first that holds.
-use Rattle.std.specs.Prelude.{◌≡◌, ℕ, Bool, true, false, not, ◌&&◌, if◌then◌else◌, List, [], ◌∷◌, ◌++◌, Option, Some, None, Result, Ok, Err, codes}
+use Rattle.std.specs.Prelude.{◌≡◌, ℕ, Bool, true, false, not, if◌then◌else◌, List, [], ◌∷◌, ◌++◌, Option, Some, None, Result, Ok, Err, codes}
 use Rattle.std.specs.List.{list_any, flat_map}
 use Rattle.std.specs.Option.{option_or}
 use Rattle.bag_text.specs.declared.algorithm.Algorithm.{Algorithm}
@@ -10,7 +10,7 @@ use Rattle.bag_tree.specs.Facts.{FileFact}
 use Rattle.bag_check.specs.declared.fault.BagFault.{BagFault}
 use Rattle.bag_check.specs.declared.fault.BagFault.TheVariants.{NoDeclaration, BadDeclaration, UnsupportedVersion, UnsupportedEncoding, HasFetch, NoPayloadFolder, NoSha512Manifest, UnknownAlgorithm, MalformedLine, UnsafePath, DuplicateEntry, MissingFile, UnlistedFile, WrongDigest, Memory}
 use Rattle.bag_check.specs.declared.manifests.Kind.{Kind}
-use Rattle.bag_check.specs.Manifests.{Manifest, has_file, text_at, sha512_manifest, is_manifest, is_known_manifest, is_malformed, entries}
+use Rattle.bag_check.specs.Manifests.{Manifest, has_file, text_at, sha512_manifest, is_unknown, is_malformed, entries}
 use Rattle.bag_check.specs.Check.{is_supported_version, is_supported_encoding, is_astray, repeats, is_unlisted, is_wrong, if_payload}
 
 -- ---- before any manifest is read
@@ -27,10 +27,6 @@ fault_of_declared (Ok (version, encoding)) =
 abbrev pub fault_of_declaration : Option (List ℕ) → Option BagFault
 fault_of_declaration None = Some NoDeclaration
 fault_of_declaration (Some text) = fault_of_declared (declaration_of text)
-
--- a manifest of an algorithm that isn't read
-unfoldable pub is_unknown : FileFact → Bool
-is_unknown file = is_manifest file.path && not (is_known_manifest file.path)
 
 -- the first fault of which files there are
 unfoldable pub fault_of_names : List FileFact → Bool → Option BagFault

@@ -2,8 +2,8 @@ ghost use Rattle.std.specs.Prelude.{◌≡◌, codes};
 ghost use Rattle.std.specs.List.{list_any};
 ghost use Rattle.bag_text.specs.Reading.{declaration_of};
 ghost use Rattle.bag_check.specs.Check.{is_supported_version, is_supported_encoding};
-ghost use Rattle.bag_check.specs.Manifests.{text_at};
-ghost use Rattle.bag_check.specs.Order.{fault_of_declaration, fault_of_declared, fault_of_names, fault_of_tag_files, is_unknown};
+ghost use Rattle.bag_check.specs.Manifests.{text_at, is_unknown};
+ghost use Rattle.bag_check.specs.Order.{fault_of_declaration, fault_of_declared, fault_of_names, fault_of_tag_files};
 
 use crate::fault::BagFault;
 use crate::lookups::{has_file, text_at};
@@ -83,7 +83,7 @@ fn some_unknown(files: &[FileFacts]) -> bool
     files.iter().any(|file| is_unknown(file))
 }
 
-#[tactic(auto, unfolding(crate::specs::Order::is_unknown))]
+#[tactic(auto, unfolding(crate::specs::Manifests::is_unknown))]
 fn is_unknown(file: &FileFacts) -> bool
     ensures { result ≡ is_unknown file.now }
 {

@@ -5,7 +5,9 @@ ghost use Rattle.bag_check.specs.Fault.{number_of};
 use std::alloc::{AllocError, AllocFailed};
 use thiserror::Error;
 
-/// Why a tree of files is no valid bag (RFC 8493, 3): the first of these that holds.
+/// Why a tree of files is no valid bag (RFC 8493, 3) within the limits of this project: the first of these that holds.
+/// `UnsupportedVersion`, `UnsupportedEncoding`, `HasFetch`, `NoSha512Manifest` and `UnknownAlgorithm` are such limits.
+/// `Memory` says nothing of the bag.
 #[derive(Clone, Copy, Debug, PartialEq, Eq, Error)]
 pub enum BagFault {
     /// There is no `bagit.txt`.
@@ -44,7 +46,7 @@ pub enum BagFault {
     /// A manifest lists a file that isn't there.
     #[error("a listed file is missing")]
     MissingFile,
-    /// A payload file isn't listed in a payload manifest.
+    /// A payload file isn't listed in every payload manifest.
     #[error("a payload file is not listed")]
     UnlistedFile,
     /// A listed digest isn't that of its file.

@@ -1,4 +1,4 @@
-//! Whether a tree of files is a valid bag, of which identity, and if it isn't, why (RFC 8493).
+//! Whether a tree of files is a valid bag, of which identity, and if it isn't, why (RFC 8493, within the limits that `BagFault` names).
 #![tactic(auto)]
 
 mod by_path;

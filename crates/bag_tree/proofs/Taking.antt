@@ -1,5 +1,5 @@
 -- What was taken of a reader so far, one piece after another.
-use Rattle.std.proofs.Common.{◌≡◌, ℕ, ◌+◌, ◌<◌, ◌≤◌, Bool, true, false, ◌&&◌, cond, nat_lt, List, [], ◌++◌, length, append-nil, take, subst, arith, Option, Some, None, Result, Ok, Err, IfSome, refl, sym, ap, ◌∙◌, inl, inr}
+use Rattle.std.proofs.Common.{◌≡◌, ℕ, ◌<◌, Bool, true, false, ◌&&◌, cond, nat_lt, List, [], ◌++◌, length, append-nil, take, subst, arith, Option, Some, None, Result, Ok, Err, IfSome, refl, sym, ap, ◌∙◌, inl, inr}
 use Rattle.std.proofs.lemmas.Bool.{ltb-true, lt-ltb}
 use Rattle.std.proofs.lemmas.List.{length-append}
 use Rattle.std.specs.Prelude.{IfErr, IsErrAnd, IsErrOf}
@@ -8,10 +8,9 @@ use Rattle.std.proofs.KnownBytes.{Consumes-nil, Consumes-trans, Consumes-kept}
 use Rattle.bag_tree.specs.declared.fault.TreeFault.{TreeFault}
 use Rattle.bag_tree.specs.declared.fault.TreeFault.TheVariants.{Listing, NotAFile, TooDeep, TooMany, TextTooLong, Device, Memory, BadPath}
 use Rattle.bag_tree.specs.declared.hashing.Hashing.{Hashing}
-use Rattle.bag_tree.specs.declared.tree.TheConstants.{LONGEST_TEXT}
 use Rattle.bag_tree.specs.Fault.{RefusesFor}
 use Rattle.bag_tree.specs.Path.{is_read_text}
-use Rattle.bag_tree.specs.Tree.{fault_of_text}
+use Rattle.bag_tree.specs.Tree.{longest_text, fault_of_text}
 use Rattle.bag_tree.specs.Pieces.{HasTaken}
 use Rattle.bag_tree.specs.Reads.{IsReadFault}
 
@@ -54,11 +53,11 @@ taken_kept hashing path had has now t k = (t.0, t.1, Consumes-kept had has now t
 
 -- ---- what a refused piece means
 
-longer-stays : (bytes more : List ℕ) → nat_lt LONGEST_TEXT (length bytes) ≡ true → nat_lt LONGEST_TEXT (length (bytes ++ more)) ≡ true
-longer-stays bytes more h = lt-ltb LONGEST_TEXT (length (bytes ++ more)) (let l = ltb-true LONGEST_TEXT (length bytes) h in let e = length-append bytes more in omega arith)
+longer-stays : (bytes more : List ℕ) → nat_lt longest_text (length bytes) ≡ true → nat_lt longest_text (length (bytes ++ more)) ≡ true
+longer-stays bytes more h = lt-ltb longest_text (length (bytes ++ more)) (let l = ltb-true longest_text (length bytes) h in let e = length-append bytes more in omega arith)
 
 too_long-longer : (path bytes more : List ℕ) → fault_of_text path bytes ≡ Some TextTooLong → fault_of_text path (bytes ++ more) ≡ Some TextTooLong
-too_long-longer path bytes more h = go (is_read_text path) (nat_lt LONGEST_TEXT (length bytes)) (nat_lt LONGEST_TEXT (length (bytes ++ more))) (longer-stays bytes more) h
+too_long-longer path bytes more h = go (is_read_text path) (nat_lt longest_text (length bytes)) (nat_lt longest_text (length (bytes ++ more))) (longer-stays bytes more) h
   where
     go : (reads short long : Bool) → (short ≡ true → long ≡ true) → cond (reads && short) (Some TextTooLong) None ≡ Some TextTooLong → cond (reads && long) (Some TextTooLong) None ≡ Some TextTooLong
     go true true long stays h = rw (stays refl) refl
@@ -77,7 +76,7 @@ refused_too_long path bytes piece had has now c d h = go had now (Consumes-trans
 
 -- feeding a piece is refused for these faults alone
 pub refused_as : (path bytes : List ℕ) (fault : TreeFault) → RefusesFor {T = Unit {0}} (fault_of_text path bytes) (Err fault) → IsReadFault fault
-refused_as path bytes fault h = go (is_read_text path && nat_lt LONGEST_TEXT (length bytes)) fault h
+refused_as path bytes fault h = go (is_read_text path && nat_lt longest_text (length bytes)) fault h
   where
     go : (long : Bool) (fault : TreeFault) → RefusesFor {T = Unit {0}} (cond long (Some TextTooLong) None) (Err fault) → IsReadFault fault
     go true TextTooLong h = inl refl

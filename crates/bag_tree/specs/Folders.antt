@@ -1,5 +1,5 @@
 -- Trees by the names of their folders.
-use Rattle.std.specs.Prelude.{ℕ, List, [], ◌∷◌, ◌++◌, Option, Some, None, Result, Ok, Err}
+use Rattle.std.specs.Prelude.{ℕ, List, Option, Some, None, Result, Ok, Err}
 use Rattle.std.specs.List.{find}
 use Rattle.std.specs.Str.{bytes_eq}
 use Rattle.bag_tree.specs.declared.fault.TreeFault.{TreeFault}
@@ -12,7 +12,7 @@ pub record NamedTree : Type 0 where
   pub path : List ℕ
   pub files : Files
 
--- the facts of the tree that was found, and a folder that isn't there can't be listed
+-- the facts of the tree that was found; a folder that isn't there can't be listed
 abbrev pub read_of_found : Option NamedTree → Result TreeFacts TreeFault
 read_of_found None = Err Listing
 read_of_found (Some found) = Ok (facts_of_tree found.files)

@@ -1,5 +1,5 @@
 -- A file whose bytes come in pieces.
-use Rattle.std.specs.Prelude.{◌≡◌, ℕ, if◌then◌else◌, List, Option, Some, None, string_bytes}
+use Rattle.std.specs.Prelude.{◌≡◌, ℕ, if◌then◌else◌, List, Some, None, string_bytes}
 use Rattle.std.specs.Option.{option_map}
 use Rattle.md5.specs.Md5 as M
 use Rattle.sha1.specs.Sha1 as S
@@ -8,7 +8,7 @@ use Rattle.bag_tree.specs.declared.hashers.Hashers.{Hashers}
 use Rattle.bag_tree.specs.declared.hashing.Hashing.{Hashing}
 use Rattle.bag_tree.specs.Path.{is_read_text}
 
--- for the private type of this name: the hash functions have taken these bytes
+-- For the private type `Hashers`: its hash functions have taken these bytes.
 abbrev pub HaveTaken : Hashers → List ℕ → Type 0
 HaveTaken hashers bytes = M.Holds hashers.md5 bytes × S.Holds hashers.sha1 bytes × Holds256 hashers.sha256 bytes × Holds512 hashers.sha512 bytes
 

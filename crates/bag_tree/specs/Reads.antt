@@ -1,5 +1,5 @@
 -- What reading a folder's tree answers, where it is known what the folder holds.
-use Rattle.std.specs.Prelude.{◌≡◌, ◌≢◌, ◌⊎◌, ℕ, List, Result, Ok, Err}
+use Rattle.std.specs.Prelude.{◌≡◌, ◌≢◌, ◌⊎◌, Result, Ok, Err}
 use Rattle.bag_tree.specs.declared.fault.TreeFault.{TreeFault}
 use Rattle.bag_tree.specs.declared.fault.TreeFault.TheVariants.{Memory, Device, TextTooLong, BadPath}
 use Rattle.bag_tree.specs.Facts.{TreeFacts}

@@ -4,15 +4,24 @@ use Rattle.std.specs.List.{list_any}
 use Rattle.std.specs.Str.{bytes_eq}
 use Rattle.bag_tree.specs.declared.fault.TreeFault.{TreeFault}
 use Rattle.bag_tree.specs.declared.fault.TreeFault.TheVariants.{TooDeep, TooMany, TextTooLong, BadPath}
-use Rattle.bag_tree.specs.declared.path.TheConstants.{DEEPEST_PATH}
-use Rattle.bag_tree.specs.declared.tree.TheConstants.{MOST_FILES, LONGEST_TEXT}
 use Rattle.bag_tree.specs.Path.{parts_of, is_unsafe, is_below, payload_folder, is_payload, is_read_text}
+
+-- the limits: of a path's parts, of a tree's files, and of the bytes of a text that describes a bag
+abbrev pub deepest_path : ℕ
+deepest_path = 32
+
+abbrev pub most_files : ℕ
+most_files = 100000
+
+abbrev pub longest_text : ℕ
+longest_text = 67108864
 
 pub record File : Type 0 where
   pub path : List ℕ
   pub bytes : List ℕ
 
--- a finite map from paths to bytes, in the order in which the files came, and whether `data` was added as a folder
+-- Files, in the order in which they came, and whether `data` was added as a folder. It is a finite map from paths to bytes, since no file
+-- is added at a path that is there.
 pub record Files : Type 0 where
   pub files : List File
   pub folder : Bool
@@ -35,14 +44,14 @@ is_bad_path tree path = is_unsafe path || bytes_eq path payload_folder || list_a
 
 -- a text that describes a bag is too long
 abbrev pub fault_of_text : List ℕ → List ℕ → Option TreeFault
-fault_of_text path bytes = if is_read_text path && nat_lt LONGEST_TEXT (length bytes) then Some TextTooLong else None
+fault_of_text path bytes = if is_read_text path && nat_lt longest_text (length bytes) then Some TextTooLong else None
 
 -- the first fault, in this order, of a file that is to be added
 unfoldable pub fault_of_added : Files → List ℕ → List ℕ → Option TreeFault
 fault_of_added tree path bytes =
     if is_bad_path tree path then Some BadPath
-    else if nat_lt DEEPEST_PATH (length (parts_of path)) then Some TooDeep
-    else if nat_le MOST_FILES (length tree.files) then Some TooMany
+    else if nat_lt deepest_path (length (parts_of path)) then Some TooDeep
+    else if nat_le most_files (length tree.files) then Some TooMany
     else fault_of_text path bytes
 
 -- the tree with one file more

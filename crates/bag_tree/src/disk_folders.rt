@@ -4,7 +4,7 @@ use crate::folders::Folders;
 use crate::walk::read_folder;
 use std::fs::Files;
 
-/// Folders of the file system, of which nothing is known.
+/// Folders of the file system: of their trees no contract tells anything.
 #[derive(Drop)]
 pub struct DiskFolders<R: Files + AllocGlobal + Clone + Drop> {
     rt: R,

@@ -17,7 +17,7 @@ pub enum TreeFault {
     /// A path of more than `DEEPEST_PATH` parts.
     #[error("a path has too many parts")]
     TooDeep,
-    /// More than `MOST_FILES` files.
+    /// More than `MOST_FILES` files; on a disk, files and folders.
     #[error("there are too many files")]
     TooMany,
     /// A text that describes the bag has more than `LONGEST_TEXT` bytes.
@@ -29,7 +29,7 @@ pub enum TreeFault {
     /// A growth was refused.
     #[error("out of memory")]
     Memory,
-    /// A path that no further file of this tree can have.
+    /// A path that no further file of this tree can have. Only `Tree::add` answers it.
     #[error("the tree can have no further file of this path")]
     BadPath,
 }

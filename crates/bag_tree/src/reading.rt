@@ -1,4 +1,5 @@
-ghost use Rattle.std.specs.Prelude.{◌≡◌, IfOk, IfErr, IfSome, IsErrOf, Some, None};
+ghost use Rattle.std.specs.Prelude.{◌≡◌, OnOk, IfOk, IfErr, IfSome, IsErrOf, Some, None};
+ghost use Rattle.std.specs.Io.KnownBytes.{IsAtEnd};
 ghost use Rattle.bag_tree.specs.Facts.{fact_of_file};
 ghost use Rattle.bag_tree.specs.Tree.{fault_of_text};
 ghost use Rattle.bag_tree.specs.Reads.{IsReadFault};
@@ -17,14 +18,15 @@ const PIECE: usize = 8192;
 
 /// The facts of the file of this path whose bytes the reader has left, which are never held whole
 /// unless they are a text that describes a bag. Reads that were interrupted are tried again.
-/// `TextTooLong`, where such a text has over `LONGEST_TEXT` bytes; `Device`, where a read failed or the
-/// reader didn't end within `MOST_READS`; or `Memory`.
+/// It is refused with `TextTooLong`, where such a text has over `LONGEST_TEXT` bytes; with `Device`, where a
+/// read failed or the reader didn't end within `MOST_READS`; or with `Memory`.
 pub fn hash_reader<R: Read>(
     alloc: Global,
     path: &str,
     input: &mut R,
 ) -> Result<FileFacts, TreeFault>
     ensures facts { IfOk result (λ facts. IfSome (R.remaining input.old) (λ bytes. facts ≡ fact_of_file (record { path = path.now; bytes = bytes }))) }
+    ensures end { OnOk result (IsAtEnd (R.remaining input.new)) }
     ensures fits { IfOk result (λ facts. IfSome (R.remaining input.old) (λ bytes. fault_of_text path.now bytes ≡ None)) }
     ensures too_long { IsErrOf result TreeFault.TextTooLong → IfSome (R.remaining input.old) (λ bytes. fault_of_text path.now bytes ≡ Some TreeFault.TextTooLong) }
     ensures faults { IfErr result IsReadFault }

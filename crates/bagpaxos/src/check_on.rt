@@ -16,9 +16,9 @@ use std::io::Write;
 pub enum Verdict {
     /// It is a valid bag of this identity.
     Valid(BagId),
-    /// It is no valid bag: the first fault that holds.
+    /// It is no valid bag, for the first fault that holds; or memory ran out.
     Invalid(BagFault),
-    /// It can't be read.
+    /// It can't be read; or memory ran out.
     Unread(TreeFault),
 }
 
@@ -37,6 +37,7 @@ pub fn check_on<F: Folders, W: Write>(
     ensures output { IsErrOf result ProgramFault.Output → IfSome (F.gives folders.old) (λ gives.
         ((verdict : Verdict) × IsReached (verdict_of (gives path.now)) verdict × BeginsToTell (W.contents output.old) (W.contents output.new) (outcome_of_verdict verdict))
         ⊎ BeginsToTell (W.contents output.old) (W.contents output.new) no_memory) }
+    ensures kept { F.gives folders.new ≡ F.gives folders.old }
     ensures fault { IfErr result (λ fault. fault ≡ ProgramFault.Output) }
 {
     let verdict = verdict_on(alloc, folders, path);
@@ -48,7 +49,8 @@ pub fn check_on<F: Folders, W: Write>(
 
 /// The verdict on the folder of this path.
 fn verdict_on<F: Folders>(alloc: Global, folders: &mut F, path: &str) -> Verdict
-    ensures { IfSome (F.gives folders.old) (λ gives. IsReached (verdict_of (gives path.now)) result) }
+    ensures verdict { IfSome (F.gives folders.old) (λ gives. IsReached (verdict_of (gives path.now)) result) }
+    ensures kept { F.gives folders.new ≡ F.gives folders.old }
 {
     match folders.read(path) {
         Ok(facts) => match check(alloc, &facts) {

@@ -1,4 +1,4 @@
-use Rattle.std.proofs.Common.{rules, ◌≡◌, ℕ, List, [], ◌++◌, take, length, Option, Some, None, Err, IfSome, refl, subst}
+use Rattle.std.proofs.Common.{rules, ◌≡◌, ◌++◌, take, None, Err, subst}
 use Rattle.bag_tree.specs.Facts.{fact_of_file}
 use Rattle.bag_tree.specs.Tree.{fault_of_text}
 use Rattle.bag_tree.proofs.Taking.{taken_none, taken_end, taken_more, taken_kept, known_so, refused_too_long, refused_as, passed_on, passed_on_as}
@@ -38,3 +38,6 @@ reads-preserved g c = elim c.match-read.branch [
   | in-Ok+in_ok-feed-in-Ok w ↦ rw w.hashing-is (taken_more c.reads.hashing _ c.args.path.now _ _ _ (take w.in-Ok.count c.read.new.buf) c.reads.invariant w.in-Ok.ensures.bytes.0 (w.in_ok-feed-in-Ok.ensures.ok c.args.path.now c.reads.invariant.0 c.reads.invariant.1) (w.in_ok-feed-in-Ok.ensures.refused c.args.path.now c.reads.invariant.0 c.reads.invariant.1))
   | in-Err+else-ne w ↦ rw w.hashing-is (taken_kept c.reads.hashing c.args.path.now _ _ _ c.reads.invariant w.in-Err.ensures.bytes)
 ]
+
+pub returns-in-Ok-eq0-clause-end : goal.returns-in-Ok-eq0-clause-end
+returns-in-Ok-eq0-clause-end g c = c.in-Ok-eq0.ensures.bytes.1 c.in-Ok-eq0.field-0-test (search rules)
