@@ -1,4 +1,4 @@
-ghost use Rattle.std.specs.Prelude.{◌≡◌, ◌↔◌, ◌≤◌, length, IsTrue, IsErrOf, IfOk};
+ghost use Rattle.std.specs.Prelude.{◌≡◌, ◌↔◌, ◌<◌, ◌≤◌, length, IsTrue, IsErrOf, IfOk};
 ghost use Rattle.dgram.specs.Messages.{IsMessage};
 ghost use Rattle.dgram.specs.Layout.{datagram_of};
 ghost use Rattle.dgram.specs.Reading.{Gives, message_at};
@@ -49,6 +49,7 @@ pub fn decode(alloc: Global, federation: u64, bytes: &[u8]) -> Result<Message, D
     // What has these bytes is read, unless memory runs out.
     ensures only { (m : declared.Message) → IsMessage m → bytes.now ≡ datagram_of federation m → IsOkOrMemory result m }
     ensures not_ours { IsErrOf result DgramFault.NotOurs ↔ IsAnothers federation bytes.now }
+    ensures short { length bytes.now < FRONT → IsErrOf result DgramFault.Malformed }
     ensures malformed { IsErrOf result DgramFault.Malformed → IsNoDatagram federation bytes.now }
 {
     if bytes.len() < FRONT {

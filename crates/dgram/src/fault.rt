@@ -23,7 +23,7 @@ impl From<AllocError> for DgramFault {
     ghost from_gives = { λ _ e. e ≡ Memory };
 
     fn from(_e: AllocError) -> DgramFault {
-        DgramFault::Memory
+        Self::Memory
     }
 }
 

@@ -93,14 +93,17 @@ impl<'a> Reader<'a> {
         }
     }
 
-    #[tactic(auto, unfolding(crate::specs::Reading::bag_at))]
+    #[tactic(auto, unfolding(crate::specs::Reading::bag_at, crate::specs::Reading::bytes_at))]
     pub(crate) fn bag(&mut self) -> Result<BagId, DgramFault>
         ensures { Gives (λ x. (x, self.new)) result (bag_at self.old) }
     {
-        let front = self.bytes(BAG_BYTES)?;
-        let mut identity = [0; BAG_BYTES];
-        identity.copy_from_slice(front);
-        Ok(BagId(identity))
+        match self.rest.split_first_chunk::<BAG_BYTES>() {
+            None => Err(DgramFault::Malformed),
+            Some((identity, rest)) => {
+                self.rest = rest;
+                Ok(BagId(*identity))
+            }
+        }
     }
 
     #[tactic(auto, unfolding(crate::specs::Reading::vote_at))]
