@@ -1,9 +1,10 @@
-"""Refuses each growth of the program's stored run in turn, the first, the second and so on until none is left to refuse.
+"""Refuses each growth of one run of a program in turn, the first, the second and so on until none is left to refuse.
 Each answer has to be the whole one, or `memory` with status 1. gdb runs this: see the script `growths` beside it."""
 import os
 import gdb
 
-SCHEDULE = os.environ["SCHEDULE"]
+ARGUMENTS = os.environ["ARGUMENTS"]
+INPUT = os.environ["INPUT"]
 WANTED = open(os.environ["WANTED"], "rb").read()
 SAID = os.environ["SAID"]
 
@@ -22,7 +23,7 @@ class Growth(gdb.Breakpoint):
 def run(refused):
     """Runs the program with that call for memory refused. Returns whether there was one, its status, and what it printed."""
     Growth.calls, Growth.refused = 0, refused
-    gdb.execute(f"run run < {SCHEDULE} > {SAID}", to_string=True)
+    gdb.execute(f"run {ARGUMENTS} < {INPUT} > {SAID}", to_string=True)
     was_refused = Growth.calls == refused
     if was_refused:
         # at the function's first instruction: return a null pointer from it
