@@ -72,13 +72,13 @@ unnamed_is code bag a none e =
           | inl h ↦ subst (IsDeposit code bag) (some_is deposit.NeedsOpen a h.1) (eqb-true _ _ h.0, none, tt)
           | inr e3 ↦ elim (choice (ltb BEFORE_TREE_FAULTS code && leb code (BEFORE_TREE_FAULTS + GREATEST_TREE_FAULT)) _ _ a e3.1) [
             | inl h ↦
-                let low : 21 ≤ code = grind (arith, leb_tells, h.0) in
-                let high : code ≤ 26 = grind (arith, leb_tells, h.0) in
+                let low : BEFORE_TREE_FAULTS + 1 ≤ code = grind (arith, leb_tells, h.0) in
+                let high : code ≤ BEFORE_TREE_FAULTS + GREATEST_TREE_FAULT = grind (arith, leb_tells, h.0) in
                 subst (IsDeposit code bag) (some_is (deposit.Tree (code - BEFORE_TREE_FAULTS)) a h.1) (omega (arith, low), none, (omega (arith, low), omega (arith, high)))
             | inr e4 ↦ elim (choice (ltb BEFORE_BAG_FAULTS code && leb code (BEFORE_BAG_FAULTS + GREATEST_BAG_FAULT)) _ _ a e4.1) [
               | inl h ↦
-                  let low : 41 ≤ code = grind (arith, leb_tells, h.0) in
-                  let high : code ≤ 54 = grind (arith, leb_tells, h.0) in
+                  let low : BEFORE_BAG_FAULTS + 1 ≤ code = grind (arith, leb_tells, h.0) in
+                  let high : code ≤ BEFORE_BAG_FAULTS + GREATEST_BAG_FAULT = grind (arith, leb_tells, h.0) in
                   subst (IsDeposit code bag) (some_is (deposit.Bag (code - BEFORE_BAG_FAULTS)) a h.1) (omega (arith, low), none, (omega (arith, low), omega (arith, high)))
               | inr e5 ↦ absurd cc
             ]
