@@ -20,9 +20,10 @@ pub enum Fault {
     /// A growth was refused.
     #[error("memory")]
     Memory,
-    /// A call went wrong: what is said here is printed, and never to be seen.
-    #[error("another datagram was written")]
-    Changed,
+    /// A call answered what it must not: it refused what is in range, wrote other bytes, or kept a part of
+    /// what it was refused to write.
+    #[error("a wrong answer")]
+    Wrong,
 }
 
 impl From<AllocError> for Fault {
@@ -52,7 +53,7 @@ impl From<FromHexError> for Fault {
 
 impl From<TypeFault> for Fault {
     fn from(_e: TypeFault) -> Fault {
-        Fault::Changed
+        Fault::Wrong
     }
 }
 
@@ -60,7 +61,7 @@ impl From<DgramFault> for Fault {
     fn from(e: DgramFault) -> Fault {
         match e {
             DgramFault::Memory => Fault::Memory,
-            DgramFault::NotOurs | DgramFault::Malformed => Fault::Changed,
+            DgramFault::NotOurs | DgramFault::Malformed => Fault::Wrong,
         }
     }
 }

@@ -75,6 +75,6 @@ fn written_again(
 fn check(bytes: &[u8], behind: &[u8]) -> Result<(), Fault> {
     match bytes.split_at_checked(BEFORE.len()) {
         Some((kept, rest)) if kept == BEFORE.as_slice() && rest == behind => Ok(()),
-        _ => Err(Fault::Changed),
+        _ => Err(Fault::Wrong),
     }
 }
