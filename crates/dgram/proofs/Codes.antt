@@ -1,8 +1,8 @@
 -- The answer that a code and a bag stand for, both ways.
-use Rattle.std.proofs.Common.{◌≡◌, ◌≢◌, ℕ, zero, suc, ◌+◌, ◌-◌, ◌<◌, ◌≤◌, ◌&&◌, ◌⊎◌, Bool, true, false, cond, eqb, ltb, leb, List, [], ◌∷◌, length, Option, Some, None, refl, sym, ap, subst, ◌∙◌, arith, inl, inr}
+use Rattle.std.proofs.Common.{◌≡◌, ℕ, ◌+◌, ◌-◌, ◌<◌, ◌≤◌, ◌&&◌, ◌⊎◌, Bool, true, false, cond, eqb, ltb, leb, List, [], ◌∷◌, Option, Some, refl, ap, subst, ◌∙◌, arith, inl, inr}
 use Rattle.std.specs.Str.{bytes_eq}
-use Rattle.std.proofs.lemmas.Bool.{eqb-true, eq-eqb, ne_eqb, leb-true, le-leb}
-use Rattle.std.proofs.lemmas.Bool.Decides.{eqb_tells, leb_tells}
+use Rattle.std.proofs.lemmas.Bool.{eqb-true, ne_eqb, le-leb}
+use Rattle.std.proofs.lemmas.Bool.Decides.{leb_tells}
 use Rattle.std.proofs.lemmas.Slice.Eq.{bytes_eq-Decides}
 use Rattle.fed_types.specs.declared.bag_id.BagId.{BagId}
 use Rattle.dgram.specs.declared.layout.TheConstants.{NO_BAG, REGISTERED, OTHER_DEPOSIT, OTHER_KNOWN, DEVICE, MEMORY, NEEDS_OPEN, BEFORE_TREE_FAULTS, GREATEST_TREE_FAULT, BEFORE_BAG_FAULTS, GREATEST_BAG_FAULT, IS_KNOWN, IS_PENDING, IS_NOTHING}

@@ -1,8 +1,8 @@
 -- Each field of a datagram is read as it is written.
-use Rattle.std.proofs.Common.{◌≡◌, ℕ, zero, suc, ◌+◌, ◌^◌, ◌<◌, ◌≤◌, ◌&&◌, Bool, true, false, cond, eqb, ltb, leb, List, [], ◌∷◌, ◌++◌, length, get_or, take, drop, Option, Some, None, refl, sym, ap, subst, ◌∙◌, append_assoc, arith, inl, inr}
-use Rattle.std.specs.Int.{Width, w16, w32, w64, byte_len, from_be_bytes, to_be_bytes}
+use Rattle.std.proofs.Common.{◌≡◌, ℕ, ◌^◌, ◌<◌, ◌≤◌, ◌&&◌, true, false, cond, eqb, ltb, leb, List, [], ◌∷◌, ◌++◌, length, take, drop, Option, Some, None, refl, sym, ap, subst, ◌∙◌, append_assoc, arith, inl, inr}
+use Rattle.std.specs.Int.{w16, w32, from_be_bytes, to_be_bytes}
 use Rattle.std.specs.Str.{is_utf8, IsUtf8}
-use Rattle.std.proofs.lemmas.Bool.{ltb-false, le-ltb, eqb-true, eqb-false, leb-true, le-leb}
+use Rattle.std.proofs.lemmas.Bool.{ltb-false, le-ltb, le-leb}
 use Rattle.std.proofs.lemmas.Bool.Decides.{eqb_tells, leb_tells}
 use Rattle.std.proofs.lemmas.List.{take_at, drop_at, take-append-drop, length-append, length-take}
 use Rattle.std.proofs.lemmas.Nat.{be_bytes_2, be_bytes_4, from_be_bytes-to_be_bytes_2, from_be_bytes-to_be_bytes_4}
@@ -14,11 +14,10 @@ use Rattle.fed_types.specs.Sites.{IsSiteNumber}
 use Rattle.fed_types.specs.Slots.{SlotName}
 use Rattle.dgram.specs.declared.layout.TheConstants.{BAG_BYTES, NO_PRIOR, PRIOR, LONGEST_PATH}
 use Rattle.dgram.specs.declared.body.PriorVote.{PriorVote}
-use Rattle.dgram.specs.Limits.{IsPathLong}
 use Rattle.dgram.specs.Messages.{IsSlot, IsBallot, IsBag, IsPrior, IsPath}
 use Rattle.dgram.specs.Layout.{ballot_bytes, bag_bytes, vote_bytes, prior_bytes, path_bytes, slot_bytes}
 use Rattle.dgram.specs.Reading.{◌>>=◌, both, meant, nothing_at, byte_at, bytes_at, number_at, site_of, ballot_of, ballot_at, bag_at, vote_at, prior_after, prior_at, text_at, object_at, path_at, slot_of, slot_at}
-use Rattle.dgram.proofs.Bytes.{IsBytes, bind_some, some_is, past_test, in_test, not_some, Takes, takes, Reads, both_read, meant_taken, meant_again, Means, meant_read}
+use Rattle.dgram.proofs.Bytes.{IsBytes, bind_some, some_is, past_test, in_test, not_some, Takes, takes, Reads, both_read, meant_taken, meant_again, meant_read}
 
 abbrev IsByte : ℕ → Type 0
 IsByte b = b < 256

@@ -1,5 +1,5 @@
 -- A whole datagram is read as it is written.
-use Rattle.std.proofs.Common.{◌≡◌, ◌≢◌, ℕ, suc, ◌-◌, ◌^◌, ◌<◌, ◌≤◌, ◌⊎◌, inl, inr, Bool, true, false, cond, eqb, List, [], ◌∷◌, ◌++◌, length, get_or, take, drop, Option, Some, None, Result, Ok, Err, refl, sym, ap, subst, ◌∙◌, append_assoc, arith}
+use Rattle.std.proofs.Common.{◌≡◌, ℕ, ◌-◌, ◌≤◌, inl, inr, eqb, List, [], ◌∷◌, ◌++◌, length, get_or, take, drop, Option, Some, Result, Ok, Err, refl, sym, ap, subst, ◌∙◌, arith}
 use Rattle.std.specs.Prelude.{IfOk, IsErrOf}
 use Rattle.std.specs.Int.{w64, to_be_bytes}
 use Rattle.std.proofs.lemmas.Bool.{eqb-true}
@@ -8,13 +8,12 @@ use Rattle.std.proofs.Math.Seq.{take-length}
 use Rattle.dgram.specs.declared.layout.TheConstants.{MAGIC, LAYOUT, FRONT}
 use Rattle.dgram.specs.declared.fault.DgramFault.{DgramFault}
 use Rattle.dgram.specs.declared.fault.DgramFault.TheVariants as faults
-use Rattle.dgram.specs.declared.body.Body.{Body}
 use Rattle.dgram.specs.declared.message.Message.{Message}
-use Rattle.dgram.specs.Messages.{IsSlot, IsBody, IsMessage}
+use Rattle.dgram.specs.Messages.{IsMessage}
 use Rattle.dgram.specs.Layout.{kind_code, body_kind, body_from, from_byte, slot_bytes, body_bytes, front_bytes, datagram_of}
 use Rattle.dgram.specs.Reading.{◌>>=◌, Gives, byte_at, kind_of, slot_at, body_at, ended, message_at}
 use Rattle.dgram.specs.Decoded.{IsOurs, IsNoDatagram, IsOkOrMemory}
-use Rattle.dgram.proofs.Bytes.{IsBytes, IsBytes-back, bind_some, some_is, in_test, not_some, Takes, takes}
+use Rattle.dgram.proofs.Bytes.{IsBytes, IsBytes-back, bind_some, some_is, in_test, not_some}
 use Rattle.dgram.proofs.Fields.{byte_read, slot_read}
 use Rattle.dgram.proofs.Codes.{kind_is, kind_again}
 use Rattle.dgram.proofs.Bodies.{body_taken, body_again}
