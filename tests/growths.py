@@ -1,11 +1,12 @@
-"""Refuses each growth of one run of a program in turn, the first, the second and so on until none is left to refuse.
-Each answer has to be the whole one, or `memory` with status 1. gdb runs this: see the script `growths` beside it."""
+"""Refuses each growth of one call of the program in turn, the first, the second and so on until none is left to refuse. Each answer
+has to be the whole one, or one of want of memory with status 1. gdb runs this: see the script `growths` beside it."""
 import os
 import gdb
 
 ARGUMENTS = os.environ["ARGUMENTS"]
 INPUT = os.environ["INPUT"]
 WANTED = open(os.environ["WANTED"], "rb").read()
+WITHOUT_MEMORY = [line.encode() + b"\n" for line in os.environ["WITHOUT_MEMORY"].split(",")]
 SAID = os.environ["SAID"]
 
 
@@ -49,15 +50,15 @@ while True:
     if (status, said) == (0, WANTED):
         whole += 1
         passed += 1
-    elif was_refused and (status, said) == (1, b"memory\n"):
+    elif was_refused and status == 1 and said in WITHOUT_MEMORY:
         without_memory += 1
         passed += 1
     else:
         failed += 1
-        print(f"FAILED with growth {refused} refused: status {status}, and it printed {said!r}")
+        print(f"FAILED {ARGUMENTS} with growth {refused} refused: status {status}, and it printed {said!r}")
     if not was_refused or refused > 5000:
         break
-print(f"growths refused: {refused - 1}; answers without memory: {without_memory}, whole ones: {whole}")
+print(f"growths of {ARGUMENTS.split()[0]} refused: {refused - 1}; answers without memory: {without_memory}, whole ones: {whole}")
 if without_memory == 0 or whole == 0:
     failed += 1
 print(f"{passed} passed, {failed} failed")

@@ -1,2 +1,5 @@
-pub mod Texts
+pub mod Bools
+pub mod Keyed
+pub mod Repeats
+pub mod Readings
 pub mod Steps

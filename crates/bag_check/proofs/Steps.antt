@@ -1,88 +1,169 @@
--- The first fault of a tree, step by step.
-use Rattle.std.proofs.Common.{◌≡◌, ℕ, Bool, true, false, ◌||◌, cond, not, List, Option, Some, None, Result, Ok, Err, refl, ap, ◌∙◌}
-use Rattle.std.specs.Prelude.{codes, is_some}
-use Rattle.std.specs.List.{list_any}
+-- The first fault of a tree, as it is looked for.
+use Rattle.std.proofs.Common.{◌≡◌, ℕ, Bool, true, false, ◌||◌, ◌&&◌, cond, not, List, [], ◌∷◌, Option, Some, None, Result, Ok, Err, refl, sym, ap, subst, ◌∙◌}
+use Rattle.std.specs.Prelude.{codes, is_some, is_err, unwrap_or}
+use Rattle.std.specs.List.{list_any, flat_map}
+use Rattle.std.specs.Result.{IsErrAnd}
 use Rattle.sha2.specs.Sha512.{sha512}
-use Rattle.fed_types.specs.declared.bag_id.BagId.{BagId}
-use Rattle.bag_text.specs.declared.algorithm.Algorithm.TheVariants.{Sha512}
+use Rattle.std.specs.Option.{option_or, option_map}
+use Rattle.std.proofs.lemmas.List.Folds.{list_any-append}
+use Rattle.std.proofs.Math.Bool.{or-false}
 use Rattle.bag_text.specs.ListedFile.{ListedFile}
-use Rattle.bag_text.specs.Reading.{entries_of}
+use Rattle.bag_text.specs.Reading.{declaration_of}
 use Rattle.bag_tree.specs.Facts.{FileFact, TreeFacts}
+use Rattle.fed_types.specs.declared.bag_id.BagId.{BagId}
 use Rattle.bag_check.specs.declared.fault.BagFault.{BagFault}
-use Rattle.bag_check.specs.declared.fault.BagFault.TheVariants.{NoDeclaration, NoPayloadFolder, NoSha512Manifest, MalformedLine, UnsafePath, DuplicateEntry, MissingFile, UnlistedFile, WrongDigest, Memory}
-use Rattle.bag_check.specs.Manifests.{has_file, text_at, sha512_manifest, passes, is_malformed}
-use Rattle.bag_check.specs.Check.{is_astray, repeats, is_unlisted, is_wrong, holds, first_fault, fault_of_entries, answer, identity_of, check_of, Checks}
-use Rattle.bag_check.proofs.Texts.{has_file-text_at}
+use Rattle.bag_check.specs.declared.fault.BagFault.TheVariants.{NoDeclaration, BadDeclaration, UnsupportedVersion, UnsupportedEncoding, HasFetch, NoPayloadFolder, NoSha512Manifest, UnknownAlgorithm, MalformedLine, UnsafePath, DuplicateEntry, MissingFile, UnlistedFile, WrongDigest, Memory}
+use Rattle.bag_check.specs.Manifests.{Manifest, file_at, has_file, text_at, sha512_manifest, is_manifest, is_known_manifest, manifests_of, passes, is_malformed, entries}
+use Rattle.bag_check.specs.Check.{is_bad_declaration, declares_other, fails, is_supported_version, is_supported_encoding, is_astray, repeats, is_unlisted, is_wrong, if_payload, some_manifest, holds, first_fault, answer, identity_of, check_of, Checks}
+use Rattle.bag_check.specs.Order.{fault_of_declared, fault_of_declaration, is_unknown, fault_of_names, fault_of_tag_files, Listed, listed_in, listings, some_malformed, Reads, FailsToRead, has_astray, has_repeat, has_missing, has_unlisted, has_wrong, fault_of_listings}
 
--- the first fault of a manifest that was read
-abbrev pub of_entries : List FileFact → Result (List ListedFile) ℕ → Option BagFault
-of_entries files (Ok entries) = fault_of_entries Sha512 entries files
-of_entries files (Err line) = Some MalformedLine
+-- ---- what `bagit.txt` declares
 
--- the first fault from the manifest on
-abbrev pub from_manifest : List FileFact → Option (List ℕ) → Option BagFault
-from_manifest files None = Some NoSha512Manifest
-from_manifest files (Some text) = of_entries files (entries_of Sha512 text)
+declared : (read : Result (List ℕ × List ℕ) ℕ) (rest : Option BagFault)
+    → cond (is_err read) (Some BadDeclaration) (cond (fails (λ version encoding. is_supported_version version) read) (Some UnsupportedVersion)
+    (cond (fails (λ version encoding. is_supported_encoding encoding) read) (Some UnsupportedEncoding) rest))
+    ≡ option_or (fault_of_declared read) rest
+declared (Err line) rest = refl
+declared (Ok (version, encoding)) rest = go (is_supported_version version) (is_supported_encoding encoding)
+  where
+    go : (v e : Bool) → cond (not v) (Some UnsupportedVersion) (cond (not e) (Some UnsupportedEncoding) rest)
+        ≡ option_or (cond (not v) (Some UnsupportedVersion) (cond (not e) (Some UnsupportedEncoding) None)) rest
+    go false e = refl
+    go true false = refl
+    go true true = refl
 
--- the first fault, as it is looked for
-abbrev pub steps : TreeFacts → Option BagFault
-steps facts =
-    cond (not (has_file (codes "bagit.txt") facts.files)) (Some NoDeclaration)
-    (cond (not facts.payload) (Some NoPayloadFolder) (from_manifest facts.files (text_at sha512_manifest facts.files)))
+declaration : (file : Option FileFact) (rest : Option BagFault)
+    → cond (not (is_some file)) (Some NoDeclaration)
+    (cond (is_bad_declaration (option_map (λ f. unwrap_or f.text []) file)) (Some BadDeclaration)
+    (cond (declares_other (λ version encoding. is_supported_version version) (option_map (λ f. unwrap_or f.text []) file)) (Some UnsupportedVersion)
+    (cond (declares_other (λ version encoding. is_supported_encoding encoding) (option_map (λ f. unwrap_or f.text []) file)) (Some UnsupportedEncoding) rest)))
+    ≡ option_or (fault_of_declaration (option_map (λ f. unwrap_or f.text []) file)) rest
+declaration None rest = refl
+declaration (Some file) rest = declared (declaration_of (unwrap_or file.text [])) rest
 
-or-false : (b : Bool) → (b || false) ≡ b
-or-false true = refl
-or-false false = refl
+-- ---- which files there are
 
-read : (files : List FileFact) (read : Result (List ListedFile) ℕ)
-    → cond (is_malformed read || false) (Some MalformedLine)
-    (cond (passes (λ entries. list_any is_astray entries) read || false) (Some UnsafePath)
-    (cond (passes (λ entries. repeats entries) read || false) (Some DuplicateEntry)
-    (cond (passes (λ entries. list_any (λ entry. not (has_file entry.path files)) entries) read || false) (Some MissingFile)
-    (cond (passes (λ entries. list_any (is_unlisted entries) files) read || false) (Some UnlistedFile)
-    (cond (passes (λ entries. list_any (is_wrong Sha512 files) entries) read || false) (Some WrongDigest) None)))))
-    ≡ of_entries files read
-read files (Ok entries) = simp or-false
-read files (Err line) = refl
+names : (fetch payload sha512 unknown : Bool) (rest : Option BagFault)
+    → cond fetch (Some HasFetch) (cond (not payload) (Some NoPayloadFolder) (cond (not sha512) (Some NoSha512Manifest) (cond unknown (Some UnknownAlgorithm) rest)))
+    ≡ option_or (cond fetch (Some HasFetch) (cond (not payload) (Some NoPayloadFolder) (cond (not sha512) (Some NoSha512Manifest) (cond unknown (Some UnknownAlgorithm) None)))) rest
+names true payload sha512 unknown rest = refl
+names false false sha512 unknown rest = refl
+names false true false unknown rest = refl
+names false true true true rest = refl
+names false true true false rest = refl
 
-found : (facts : TreeFacts) (text : Option (List ℕ)) → text_at sha512_manifest facts.files ≡ text → has_file sha512_manifest facts.files ≡ is_some text
-    → first_fault facts ≡ cond (not (has_file (codes "bagit.txt") facts.files)) (Some NoDeclaration) (cond (not facts.payload) (Some NoPayloadFolder) (from_manifest facts.files text))
-unfolding holds
-found facts None e h = rw h refl
-found facts (Some text) e h = rw (h, e)
-    (ap (λ later. cond (not (has_file (codes "bagit.txt") facts.files)) (Some NoDeclaration) (cond (not facts.payload) (Some NoPayloadFolder) later)) (read facts.files (entries_of Sha512 text)))
+-- ---- what the manifests list
 
-pub first_fault-steps : (facts : TreeFacts) → first_fault facts ≡ steps facts
-first_fault-steps facts = found facts (text_at sha512_manifest facts.files) refl (has_file-text_at sha512_manifest facts.files)
+-- a test of what each manifest lists that has no malformed line
+pub of_listings : (test : Manifest → List ListedFile → Bool) (asked : Listed → Bool)
+    → ((manifest : Manifest) (files : List ListedFile) → test manifest files ≡ asked (record { kind = manifest.kind; algorithm = manifest.algorithm; files = files }))
+    → (manifests : List Manifest) → list_any (λ manifest. passes (test manifest) (entries manifest)) manifests ≡ list_any asked (listings manifests)
+unfolding listings
+of_listings test asked same [] = refl
+of_listings test asked same (manifest ∷ manifests) =
+    ap (λ t. t || list_any (λ m. passes (test m) (entries m)) manifests) (go (entries manifest))
+    ∙ (ap (λ t. list_any asked (listed_in manifest.kind manifest.algorithm (entries manifest)) || t) (of_listings test asked same manifests)
+    ∙ sym (list_any-append asked (listed_in manifest.kind manifest.algorithm (entries manifest)) (flat_map (λ (m : Manifest). listed_in m.kind m.algorithm (entries m)) manifests)))
+  where
+    go : (read : Result (List ListedFile) ℕ) → passes (test manifest) read ≡ list_any asked (listed_in manifest.kind manifest.algorithm read)
+    go (Ok files) = same manifest files ∙ sym (or-false (asked (record { kind = manifest.kind; algorithm = manifest.algorithm; files = files })))
+    go (Err line) = refl
 
-pub check_of-steps : (facts : TreeFacts) → check_of facts ≡ answer facts (steps facts)
-unfolding check_of
-check_of-steps facts = ap (answer facts) (first_fault-steps facts)
+-- the faults 10 to 14, as they are defined
+abbrev entry_faults : TreeFacts → Option BagFault
+entry_faults facts =
+    cond (some_manifest (λ manifest entries. list_any (is_astray manifest.kind) entries) facts) (Some UnsafePath)
+    (cond (some_manifest (λ manifest entries. if_payload manifest.kind (repeats entries)) facts) (Some DuplicateEntry)
+    (cond (some_manifest (λ manifest entries. list_any (λ entry. not (has_file entry.path facts.files)) entries) facts) (Some MissingFile)
+    (cond (some_manifest (λ manifest entries. if_payload manifest.kind (list_any (is_unlisted entries) facts.files)) facts) (Some UnlistedFile)
+    (cond (some_manifest (λ manifest entries. list_any (is_wrong manifest.algorithm facts.files) entries) facts) (Some WrongDigest) None))))
+
+entry_faults-steps : (facts : TreeFacts) → entry_faults facts ≡ fault_of_listings facts.files (listings (manifests_of facts))
+unfolding fault_of_listings
+entry_faults-steps facts =
+    ap5 (λ a b c d e. cond a (Some UnsafePath) (cond b (Some DuplicateEntry) (cond c (Some MissingFile) (cond d (Some UnlistedFile) (cond e (Some WrongDigest) None)))))
+    (of_listings (λ manifest entries. list_any (is_astray manifest.kind) entries) has_astray (λ m es. refl) (manifests_of facts))
+    (of_listings (λ manifest entries. if_payload manifest.kind (repeats entries)) has_repeat (λ m es. refl) (manifests_of facts))
+    (of_listings (λ manifest entries. list_any (λ entry. not (has_file entry.path facts.files)) entries) (has_missing facts.files) (λ m es. refl) (manifests_of facts))
+    (of_listings (λ manifest entries. if_payload manifest.kind (list_any (is_unlisted entries) facts.files)) (has_unlisted facts.files) (λ m es. refl) (manifests_of facts))
+    (of_listings (λ manifest entries. list_any (is_wrong manifest.algorithm facts.files) entries) (has_wrong facts.files) (λ m es. refl) (manifests_of facts))
+  where
+    ap5 : (f : Bool → Bool → Bool → Bool → Bool → Option BagFault) {a a2 b b2 c c2 d d2 e e2 : Bool} → a ≡ a2 → b ≡ b2 → c ≡ c2 → d ≡ d2 → e ≡ e2 → f a b c d e ≡ f a2 b2 c2 d2 e2
+    ap5 f p q r s t = cc
+
+-- ---- all faults
+
+-- the first fault from the manifests on
+abbrev pub later_steps : TreeFacts → Option BagFault
+later_steps facts = cond (some_malformed (manifests_of facts)) (Some MalformedLine) (fault_of_listings facts.files (listings (manifests_of facts)))
+
+or_assoc : (a b c : Option BagFault) → option_or a (option_or b c) ≡ option_or (option_or a b) c
+or_assoc None b c = refl
+or_assoc (Some fault) b c = refl
+
+later : (facts : TreeFacts) → cond (list_any (λ manifest. is_malformed (entries manifest)) (manifests_of facts)) (Some MalformedLine) (entry_faults facts) ≡ later_steps facts
+unfolding some_malformed
+later facts = ap (λ r. cond (list_any (λ manifest. is_malformed (entries manifest)) (manifests_of facts)) (Some MalformedLine) r) (entry_faults-steps facts)
+
+pub first_fault-steps : (facts : TreeFacts) → first_fault facts ≡ option_or (fault_of_tag_files facts.files facts.payload) (later_steps facts)
+unfolding holds fault_of_tag_files fault_of_names is_unknown
+first_fault-steps facts =
+    declaration (file_at (codes "bagit.txt") facts.files) _
+    ∙ (ap (option_or (fault_of_declaration (text_at (codes "bagit.txt") facts.files)))
+    (names (has_file (codes "fetch.txt") facts.files) facts.payload (has_file sha512_manifest facts.files)
+    (list_any (λ file. is_manifest file.path && not (is_known_manifest file.path)) facts.files) _ ∙ ap (option_or (fault_of_names facts.files facts.payload)) (later facts))
+    ∙ or_assoc (fault_of_declaration (text_at (codes "bagit.txt") facts.files)) (fault_of_names facts.files facts.payload) (later_steps facts))
 
 -- ---- what checking answers where each test is known
 
-module _ (facts : TreeFacts) where
-  pub no_declaration : has_file (codes "bagit.txt") facts.files ≡ false → check_of facts ≡ Err NoDeclaration
-  no_declaration d = check_of-steps facts ∙ rw d refl
-
-  pub no_folder : has_file (codes "bagit.txt") facts.files ≡ true → facts.payload ≡ false → check_of facts ≡ Err NoPayloadFolder
-  no_folder d p = check_of-steps facts ∙ rw (d, p) refl
-
-  pub no_manifest : has_file (codes "bagit.txt") facts.files ≡ true → facts.payload ≡ true → text_at sha512_manifest facts.files ≡ None → check_of facts ≡ Err NoSha512Manifest
-  no_manifest d p t = check_of-steps facts ∙ rw (d, p, t) refl
-
-  pub malformed : (text : List ℕ) (line : ℕ) → has_file (codes "bagit.txt") facts.files ≡ true → facts.payload ≡ true → text_at sha512_manifest facts.files ≡ Some text
-      → entries_of Sha512 text ≡ Err line → check_of facts ≡ Err MalformedLine
-  malformed text line d p t r = check_of-steps facts ∙ rw (d, p, t, r) refl
-
-  pub checked : (text : List ℕ) (entries : List ListedFile) (fault : Option BagFault) → has_file (codes "bagit.txt") facts.files ≡ true → facts.payload ≡ true → text_at sha512_manifest facts.files ≡ Some text
-      → entries_of Sha512 text ≡ Ok entries → fault_of_entries Sha512 entries facts.files ≡ fault → check_of facts ≡ answer facts fault
-  checked text entries fault d p t r f = check_of-steps facts ∙ rw (d, p, t, r) (ap (answer facts) f)
-
-  pub identified : (text : List ℕ) → text_at sha512_manifest facts.files ≡ Some text → identity_of facts ≡ record { 0 = sha512 text }
-  identified text t = rw t refl
-
 -- an answer of a fault is what a check answers that finds it
-pub Checks-err : (found : Result BagId BagFault) (fault : BagFault) → found ≡ Err fault → Checks found (Err fault)
+Checks-err : (found : Result BagId BagFault) (fault : BagFault) → found ≡ Err fault → Checks found (Err fault)
 Checks-err found Memory h = tt
 Checks-err found fault h = h
+
+pub tag_files_are : (facts : TreeFacts) (files : List FileFact) (payload : Bool) (fault : Option BagFault) → files ≡ facts.files → payload ≡ facts.payload → fault ≡ fault_of_tag_files files payload
+    → fault_of_tag_files facts.files facts.payload ≡ fault
+tag_files_are facts files payload fault same stands found = cc
+
+pub listings_are : (facts : TreeFacts) (files by_path : List FileFact) (found slice : List Listed) (fault : Option BagFault) → files ≡ facts.files → by_path ≡ files → slice ≡ found
+    → fault ≡ fault_of_listings by_path slice → fault_of_listings facts.files found ≡ fault
+listings_are facts files by_path found slice fault same indexed sliced h = cc
+
+pub identified : (facts : TreeFacts) (files : List FileFact) (bag : BagId) → files ≡ facts.files → bag ≡ record { 0 = sha512 (unwrap_or (text_at sha512_manifest files) []) } → bag ≡ identity_of facts
+identified facts files bag same h =
+    let P : List FileFact → Type 0 = λ fs. bag ≡ record { 0 = sha512 (unwrap_or (text_at sha512_manifest fs) []) } in
+    subst P same h
+
+-- an error that a `?` hands on
+pub checks_handed_on : (found answer : Result BagId BagFault) (fault : BagFault) → IsErrAnd answer (λ other. other ≡ fault) → Checks found (Err fault) → Checks found answer
+checks_handed_on found (Ok bag) fault is h = absurd is
+checks_handed_on found (Err other) fault is h =
+    let P : BagFault → Type 0 = λ f. Checks found (Err f) in
+    subst P (sym is) h
+
+module _ (facts : TreeFacts) where
+  check_of-is : (fault : Option BagFault) → option_or (fault_of_tag_files facts.files facts.payload) (later_steps facts) ≡ fault → check_of facts ≡ answer facts fault
+  unfolding check_of
+  check_of-is fault h = ap (answer facts) (first_fault-steps facts ∙ h)
+
+  pub faulty_tag_files : (fault : BagFault) → fault_of_tag_files facts.files facts.payload ≡ Some fault → Checks (check_of facts) (Err fault)
+  faulty_tag_files fault h = Checks-err (check_of facts) fault (check_of-is (Some fault) (ap (λ o. option_or o (later_steps facts)) h))
+
+  module _ (sound : fault_of_tag_files facts.files facts.payload ≡ None) where
+    past : (fault : Option BagFault) → later_steps facts ≡ fault → check_of facts ≡ answer facts fault
+    past fault h = check_of-is fault (ap (λ o. option_or o (later_steps facts)) sound ∙ h)
+
+    pub not_read : (fault : BagFault) → FailsToRead (manifests_of facts) fault → Checks (check_of facts) (Err fault)
+    not_read Memory h = tt
+    not_read MalformedLine h = past (Some MalformedLine) (rw h refl)
+    not_read fault h = absurd h
+
+    listed : (found : List Listed) (fault : Option BagFault) → Reads (manifests_of facts) [] found → fault_of_listings facts.files found ≡ fault → check_of facts ≡ answer facts fault
+    listed found fault (wellformed, read) h =
+        past fault (ap (λ t. cond t (Some MalformedLine) (fault_of_listings facts.files (listings (manifests_of facts)))) wellformed ∙ (ap (fault_of_listings facts.files) (sym read) ∙ h))
+
+    pub faulty_listing : (found : List Listed) (fault : BagFault) → Reads (manifests_of facts) [] found → fault_of_listings facts.files found ≡ Some fault → Checks (check_of facts) (Err fault)
+    faulty_listing found fault read h = Checks-err (check_of facts) fault (listed found (Some fault) read h)
+
+    pub valid : (found : List Listed) → Reads (manifests_of facts) [] found → fault_of_listings facts.files found ≡ None → check_of facts ≡ Ok (identity_of facts)
+    valid found read h = listed found None read h

@@ -1,66 +1,101 @@
 -- When a tree of files is a valid bag (RFC 8493, 3), and what checking it answers.
-use Rattle.std.specs.Prelude.{◌≡◌, Bool, false, not, ◌&&◌, ◌||◌, if◌then◌else◌, List, [], ◌∷◌, Option, Some, None, unwrap_or, Result, Ok, Err, codes}
+use Rattle.std.specs.Prelude.{◌≡◌, ℕ, Bool, false, not, ◌&&◌, ◌||◌, List, [], ◌∷◌, Option, Some, None, unwrap_or, Result, Ok, Err, is_err, codes}
 use Rattle.std.specs.List.{list_any, find}
-use Rattle.std.specs.Str.{bytes_eq}
+use Rattle.std.specs.Str.{bytes_eq, str_eq_ignore_ascii_case}
 use Rattle.sha2.specs.Sha512.{sha512}
 use Rattle.fed_types.specs.declared.bag_id.BagId.{BagId}
 use Rattle.bag_text.specs.declared.algorithm.Algorithm.{Algorithm}
 use Rattle.bag_text.specs.ListedFile.{ListedFile}
+use Rattle.bag_text.specs.Reading.{declaration_of}
 use Rattle.bag_tree.specs.Path.{is_unsafe, is_payload}
-use Rattle.bag_tree.specs.Facts.{FileFact, TreeFacts}
+use Rattle.bag_tree.specs.Facts.{FileFact, TreeFacts, digest_by}
 use Rattle.bag_check.specs.declared.fault.BagFault.{BagFault}
 use Rattle.bag_check.specs.declared.fault.BagFault.TheVariants.{NoDeclaration, BadDeclaration, UnsupportedVersion, UnsupportedEncoding, HasFetch, NoPayloadFolder, NoSha512Manifest, UnknownAlgorithm, MalformedLine, UnsafePath, DuplicateEntry, MissingFile, UnlistedFile, WrongDigest, Memory}
-use Rattle.bag_check.specs.Manifests.{has_file, text_at, sha512_manifest, payload_manifests, digest_by, passes, is_malformed, entries, is_listed}
+use Rattle.bag_check.specs.declared.manifests.Kind.{Kind}
+use Rattle.bag_check.specs.declared.manifests.Kind.TheVariants.{Payload, Tag}
+use Rattle.bag_check.specs.Manifests.{Manifest, file_at, has_file, text_at, sha512_manifest, is_manifest, is_known_manifest, manifests_of, passes, is_malformed, entries, is_listed}
 
--- an entry's path is unsafe, or not in the payload's folder
-abbrev pub is_astray : ListedFile → Bool
-is_astray entry = is_unsafe entry.path || not (is_payload entry.path)
+-- ---- what `bagit.txt` declares
+
+-- the text is there, and it isn't the two lines of a declaration
+abbrev pub is_bad_declaration : Option (List ℕ) → Bool
+is_bad_declaration None = false
+is_bad_declaration (Some text) = is_err (declaration_of text)
+
+-- what was read declares a version and an encoding that don't pass the test
+abbrev pub fails : (List ℕ → List ℕ → Bool) → Result (List ℕ × List ℕ) ℕ → Bool
+fails test (Ok (version, encoding)) = not (test version encoding)
+fails test (Err line) = false
+
+-- the text is a declaration, and its version and its encoding don't pass the test
+abbrev pub declares_other : (List ℕ → List ℕ → Bool) → Option (List ℕ) → Bool
+declares_other test None = false
+declares_other test (Some text) = fails test (declaration_of text)
+
+abbrev pub is_supported_version : List ℕ → Bool
+is_supported_version version = bytes_eq version (codes "1.0") || bytes_eq version (codes "0.97")
+
+-- an encoding's name is compared without its case
+abbrev pub is_supported_encoding : List ℕ → Bool
+is_supported_encoding encoding = str_eq_ignore_ascii_case encoding (codes "UTF-8")
+
+-- ---- what manifests list
+
+-- the path lies where this kind of manifest lists no file: a payload manifest lists the payload alone, a tag manifest all else
+abbrev pub is_on_wrong_side : Kind → List ℕ → Bool
+is_on_wrong_side Payload path = not (is_payload path)
+is_on_wrong_side Tag path = is_payload path
+
+-- an entry's path is unsafe, or on the wrong side of the payload's folder
+abbrev pub is_astray : Kind → ListedFile → Bool
+is_astray kind entry = is_unsafe entry.path || is_on_wrong_side kind entry.path
 
 -- a path is listed twice
 unfoldable pub repeats : List ListedFile → Bool
 repeats [] = false
 repeats (entry ∷ entries) = is_listed entry.path entries || repeats entries
 
--- a file of the entry's path has another digest than the entry
-abbrev pub is_wrong : Algorithm → List FileFact → ListedFile → Bool
-is_wrong algorithm files entry = list_any (λ file. bytes_eq file.path entry.path && not (bytes_eq (digest_by algorithm file.digests) entry.digest)) files
-
 -- a payload file that isn't listed
 abbrev pub is_unlisted : List ListedFile → FileFact → Bool
 is_unlisted entries file = is_payload file.path && not (is_listed file.path entries)
 
--- some payload manifest, all of whose lines have their form, passes this test of what it lists
-abbrev pub some_manifest : (Algorithm → List ListedFile → Bool) → TreeFacts → Bool
-some_manifest test facts = list_any (λ manifest. passes (test manifest.algorithm) (entries manifest)) (payload_manifests facts)
+-- the file is there, and its digest is another
+abbrev pub has_other_digest : Algorithm → List ℕ → Option FileFact → Bool
+has_other_digest algorithm digest None = false
+has_other_digest algorithm digest (Some file) = not (bytes_eq (digest_by algorithm file.digests) digest)
 
--- The fault holds of the tree. What `bagit.txt` declares, `fetch.txt` and other manifests than that for SHA-512 are not
--- asked yet.
+-- the entry's file is there, and has another digest than the entry
+abbrev pub is_wrong : Algorithm → List FileFact → ListedFile → Bool
+is_wrong algorithm files entry = has_other_digest algorithm entry.digest (file_at entry.path files)
+
+-- some manifest, all of whose lines have their form, passes this test of what it lists
+abbrev pub some_manifest : (Manifest → List ListedFile → Bool) → TreeFacts → Bool
+some_manifest test facts = list_any (λ manifest. passes (test manifest) (entries manifest)) (manifests_of facts)
+
+-- the same of the payload manifests alone
+abbrev pub if_payload : Kind → Bool → Bool
+if_payload Payload test = test
+if_payload Tag test = false
+
+-- ---- the faults
+
+-- The fault holds of the tree.
 unfoldable pub holds : BagFault → TreeFacts → Bool
 holds NoDeclaration facts = not (has_file (codes "bagit.txt") facts.files)
-holds BadDeclaration facts = false
-holds UnsupportedVersion facts = false
-holds UnsupportedEncoding facts = false
-holds HasFetch facts = false
+holds BadDeclaration facts = is_bad_declaration (text_at (codes "bagit.txt") facts.files)
+holds UnsupportedVersion facts = declares_other (λ version encoding. is_supported_version version) (text_at (codes "bagit.txt") facts.files)
+holds UnsupportedEncoding facts = declares_other (λ version encoding. is_supported_encoding encoding) (text_at (codes "bagit.txt") facts.files)
+holds HasFetch facts = has_file (codes "fetch.txt") facts.files
 holds NoPayloadFolder facts = not facts.payload
 holds NoSha512Manifest facts = not (has_file sha512_manifest facts.files)
-holds UnknownAlgorithm facts = false
-holds MalformedLine facts = list_any (λ manifest. is_malformed (entries manifest)) (payload_manifests facts)
-holds UnsafePath facts = some_manifest (λ algorithm entries. list_any is_astray entries) facts
-holds DuplicateEntry facts = some_manifest (λ algorithm entries. repeats entries) facts
-holds MissingFile facts = some_manifest (λ algorithm entries. list_any (λ entry. not (has_file entry.path facts.files)) entries) facts
-holds UnlistedFile facts = some_manifest (λ algorithm entries. list_any (is_unlisted entries) facts.files) facts
-holds WrongDigest facts = some_manifest (λ algorithm entries. list_any (is_wrong algorithm facts.files) entries) facts
+holds UnknownAlgorithm facts = list_any (λ file. is_manifest file.path && not (is_known_manifest file.path)) facts.files
+holds MalformedLine facts = list_any (λ manifest. is_malformed (entries manifest)) (manifests_of facts)
+holds UnsafePath facts = some_manifest (λ manifest entries. list_any (is_astray manifest.kind) entries) facts
+holds DuplicateEntry facts = some_manifest (λ manifest entries. if_payload manifest.kind (repeats entries)) facts
+holds MissingFile facts = some_manifest (λ manifest entries. list_any (λ entry. not (has_file entry.path facts.files)) entries) facts
+holds UnlistedFile facts = some_manifest (λ manifest entries. if_payload manifest.kind (list_any (is_unlisted entries) facts.files)) facts
+holds WrongDigest facts = some_manifest (λ manifest entries. list_any (is_wrong manifest.algorithm facts.files) entries) facts
 holds Memory facts = false
-
--- for the private function of this name: the first fault of what one payload manifest lists, in the same order
-abbrev pub fault_of_entries : Algorithm → List ListedFile → List FileFact → Option BagFault
-fault_of_entries algorithm entries files =
-    if list_any is_astray entries then Some UnsafePath
-    else if repeats entries then Some DuplicateEntry
-    else if list_any (λ entry. not (has_file entry.path files)) entries then Some MissingFile
-    else if list_any (is_unlisted entries) files then Some UnlistedFile
-    else if list_any (is_wrong algorithm files) entries then Some WrongDigest
-    else None
 
 -- the faults, in the order of their numbers
 abbrev pub all_faults : List BagFault

@@ -1,3 +1,4 @@
 pub mod Fault
 pub mod Manifests
 pub mod Check
+pub mod Order

@@ -1,47 +1,83 @@
--- The manifests of a tree of files, and what they list (RFC 8493, 2.1.3).
-use Rattle.std.specs.Prelude.{ℕ, Bool, true, false, if◌then◌else◌, List, [], ◌∷◌, Option, Some, None, unwrap_or, Result, Ok, Err, codes}
-use Rattle.std.specs.List.{list_any}
+-- The manifests of a tree of files, and what they list (RFC 8493, 2.1.3 and 2.2.1).
+use Rattle.std.specs.Prelude.{ℕ, Bool, true, false, ◌&&◌, ◌==◌, List, [], ◌∷◌, ◌++◌, length, Option, Some, None, unwrap_or, is_some, Result, Ok, Err, codes}
+use Rattle.std.specs.List.{list_any, find, flat_map}
+use Rattle.std.specs.Option.{option_map}
 use Rattle.std.specs.Str.{bytes_eq}
 use Rattle.bag_text.specs.declared.algorithm.Algorithm.{Algorithm}
 use Rattle.bag_text.specs.declared.algorithm.Algorithm.TheVariants.{Md5, Sha1, Sha256, Sha512}
+use Rattle.bag_text.specs.Algorithms.{algorithm_name}
 use Rattle.bag_text.specs.ListedFile.{ListedFile}
 use Rattle.bag_text.specs.Reading.{entries_of}
-use Rattle.bag_tree.specs.declared.digests.Digests.{Digests}
+use Rattle.bag_tree.specs.Path.{parts_of, is_text_named}
 use Rattle.bag_tree.specs.Facts.{FileFact, TreeFacts}
+use Rattle.bag_check.specs.declared.manifests.Kind.{Kind}
+use Rattle.bag_check.specs.declared.manifests.Kind.TheVariants.{Payload, Tag}
+
+-- the file of this path, where there is one
+abbrev pub file_at : List ℕ → List FileFact → Option FileFact
+file_at path files = find (λ file. bytes_eq file.path path) files
 
 -- there is a file of this path
 abbrev pub has_file : List ℕ → List FileFact → Bool
-has_file path files = list_any (λ file. bytes_eq file.path path) files
+has_file path files = is_some (file_at path files)
 
 -- the bytes of the text of this path, where there is one
-unfoldable pub text_at : List ℕ → List FileFact → Option (List ℕ)
-text_at path [] = None
-text_at path (file ∷ files) = if bytes_eq file.path path then Some (unwrap_or file.text []) else text_at path files
+abbrev pub text_at : List ℕ → List FileFact → Option (List ℕ)
+text_at path files = option_map (λ file. unwrap_or file.text []) (file_at path files)
 
--- a manifest's algorithm and its bytes
-pub record Manifest : Type 0 where
-  pub algorithm : Algorithm
-  pub text : List ℕ
+-- what the names of manifests of this kind begin with
+abbrev pub front_of : Kind → List ℕ
+front_of Payload = codes "manifest-"
+front_of Tag = codes "tagmanifest-"
+
+-- the name of the manifest, as `manifest-sha512.txt` or `tagmanifest-md5.txt`
+unfoldable pub manifest_name : Kind → Algorithm → List ℕ
+manifest_name kind algorithm = front_of kind ++ algorithm_name algorithm ++ codes ".txt"
+
+abbrev pub kinds : List Kind
+kinds = Payload ∷ Tag ∷ []
+
+abbrev pub algorithms : List Algorithm
+algorithms = Md5 ∷ Sha1 ∷ Sha256 ∷ Sha512 ∷ []
 
 -- the manifest whose digest is the bag's identity
 abbrev pub sha512_manifest : List ℕ
-sha512_manifest = codes "manifest-sha512.txt"
+sha512_manifest = manifest_name Payload Sha512
 
--- a manifest of the algorithm, where its text is there
-abbrev pub manifest_in : Algorithm → Option (List ℕ) → List Manifest
-manifest_in algorithm None = []
-manifest_in algorithm (Some text) = record { algorithm = algorithm; text = text } ∷ []
+-- the path is that of a manifest, of any algorithm or none: a file at the tree's own level
+unfoldable pub is_manifest : List ℕ → Bool
+is_manifest path = length (parts_of path) == 1 && list_any (λ kind. is_text_named (front_of kind) path) kinds
 
--- the payload manifests that are asked: so far the one for SHA-512
-abbrev pub payload_manifests : TreeFacts → List Manifest
-payload_manifests facts = manifest_in Sha512 (text_at sha512_manifest facts.files)
+-- the path is that of a manifest of this kind, of an algorithm that is read
+unfoldable pub is_known_of_kind : Kind → List ℕ → Bool
+is_known_of_kind kind path = list_any (λ algorithm. bytes_eq path (manifest_name kind algorithm)) algorithms
 
--- a file's digest by the algorithm
-abbrev pub digest_by : Algorithm → Digests → List ℕ
-digest_by Md5 digests = digests.md5
-digest_by Sha1 digests = digests.sha1
-digest_by Sha256 digests = digests.sha256
-digest_by Sha512 digests = digests.sha512
+-- the path is that of a manifest of an algorithm that is read
+unfoldable pub is_known_manifest : List ℕ → Bool
+is_known_manifest path = list_any (λ kind. is_known_of_kind kind path) kinds
+
+-- a manifest: its kind, its algorithm and its bytes
+pub record Manifest : Type 0 where
+  pub kind : Kind
+  pub algorithm : Algorithm
+  pub text : List ℕ
+
+-- the manifest, where its text is there
+abbrev pub manifest_in : Kind → Algorithm → Option (List ℕ) → List Manifest
+manifest_in kind algorithm None = []
+manifest_in kind algorithm (Some text) = record { kind = kind; algorithm = algorithm; text = text } ∷ []
+
+-- the manifest of this kind and algorithm, where there is one
+unfoldable pub manifest_at : Kind → Algorithm → List FileFact → List Manifest
+manifest_at kind algorithm files = manifest_in kind algorithm (text_at (manifest_name kind algorithm) files)
+
+-- the manifests of this kind, of every algorithm that is read
+unfoldable pub manifests_of_kind : Kind → List FileFact → List Manifest
+manifests_of_kind kind files = flat_map (λ algorithm. manifest_at kind algorithm files) algorithms
+
+-- the manifests of the tree, of every kind and algorithm that is read
+unfoldable pub manifests_of : TreeFacts → List Manifest
+manifests_of facts = flat_map (λ kind. manifests_of_kind kind facts.files) kinds
 
 -- every line of the manifest has its form, and what it lists passes this test
 abbrev pub passes : (List ListedFile → Bool) → Result (List ListedFile) ℕ → Bool

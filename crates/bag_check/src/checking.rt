@@ -1,62 +1,42 @@
-ghost use Rattle.std.specs.Prelude.{◌≡◌};
-ghost use Rattle.bag_check.specs.Check.{check_of, Checks, fault_of_entries};
+ghost use Rattle.std.specs.Prelude.{◌≡◌, [], unwrap_or};
+ghost use Rattle.sha2.specs.Sha512.{sha512};
+ghost use Rattle.bag_check.specs.Manifests.{text_at, sha512_manifest};
+ghost use Rattle.bag_check.specs.Check.{check_of, Checks};
 
-use crate::entries::{repeats, some_astray, some_missing, some_unlisted, some_wrong};
+use crate::by_path::FilesByPath;
+use crate::declared::fault_of_tag_files;
+use crate::entries::fault_of_listings;
 use crate::fault::BagFault;
-use crate::lookups::{has_file, text_at};
-use bag_text::{Algorithm, Entry, TextFault, manifest};
+use crate::lookups::text_at;
+use crate::manifests::Kind;
+use crate::reading::listings;
+use bag_text::Algorithm;
 use bag_tree::{Facts, FileFacts};
 use fed_types::BagId;
 use sha2::{Digest, Sha512};
 use std::alloc::Global;
 
 /// The identity of the bag that these are the facts of, or the first fault that holds, in the order
-/// of their numbers (RFC 8493, 3). So far the one manifest that is asked is `manifest-sha512.txt`, and
-/// faults 2 to 5 and 8 are never answered: what `bagit.txt` holds, a `fetch.txt`, and other manifests
-/// and tag manifests are passed over. `Memory` is answered only where a growth was refused.
+/// of their numbers (RFC 8493, 3). `Memory` is answered only where a growth was refused.
 pub fn check(alloc: Global, facts: &Facts) -> Result<BagId, BagFault>
     ensures { Checks (check_of facts.now) result }
 {
     let files = facts.files();
-    if !has_file(files, b"bagit.txt") {
-        return Err(BagFault::NoDeclaration);
+    if let Some(fault) = fault_of_tag_files(files, facts.payload_stands()) {
+        return Err(fault);
     }
-    if !facts.payload_stands() {
-        return Err(BagFault::NoPayloadFolder);
+    let listings = listings(alloc, facts)?;
+    let by_path = FilesByPath::new(alloc, files)?;
+    if let Some(fault) = fault_of_listings(alloc, listings.as_slice(), &by_path)? {
+        return Err(fault);
     }
-    let Some(text) = text_at(files, b"manifest-sha512.txt") else {
-        return Err(BagFault::NoSha512Manifest);
-    };
-    let entries = match manifest(alloc, Algorithm::Sha512, text) {
-        Ok(entries) => entries,
-        Err(TextFault::Malformed(_)) => return Err(BagFault::MalformedLine),
-        Err(TextFault::Memory) => return Err(BagFault::Memory),
-    };
-    match fault_of_entries(Algorithm::Sha512, entries.as_slice(), files) {
-        Some(fault) => Err(fault),
-        None => Ok(BagId(Sha512::digest(text))),
-    }
+    Ok(identity(files))
 }
 
-/// The first fault of what a payload manifest lists.
-fn fault_of_entries(
-    algorithm: Algorithm,
-    entries: &[Entry],
-    files: &[FileFacts],
-) -> Option<BagFault>
-    ensures { result ≡ fault_of_entries algorithm entries.now files.now }
+/// The SHA-512 of the bytes of `manifest-sha512.txt`, as they stand.
+fn identity(files: &[FileFacts]) -> BagId
+    ensures { result ≡ record { 0 = sha512 (unwrap_or (text_at sha512_manifest files.now) []) } }
 {
-    if some_astray(entries) {
-        Some(BagFault::UnsafePath)
-    } else if repeats(entries) {
-        Some(BagFault::DuplicateEntry)
-    } else if some_missing(entries, files) {
-        Some(BagFault::MissingFile)
-    } else if some_unlisted(entries, files) {
-        Some(BagFault::UnlistedFile)
-    } else if some_wrong(algorithm, entries, files) {
-        Some(BagFault::WrongDigest)
-    } else {
-        None
-    }
+    let text = text_at(files, Kind::Payload.manifest_name(Algorithm::Sha512));
+    BagId(Sha512::digest(text.unwrap_or(&[])))
 }

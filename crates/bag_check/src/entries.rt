@@ -1,91 +1,210 @@
-ghost use Rattle.std.specs.Prelude.{◌≡◌, not, ◌&&◌};
-ghost use Rattle.std.specs.Str.{bytes_eq};
+ghost use Rattle.std.specs.Prelude.{◌≡◌, ℕ, not, ◌&&◌, List, IfOk};
+ghost use Rattle.std.specs.Cmp.Lexicographic.{slice_cmp};
+ghost use Rattle.std.specs.Ordering.{nat_cmp};
 ghost use Rattle.std.specs.List.{list_any};
-ghost use Rattle.bag_check.specs.Manifests.{has_file, digest_by};
-ghost use Rattle.bag_check.specs.Check.{is_astray, repeats, is_wrong, is_unlisted};
+ghost use Rattle.std.specs.BTreeSet.{contains_by};
+ghost use Rattle.bag_tree.specs.Path.{is_payload};
+ghost use Rattle.bag_check.specs.Manifests.{is_listed};
+ghost use Rattle.bag_check.specs.Check.{is_astray, is_wrong, repeats, is_unlisted};
+ghost use Rattle.bag_check.specs.Order.{fault_of_listings, has_astray, has_repeat, has_missing, has_unlisted, has_wrong};
 
-use crate::lookups::{has_file, is_listed};
+use crate::by_path::FilesByPath;
+use crate::fault::BagFault;
+use crate::manifests::Kind;
+use crate::reading::Listing;
 use bag_text::{Algorithm, Entry};
-use bag_tree::{Digests, FileFacts, has_unsafe_part, is_payload};
+use bag_tree::{FileFacts, has_unsafe_part, is_payload};
+use std::alloc::{AllocError, Global};
+use std::collections::BTreeSet;
 
-/// Whether an entry's path is unsafe, or not in the payload's folder.
-pub(crate) fn some_astray(entries: &[Entry]) -> bool
-    ensures { result ≡ list_any is_astray entries.now }
+/// The first fault of what the manifests list. Each is asked of all manifests before the next one.
+#[tactic(auto, unfolding(crate::specs::Order::fault_of_listings))]
+pub(crate) fn fault_of_listings(
+    alloc: Global,
+    listings: &[Listing],
+    files: &FilesByPath<'_>,
+) -> Result<Option<BagFault>, AllocError>
+    ensures { IfOk result (λ fault. fault ≡ fault_of_listings files.now listings.now) }
 {
-    entries.iter().any(|entry| is_astray(entry))
+    let fault = if some_astray(listings) {
+        Some(BagFault::UnsafePath)
+    } else if some_repeat(alloc, listings)? {
+        Some(BagFault::DuplicateEntry)
+    } else if some_missing(files, listings) {
+        Some(BagFault::MissingFile)
+    } else if some_unlisted(alloc, files, listings)? {
+        Some(BagFault::UnlistedFile)
+    } else if some_wrong(files, listings) {
+        Some(BagFault::WrongDigest)
+    } else {
+        None
+    };
+    Ok(fault)
 }
 
-fn is_astray(entry: &Entry) -> bool
-    ensures { result ≡ is_astray entry.now }
+// ---- paths that are unsafe, or on the wrong side of the payload's folder
+
+fn some_astray(listings: &[Listing]) -> bool
+    ensures { result ≡ list_any has_astray listings.now }
+{
+    listings.iter().any(|listing| has_astray(listing))
+}
+
+fn has_astray(listing: &Listing) -> bool
+    ensures { result ≡ has_astray listing.now }
+{
+    let kind = listing.kind();
+    listing.entries().iter().any(|entry| is_astray(kind, entry))
+}
+
+fn is_astray(kind: Kind, entry: &Entry) -> bool
+    ensures { result ≡ is_astray kind entry.now }
 {
     let path = entry.path().as_bytes();
-    has_unsafe_part(path) || !is_payload(path)
+    has_unsafe_part(path)
+        || match kind {
+            Kind::Payload => !is_payload(path),
+            Kind::Tag => is_payload(path),
+        }
 }
 
-/// Whether a path is listed twice.
-pub(crate) fn repeats(entries: &[Entry]) -> bool
-    ensures { result ≡ repeats entries.now }
+// ---- paths that a payload manifest lists twice
+
+/// Whether a payload manifest lists a path twice.
+fn some_repeat(alloc: Global, listings: &[Listing]) -> Result<bool, AllocError>
+    ensures { IfOk result (λ found. found ≡ list_any has_repeat listings.now) }
 {
-    'search: for (place, entry) in entries.iter().enumerate() {
-        if is_listed(&entries[place + 1..], entry.path().as_bytes()) {
-            return true;
+    for listing in listings {
+        if has_repeat(alloc, listing)? {
+            return Ok(true);
         }
     }
-    false
+    Ok(false)
 }
 
-/// Whether a listed file isn't there.
-pub(crate) fn some_missing(entries: &[Entry], files: &[FileFacts]) -> bool
-    ensures { result ≡ list_any (λ entry. not (has_file entry.path files.now)) entries.now }
+fn has_repeat(alloc: Global, listing: &Listing) -> Result<bool, AllocError>
+    ensures { IfOk result (λ found. found ≡ has_repeat listing.now) }
 {
-    entries
+    match listing.kind() {
+        Kind::Payload => repeats(alloc, listing.entries()),
+        Kind::Tag => Ok(false),
+    }
+}
+
+fn repeats(alloc: Global, entries: &[Entry]) -> Result<bool, AllocError>
+    ensures { IfOk result (λ found. found ≡ repeats entries.now) }
+{
+    let mut seen = BTreeSet::new(alloc);
+    for entry in entries {
+        let added = seen.insert(entry.path())?;
+        if !added {
+            return Ok(true);
+        }
+    }
+    Ok(false)
+}
+
+// ---- listed files that aren't there
+
+fn some_missing(files: &FilesByPath<'_>, listings: &[Listing]) -> bool
+    ensures { result ≡ list_any (has_missing files.now) listings.now }
+{
+    listings.iter().any(|listing| has_missing(files, listing))
+}
+
+fn has_missing(files: &FilesByPath<'_>, listing: &Listing) -> bool
+    ensures { result ≡ has_missing files.now listing.now }
+{
+    listing
+        .entries()
         .iter()
-        .any(|entry| !has_file(files, entry.path().as_bytes()))
+        .any(|entry| !files.has_file(entry.path()))
 }
 
-/// Whether a payload file isn't listed.
-pub(crate) fn some_unlisted(entries: &[Entry], files: &[FileFacts]) -> bool
-    ensures { result ≡ list_any (is_unlisted entries.now) files.now }
+// ---- files of the payload that a payload manifest doesn't list
+
+/// Whether a payload file isn't listed in some payload manifest.
+fn some_unlisted(
+    alloc: Global,
+    files: &FilesByPath<'_>,
+    listings: &[Listing],
+) -> Result<bool, AllocError>
+    ensures { IfOk result (λ found. found ≡ list_any (has_unlisted files.now) listings.now) }
 {
-    files.iter().any(|file| is_unlisted(entries, file))
+    for listing in listings {
+        if has_unlisted(alloc, files.files(), listing)? {
+            return Ok(true);
+        }
+    }
+    Ok(false)
 }
 
-fn is_unlisted(entries: &[Entry], file: &FileFacts) -> bool
-    ensures { result ≡ is_unlisted entries.now file.now }
+fn has_unlisted(alloc: Global, files: &[FileFacts], listing: &Listing) -> Result<bool, AllocError>
+    ensures { IfOk result (λ found. found ≡ has_unlisted files.now listing.now) }
 {
-    let path = file.path().as_bytes();
-    is_payload(path) && !is_listed(entries, path)
+    match listing.kind() {
+        Kind::Payload => leaves_out(alloc, listing.entries(), files),
+        Kind::Tag => Ok(false),
+    }
 }
 
-/// Whether a listed digest isn't that of its file, which is there.
-pub(crate) fn some_wrong(algorithm: Algorithm, entries: &[Entry], files: &[FileFacts]) -> bool
-    ensures { result ≡ list_any (is_wrong algorithm files.now) entries.now }
+/// Whether the entries leave out a payload file.
+fn leaves_out(alloc: Global, entries: &[Entry], files: &[FileFacts]) -> Result<bool, AllocError>
+    ensures { IfOk result (λ found. found ≡ list_any (is_unlisted entries.now) files.now) }
 {
-    entries
+    let listed = listed_paths(alloc, entries)?;
+    Ok(some_outside(&listed, files))
+}
+
+/// Whether a payload file is none of the listed ones.
+fn some_outside(listed: &BTreeSet<&str>, files: &[FileFacts]) -> bool
+    ensures { result ≡ list_any (λ file. is_payload file.path
+        && not (contains_by (λ k. slice_cmp nat_cmp file.path k.now) listed.now)) files.now }
+{
+    files.iter().any(|file| is_outside(listed, file))
+}
+
+fn is_outside(listed: &BTreeSet<&str>, file: &FileFacts) -> bool
+    ensures { result ≡ (is_payload file.now.path
+        && not (contains_by (λ k. slice_cmp nat_cmp file.now.path k.now) listed.now)) }
+{
+    is_payload(file.path().as_bytes()) && !listed.contains(file.path())
+}
+
+fn listed_paths(alloc: Global, entries: &[Entry]) -> Result<BTreeSet<&str>, AllocError>
+    ensures { IfOk result (λ listed. (q : List ℕ) →
+        contains_by (λ k. slice_cmp nat_cmp q k.now) listed ≡ is_listed q entries.now) }
+{
+    let mut listed = BTreeSet::new(alloc);
+    for entry in entries {
+        listed.insert(entry.path())?;
+    }
+    Ok(listed)
+}
+
+// ---- digests that aren't those of their files
+
+fn some_wrong(files: &FilesByPath<'_>, listings: &[Listing]) -> bool
+    ensures { result ≡ list_any (has_wrong files.now) listings.now }
+{
+    listings.iter().any(|listing| has_wrong(files, listing))
+}
+
+fn has_wrong(files: &FilesByPath<'_>, listing: &Listing) -> bool
+    ensures { result ≡ has_wrong files.now listing.now }
+{
+    let algorithm = listing.algorithm();
+    listing
+        .entries()
         .iter()
         .any(|entry| is_wrong(algorithm, files, entry))
 }
 
-fn is_wrong(algorithm: Algorithm, files: &[FileFacts], entry: &Entry) -> bool
+fn is_wrong(algorithm: Algorithm, files: &FilesByPath<'_>, entry: &Entry) -> bool
     ensures { result ≡ is_wrong algorithm files.now entry.now }
 {
-    files.iter().any(|file| differs(algorithm, file, entry))
-}
-
-fn differs(algorithm: Algorithm, file: &FileFacts, entry: &Entry) -> bool
-    ensures { result ≡ (bytes_eq file.now.path entry.now.path && not (bytes_eq (digest_by algorithm file.now.digests) entry.now.digest)) }
-{
-    file.path() == entry.path() && digest_by(algorithm, file.digests()) != entry.digest()
-}
-
-/// A file's digest by an algorithm.
-fn digest_by(algorithm: Algorithm, digests: &Digests) -> &[u8]
-    ensures { result.now ≡ digest_by algorithm digests.now }
-{
-    match algorithm {
-        Algorithm::Md5 => &digests.md5,
-        Algorithm::Sha1 => &digests.sha1,
-        Algorithm::Sha256 => &digests.sha256,
-        Algorithm::Sha512 => &digests.sha512,
+    match files.file_at(entry.path()) {
+        None => false,
+        Some(file) => file.digests().by(algorithm) != entry.digest(),
     }
 }

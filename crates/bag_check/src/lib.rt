@@ -1,11 +1,14 @@
-//! Whether a tree of files is a valid bag, of which identity, and if it isn't, why (RFC 8493). So far
-//! one manifest is asked, the one for SHA-512.
+//! Whether a tree of files is a valid bag, of which identity, and if it isn't, why (RFC 8493).
 #![tactic(auto)]
 
+mod by_path;
 mod checking;
+mod declared;
 mod entries;
 mod fault;
 mod lookups;
+mod manifests;
+mod reading;
 
 pub use checking::check;
 pub use fault::BagFault;

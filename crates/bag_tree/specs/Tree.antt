@@ -33,14 +33,17 @@ clash a b = bytes_eq a b || is_below a b || is_below b a
 abbrev pub is_bad_path : Files → List ℕ → Bool
 is_bad_path tree path = is_unsafe path || bytes_eq path payload_folder || list_any (λ file. clash file.path path) tree.files
 
+-- a text that describes a bag is too long
+abbrev pub fault_of_text : List ℕ → List ℕ → Option TreeFault
+fault_of_text path bytes = if is_read_text path && nat_lt LONGEST_TEXT (length bytes) then Some TextTooLong else None
+
 -- the first fault, in this order, of a file that is to be added
 unfoldable pub fault_of_added : Files → List ℕ → List ℕ → Option TreeFault
 fault_of_added tree path bytes =
     if is_bad_path tree path then Some BadPath
     else if nat_lt DEEPEST_PATH (length (parts_of path)) then Some TooDeep
     else if nat_le MOST_FILES (length tree.files) then Some TooMany
-    else if is_read_text path && nat_lt LONGEST_TEXT (length bytes) then Some TextTooLong
-    else None
+    else fault_of_text path bytes
 
 -- the tree with one file more
 abbrev pub with_file : Files → List ℕ → List ℕ → Files

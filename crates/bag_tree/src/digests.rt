@@ -1,9 +1,8 @@
 ghost use Rattle.std.specs.Prelude.{◌≡◌};
-ghost use Rattle.bag_tree.specs.Facts.{digests_of};
+ghost use Rattle.bag_tree.specs.Facts.{digests_of, digest_by};
 
-use md5::{Digest as _, Md5};
-use sha1::Sha1;
-use sha2::{Digest, Sha256, Sha512};
+use crate::hashers::Hashers;
+use bag_text::Algorithm;
 
 /// The digests of one file's bytes, by each algorithm that a manifest may use
 /// (RFC 1321, FIPS 180-4).
@@ -20,11 +19,20 @@ impl Digests {
     pub fn of(bytes: &[u8]) -> Digests
         ensures { result ≡ digests_of bytes.now }
     {
-        Digests {
-            md5: Md5::digest(bytes),
-            sha1: Sha1::digest(bytes),
-            sha256: Sha256::digest(bytes),
-            sha512: Sha512::digest(bytes),
+        let mut hashers = Hashers::new();
+        hashers.feed(bytes);
+        hashers.finish()
+    }
+
+    /// The digest by this algorithm: 16, 20, 32 or 64 bytes.
+    pub fn by(&self, algorithm: Algorithm) -> &[u8]
+        ensures { result.now ≡ digest_by algorithm self.now }
+    {
+        match algorithm {
+            Algorithm::Md5 => &self.md5,
+            Algorithm::Sha1 => &self.sha1,
+            Algorithm::Sha256 => &self.sha256,
+            Algorithm::Sha512 => &self.sha512,
         }
     }
 }

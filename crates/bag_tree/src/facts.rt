@@ -33,7 +33,21 @@ impl Model for FileFacts {
 }
 
 impl FileFacts {
+    ghost use Rattle.std.specs.Prelude.{string_bytes};
+    ghost use Rattle.std.specs.Option.{option_map};
     ghost use Rattle.bag_tree.specs.Facts.{fact_of_file};
+
+    /// A file's path and digests, and its bytes where it is a text that is read.
+    pub(crate) fn new(path: String, digests: Digests, text: Option<Vec<u8>>) -> FileFacts
+        requires { is_some text ≡ is_read_text (string_bytes path) }
+        ensures { result ≡ record { path = string_bytes path; digests = digests; text = option_map (λ t. t.items) text } }
+    {
+        FileFacts {
+            path,
+            digests,
+            text,
+        }
+    }
 
     /// The facts of one file of a tree.
     fn of(alloc: Global, file: &TreeFile) -> Result<FileFacts, AllocError>
@@ -46,11 +60,7 @@ impl FileFacts {
         } else {
             None
         };
-        Ok(FileFacts {
-            path,
-            digests,
-            text,
-        })
+        Ok(FileFacts::new(path, digests, text))
     }
 
     /// The path, relative to the tree's own folder.
@@ -95,6 +105,13 @@ impl Model for Facts {
 }
 
 impl Facts {
+    /// What is told of a tree of these files.
+    pub(crate) fn new(files: Vec<FileFacts>, payload: bool) -> Facts
+        ensures { result ≡ record { files = files.items; payload = payload } }
+    {
+        Facts { files, payload }
+    }
+
     /// The facts of each file, in the tree's order.
     pub fn files(&self) -> &[FileFacts]
         ensures { result.now ≡ self.now.files }

@@ -1,5 +1,8 @@
 use super::*;
+use bag_text::Algorithm;
 use std::alloc::Global;
+use std::io;
+use std::io::{ErrorKind, Read};
 use std::test::Fail;
 
 /// The digests of `abc`, as the standards give them.
@@ -175,4 +178,111 @@ fn numbers_of_faults(rt: HostRuntime) {
     for (fault, number) in faults.iter().zip([1u8, 2, 3, 4, 5, 6, 7, 8]) {
         assert_eq!(rt; fault.number(), number);
     }
+}
+
+/// A reader that gives these pieces one by one, then fails or ends.
+#[derive(Drop)]
+struct Pieces<'a> {
+    pieces: &'a [&'a [u8]],
+    fails: bool,
+}
+
+impl Read for Pieces<'_> {
+    fn read(&mut self, buf: &mut [u8]) -> io::Result<usize> {
+        match self.pieces {
+            [] if self.fails => Err(io::Error::from(ErrorKind::Other)),
+            [] => Ok(0),
+            [piece, rest @ ..] => {
+                let mut bytes: &[u8] = piece;
+                self.pieces = rest;
+                bytes.read(buf)
+            }
+        }
+    }
+}
+
+#[test]
+fn bytes_in_pieces(rt: HostRuntime) -> Result<(), Fail> {
+    let mut hashing = Hashing::new(rt.alloc(), "bagit.txt")?;
+    for piece in [b"a".as_slice(), b"", b"bc"] {
+        hashing.feed(piece)?;
+    }
+    let file = hashing.finish();
+    assert_eq!(rt; file.path(), "bagit.txt");
+    assert_eq!(rt; file.text(), Some(b"abc".as_slice()));
+    assert_eq!(rt; file.digests().by(Algorithm::Md5), ABC_MD5.as_slice());
+    assert_eq!(rt; file.digests().by(Algorithm::Sha1), ABC_SHA1.as_slice());
+    assert_eq!(rt; file.digests().by(Algorithm::Sha256), ABC_SHA256.as_slice());
+    assert_eq!(rt; file.digests().by(Algorithm::Sha512), ABC_SHA512.as_slice());
+    Ok(())
+}
+
+#[test]
+fn readers_that_end_and_that_fail(rt: HostRuntime) -> Result<(), Fail> {
+    let pieces = [b"ab".as_slice(), b"c"];
+    for fails in [false, true] {
+        let mut reader = Pieces {
+            pieces: &pieces,
+            fails,
+        };
+        match hash_reader(rt.alloc(), "data/a", &mut reader) {
+            Ok(file) => {
+                assert!(rt; !fails);
+                assert_eq!(rt; file.digests().sha512, ABC_SHA512);
+                assert!(rt; file.text().is_none());
+            }
+            // The third read fails: never the facts of the two pieces before it.
+            Err(fault) => {
+                assert!(rt; fails);
+                assert_eq!(rt; fault, TreeFault::Device);
+            }
+        }
+    }
+    Ok(())
+}
+
+#[test]
+fn a_piece_beyond_the_limit_of_a_text(rt: HostRuntime) -> Result<(), Fail> {
+    let long = vec![in rt.alloc(); b'x'; LONGEST_TEXT]?;
+    let mut hashing = Hashing::new(rt.alloc(), "manifest-x.txt")?;
+    hashing.feed(b"a")?;
+    assert_eq!(rt; hashing.feed(long.as_slice()), Err(TreeFault::TextTooLong));
+    // The refused piece left nothing behind.
+    hashing.feed(b"bc")?;
+    let file = hashing.finish();
+    assert_eq!(rt; file.text(), Some(b"abc".as_slice()));
+    assert_eq!(rt; file.digests().sha512, ABC_SHA512);
+    Ok(())
+}
+
+/// Which fault a read of this folder gives, or how many files it finds.
+fn read_of<F: Folders>(folders: &mut F, path: &str) -> Result<usize, TreeFault> {
+    let facts = folders.read(path)?;
+    Ok(facts.files().len())
+}
+
+#[test]
+fn folders_in_memory(rt: HostRuntime) -> Result<(), Fail> {
+    let mut tree = Tree::new(rt.alloc());
+    tree.add("data/a", b"abc")?;
+    let mut folders = MemoryFolders::new(rt.alloc());
+    folders.add("x", tree)?;
+    folders.add("x", Tree::new(rt.alloc()))?;
+    folders.add("y", Tree::new(rt.alloc()))?;
+    assert_eq!(rt; read_of(&mut folders, "x"), Ok(1));
+    assert_eq!(rt; read_of(&mut folders, "y"), Ok(0));
+    assert_eq!(rt; read_of(&mut folders, "z"), Err(TreeFault::Listing));
+    Ok(())
+}
+
+// What real folders hold is shown by the cases on the built program.
+#[test]
+fn a_folder_that_is_not_there(rt: HostRuntime) -> Result<(), Fail> {
+    let mut folders = DiskFolders::new(rt.clone()?);
+    assert_eq!(rt;
+        read_of(&mut folders, "no such folder"),
+        Err(TreeFault::Listing)
+    );
+    assert!(rt; read_folder(&rt, "").is_err());
+    Ok(())
 }

@@ -15,7 +15,7 @@ pub const MOST_FILES: usize = 100_000;
 pub const LONGEST_TEXT: usize = 67_108_864;
 
 /// The payload's folder, relative to the bag.
-const PAYLOAD_FOLDER: &str = "data";
+pub(crate) const PAYLOAD_FOLDER: &str = "data";
 
 /// A file of a tree: its path, and its bytes.
 #[derive(Drop)]

@@ -27,26 +27,55 @@ out (`memory`) or standard input can't be read (`input unread`), and 2 for a mis
 Example:
   printf 'federation 7 3\\nquery 1 a 1\\n' | bagpaxos run";
 
+const CHECK_ABOUT: &str = "Checks whether a folder is a valid BagIt bag, and prints its identity";
+
+const CHECK_EXAMPLE: &str = "It prints one line:
+  valid HEX     a valid bag; HEX is its identity, the SHA-512 of its manifest-sha512.txt
+  invalid N     no valid bag; N is the first fault that holds:
+                  1 no bagit.txt                 8 a manifest of an unknown algorithm
+                  2 bagit.txt is malformed       9 a malformed line in a manifest
+                  3 neither BagIt 1.0 nor 0.97  10 an unsafe path in a manifest
+                  4 an encoding but UTF-8       11 a path twice in a payload manifest
+                  5 there is a fetch.txt        12 a listed file is missing
+                  6 no payload folder data      13 a payload file is not listed
+                  7 no manifest-sha512.txt      14 a file has another digest than the listed one
+                                                15 out of memory
+  unread N      a folder that can't be read:
+                  1 a folder can't be listed     4 over 100,000 files and folders
+                  2 neither file nor folder      5 a manifest over 64 MiB
+                  3 a path of over 32 parts      6 a file can't be read
+                                                 7 out of memory
+
+The exit status is 0 for a valid bag, 1 for all else, and 2 for a mistake in the arguments.
+
+Example:
+  bagpaxos check path/to/bag";
+
 /// What the program is asked to do.
 #[derive(Clone, Copy, Debug)]
-pub enum Task {
+pub enum Task<'a> {
     /// Run a schedule.
     Run(Options),
+    /// Check the folder of this path.
+    Check(&'a str),
 }
 
 /// What these words ask for, the program's own name being the first of them. Help is an error of clap's
 /// that goes to standard output, with status 0.
-pub fn task_of(alloc: Global, words: &[String]) -> Result<Option<Task>, Error> {
+pub fn task_of(alloc: Global, words: &[String]) -> Result<Option<Task<'_>>, Error> {
     let matches = command(alloc)?.try_get_matches_from(words)?;
     Ok(task_in(&matches))
 }
 
-fn task_in(matches: &ArgMatches<'_>) -> Option<Task> {
-    let run = matches.subcommand_matches("run")?;
-    Some(Task::Run(Options {
-        sent: run.get_flag("sent"),
-        identities: run.get_flag("identities"),
-    }))
+fn task_in<'a>(matches: &ArgMatches<'a>) -> Option<Task<'a>> {
+    if let Some(run) = matches.subcommand_matches("run") {
+        return Some(Task::Run(Options {
+            sent: run.get_flag("sent"),
+            identities: run.get_flag("identities"),
+        }));
+    }
+    let check = matches.subcommand_matches("check")?;
+    Some(Task::Check(check.get_str("FOLDER")?))
 }
 
 fn command<'a>(alloc: Global) -> Result<Command<'a>, AllocError> {
@@ -55,6 +84,7 @@ fn command<'a>(alloc: Global) -> Result<Command<'a>, AllocError> {
         .after_help(EXAMPLE)
         .version("0.1.0")
         .subcommand_required(true)
+        .subcommand(check_command(alloc)?)?
         .subcommand(run_command(alloc)?)
 }
 
@@ -72,4 +102,14 @@ fn run_command<'a>(alloc: Global) -> Result<Command<'a>, AllocError> {
         .after_help(RUN_EXAMPLE)
         .arg(sent)?
         .arg(identities)
+}
+
+fn check_command<'a>(alloc: Global) -> Result<Command<'a>, AllocError> {
+    let folder = Arg::new(alloc, "FOLDER")
+        .required(true)
+        .help("The bag's folder");
+    Command::new(alloc, "check")
+        .about(CHECK_ABOUT)
+        .after_help(CHECK_EXAMPLE)
+        .arg(folder)
 }

@@ -1,6 +1,7 @@
 //! Reading all that a reader has.
 
 ghost use Rattle.std.specs.Prelude.{◌≡◌, IfOk, IfSome};
+ghost use Rattle.bagpaxos.specs.declared.reading.ReadFault.TheVariants.{Memory};
 
 use std::alloc::{AllocError, Global};
 use std::io::{ErrorKind, Read};
@@ -21,6 +22,8 @@ pub enum ReadFault {
 }
 
 impl From<AllocError> for ReadFault {
+    ghost from_gives = { λ _ e. e ≡ Memory };
+
     fn from(_e: AllocError) -> ReadFault {
         ReadFault::Memory
     }

@@ -1,34 +1,15 @@
 //! One run of the program on the bytes of a schedule.
 
-ghost use Rattle.std.specs.Prelude.{◌≡◌, ◌⊎◌, ℕ, take, IfOk, IfSome, OnErr, IsErrOf, string_bytes};
-ghost use Rattle.std.specs.Io.KnownBytes.{Keeps, Appends};
+ghost use Rattle.std.specs.Prelude.{◌≡◌, ◌⊎◌, IfOk, IfSome, IsErrOf, string_bytes};
+ghost use Rattle.std.specs.Io.KnownBytes.{Keeps};
 ghost use Rattle.bagpaxos.specs.Outcomes.{outcome_of, no_memory, Tells, BeginsToTell};
 
 use crate::reading::{ReadFault, read_whole};
-use crate::writing::write_whole;
+use crate::telling::{Answer, ProgramFault, tell};
 use schedule::{ParseFault, parse};
 use simulator::{Options, run, text};
 use std::alloc::{AllocError, Global};
 use std::io::{Read, Write};
-use thiserror::Error;
-
-/// Why a run of the program did not come to its end.
-#[derive(Clone, Copy, Debug, PartialEq, Eq, Error)]
-pub enum ProgramFault {
-    /// A read failed, and nothing was written.
-    #[error("input unread")]
-    Input,
-    /// A write failed, and a beginning of the text was written.
-    #[error("output unwritten")]
-    Output,
-}
-
-/// An exit status, and the text to write.
-#[derive(Drop)]
-struct Answer {
-    status: u8,
-    text: String,
-}
 
 /// Reads a schedule, runs it, and writes what the run says. The exit status is 0, or 1 where the
 /// text is no schedule: then its line `schedule line N` is written alone. Where a growth was
@@ -77,16 +58,5 @@ fn answer_to(alloc: Global, bytes: &[u8], options: Options) -> Result<Answer, Al
             text: format!(in alloc; "schedule line {line}\n")?,
         }),
         Err(ParseFault::Memory) => Err(AllocError),
-    }
-}
-
-/// Writes a text, and gives the status.
-fn tell<W: Write>(output: &mut W, status: u8, text: &str) -> Result<u8, ProgramFault>
-    ensures ok { IfOk result (λ given. (given ≡ status) × Appends (W.contents output.old) (W.contents output.new) text.now) }
-    ensures err { OnErr result ((result ≡ Err ProgramFault.Output) × ((n : ℕ) × Appends (W.contents output.old) (W.contents output.new) (take n text.now))) }
-{
-    match write_whole(output, text.as_bytes()) {
-        Ok(()) => Ok(status),
-        Err(_) => Err(ProgramFault::Output),
     }
 }

@@ -1,54 +1,30 @@
-use Rattle.std.proofs.Common.{◌≡◌, ℕ, List, Some, None, Ok, ap, sym, ◌∙◌}
-use Rattle.std.specs.Prelude.{codes}
+use Rattle.std.proofs.Common.{Some, None, Ok, ap, sym, ◌∙◌}
 use Rattle.fed_types.specs.declared.bag_id.BagId.{BagId}
-use Rattle.bag_text.specs.declared.algorithm.Algorithm.TheVariants.{Sha512}
-use Rattle.bag_check.specs.Manifests.{has_file, text_at, sha512_manifest}
-use Rattle.bag_check.specs.Check.{fault_of_entries}
-use Rattle.bag_check.proofs.Steps.{no_declaration, no_folder, no_manifest, malformed, checked, identified, Checks-err}
+use Rattle.bag_check.specs.Check.{check_of}
+use Rattle.bag_check.proofs.Steps.{faulty_tag_files, not_read, faulty_listing, valid, tag_files_are, checks_handed_on, listings_are, identified}
 use Rattle.bag_check.proofs.checking.check.Goals as goal
 
-pub returns-then-not-has_file : goal.returns-then-not-has_file
-returns-then-not-has_file c =
-    let files-are = c.files-files.ensures in
-    no_declaration c.args.facts.now (ap (has_file (codes "bagit.txt")) (sym files-are) ∙ (sym c.has_file.ensures ∙ c.if-not-has_file.true))
+pub returns-in-Some : goal.returns-in-Some
+returns-in-Some c =
+    faulty_tag_files c.args.facts.now c.in-Some.fault (tag_files_are c.args.facts.now _ _ (Some c.in-Some.fault) c.files-files.ensures c.payload_stands.ensures c.in-Some.ensures)
 
-pub returns-then-not-payload_stands : goal.returns-then-not-payload_stands
-returns-then-not-payload_stands c =
-    let files-are = c.files-files.ensures in
-    no_folder c.args.facts.now (ap (has_file (codes "bagit.txt")) (sym files-are) ∙ (sym c.has_file.ensures ∙ c.if-not-has_file.false)) (sym c.payload_stands.ensures ∙ c.if-not-payload_stands.true)
+pub returns-in_err-listings : goal.returns-in_err-listings
+returns-in_err-listings c =
+    let sound = tag_files_are c.args.facts.now _ _ None c.files-files.ensures c.payload_stands.ensures c.in_default.ensures in
+    checks_handed_on (check_of c.args.facts.now) c.from_residual.result c.in_err-listings.field-0.0 c.from_residual.ensures.1
+    (not_read c.args.facts.now sound c.in_err-listings.field-0.0 c.in_err-listings.ensures.err)
 
-pub returns-in_default : goal.returns-in_default
-returns-in_default c =
-    let files-are = c.files-files.ensures in
-    let d = ap (has_file (codes "bagit.txt")) (sym files-are) ∙ (sym c.has_file.ensures ∙ c.if-not-has_file.false) in
-    let p = sym c.payload_stands.ensures ∙ c.if-not-payload_stands.false in
-    no_manifest c.args.facts.now d p (ap (text_at sha512_manifest) (sym files-are) ∙ sym c.in_default.ensures)
-
-pub returns-in-Err-Malformed : goal.returns-in-Err-Malformed
-returns-in-Err-Malformed c =
-    let files-are = c.files-files.ensures in
-    let d = ap (has_file (codes "bagit.txt")) (sym files-are) ∙ (sym c.has_file.ensures ∙ c.if-not-has_file.false) in
-    let p = sym c.payload_stands.ensures ∙ c.if-not-payload_stands.false in
-    let t : text_at sha512_manifest c.args.facts.now.files ≡ Some c.in-Some.text.now = ap (text_at sha512_manifest) (sym files-are) ∙ sym c.in-Some.ensures in
-    malformed c.args.facts.now c.in-Some.text.now c.in-Err-Malformed.field-0-0 d p t (rw c.in-Err-Malformed.field-0-is at c.in-Err-Malformed.ensures.exact)
-
-pub returns-in-Some-fault_of_entries : goal.returns-in-Some-fault_of_entries
-returns-in-Some-fault_of_entries c =
-    let files-are = c.files-files.ensures in
-    let d = ap (has_file (codes "bagit.txt")) (sym files-are) ∙ (sym c.has_file.ensures ∙ c.if-not-has_file.false) in
-    let p = sym c.payload_stands.ensures ∙ c.if-not-payload_stands.false in
-    let t : text_at sha512_manifest c.args.facts.now.files ≡ Some c.in-Some.text.now = ap (text_at sha512_manifest) (sym files-are) ∙ sym c.in-Some.ensures in
-    let entries-are : c.as_slice.result.now ≡ c.in-Ok.entries.items = c.as_slice.ensures.value in
-    let same = ap (λ es. fault_of_entries Sha512 es c.args.facts.now.files) (sym entries-are) ∙ ap (λ fs. fault_of_entries Sha512 c.as_slice.result.now fs) (sym files-are) in
-    Checks-err _ c.in-Some-fault_of_entries.fault (checked c.args.facts.now c.in-Some.text.now c.in-Ok.entries.items (Some c.in-Some-fault_of_entries.fault) d p t c.in-Ok.ensures.exact (same ∙ sym c.in-Some-fault_of_entries.ensures))
+pub returns-in-Some-2 : goal.returns-in-Some-2
+returns-in-Some-2 c =
+    let sound = tag_files_are c.args.facts.now _ _ None c.files-files.ensures c.payload_stands.ensures c.in_default.ensures in
+    faulty_listing c.args.facts.now sound c.in_ok-listings.listings.items c.in-Some-2.fault c.in_ok-listings.ensures.ok
+    (listings_are c.args.facts.now c.files-files.result.now c.in_ok-by_path.by_path c.in_ok-listings.listings.items c.as_slice.result.now c.in_ok-fault.field-0 c.files-files.ensures c.in_ok-by_path.ensures c.as_slice.ensures.value c.in_ok-fault.ensures
+    ∙ c.in-Some-2.is)
 
 pub returns : goal.returns
 returns c =
-    let files-are = c.files-files.ensures in
-    let d = ap (has_file (codes "bagit.txt")) (sym files-are) ∙ (sym c.has_file.ensures ∙ c.if-not-has_file.false) in
-    let p = sym c.payload_stands.ensures ∙ c.if-not-payload_stands.false in
-    let t : text_at sha512_manifest c.args.facts.now.files ≡ Some c.in-Some.text.now = ap (text_at sha512_manifest) (sym files-are) ∙ sym c.in-Some.ensures in
-    let entries-are : c.as_slice.result.now ≡ c.in-Ok.entries.items = c.as_slice.ensures.value in
-    let same = ap (λ es. fault_of_entries Sha512 es c.args.facts.now.files) (sym entries-are) ∙ ap (λ fs. fault_of_entries Sha512 c.as_slice.result.now fs) (sym files-are) in
-    checked c.args.facts.now c.in-Some.text.now c.in-Ok.entries.items None d p t c.in-Ok.ensures.exact (same ∙ sym c.in-None.ensures)
-    ∙ ap (λ (bag : BagId). Ok bag) (identified c.args.facts.now c.in-Some.text.now t ∙ ap (λ (digest : List ℕ). record { 0 = digest }) (sym c.digest.ensures))
+    let sound = tag_files_are c.args.facts.now _ _ None c.files-files.ensures c.payload_stands.ensures c.in_default.ensures in
+    valid c.args.facts.now sound c.in_ok-listings.listings.items c.in_ok-listings.ensures.ok
+    (listings_are c.args.facts.now c.files-files.result.now c.in_ok-by_path.by_path c.in_ok-listings.listings.items c.as_slice.result.now c.in_ok-fault.field-0 c.files-files.ensures c.in_ok-by_path.ensures c.as_slice.ensures.value c.in_ok-fault.ensures
+    ∙ c.in_default-2.is)
+    ∙ ap (λ (b : BagId). Ok b) (sym (identified c.args.facts.now c.files-files.result.now c.identity.result c.files-files.ensures c.identity.ensures))

@@ -1,24 +1,33 @@
-use Rattle.std.proofs.Common.{◌≡◌, ◌+◌, ◌-◌, true, false, length, take, drop, ap, sym, ◌∙◌}
-use Rattle.std.proofs.lemmas.List.{take_rest}
-use Rattle.bag_check.specs.Manifests.{is_listed}
-use Rattle.bag_check.proofs.Texts.{repeat_found, repeat_passed, repeat_none}
+use Rattle.std.proofs.Common.{◌≡◌, true, false, ◌||◌, ap, sym, ◌∙◌, refl, arith}
+use Rattle.std.specs.Str.{bytes_eq}
+use Rattle.std.proofs.lemmas.Grind.{common_steps}
+use Rattle.bag_check.specs.Check.{repeats}
+use Rattle.bag_check.proofs.Keyed.{has_text, has_text-inserted}
+use Rattle.bag_check.proofs.Repeats.{listed_next, repeat_found, repeat_passed, not_added, newly_added}
 use Rattle.bag_check.proofs.entries.repeats.Goals as goal
 
-pub returns-then-is_listed : goal.returns-then-is_listed
-returns-then-is_listed c =
-    let entries = c.args.entries.now in
-    let entry = c.index-entries-place.result in
-    let twice : is_listed entry.path (drop (c.search.place + 1) entries) ≡ true = ap (is_listed entry.path) (sym (take_rest entries (c.search.place + 1)))
-    ∙ (ap (λ p. is_listed p (take (length entries - (c.search.place + 1)) (drop (c.search.place + 1) entries))) (sym (c.as_bytes.ensures.value ∙ c.path.ensures)) ∙ (sym c.is_listed.ensures ∙ c.if-is_listed.true)) in
-    repeat_found entries c.search.place entry c.search-test.true c.index-entries-place.is twice c.search.invariant
+pub loop-entry-init : goal.loop-entry-init
+unfolding repeats
+loop-entry-init c = record { seen = λ q. grind (arith, common_steps, c.new-seen.ensures.empty); once = refl }
 
-pub search-preserved : goal.search-preserved
-search-preserved c =
-    let entries = c.args.entries.now in
-    let entry = c.index-entries-place.result in
-    let once : is_listed entry.path (drop (c.search.place + 1) entries) ≡ false = ap (is_listed entry.path) (sym (take_rest entries (c.search.place + 1)))
-    ∙ (ap (λ p. is_listed p (take (length entries - (c.search.place + 1)) (drop (c.search.place + 1) entries))) (sym (c.as_bytes.ensures.value ∙ c.path.ensures)) ∙ (sym c.is_listed.ensures ∙ c.if-is_listed.false)) in
-    repeat_passed entries c.search.place entry c.search-test.true c.index-entries-place.is once c.search.invariant
+pub returns-then-not-added : goal.returns-then-not-added
+returns-then-not-added c =
+    let entry = c.entry-item.result in
+    let there : has_text c.path.result.now c.loop-entry.seen ≡ true = not_added c.in_ok-added.added _ c.in_ok-added.ensures.added c.if-not-added.true in
+    repeat_found c.args.entries.now c.loop-entry.entry-index entry c.loop-entry-test.true c.entry-item.is
+    (sym (c.loop-entry.invariant.seen entry.path) ∙ (ap (λ p. has_text p c.loop-entry.seen) (sym c.path.ensures) ∙ there))
 
-pub returns : goal.returns
-returns c = repeat_none c.args.entries.now c.search.place c.search-test.false c.search.invariant
+pub loop-entry-preserved : goal.loop-entry-preserved
+loop-entry-preserved c =
+    let before = c.loop-entry.seen in
+    let entry = c.entry-item.result in
+    let entries = c.args.entries.now in
+    let absent : has_text c.path.result.now before ≡ false = newly_added c.in_ok-added.added _ c.in_ok-added.ensures.added c.if-not-added.false in
+    record {
+      seen = λ q. has_text-inserted c.path.result before c.insert.new.self c.in_ok-added.ensures.updates q
+          ∙ (ap (λ p. bytes_eq p q || has_text q before) c.path.ensures
+          ∙ (ap (λ t. bytes_eq entry.path q || t) (c.loop-entry.invariant.seen q)
+          ∙ sym (listed_next entries c.loop-entry.entry-index entry c.loop-entry-test.true c.entry-item.is q)));
+      once = repeat_passed entries c.loop-entry.entry-index entry c.loop-entry-test.true c.entry-item.is c.loop-entry.invariant.once
+          (sym (c.loop-entry.invariant.seen entry.path) ∙ (ap (λ p. has_text p before) (sym c.path.ensures) ∙ absent));
+    }

@@ -1,0 +1,13 @@
+use Rattle.std.proofs.Common.{not, ◌&&◌, ap, ◌∙◌}
+use Rattle.bag_tree.specs.Path.{is_payload}
+use Rattle.bag_tree.specs.Facts.{FileFact}
+use Rattle.bag_check.specs.Check.{is_unlisted}
+use Rattle.bag_check.proofs.Keyed.{has_text}
+use Rattle.bag_check.proofs.Repeats.{same_any}
+use Rattle.bag_check.proofs.entries.leaves_out.Goals as goal
+
+pub returns : goal.returns
+returns c =
+    let each = c.in_ok-listed.ensures in
+    c.some_outside.ensures ∙ same_any (λ (f : FileFact). is_payload f.path && not (has_text f.path c.in_ok-listed.listed)) (is_unlisted c.args.entries.now)
+    (λ f. ap (λ t. is_payload f.path && not t) (each f.path)) c.args.files.now

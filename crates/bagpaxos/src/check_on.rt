@@ -1,0 +1,90 @@
+//! One check of a folder.
+
+ghost use Rattle.std.specs.Prelude.{◌≡◌, ◌⊎◌, IfErr, IfOk, IfSome, IsErrOf, string_bytes};
+ghost use Rattle.bagpaxos.specs.Outcomes.{no_memory, Tells, BeginsToTell};
+ghost use Rattle.bagpaxos.specs.Verdicts.{verdict_of, IsReached, outcome_of_verdict};
+
+use crate::telling::{Answer, ProgramFault, tell};
+use bag_check::{BagFault, check};
+use bag_tree::{Folders, TreeFault};
+use fed_types::BagId;
+use std::alloc::{AllocError, Global};
+use std::io::Write;
+
+/// What a check of a folder comes to.
+#[derive(Clone, Copy, Debug, PartialEq, Eq)]
+pub enum Verdict {
+    /// It is a valid bag of this identity.
+    Valid(BagId),
+    /// It is no valid bag: the first fault that holds.
+    Invalid(BagFault),
+    /// It can't be read.
+    Unread(TreeFault),
+}
+
+/// Checks the folder of this path, and writes its verdict as one line: `valid HEX` with status 0, the
+/// identity in 128 hex digits; `invalid N` or `unread N` with status 1, the number of the fault. Where
+/// there was no room for the line, it is `memory` with status 1.
+pub fn check_on<F: Folders, W: Write>(
+    alloc: Global,
+    folders: &mut F,
+    path: &str,
+    output: &mut W,
+) -> Result<u8, ProgramFault>
+    ensures ok { IfOk result (λ status. IfSome (F.gives folders.old) (λ gives.
+        ((verdict : Verdict) × IsReached (verdict_of (gives path.now)) verdict × Tells (W.contents output.old) (W.contents output.new) status (outcome_of_verdict verdict))
+        ⊎ Tells (W.contents output.old) (W.contents output.new) status no_memory)) }
+    ensures output { IsErrOf result ProgramFault.Output → IfSome (F.gives folders.old) (λ gives.
+        ((verdict : Verdict) × IsReached (verdict_of (gives path.now)) verdict × BeginsToTell (W.contents output.old) (W.contents output.new) (outcome_of_verdict verdict))
+        ⊎ BeginsToTell (W.contents output.old) (W.contents output.new) no_memory) }
+    ensures fault { IfErr result (λ fault. fault ≡ ProgramFault.Output) }
+{
+    let verdict = verdict_on(alloc, folders, path);
+    match line_of(alloc, verdict) {
+        Ok(answer) => tell(output, answer.status, answer.text.as_str()),
+        Err(AllocError) => tell(output, 1, "memory\n"),
+    }
+}
+
+/// The verdict on the folder of this path.
+fn verdict_on<F: Folders>(alloc: Global, folders: &mut F, path: &str) -> Verdict
+    ensures { IfSome (F.gives folders.old) (λ gives. IsReached (verdict_of (gives path.now)) result) }
+{
+    match folders.read(path) {
+        Ok(facts) => match check(alloc, &facts) {
+            Ok(bag) => Verdict::Valid(bag),
+            Err(fault) => Verdict::Invalid(fault),
+        },
+        Err(fault) => Verdict::Unread(fault),
+    }
+}
+
+/// A verdict's status and its line.
+fn line_of(alloc: Global, verdict: Verdict) -> Result<Answer, AllocError>
+    ensures status { IfOk result (λ a. a.status ≡ (outcome_of_verdict verdict).status) }
+    ensures text { IfOk result (λ a. string_bytes a.text ≡ (outcome_of_verdict verdict).text) }
+{
+    match verdict {
+        Verdict::Valid(bag) => {
+            let digits = hex::encode(alloc, bag.0)?;
+            Ok(Answer {
+                status: 0,
+                text: format!(in alloc; "valid {digits}\n")?,
+            })
+        }
+        Verdict::Invalid(fault) => {
+            let number = fault.number();
+            Ok(Answer {
+                status: 1,
+                text: format!(in alloc; "invalid {number}\n")?,
+            })
+        }
+        Verdict::Unread(fault) => {
+            let number = fault.number();
+            Ok(Answer {
+                status: 1,
+                text: format!(in alloc; "unread {number}\n")?,
+            })
+        }
+    }
+}
