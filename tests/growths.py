@@ -8,6 +8,8 @@ INPUT = os.environ["INPUT"]
 WANTED = open(os.environ["WANTED"], "rb").read()
 WITHOUT_MEMORY = [line.encode() + b"\n" for line in os.environ["WITHOUT_MEMORY"].split(",")]
 SAID = os.environ["SAID"]
+# the program and the first of its arguments
+WHAT = " ".join([os.path.basename(gdb.current_progspace().filename), *ARGUMENTS.split()[:1]])
 
 
 class Growth(gdb.Breakpoint):
@@ -58,7 +60,7 @@ while True:
         print(f"FAILED {ARGUMENTS} with growth {refused} refused: status {status}, and it printed {said!r}")
     if not was_refused or refused > 5000:
         break
-print(f"growths of {ARGUMENTS.split()[0]} refused: {refused - 1}; answers without memory: {without_memory}, whole ones: {whole}")
+print(f"growths of {WHAT} refused: {refused - 1}; answers without memory: {without_memory}, whole ones: {whole}")
 if without_memory == 0 or whole == 0:
     failed += 1
 print(f"{passed} passed, {failed} failed")

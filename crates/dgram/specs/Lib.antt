@@ -1,0 +1,6 @@
+pub mod Faults
+pub mod Limits
+pub mod Messages
+pub mod Layout
+pub mod Reading
+pub mod Decoded

@@ -1,0 +1,184 @@
+//! The body of each kind of datagram, read from what is left. `from` is the sender's byte.
+
+ghost use Rattle.std.specs.Prelude.{◌≡◌};
+ghost use Rattle.dgram.specs.Reading.{Gives, site_of, from_none, from_ballot, body_at};
+ghost use Rattle.dgram.specs.declared.kind.Kind.TheVariants as kinds;
+
+use crate::answers::{DepositAnswer, QueryAnswer};
+use crate::body::Body;
+use crate::fault::DgramFault;
+use crate::kind::Kind;
+use crate::layout::NO_SITE;
+use crate::reader::Reader;
+use fed_types::{Ballot, SiteNo};
+use std::alloc::Global;
+
+fn read_site(from: u8) -> Result<SiteNo, DgramFault>
+    ensures { Gives (λ x. x) result (site_of from) }
+{
+    match SiteNo::new(from) {
+        Ok(site) => Ok(site),
+        Err(_) => Err(DgramFault::Malformed),
+    }
+}
+
+fn read_no_site(from: u8) -> Result<(), DgramFault>
+    ensures { Gives (λ x. x) result (from_none from tt) }
+{
+    if from == NO_SITE {
+        Ok(())
+    } else {
+        Err(DgramFault::Malformed)
+    }
+}
+
+fn read_own(from: u8, ballot: Ballot) -> Result<(), DgramFault>
+    ensures { Gives (λ x. x) result (from_ballot from ballot tt) }
+{
+    if ballot.site().number() == from {
+        Ok(())
+    } else {
+        Err(DgramFault::Malformed)
+    }
+}
+
+#[tactic(auto, unfolding(crate::specs::Reading::body_at))]
+fn read_prepare(from: u8, reader: &mut Reader) -> Result<Body, DgramFault>
+    ensures { Gives (λ x. (x, reader.new)) result (body_at kinds.Prepare from reader.old) }
+{
+    let ballot = reader.ballot()?;
+    read_own(from, ballot)?;
+    Ok(Body::Prepare { ballot })
+}
+
+#[tactic(auto, unfolding(crate::specs::Reading::body_at))]
+fn read_promise(from: u8, reader: &mut Reader) -> Result<Body, DgramFault>
+    ensures { Gives (λ x. (x, reader.new)) result (body_at kinds.Promise from reader.old) }
+{
+    let ballot = reader.ballot()?;
+    let prior = reader.prior()?;
+    let from = read_site(from)?;
+    Ok(Body::Promise {
+        from,
+        ballot,
+        prior,
+    })
+}
+
+#[tactic(auto, unfolding(crate::specs::Reading::body_at))]
+fn read_accept(from: u8, reader: &mut Reader) -> Result<Body, DgramFault>
+    ensures { Gives (λ x. (x, reader.new)) result (body_at kinds.Accept from reader.old) }
+{
+    let vote = reader.vote()?;
+    read_own(from, vote.ballot)?;
+    let (ballot, bag) = (vote.ballot, vote.bag);
+    Ok(Body::Accept { ballot, bag })
+}
+
+#[tactic(auto, unfolding(crate::specs::Reading::body_at))]
+fn read_accepted(from: u8, reader: &mut Reader) -> Result<Body, DgramFault>
+    ensures { Gives (λ x. (x, reader.new)) result (body_at kinds.Accepted from reader.old) }
+{
+    let vote = reader.vote()?;
+    let from = read_site(from)?;
+    let (ballot, bag) = (vote.ballot, vote.bag);
+    Ok(Body::Accepted { from, ballot, bag })
+}
+
+#[tactic(auto, unfolding(crate::specs::Reading::body_at))]
+fn read_refused(from: u8, reader: &mut Reader) -> Result<Body, DgramFault>
+    ensures { Gives (λ x. (x, reader.new)) result (body_at kinds.Refused from reader.old) }
+{
+    let asked = reader.ballot()?;
+    let standing = reader.ballot()?;
+    let from = read_site(from)?;
+    Ok(Body::Refused {
+        from,
+        asked,
+        standing,
+    })
+}
+
+#[tactic(auto, unfolding(crate::specs::Reading::body_at))]
+fn read_ask(from: u8, reader: &mut Reader) -> Result<Body, DgramFault>
+    ensures { Gives (λ x. (x, reader.new)) result (body_at kinds.Ask from reader.old) }
+{
+    let from = read_site(from)?;
+    Ok(Body::Ask { from })
+}
+
+#[tactic(auto, unfolding(crate::specs::Reading::body_at))]
+fn read_known(from: u8, reader: &mut Reader) -> Result<Body, DgramFault>
+    ensures { Gives (λ x. (x, reader.new)) result (body_at kinds.Known from reader.old) }
+{
+    let bag = reader.bag()?;
+    let from = read_site(from)?;
+    Ok(Body::Known { from, bag })
+}
+
+#[tactic(auto, unfolding(crate::specs::Reading::body_at))]
+fn read_deposit(alloc: Global, from: u8, reader: &mut Reader) -> Result<Body, DgramFault>
+    ensures { Gives (λ x. (x, reader.new)) result (body_at kinds.Deposit from reader.old) }
+{
+    let path = reader.path(alloc)?;
+    read_no_site(from)?;
+    Ok(Body::Deposit { path })
+}
+
+#[tactic(auto, unfolding(crate::specs::Reading::body_at))]
+fn read_query(from: u8, reader: &mut Reader) -> Result<Body, DgramFault>
+    ensures { Gives (λ x. (x, reader.new)) result (body_at kinds.Query from reader.old) }
+{
+    read_no_site(from)?;
+    Ok(Body::Query)
+}
+
+#[tactic(auto, unfolding(crate::specs::Reading::body_at))]
+fn read_deposit_reply(from: u8, reader: &mut Reader) -> Result<Body, DgramFault>
+    ensures { Gives (λ x. (x, reader.new)) result (body_at kinds.DepositReply from reader.old) }
+{
+    let code = reader.byte()?;
+    let bag = reader.bag()?;
+    let from = read_site(from)?;
+    match DepositAnswer::of(code, bag) {
+        Some(answer) => Ok(Body::DepositReply { from, answer }),
+        None => Err(DgramFault::Malformed),
+    }
+}
+
+#[tactic(auto, unfolding(crate::specs::Reading::body_at))]
+fn read_query_reply(from: u8, reader: &mut Reader) -> Result<Body, DgramFault>
+    ensures { Gives (λ x. (x, reader.new)) result (body_at kinds.QueryReply from reader.old) }
+{
+    let code = reader.byte()?;
+    let bag = reader.bag()?;
+    let from = read_site(from)?;
+    match QueryAnswer::of(code, bag) {
+        Some(answer) => Ok(Body::QueryReply { from, answer }),
+        None => Err(DgramFault::Malformed),
+    }
+}
+
+/// The body of a datagram of this kind.
+pub(crate) fn read_body(
+    alloc: Global,
+    kind: Kind,
+    from: u8,
+    reader: &mut Reader,
+) -> Result<Body, DgramFault>
+    ensures { Gives (λ x. (x, reader.new)) result (body_at kind from reader.old) }
+{
+    match kind {
+        Kind::Prepare => read_prepare(from, reader),
+        Kind::Promise => read_promise(from, reader),
+        Kind::Accept => read_accept(from, reader),
+        Kind::Accepted => read_accepted(from, reader),
+        Kind::Refused => read_refused(from, reader),
+        Kind::Ask => read_ask(from, reader),
+        Kind::Known => read_known(from, reader),
+        Kind::Deposit => read_deposit(alloc, from, reader),
+        Kind::Query => read_query(from, reader),
+        Kind::DepositReply => read_deposit_reply(from, reader),
+        Kind::QueryReply => read_query_reply(from, reader),
+    }
+}

@@ -1,0 +1,160 @@
+ghost use Rattle.std.specs.Prelude.{◌≡◌, ◌+◌, ◌<◌, ◌≤◌, ◌++◌, length, take, vec_len, vec_capacity, OnOk, OnErr};
+ghost use Rattle.dgram.specs.Layout.{slot_bytes, ballot_bytes, prior_bytes, path_bytes, vote_bytes, reply_bytes, body_bytes, front_bytes, from_byte, datagram_of};
+
+use crate::body::{Body, PriorVote};
+use crate::layout::{LAYOUT, MAGIC, NO_PRIOR, NO_SITE, PRIOR};
+use crate::message::Message;
+use crate::path::FolderPath;
+use fed_types::{BagId, Ballot, SiteNo, Slot};
+use std::alloc::AllocError;
+
+fn put_slot(out: &mut Vec<u8>, slot: &Slot) -> Result<(), AllocError>
+    ensures put { OnOk result (out.new.items ≡ out.old.items ++ slot_bytes slot.now) }
+    ensures kept { take (length out.old.items) out.new.items ≡ out.old.items }
+    ensures room { vec_capacity out.old ≤ vec_capacity out.new }
+    ensures full { OnErr result (vec_capacity out.old < vec_len out.old + length (slot_bytes slot.now)) }
+{
+    let object = slot.object();
+    out.push(object.len() as u8)?;
+    out.extend_from_slice(object.as_bytes())?;
+    out.extend_from_slice(&slot.version().to_be_bytes())
+}
+
+fn put_ballot(out: &mut Vec<u8>, ballot: Ballot) -> Result<(), AllocError>
+    ensures put { OnOk result (out.new.items ≡ out.old.items ++ ballot_bytes ballot) }
+    ensures kept { take (length out.old.items) out.new.items ≡ out.old.items }
+    ensures room { vec_capacity out.old ≤ vec_capacity out.new }
+    ensures full { OnErr result (vec_capacity out.old < vec_len out.old + length (ballot_bytes ballot)) }
+{
+    out.extend_from_slice(&ballot.round().to_be_bytes())?;
+    out.push(ballot.site().number())?;
+    Ok(())
+}
+
+fn put_vote(out: &mut Vec<u8>, ballot: Ballot, bag: &BagId) -> Result<(), AllocError>
+    ensures put { OnOk result (out.new.items ≡ out.old.items ++ vote_bytes ballot bag.now) }
+    ensures kept { take (length out.old.items) out.new.items ≡ out.old.items }
+    ensures room { vec_capacity out.old ≤ vec_capacity out.new }
+    ensures full { OnErr result (vec_capacity out.old < vec_len out.old + length (vote_bytes ballot bag.now)) }
+{
+    put_ballot(out, ballot)?;
+    out.extend_from_slice(&bag.0)
+}
+
+fn put_prior(out: &mut Vec<u8>, prior: Option<PriorVote>) -> Result<(), AllocError>
+    ensures put { OnOk result (out.new.items ≡ out.old.items ++ prior_bytes prior) }
+    ensures kept { take (length out.old.items) out.new.items ≡ out.old.items }
+    ensures room { vec_capacity out.old ≤ vec_capacity out.new }
+    ensures full { OnErr result (vec_capacity out.old < vec_len out.old + length (prior_bytes prior)) }
+{
+    match prior {
+        None => {
+            out.push(NO_PRIOR)?;
+            Ok(())
+        }
+        Some(vote) => {
+            out.push(PRIOR)?;
+            put_vote(out, vote.ballot, &vote.bag)
+        }
+    }
+}
+
+fn put_path(out: &mut Vec<u8>, path: &FolderPath) -> Result<(), AllocError>
+    ensures put { OnOk result (out.new.items ≡ out.old.items ++ path_bytes path.now) }
+    ensures kept { take (length out.old.items) out.new.items ≡ out.old.items }
+    ensures room { vec_capacity out.old ≤ vec_capacity out.new }
+    ensures full { OnErr result (vec_capacity out.old < vec_len out.old + length (path_bytes path.now)) }
+{
+    let text = path.as_str();
+    out.extend_from_slice(&(text.len() as u16).to_be_bytes())?;
+    out.extend_from_slice(text.as_bytes())
+}
+
+fn put_reply(out: &mut Vec<u8>, code: u8, bag: &BagId) -> Result<(), AllocError>
+    ensures put { OnOk result (out.new.items ≡ out.old.items ++ reply_bytes code bag.now) }
+    ensures kept { take (length out.old.items) out.new.items ≡ out.old.items }
+    ensures room { vec_capacity out.old ≤ vec_capacity out.new }
+    ensures full { OnErr result (vec_capacity out.old < vec_len out.old + length (reply_bytes code bag.now)) }
+{
+    out.push(code)?;
+    out.extend_from_slice(&bag.0)
+}
+
+fn put_body(out: &mut Vec<u8>, body: &Body) -> Result<(), AllocError>
+    ensures put { OnOk result (out.new.items ≡ out.old.items ++ body_bytes body.now) }
+    ensures kept { take (length out.old.items) out.new.items ≡ out.old.items }
+    ensures room { vec_capacity out.old ≤ vec_capacity out.new }
+    ensures full { OnErr result (vec_capacity out.old < vec_len out.old + length (body_bytes body.now)) }
+{
+    match body {
+        Body::Prepare { ballot } => put_ballot(out, *ballot),
+        Body::Promise { ballot, prior, .. } => {
+            put_ballot(out, *ballot)?;
+            put_prior(out, *prior)
+        }
+        Body::Accept { ballot, bag } | Body::Accepted { ballot, bag, .. } => {
+            put_vote(out, *ballot, bag)
+        }
+        Body::Refused {
+            asked,
+            standing,
+            ..
+        } => {
+            put_ballot(out, *asked)?;
+            put_ballot(out, *standing)
+        }
+        Body::Ask { .. } | Body::Query => Ok(()),
+        Body::Known { bag, .. } => out.extend_from_slice(&bag.0),
+        Body::Deposit { path } => put_path(out, path),
+        Body::DepositReply { answer, .. } => put_reply(out, answer.code(), &answer.bag()),
+        Body::QueryReply { answer, .. } => put_reply(out, answer.code(), &answer.bag()),
+    }
+}
+
+fn put_front(out: &mut Vec<u8>, federation: u64, kind: u8) -> Result<(), AllocError>
+    ensures put { OnOk result (out.new.items ≡ out.old.items ++ front_bytes federation kind) }
+    ensures kept { take (length out.old.items) out.new.items ≡ out.old.items }
+    ensures room { vec_capacity out.old ≤ vec_capacity out.new }
+    ensures full { OnErr result (vec_capacity out.old < vec_len out.old + length (front_bytes federation kind)) }
+{
+    out.extend_from_slice(&[MAGIC[0], MAGIC[1], LAYOUT, kind])?;
+    out.extend_from_slice(&federation.to_be_bytes())
+}
+
+// The sender's byte.
+fn byte_of(from: Option<SiteNo>) -> u8
+    ensures { result ≡ from_byte from }
+{
+    match from {
+        None => NO_SITE,
+        Some(site) => site.number(),
+    }
+}
+
+fn put_message(federation: u64, message: &Message, out: &mut Vec<u8>) -> Result<(), AllocError>
+    ensures put { OnOk result (out.new.items ≡ out.old.items ++ datagram_of federation message.now) }
+    ensures kept { take (length out.old.items) out.new.items ≡ out.old.items }
+    ensures room { vec_capacity out.old ≤ vec_capacity out.new }
+    ensures full { OnErr result (vec_capacity out.old < vec_len out.old + length (datagram_of federation message.now)) }
+{
+    put_front(out, federation, message.body.kind().code())?;
+    out.push(byte_of(message.from()))?;
+    put_slot(out, &message.slot)?;
+    put_body(out, &message.body)
+}
+
+/// Appends the message's datagram in the federation. Where `out` has no room for it and no memory is
+/// found, `out` has the items that it had.
+pub fn encode(federation: u64, message: &Message, out: &mut Vec<u8>) -> Result<(), AllocError>
+    ensures appended { OnOk result (out.new.items ≡ out.old.items ++ datagram_of federation message.now) }
+    ensures unchanged { OnErr result (out.new.items ≡ out.old.items) }
+    // It fails only where room is missing.
+    ensures full { OnErr result (vec_capacity out.old < vec_len out.old + length (datagram_of federation message.now)) }
+{
+    let before = out.len();
+    let put = put_message(federation, message, out);
+    if put.is_err() {
+        out.truncate(before);
+    }
+    put
+}

@@ -1,0 +1,32 @@
+//! Datagrams: the messages that sites and their clients send each other, and the bytes of each.
+#![tactic(auto)]
+
+mod answers;
+mod bag_fault;
+mod bodies_read;
+mod body;
+mod decoding;
+mod encoding;
+mod fault;
+mod kind;
+mod layout;
+mod message;
+mod path;
+mod reader;
+mod tree_fault;
+mod uniqueness;
+
+pub use answers::{DepositAnswer, QueryAnswer};
+pub use bag_fault::BagFaultNo;
+pub use body::{Body, PriorVote};
+pub use decoding::decode;
+pub use encoding::encode;
+pub use fault::DgramFault;
+pub use layout::{GREATEST_BAG_FAULT, GREATEST_TREE_FAULT, LAYOUT, LONGEST_PATH, MAGIC};
+pub use message::Message;
+pub use path::FolderPath;
+pub use tree_fault::TreeFaultNo;
+pub use uniqueness::one_message_a_datagram;
+
+#[cfg(test)]
+mod tests;
