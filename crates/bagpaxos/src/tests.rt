@@ -169,10 +169,12 @@ fn a_write_that_fails(rt: HostRuntime) -> Result<(), Fail> {
 const DECLARATION: &[u8] = b"BagIt-Version: 1.0\nTag-File-Character-Encoding: UTF-8\n";
 
 /// A manifest of one file, whose content is `abc`.
-const MANIFEST: &[u8] = b"ddaf35a193617abacc417349ae20413112e6fa4e89a97ea20a9eeee64b55d39a2192992a274fc1a836ba3c23a3feebbd454d4423643ce80e2a9ac94fa54ca49f  data/a.txt\n";
+const MANIFEST: &[u8] =
+    b"ddaf35a193617abacc417349ae20413112e6fa4e89a97ea20a9eeee64b55d39a2192992a274fc1a836ba3c23a3feebbd454d4423643ce80e2a9ac94fa54ca49f  data/a.txt\n";
 
 /// What GNU's sha512sum says of it.
-const VALID: &str = "valid 215bd58c6a916674a9510b1073640601453a663b0d8fc20ee1ae1c7f39d891190c7c6e1f1431a58c83e9a90fc801f4abd1b48ab183c8116af3ee9b58f17cde56\n";
+const VALID: &str =
+    "valid 215bd58c6a916674a9510b1073640601453a663b0d8fc20ee1ae1c7f39d891190c7c6e1f1431a58c83e9a90fc801f4abd1b48ab183c8116af3ee9b58f17cde56\n";
 
 /// A valid bag in the folder `valid`, and one whose file has another content in the folder `changed`.
 fn two_bags(alloc: Global) -> Result<MemoryFolders, Fail> {
@@ -196,7 +198,10 @@ fn verdicts(rt: HostRuntime) -> Result<(), Fail> {
         ("elsewhere", 1, "unread 1\n"),
     ] {
         let mut output = Vec::new(rt.alloc());
-        assert_eq!(rt; check_on(rt.alloc(), &mut folders, path, &mut output), Ok(status));
+        assert_eq!(rt;
+            check_on(rt.alloc(), &mut folders, path, &mut output),
+            Ok(status)
+        );
         assert_eq!(rt; output.as_slice(), line.as_bytes());
     }
     Ok(())
