@@ -1,0 +1,48 @@
+-- What a call answers, and what it does.
+use Rattle.std.specs.Prelude.{◌≡◌, ◌⊎◌, ◌<◌, ◌≤◌, ◌-◌, ◌^◌, ℕ, List, true, false, Option, Some, None, Result, Ok, Err, IsErrOf}
+use Rattle.cell_device.specs.declared.fault.CellFault.{CellFault}
+use Rattle.cell_device.specs.declared.fault.CellFault.TheVariants.{Device, Memory}
+use Rattle.cell_device.specs.declared.fuse.FuseState.{FuseState}
+use Rattle.cell_device.specs.Images.{Image, failed}
+use Rattle.cell_device.specs.Fuses.{fires, burnt, fused}
+
+-- what a call that tries one thing and does another makes of the image: where memory lacks nothing, where the device failed nothing or what it keeps of what was tried
+abbrev pub Outcome : {T : Type 0} → Result T CellFault → (tried done : Image → Image) → Image → Option Image → Type 0
+Outcome (Ok x) tried done i new = new ≡ Some (done i)
+Outcome (Err Memory) tried done i new = new ≡ Some i
+Outcome (Err Device) tried done i new = (new ≡ Some i) ⊎ ((k : ℕ) × (new ≡ Some (failed k (tried i))))
+
+-- the same, where the cell tells its bytes
+abbrev pub Turns : {T : Type 0} → Result T CellFault → (tried done : Image → Image) → Option Image → Option Image → Type 0
+Turns result tried done None new = Unit {0}
+Turns result tried done (Some i) new = Outcome result tried done i new
+
+-- the image after a call, by the fuse
+abbrev pub IsFused : FuseState → (tried done : Image → Image) → Option Image → Option Image → Type 0
+IsFused f tried done None new = Unit {0}
+IsFused f tried done (Some i) new = new ≡ Some (fused f tried done i)
+
+-- a call that wasn't refused for memory answers Device exactly where the fuse fires, and burns it
+abbrev pub Burns : {T : Type 0} → Result T CellFault → (tried done : Image → Image) → FuseState → Option FuseState → Option Image → Option Image → Type 0
+Burns (Ok x) tried done f fuse old new = (fires f ≡ false) × (fuse ≡ Some (burnt f)) × IsFused f tried done old new
+Burns (Err Device) tried done f fuse old new = (fires f ≡ true) × (fuse ≡ Some (burnt f)) × IsFused f tried done old new
+Burns (Err Memory) tried done f fuse old new = fuse ≡ Some f
+
+-- the same, where the cell tells its fuse
+abbrev pub Follows : {T : Type 0} → Result T CellFault → (tried done : Image → Image) → (before after : Option FuseState) → Option Image → Option Image → Type 0
+Follows result tried done None fuse old new = Unit {0}
+Follows result tried done (Some f) fuse old new = Burns result tried done f fuse old new
+
+-- the count grew, or stood at the most that a word of 64 bits holds
+abbrev pub HasGrown : ℕ → ℕ → Type 0
+HasGrown before now = (before < now) ⊎ (2 ^ 64 - 1 ≤ before)
+
+-- Device is answered only where the device failed
+pub record HasCause {T : Type 0} (before now : ℕ) (result : Result T CellFault) : Type 0 where
+  pub later : before ≤ now
+  pub failed : IsErrOf result Device → HasGrown before now
+
+-- what a read gives, where the cell tells its bytes
+abbrev pub IsRead : Option Image → List ℕ → Type 0
+IsRead None bytes = Unit {0}
+IsRead (Some i) bytes = bytes ≡ i.seen

@@ -1,0 +1,4 @@
+pub mod Images
+pub mod Fuses
+pub mod Time
+pub mod Calls

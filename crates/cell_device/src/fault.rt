@@ -1,0 +1,25 @@
+ghost use Rattle.std.specs.Prelude.{◌≡◌};
+
+use std::alloc::AllocError;
+use thiserror::Error;
+
+/// Why a call on a cell didn't do what it was asked.
+#[derive(Clone, Copy, Debug, PartialEq, Eq, Error)]
+pub enum CellFault {
+    /// The device failed.
+    #[error("the cell's device failed")]
+    Device,
+    /// No memory was found; the call changed nothing.
+    #[error("out of memory")]
+    Memory,
+}
+
+impl From<AllocError> for CellFault {
+    ghost use Rattle.cell_device.specs.declared.fault.CellFault.TheVariants.{Memory};
+
+    ghost from_gives = { λ _ e. e ≡ Memory };
+
+    fn from(_e: AllocError) -> CellFault {
+        Self::Memory
+    }
+}

@@ -1,0 +1,54 @@
+ghost use Rattle.std.specs.Prelude.{◌≡◌};
+ghost use Rattle.cell_device.specs.Fuses.{burnt};
+
+/// How a call fails.
+#[derive(Clone, Copy, Debug, PartialEq, Eq)]
+pub enum How {
+    /// This call alone; the cell goes on.
+    Fail,
+    /// The cell stops: this call and every later one, until it is restarted.
+    Stop,
+}
+
+/// A failure that is to come. Calls are counted from 1 since the fuse was set, those left out that
+/// are refused for memory; a fuse at call 0 never fires.
+#[derive(Clone, Copy, Debug, PartialEq, Eq)]
+pub struct Fuse {
+    /// The call that fails.
+    pub call: usize,
+    /// Whether the cell then goes on.
+    pub how: How,
+    /// How many bytes that no sync has kept are there nevertheless.
+    pub kept: usize,
+}
+
+/// What becomes of the calls to come.
+#[derive(Clone, Copy, Debug, PartialEq, Eq)]
+pub enum FuseState {
+    /// None fails.
+    Clear,
+    /// One of them fails.
+    Burning(Fuse),
+    /// Each fails.
+    Stopped,
+}
+
+impl FuseState {
+    /// The state after the next call.
+    pub(crate) fn burnt(self) -> FuseState
+        ensures { result ≡ burnt self }
+    {
+        match self {
+            FuseState::Clear => FuseState::Clear,
+            FuseState::Stopped => FuseState::Stopped,
+            FuseState::Burning(fuse) if fuse.call == 1 => match fuse.how {
+                How::Fail => FuseState::Clear,
+                How::Stop => FuseState::Stopped,
+            },
+            FuseState::Burning(fuse) => FuseState::Burning(Fuse {
+                call: fuse.call.saturating_sub(1),
+                ..fuse
+            }),
+        }
+    }
+}
