@@ -1,0 +1,16 @@
+//! The fields that datagrams and journal records are made of: how each is spelled, and how it is
+//! read from the front of bytes.
+#![tactic(auto)]
+
+mod fault;
+mod limits;
+mod reader;
+mod writing;
+
+pub use fault::FieldFault;
+pub use limits::BAG_BYTES;
+pub use reader::Reader;
+pub use writing::{put_bag, put_ballot, put_slot, put_vote};
+
+#[cfg(test)]
+mod tests;

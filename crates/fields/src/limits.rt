@@ -1,0 +1,2 @@
+/// The bytes of a bag's identity.
+pub const BAG_BYTES: usize = 64;

@@ -1,0 +1,154 @@
+ghost use Rattle.std.specs.Prelude.{◌≡◌, ◌≤◌, ◌↔◌, IsTrue, IfOk, length, string_bytes};
+ghost use Rattle.std.specs.Int.{w16, w32};
+ghost use Rattle.fed_types.specs.Slots.{IsObjectName};
+ghost use Rattle.fields.specs.Reading.{Gives, byte_at, bytes_at, number_at, ballot_at, bag_at, text_at, object_at, slot_at};
+
+use crate::fault::FieldFault;
+use crate::limits::BAG_BYTES;
+use fed_types::{BagId, Ballot, LONGEST_OBJECT, SiteNo, Slot};
+use std::alloc::Global;
+use std::marker::Model;
+
+/// The bytes that are still to be read. Each method takes one field from their front. After a
+/// fault nothing is said of what is left.
+#[derive(Drop)]
+pub struct Reader<'a> {
+    rest: &'a [u8],
+}
+
+impl<'a> Model for Reader<'a> {
+    ghost use Rattle.std.specs.Prelude.{ℕ, List};
+
+    ghost Value = { List ℕ };
+
+    ghost view = { λ r. r.rest.now };
+}
+
+impl<'a> Reader<'a> {
+    /// A reader of these bytes.
+    pub fn new(bytes: &'a [u8]) -> Reader<'a>
+        ensures { result ≡ bytes.now }
+    {
+        Reader { rest: bytes }
+    }
+
+    /// Whether nothing is left to be read.
+    pub fn is_empty(&self) -> bool
+        ensures { IsTrue result ↔ (length self.now ≡ 0) }
+    {
+        self.rest.is_empty()
+    }
+
+    /// A byte.
+    pub fn byte(&mut self) -> Result<u8, FieldFault>
+        ensures { Gives (λ x. (x, self.new)) result (byte_at self.old) }
+    {
+        match self.rest {
+            [] => Err(FieldFault::Malformed),
+            [byte, rest @ ..] => {
+                self.rest = rest;
+                Ok(*byte)
+            }
+        }
+    }
+
+    /// The next `len` bytes.
+    #[tactic(auto, unfolding(crate::specs::Reading::bytes_at))]
+    pub fn bytes(&mut self, len: usize) -> Result<&'a [u8], FieldFault>
+        ensures gives { Gives (λ x. (x.now, self.new)) result (bytes_at len self.old) }
+        ensures len { IfOk result (λ x. length x.now ≡ len) }
+    {
+        if self.rest.len() < len {
+            return Err(FieldFault::Malformed);
+        }
+        let (front, rest) = self.rest.split_at(len);
+        self.rest = rest;
+        Ok(front)
+    }
+
+    /// A number of two bytes.
+    pub fn u16(&mut self) -> Result<u16, FieldFault>
+        ensures { Gives (λ x. (x, self.new)) result (number_at w16 self.old) }
+    {
+        let front = self.bytes(2)?;
+        Ok(u16::from_be_bytes([front[0], front[1]]))
+    }
+
+    /// A number of four bytes.
+    pub fn u32(&mut self) -> Result<u32, FieldFault>
+        ensures { Gives (λ x. (x, self.new)) result (number_at w32 self.old) }
+    {
+        let front = self.bytes(4)?;
+        Ok(u32::from_be_bytes([front[0], front[1], front[2], front[3]]))
+    }
+
+    /// A ballot: its round, and its site.
+    #[tactic(auto, unfolding(crate::specs::Reading::ballot_at))]
+    pub fn ballot(&mut self) -> Result<Ballot, FieldFault>
+        ensures { Gives (λ x. (x, self.new)) result (ballot_at self.old) }
+    {
+        let round = self.u32()?;
+        let site = self.byte()?;
+        let Ok(site) = SiteNo::new(site) else {
+            return Err(FieldFault::Malformed);
+        };
+        match Ballot::new(round, site) {
+            Ok(ballot) => Ok(ballot),
+            Err(_) => Err(FieldFault::Malformed),
+        }
+    }
+
+    /// A bag's identity.
+    #[tactic(auto, unfolding(crate::specs::Reading::bag_at, crate::specs::Reading::bytes_at))]
+    pub fn bag(&mut self) -> Result<BagId, FieldFault>
+        ensures { Gives (λ x. (x, self.new)) result (bag_at self.old) }
+    {
+        match self.rest.split_first_chunk::<BAG_BYTES>() {
+            None => Err(FieldFault::Malformed),
+            Some((identity, rest)) => {
+                self.rest = rest;
+                Ok(BagId(*identity))
+            }
+        }
+    }
+
+    /// A text of `len` bytes, which are 1 to `most`.
+    #[tactic(auto, using(crate::proofs::Texts::utf8_tells), unfolding(crate::specs::Reading::text_at))]
+    pub fn text(&mut self, most: usize, len: usize) -> Result<&'a str, FieldFault>
+        ensures gives { Gives (λ x. (x.now, self.new)) result (text_at most len self.old) }
+        ensures in_range { IfOk result (λ x. (1 ≤ length x.now) × (length x.now ≤ most)) }
+    {
+        if len == 0 || most < len {
+            return Err(FieldFault::Malformed);
+        }
+        let front = self.bytes(len)?;
+        match str::from_utf8(front) {
+            Ok(text) => Ok(text),
+            Err(_) => Err(FieldFault::Malformed),
+        }
+    }
+
+    /// The name of an object: its length in one byte, and the text.
+    #[tactic(auto, unfolding(crate::specs::Reading::object_at))]
+    pub fn object(&mut self, alloc: Global) -> Result<String, FieldFault>
+        ensures gives { Gives (λ x. (string_bytes x, self.new)) result (object_at self.old) }
+        ensures in_range { IfOk result (λ x. IsObjectName (string_bytes x)) }
+    {
+        let len = self.byte()?;
+        let text = self.text(LONGEST_OBJECT, usize::from(len))?;
+        Ok(String::from_str(alloc, text)?)
+    }
+
+    /// A slot: its object, and its version.
+    #[tactic(auto, unfolding(crate::specs::Reading::slot_at))]
+    pub fn slot(&mut self, alloc: Global) -> Result<Slot, FieldFault>
+        ensures { Gives (λ x. (x, self.new)) result (slot_at self.old) }
+    {
+        let object = self.object(alloc)?;
+        let version = self.u32()?;
+        match Slot::new(object, version) {
+            Ok(slot) => Ok(slot),
+            Err(_) => Err(FieldFault::Malformed),
+        }
+    }
+}
