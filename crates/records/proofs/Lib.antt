@@ -1,0 +1,5 @@
+pub mod Spelled
+pub mod Begins
+pub mod Heads
+pub mod Steps
+pub mod Walk

@@ -1,0 +1,68 @@
+-- What stands next, by the length that is told.
+use Rattle.std.proofs.Common.{◌≡◌, ◌≢◌, ◌⊎◌, ℕ, suc, ◌^◌, ◌<◌, ◌≤◌, ◌+◌, ◌-◌, ◌*◌, List, [], ◌∷◌, ◌++◌, length, take, drop, get_or, Option, Some, None, refl, sym, ap, subst, ◌∙◌, arith, inl, inr}
+use Rattle.std.specs.Int.{w16, to_be_bytes}
+use Rattle.std.proofs.lemmas.List.{take-append-drop, length-drop, length-take}
+use Rattle.std.proofs.lemmas.Nat.{be_bytes_2}
+use Rattle.std.proofs.Math.Seq.{take-length}
+use Rattle.fields.proofs.Bytes.{IsBytes, not_some, takes}
+use Rattle.records.specs.declared.record.Record.{Record}
+use Rattle.records.specs.declared.journal.Step.TheVariants as steps
+use Rattle.records.specs.Layout.{content_bytes, record_bytes}
+use Rattle.records.specs.Records.{IsRecord}
+use Rattle.records.specs.Journals.{length_told, IsNoRecord}
+use Rattle.records.specs.Answers.{IsStep}
+use Rattle.records.specs.Reading.{content_at}
+use Rattle.records.proofs.Spelled.{content_taken, content_again}
+use Rattle.records.proofs.Begins.{content_of}
+
+-- the bytes behind the length
+abbrev pub rest_of : List ℕ → List ℕ
+rest_of bytes = take (length bytes - 2) (drop 2 bytes)
+
+rest_is : (bytes : List ℕ) → rest_of bytes ≡ drop 2 bytes
+rest_is bytes = ap (λ (n : ℕ). take n (drop 2 bytes)) (sym (length-drop 2 bytes)) ∙ take-length (drop 2 bytes)
+
+-- the first two and n more
+two_more : (a b : ℕ) (rest : List ℕ) (n : ℕ) → take (2 + n) (a ∷ b ∷ rest) ≡ a ∷ b ∷ take n rest
+two_more a b rest n = let is : 2 + n ≡ suc (suc n) = omega arith in ap (λ (m : ℕ). take m (a ∷ b ∷ rest)) is
+
+-- as the code reads the length
+pub told_of : (bytes : List ℕ) → 2 ≤ length bytes → get_or bytes 0 0 * 256 + get_or bytes 1 0 ≡ length_told bytes
+told_of [] two = absurd (omega (arith, two))
+told_of (a ∷ []) two = absurd (omega (arith, two))
+told_of (a ∷ b ∷ rest) two = refl
+
+pub step_whole : (bytes : List ℕ) (n : ℕ) (r : Record) → IsBytes bytes → 2 ≤ length bytes → n ≡ length_told bytes → n ≤ length (rest_of bytes) → content_at (take n (rest_of bytes)) ≡ Some r → IsStep bytes (steps.Whole r (2 + n))
+unfolding record_bytes
+step_whole [] n r fits two is long e = absurd (omega (arith, two))
+step_whole (a ∷ []) n r fits two is long e = absurd (omega (arith, two))
+step_whole (a ∷ b ∷ rest) n r fits two is long e =
+    let bytes = a ∷ b ∷ rest in
+    let same : rest_of bytes ≡ rest = rest_is bytes in
+    let enough : n ≤ length rest = omega (arith, long, ap length same) in
+    let whole : rest ≡ take n rest ++ drop n rest = sym (take-append-drop n rest) in
+    let behind : IsBytes rest = (takes bytes (a ∷ b ∷ []) rest fits refl).rest_fits in
+    let front : IsBytes (take n rest) = (takes rest (take n rest) (drop n rest) behind whole).text_fits in
+    let t = content_taken (take n rest) r front (ap (λ (x : List ℕ). content_at (take n x)) (sym same) ∙ e) in
+    let size : length (content_bytes r) ≡ n = omega (arith, length-take n rest, enough, ap length t.0) in
+    let two_fit : IsBytes (a ∷ b ∷ []) = (takes bytes (a ∷ b ∷ []) rest fits refl).text_fits in
+    let told : to_be_bytes w16 n ≡ a ∷ b ∷ [] = be_bytes_2 (a ∷ b ∷ []) n refl two_fit is in
+    let spelled : record_bytes r ≡ a ∷ b ∷ take n rest = ap (λ (m : ℕ). to_be_bytes w16 m ++ content_bytes r) size ∙ ap (λ (x : List ℕ). x ++ content_bytes r) told ∙ ap (λ (x : List ℕ). a ∷ b ∷ x) (sym t.0) in
+    (t.1, omega (arith, enough), two_more a b rest n ∙ sym spelled)
+
+spelled_content : (r : Record) → drop 2 (record_bytes r) ≡ content_bytes r
+unfolding record_bytes
+spelled_content r = refl
+
+-- what the bytes up to the end that is told are behind their length
+front_content : (bytes : List ℕ) (n : ℕ) → 2 ≤ length bytes → drop 2 (take (2 + n) bytes) ≡ take n (rest_of bytes)
+front_content [] n two = absurd (omega (arith, two))
+front_content (a ∷ []) n two = absurd (omega (arith, two))
+front_content (a ∷ b ∷ rest) n two = ap (drop 2) (two_more a b rest n) ∙ ap (take n) (sym (rest_is (a ∷ b ∷ rest)))
+
+pub step_none : (bytes : List ℕ) (n : ℕ) → 2 ≤ length bytes → n ≡ length_told bytes → n ≤ length (rest_of bytes) → content_at (take n (rest_of bytes)) ≡ None → IsNoRecord bytes
+step_none bytes n two is long e =
+    let none : (r : Record) → IsRecord r → take (2 + length_told bytes) bytes ≢ record_bytes r = λ r h s.
+        let content : take n (rest_of bytes) ≡ content_bytes r = sym (front_content bytes n two) ∙ ap (λ (m : ℕ). drop 2 (take (2 + m) bytes)) is ∙ ap (drop 2) s ∙ spelled_content r in
+        not_some (content_at (take n (rest_of bytes))) r e (ap content_at content ∙ content_again r h) in
+    (two, inr (omega (arith, long, is, ap length (rest_is bytes), length-drop 2 bytes, two), none))

@@ -1,0 +1,7 @@
+pub mod Faults
+pub mod Layout
+pub mod Records
+pub mod Journals
+pub mod Words
+pub mod Answers
+pub mod Reading

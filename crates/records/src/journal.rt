@@ -1,0 +1,123 @@
+ghost use Rattle.std.specs.Prelude.{◌≡◌, ◌⊎◌, ◌≤◌, ◌<◌, ◌++◌, [], ◌∷◌, List, Result, length, take, drop, IfOk, IsTrue, IsErrOf};
+ghost use Rattle.records.specs.declared.fault.OpenFault.{OpenFault as declared_fault};
+ghost use Rattle.records.specs.declared.record.Record.{Record as declared_record};
+ghost use Rattle.records.specs.Journals.{Says};
+ghost use Rattle.records.specs.Answers.{IsStep, HeaderSays, ReadsRecords, Tells, IsToldOrMemory, IsText};
+
+use crate::fault::OpenFault;
+use crate::layout::{HEADER, LONGEST, MAGIC, SHORTEST};
+use crate::reading::read_record;
+use crate::record::Record;
+use crate::writing::header;
+use fed_types::SiteNo;
+use fields::FieldFault;
+use std::alloc::{AllocError, Global};
+
+/// What a journal was found to say.
+#[derive(Debug, Drop)]
+pub struct Journal {
+    /// The records, in order.
+    pub records: Vec<Record>,
+    /// How many of the bytes are the text of these records: 0 where not even the header is whole.
+    pub end: usize,
+}
+
+/// What stands next.
+#[derive(Debug, Drop)]
+pub(crate) enum Step {
+    /// Nothing, or a torn end.
+    End,
+    /// A record of this many bytes.
+    Whole(Record, usize),
+    /// What is no record.
+    Damaged,
+}
+
+fn next_record(alloc: Global, bytes: &[u8]) -> Result<Step, AllocError>
+    ensures { IfOk result (IsStep bytes.now) }
+{
+    let [high, low, rest @ ..] = bytes else {
+        return Ok(Step::End);
+    };
+    let size = usize::from(u16::from_be_bytes([*high, *low]));
+    if size < SHORTEST || LONGEST < size {
+        return Ok(Step::Damaged);
+    }
+    if rest.len() < size {
+        return Ok(Step::End);
+    }
+    match read_record(alloc, &rest[..size]) {
+        Ok(record) => Ok(Step::Whole(record, 2 + size)),
+        Err(FieldFault::Malformed) => Ok(Step::Damaged),
+        Err(FieldFault::Memory) => Err(AllocError),
+    }
+}
+
+// The records behind the header.
+fn read_records(alloc: Global, bytes: &[u8]) -> Result<Journal, OpenFault>
+    requires { HEADER ≤ length bytes.now }
+    ensures { ReadsRecords bytes.now result }
+{
+    let mut records = Vec::new(alloc);
+    let mut place = HEADER;
+    loop {
+        match next_record(alloc, &bytes[place..])? {
+            Step::End => {
+                return Ok(Journal {
+                    records,
+                    end: place,
+                });
+            }
+            Step::Damaged => return Err(OpenFault::Damaged(place)),
+            Step::Whole(next, size) => {
+                records.push(next)?;
+                place += size;
+            }
+        }
+    }
+}
+
+// Whether the bytes begin with the whole header.
+fn check_header(federation: u64, site: SiteNo, bytes: &[u8]) -> Result<(), OpenFault>
+    requires { HEADER ≤ length bytes.now }
+    ensures { HeaderSays federation site bytes.now result }
+{
+    if &bytes[..4] != MAGIC.as_slice() {
+        return Err(OpenFault::Damaged(0));
+    }
+    if &bytes[4..12] != federation.to_be_bytes().as_slice() {
+        return Err(OpenFault::OtherFederation);
+    }
+    if bytes[12] != site.number() {
+        return Err(OpenFault::OtherSite);
+    }
+    Ok(())
+}
+
+/// Reads the journal of this site of this federation: its records in order, none skipped and none in
+/// part. What follows a crash, a torn end or an unfinished header, is passed over. The faults are
+/// `OtherFederation`, `OtherSite`, `Damaged` and `Memory`.
+pub fn read_journal(
+    alloc: Global,
+    federation: u64,
+    site: SiteNo,
+    bytes: &[u8],
+) -> Result<Journal, OpenFault>
+    // What is told is what the bytes say.
+    ensures told { Tells (Says federation site bytes.now) result }
+    // What the bytes say is told, unless memory runs out.
+    ensures only { (said : Result (List declared_record) declared_fault) → Says federation site bytes.now said → IsToldOrMemory result said }
+    ensures text { IfOk result (IsText federation site bytes.now) }
+{
+    if bytes.len() < HEADER {
+        if !header(federation, site).starts_with(bytes) {
+            return Err(OpenFault::Damaged(0));
+        }
+        return Ok(Journal {
+            records: Vec::new(alloc),
+            end: 0,
+        });
+    }
+    check_header(federation, site, bytes)?;
+    read_records(alloc, bytes)
+}

@@ -1,0 +1,67 @@
+ghost use Rattle.std.specs.Prelude.{◌≡◌, ◌≤◌, ◌++◌, length, IfOk, OnOk};
+ghost use Rattle.records.specs.declared.layout.TheConstants.{SHORTEST, LONGEST};
+ghost use Rattle.records.specs.Layout.{entry_bytes, content_bytes, record_bytes, header_bytes};
+
+use crate::entry::Entry;
+use crate::layout::{HEADER, MAGIC};
+use crate::record::Record;
+use fed_types::SiteNo;
+use fields::{put_bag, put_ballot, put_slot, put_vote};
+use std::alloc::{AllocError, Global};
+
+fn put_entry(out: &mut Vec<u8>, entry: &Entry) -> Result<(), AllocError>
+    ensures { OnOk result (out.new.items ≡ out.old.items ++ entry_bytes entry.now) }
+{
+    match entry {
+        Entry::Deposit(bag) | Entry::Known(bag) => put_bag(out, bag),
+        Entry::Round(round) => out.extend_from_slice(&round.number().to_be_bytes()),
+        Entry::Promise(ballot) => put_ballot(out, *ballot),
+        Entry::Vote { ballot, bag } => put_vote(out, *ballot, bag),
+    }
+}
+
+// What stands behind the length.
+fn put_content(out: &mut Vec<u8>, entry: &Record) -> Result<(), AllocError>
+    ensures { OnOk result (out.new.items ≡ out.old.items ++ content_bytes entry.now) }
+{
+    out.push(entry.body.kind())?;
+    put_slot(out, &entry.slot)?;
+    put_entry(out, &entry.body)
+}
+
+#[tactic(auto, unfolding(crate::specs::Layout::record_bytes))]
+fn put_record(out: &mut Vec<u8>, entry: &Record) -> Result<(), AllocError>
+    ensures { OnOk result (out.new.items ≡ out.old.items ++ record_bytes entry.now) }
+{
+    out.extend_from_slice(&(entry.size() as u16).to_be_bytes())?;
+    put_content(out, entry)
+}
+
+impl Record {
+    /// How many bytes the record has, its length left out: `SHORTEST` to `LONGEST`.
+    fn size(&self) -> usize
+        ensures value { result ≡ length (content_bytes self.now) }
+        ensures in_range { (SHORTEST ≤ result) × (result ≤ LONGEST) }
+    {
+        6 + self.slot.object().len() + self.body.size()
+    }
+
+    /// The record's bytes.
+    pub fn to_bytes(&self, alloc: Global) -> Result<Vec<u8>, AllocError>
+        ensures { IfOk result (λ bytes. bytes.items ≡ record_bytes self.now) }
+    {
+        let mut out = Vec::with_capacity(alloc, 2 + self.size())?;
+        put_record(&mut out, self)?;
+        Ok(out)
+    }
+}
+
+/// The bytes with which the journal of this site of this federation begins.
+#[tactic(auto, unfolding(crate::specs::Layout::header_bytes))]
+pub fn header(federation: u64, site: SiteNo) -> [u8; HEADER]
+    ensures { result ≡ header_bytes federation site }
+{
+    let [a, b, c, d] = MAGIC;
+    let [e, f, g, h, i, j, k, l] = federation.to_be_bytes();
+    [a, b, c, d, e, f, g, h, i, j, k, l, site.number()]
+}
