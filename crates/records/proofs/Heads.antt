@@ -75,6 +75,17 @@ new_from federation site bytes short e =
     let h = header_bytes federation site in
     (drop (length bytes) h, λ none. omega (arith, short, header_size federation site, length-drop (length bytes) h, ap length none), ap (λ (b : List ℕ). b ++ drop (length bytes) h) e ∙ take-append-drop (length bytes) h)
 
+-- as the code tells it
+pub new_tells : (federation site : ℕ) (bytes header : List ℕ) (b : Bool) → length bytes < HEADER → header ≡ header_bytes federation site → b ≡ bytes_eq (take (length bytes) header) bytes
+    → (b ≡ true → IsNew federation site bytes) × (IsNew federation site bytes → b ≡ true)
+new_tells federation site bytes header b short is test =
+    let front : take (length bytes) header ≡ take (length bytes) (header_bytes federation site) = ap (take (length bytes)) is in
+    let d = bytes_eq-Decides (take (length bytes) header) bytes in
+    (
+      λ t. new_from federation site bytes short (sym (d.0 (sym test ∙ t)) ∙ front),
+      λ new. test ∙ d.1 (front ∙ sym (new_front federation site bytes new)),
+    )
+
 -- the parts of a text's header
 text_magic : (federation site : ℕ) (rest : List ℕ) → take 4 (header_bytes federation site ++ rest) ≡ MAGIC
 unfolding header_bytes

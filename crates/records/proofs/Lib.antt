@@ -3,3 +3,4 @@ pub mod Begins
 pub mod Heads
 pub mod Steps
 pub mod Walk
+pub mod Told

@@ -44,7 +44,7 @@ pub step_size : (rest : List ℕ) (r : Record) (size : ℕ) → IsStep rest (ste
 step_size rest r size (is, fits, e) =
     omega (arith, length-take size rest, fits, ap length e, record_size r [], ap length (append-nil (record_bytes r)), content_size r is)
 
-take_both : (bytes : List ℕ) (m n : ℕ) → m ≤ length bytes → n ≤ length (drop m bytes) → take (m + n) bytes ≡ take m bytes ++ take n (drop m bytes)
+pub take_both : (bytes : List ℕ) (m n : ℕ) → m ≤ length bytes → n ≤ length (drop m bytes) → take (m + n) bytes ≡ take m bytes ++ take n (drop m bytes)
 take_both bytes m n fits more =
     let front = take m bytes in
     let middle = take n (drop m bytes) in

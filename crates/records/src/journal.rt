@@ -1,7 +1,7 @@
-ghost use Rattle.std.specs.Prelude.{◌≡◌, ◌⊎◌, ◌≤◌, ◌<◌, ◌++◌, [], ◌∷◌, List, Result, length, take, drop, IfOk, IsTrue, IsErrOf};
+ghost use Rattle.std.specs.Prelude.{◌≡◌, ◌≤◌, ◌<◌, ◌↔◌, List, Result, length, IfOk, IsTrue};
 ghost use Rattle.records.specs.declared.fault.OpenFault.{OpenFault as declared_fault};
 ghost use Rattle.records.specs.declared.record.Record.{Record as declared_record};
-ghost use Rattle.records.specs.Journals.{Says};
+ghost use Rattle.records.specs.Journals.{IsNew, Says};
 ghost use Rattle.records.specs.Answers.{IsStep, HeaderSays, ReadsRecords, Tells, IsToldOrMemory, IsText};
 
 use crate::fault::OpenFault;
@@ -94,6 +94,37 @@ fn check_header(federation: u64, site: SiteNo, bytes: &[u8]) -> Result<(), OpenF
     Ok(())
 }
 
+// Whether the bytes, fewer than the header has, are a beginning of it.
+fn is_new(federation: u64, site: SiteNo, bytes: &[u8]) -> bool
+    requires { length bytes.now < HEADER }
+    ensures { IsTrue result ↔ IsNew federation site bytes.now }
+{
+    &header(federation, site)[..bytes.len()] == bytes
+}
+
+// What the bytes say, and where their text ends.
+fn read_text(
+    alloc: Global,
+    federation: u64,
+    site: SiteNo,
+    bytes: &[u8],
+) -> Result<Journal, OpenFault>
+    ensures told { Tells (Says federation site bytes.now) result }
+    ensures text { IfOk result (IsText federation site bytes.now) }
+{
+    if HEADER <= bytes.len() {
+        check_header(federation, site, bytes)?;
+        return read_records(alloc, bytes);
+    }
+    if !is_new(federation, site, bytes) {
+        return Err(OpenFault::Damaged(0));
+    }
+    Ok(Journal {
+        records: Vec::new(alloc),
+        end: 0,
+    })
+}
+
 /// Reads the journal of this site of this federation: its records in order, none skipped and none in
 /// part. What follows a crash, a torn end or an unfinished header, is passed over. The faults are
 /// `OtherFederation`, `OtherSite`, `Damaged` and `Memory`.
@@ -109,15 +140,5 @@ pub fn read_journal(
     ensures only { (said : Result (List declared_record) declared_fault) → Says federation site bytes.now said → IsToldOrMemory result said }
     ensures text { IfOk result (IsText federation site bytes.now) }
 {
-    if bytes.len() < HEADER {
-        if !header(federation, site).starts_with(bytes) {
-            return Err(OpenFault::Damaged(0));
-        }
-        return Ok(Journal {
-            records: Vec::new(alloc),
-            end: 0,
-        });
-    }
-    check_header(federation, site, bytes)?;
-    read_records(alloc, bytes)
+    read_text(alloc, federation, site, bytes)
 }
