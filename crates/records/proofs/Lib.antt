@@ -4,3 +4,4 @@ pub mod Heads
 pub mod Steps
 pub mod Walk
 pub mod Told
+pub mod Words

@@ -11,6 +11,11 @@ use Rattle.records.specs.declared.record.Record.{Record}
 abbrev pub entry_of : SlotName → Record → Option Entry
 entry_of slot r = if same_slot r.slot slot then Some r.body else None
 
+-- what a function gives of what is there
+abbrev pub if_some : {A B : Type 0} → (A → Option B) → Option A → Option B
+if_some f None = None
+if_some f (Some a) = f a
+
 -- the entries of a slot, in the order of the records
 abbrev pub entries : SlotName → List Record → List Entry
 entries slot records = filter_map (entry_of slot) records
@@ -23,6 +28,11 @@ higher ballot (Some best) x = if below (ballot best) (ballot x) then Some x else
 -- the one of the greatest ballot; of equal ones the first
 abbrev pub highest : {X : Type 0} → (X → BallotNumber) → List X → Option X
 highest ballot xs = fold (higher ballot) None xs
+
+-- the first of two
+abbrev pub earlier : {X : Type 0} → Option X → X → Option X
+earlier None x = Some x
+earlier (Some first) x = Some first
 
 -- the first of a list
 abbrev pub first : {X : Type 0} → List X → Option X
@@ -86,3 +96,12 @@ deposit_of slot records = first (filter_map deposit_in (entries slot records))
 -- the known bag: that of the first Known record of the slot
 unfoldable pub known_of : SlotName → List Record → Option BagId
 known_of slot records = first (filter_map known_in (entries slot records))
+
+-- with one thing more, if there is one
+abbrev pub with_one : {A X : Type 0} → (A → X → A) → A → Option X → A
+with_one step a None = a
+with_one step a (Some x) = step a x
+
+-- what a record says of the slot, of one kind
+abbrev pub said_in : {X : Type 0} → (Entry → Option X) → SlotName → Record → Option X
+said_in kind slot r = if_some kind (entry_of slot r)

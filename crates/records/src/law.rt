@@ -1,10 +1,22 @@
-ghost use Rattle.std.specs.Prelude.{◌≡◌, ℕ, max, List, [], ◌∷◌, ◌++◌, Result, unwrap_or};
-ghost use Rattle.fed_types.specs.Slots.{SlotName, same_slot};
+ghost use Rattle.std.specs.Prelude.{◌≡◌, ℕ, max, List, [], ◌∷◌, ◌++◌, Result};
+ghost use Rattle.fed_types.specs.Slots.{SlotName};
 ghost use Rattle.records.specs.declared.fault.OpenFault.{OpenFault};
 ghost use Rattle.records.specs.declared.record.Record.{Record};
 ghost use Rattle.records.specs.Journals.{Says};
+ghost use Rattle.records.specs.Words.{higher, earlier, with_one, said_in, ballot_in, vote_in, round_in, deposit_in, known_in, promised_of, vote_of, used_of, deposit_of, known_of};
 
 /// Bytes say one thing at most: these records, or this fault. It does nothing: its contract is the law.
 pub fn one_reading()
     ensures { (federation site : ℕ) (bytes : List ℕ) (a b : Result (List Record) OpenFault) → Says federation site bytes a → Says federation site bytes b → a ≡ b }
+{}
+
+/// What one more record makes of what the records say of a slot: the greater ballot, the vote of the
+/// greater ballot (of equal ones the first), the greater round, the first deposit and the first known
+/// bag. It does nothing: its contract is the law.
+pub fn one_more_record()
+    ensures promised { (slot : SlotName) (rs : List Record) (r : Record) → promised_of slot (rs ++ r ∷ []) ≡ with_one (higher (λ b. b)) (promised_of slot rs) (said_in ballot_in slot r) }
+    ensures vote { (slot : SlotName) (rs : List Record) (r : Record) → vote_of slot (rs ++ r ∷ []) ≡ with_one (higher (λ v. v.0)) (vote_of slot rs) (said_in vote_in slot r) }
+    ensures used { (slot : SlotName) (rs : List Record) (r : Record) → used_of slot (rs ++ r ∷ []) ≡ with_one max (used_of slot rs) (said_in round_in slot r) }
+    ensures deposit { (slot : SlotName) (rs : List Record) (r : Record) → deposit_of slot (rs ++ r ∷ []) ≡ with_one earlier (deposit_of slot rs) (said_in deposit_in slot r) }
+    ensures known { (slot : SlotName) (rs : List Record) (r : Record) → known_of slot (rs ++ r ∷ []) ≡ with_one earlier (known_of slot rs) (said_in known_in slot r) }
 {}
