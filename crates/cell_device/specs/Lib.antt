@@ -6,3 +6,4 @@ pub mod Undone
 pub mod Mediums
 pub mod Memory
 pub mod Laws
+pub mod FileCells

@@ -5,6 +5,7 @@
 mod cell;
 mod change;
 mod fault;
+mod file_cell;
 mod fuse;
 mod medium;
 mod memory_cell;
@@ -13,5 +14,6 @@ mod tests;
 
 pub use cell::Cell;
 pub use fault::CellFault;
+pub use file_cell::FileCell;
 pub use fuse::{Fuse, FuseState, How};
 pub use memory_cell::MemoryCell;
