@@ -5,6 +5,7 @@ ghost use Rattle.cell_device.specs.Memory.{image_of};
 use super::*;
 use std::alloc::{AllocError, Global};
 use std::test::Fail;
+use std::{env, fs, process};
 
 /// The calls of a cell.
 #[derive(Clone, Copy, Debug, PartialEq, Eq)]
@@ -233,5 +234,48 @@ fn a_fuse_at_call_0_never_fires(rt: HostRuntime) -> Result<(), Fail> {
         cell.sync()?;
     }
     assert_eq!(rt; cell.failures(), 0);
+    Ok(())
+}
+
+#[test]
+fn a_file_is_kept(rt: HostRuntime) -> Result<(), Fail> {
+    let alloc = rt.alloc();
+    let name = format!(in alloc; "cell_device_{}", process::id(rt.process()))?;
+    let path = env::temp_dir(&rt)?.join(alloc, name.as_str())?;
+    let path = path.as_str();
+    // An earlier run that failed may have left it.
+    let _ = fs::remove_file(&rt, path);
+    let mut cell = FileCell::open(&rt, path)?;
+    assert_eq!(rt; cell.load(alloc)?.as_slice(), b"".as_slice());
+    cell.append(b"abc")?;
+    cell.append(b"de")?;
+    cell.sync()?;
+    // No other cell has the file meanwhile.
+    assert_eq!(rt; FileCell::open(&rt, path).err(), Some(CellFault::Device));
+    drop(cell);
+    let mut cell = FileCell::open(&rt, path)?;
+    assert_eq!(rt; cell.load(alloc)?.as_slice(), b"abcde".as_slice());
+    cell.cut(7)?;
+    cell.cut(2)?;
+    cell.append(b"f")?;
+    cell.sync()?;
+    assert_eq!(rt; cell.load(alloc)?.as_slice(), b"abf".as_slice());
+    drop(cell);
+    fs::remove_file(&rt, path)?;
+    Ok(())
+}
+
+#[test]
+fn only_a_file_is_opened(rt: HostRuntime) -> Result<(), Fail> {
+    let alloc = rt.alloc();
+    let folder = env::temp_dir(&rt)?;
+    let missing = folder.join(alloc, "no folder/file")?;
+    for path in [folder.as_str(), missing.as_str(), "", "/dev/null"] {
+        assert_eq!(rt;
+            FileCell::open(&rt, path).err(),
+            Some(CellFault::Device),
+            "{path}"
+        );
+    }
     Ok(())
 }
