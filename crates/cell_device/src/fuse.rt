@@ -1,5 +1,5 @@
 ghost use Rattle.std.specs.Prelude.{◌≡◌};
-ghost use Rattle.cell_device.specs.Fuses.{burnt};
+ghost use Rattle.cell_device.specs.Fuses.{burnt, fires};
 
 /// How a call fails.
 #[derive(Clone, Copy, Debug, PartialEq, Eq)]
@@ -34,6 +34,17 @@ pub enum FuseState {
 }
 
 impl FuseState {
+    /// The next call fails.
+    pub(crate) fn fires(self) -> bool
+        ensures { result ≡ fires self }
+    {
+        match self {
+            FuseState::Clear => false,
+            FuseState::Burning(fuse) => fuse.call == 1,
+            FuseState::Stopped => true,
+        }
+    }
+
     /// The state after the next call.
     pub(crate) fn burnt(self) -> FuseState
         ensures { result ≡ burnt self }

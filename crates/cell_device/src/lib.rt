@@ -3,9 +3,17 @@
 #![tactic(auto)]
 
 mod cell;
+mod change;
 mod fault;
+mod file_cell;
 mod fuse;
+mod medium;
+mod memory_cell;
+#[cfg(test)]
+mod tests;
 
 pub use cell::Cell;
 pub use fault::CellFault;
+pub use file_cell::FileCell;
 pub use fuse::{Fuse, FuseState, How};
+pub use memory_cell::MemoryCell;

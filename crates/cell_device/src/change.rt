@@ -1,0 +1,12 @@
+/// How a medium was before one change of it.
+#[derive(Drop)]
+pub(crate) struct Change {
+    /// So many of the first bytes of the buffer stood there already.
+    pub at: usize,
+    /// The bytes that stood behind these.
+    pub lost: Vec<u8>,
+    /// What a crash left at least.
+    pub least: usize,
+    /// What a crash left at most.
+    pub most: usize,
+}

@@ -1,0 +1,134 @@
+ghost use Rattle.std.specs.Prelude.{◌≤◌, ◌<◌, length};
+ghost use Rattle.std.specs.Vec.{vec_capacity};
+
+use crate::change::Change;
+use std::alloc::{AllocError, Global};
+
+/// The bytes of a cell in memory, and all that crashes may have left of them. A crash leaves the first
+/// bytes of the buffer, from `least` to `most` of them; a read gives the first `seen`.
+#[derive(Drop)]
+pub(crate) struct Medium {
+    alloc: Global,
+    buffer: Vec<u8>,
+    least: usize,
+    most: usize,
+    seen: usize,
+    /// The bytes behind `least` are cut, and not appended.
+    is_cut: bool,
+    /// The changes of all that, the newest last.
+    changes: Vec<Change>,
+    ghost least_seen: { least ≤ seen },
+    ghost most_seen: { seen ≤ most },
+    ghost most_there: { most ≤ length buffer.items },
+    // So that a sync takes no memory.
+    ghost room: { least < most → length changes.items < vec_capacity changes },
+}
+
+impl Medium {
+    ghost use Rattle.std.specs.Prelude.{◌≡◌, ℕ, OnOk, OnErr};
+    ghost use Rattle.cell_device.specs.Images.{at_rest, appended, cut_to, made_durable, failed};
+    ghost use Rattle.cell_device.specs.Undone.{before};
+    ghost use Rattle.cell_device.specs.Mediums.{held, state, moment, IsSameTime, GoesOn};
+
+    /// These bytes, all of them synced.
+    pub fn new(alloc: Global, bytes: Vec<u8>) -> Medium
+        ensures bytes { held result ≡ at_rest bytes.items }
+        ensures moment { moment result ≡ 0 }
+    {
+        let len = bytes.len();
+        Medium {
+            alloc,
+            buffer: bytes,
+            least: len,
+            most: len,
+            seen: len,
+            is_cut: false,
+            changes: Vec::new(alloc),
+        }
+    }
+
+    /// What a read gives.
+    pub fn bytes(&self) -> &[u8]
+        ensures { result.now ≡ (held self.now).seen }
+    {
+        &self.buffer[..self.seen]
+    }
+
+    /// Puts the bytes behind those that a read gives.
+    pub fn append(&mut self, bytes: &[u8]) -> Result<(), AllocError>
+        requires { length (held self.old).synced ≤ length (held self.old).newest }
+        ensures done { OnOk result (held self.new ≡ appended bytes.now (held self.old)) }
+        ensures refused { OnErr result (held self.new ≡ held self.old) }
+        ensures time { GoesOn self.old self.new }
+    {
+        // Every growth comes first, so that a refusal changes nothing. There is room for two changes:
+        // this one, and that of the sync behind it.
+        let lost = self.buffer[self.seen..].to_vec(self.alloc)?;
+        self.changes.reserve(2)?;
+        self.buffer.reserve(bytes.len())?;
+        let change = Change {
+            at: self.seen,
+            lost,
+            least: self.least,
+            most: self.most,
+        };
+        self.changes.push_reserved(change);
+        self.buffer.truncate(self.seen);
+        self.buffer.extend_from_slice(bytes).unwrap();
+        self.most = self.buffer.len();
+        self.seen = self.most;
+        self.is_cut = false;
+        Ok(())
+    }
+
+    /// Cuts what a read gives to a length.
+    pub fn cut(&mut self, len: usize) -> Result<(), AllocError>
+        requires settled { (held self.old).synced ≡ (held self.old).newest }
+        requires within { len ≤ length (held self.old).seen }
+        ensures done { OnOk result (held self.new ≡ cut_to len (held self.old)) }
+        ensures refused { OnErr result (held self.new ≡ held self.old) }
+        ensures time { GoesOn self.old self.new }
+    {
+        self.changes.reserve(2)?;
+        let change = self.now();
+        self.changes.push_reserved(change);
+        self.least = len;
+        self.seen = len;
+        self.is_cut = true;
+        Ok(())
+    }
+
+    /// What a read gives is synced. It takes no memory.
+    pub fn settle(&mut self)
+        ensures bytes { held self.new ≡ made_durable (held self.old) }
+        ensures time { GoesOn self.old self.new }
+    {
+        if self.least < self.most {
+            let change = self.now();
+            self.changes.push_reserved(change);
+            self.least = self.seen;
+            self.most = self.seen;
+            self.is_cut = false;
+        }
+    }
+
+    /// Of the bytes that no sync has kept, a read gives so many.
+    pub fn fail(&mut self, kept: usize)
+        ensures bytes { held self.new ≡ failed kept (held self.old) }
+        ensures time { IsSameTime self.old self.new }
+    {
+        self.seen = self.least.saturating_add(kept).min(self.most);
+    }
+
+    /// The state now, as a change that leaves the buffer alone keeps it.
+    fn now(&self) -> Change
+        ensures { before result (state self.now) ≡ state self.now }
+    {
+        Change {
+            at: self.buffer.len(),
+            lost: Vec::new(self.alloc),
+            least: self.least,
+            most: self.most,
+        }
+    }
+}
