@@ -4,17 +4,21 @@ use Rattle.std.proofs.lemmas.Bool.{eqb-true, eq-eqb}
 use Rattle.fed_types.specs.declared.bag_id.BagId.{BagId}
 use Rattle.fed_types.specs.Ballots.{BallotNumber}
 use Rattle.fed_types.specs.Sites.{IsSiteNumber}
+use Rattle.fields.specs.Values.{IsBallot, IsBag}
+use Rattle.fields.specs.Spelling.{ballot_bytes, bag_bytes, vote_bytes}
+use Rattle.fields.specs.Reading.{◌>>=◌, both, nothing_at, byte_at, site_of, ballot_at, bag_at}
+use Rattle.fields.proofs.Bytes.{IsBytes, bind_some, some_is, in_test, Takes, Reads, both_read, meant_taken, meant_again}
+use Rattle.fields.proofs.Fields.{byte_read, nothing_read, site_is, site_again, ballot_read, bag_read}
 use Rattle.dgram.specs.declared.layout.TheConstants.{NO_SITE}
 use Rattle.dgram.specs.declared.kind.Kind.{Kind}
 use Rattle.dgram.specs.declared.kind.Kind.TheVariants as kinds
 use Rattle.dgram.specs.declared.body.PriorVote.{PriorVote}
 use Rattle.dgram.specs.declared.body.Body.{Body}
 use Rattle.dgram.specs.declared.body.Body.TheVariants.{Prepare, Promise, Accept, Accepted, Refused, Ask, Known, Deposit, Query, DepositReply, QueryReply}
-use Rattle.dgram.specs.Messages.{IsBallot, IsBag, IsPrior, IsPath, IsBody}
-use Rattle.dgram.specs.Layout.{body_kind, body_from, from_byte, ballot_bytes, bag_bytes, vote_bytes, prior_bytes, path_bytes, reply_bytes, body_bytes, deposit_code, deposit_bag, query_code, query_bag}
-use Rattle.dgram.specs.Reading.{◌>>=◌, both, nothing_at, byte_at, site_of, ballot_at, bag_at, vote_at, prior_at, path_at, deposit_answer, query_answer, from_none, from_ballot, body_at}
-use Rattle.dgram.proofs.Bytes.{IsBytes, bind_some, some_is, in_test, Takes, Reads, both_read, meant_taken, meant_again}
-use Rattle.dgram.proofs.Fields.{byte_read, nothing_read, site_is, site_again, ballot_read, bag_read, vote_read, prior_read, path_read}
+use Rattle.dgram.specs.Messages.{IsPrior, IsPath, IsBody}
+use Rattle.dgram.specs.Layout.{body_kind, body_from, from_byte, prior_bytes, path_bytes, reply_bytes, body_bytes, deposit_code, deposit_bag, query_code, query_bag}
+use Rattle.dgram.specs.Reading.{vote_at, prior_at, path_at, deposit_answer, query_answer, from_none, from_ballot, body_at}
+use Rattle.dgram.proofs.Parts.{vote_read, prior_read, path_read}
 use Rattle.dgram.proofs.Codes.{deposit_is, deposit_again, query_is, query_again}
 
 -- what was read as the body of a kind

@@ -5,6 +5,8 @@ use Rattle.std.proofs.lemmas.Bool.{eqb-true, ne_eqb, le-leb}
 use Rattle.std.proofs.lemmas.Bool.Decides.{leb_tells}
 use Rattle.std.proofs.lemmas.Slice.Eq.{bytes_eq-Decides}
 use Rattle.fed_types.specs.declared.bag_id.BagId.{BagId}
+use Rattle.fields.specs.Values.{IsBag}
+use Rattle.fields.proofs.Bytes.{some_is, in_test}
 use Rattle.dgram.specs.declared.layout.TheConstants.{NO_BAG, REGISTERED, OTHER_DEPOSIT, OTHER_KNOWN, DEVICE, MEMORY, NEEDS_OPEN, BEFORE_TREE_FAULTS, GREATEST_TREE_FAULT, BEFORE_BAG_FAULTS, GREATEST_BAG_FAULT, IS_KNOWN, IS_PENDING, IS_NOTHING}
 use Rattle.dgram.specs.declared.kind.Kind.{Kind}
 use Rattle.dgram.specs.declared.kind.Kind.TheVariants as kinds
@@ -12,10 +14,9 @@ use Rattle.dgram.specs.declared.answers.DepositAnswer.{DepositAnswer}
 use Rattle.dgram.specs.declared.answers.DepositAnswer.TheVariants as deposit
 use Rattle.dgram.specs.declared.answers.QueryAnswer.{QueryAnswer}
 use Rattle.dgram.specs.declared.answers.QueryAnswer.TheVariants as query
-use Rattle.dgram.specs.Messages.{IsBag, IsDepositAnswer, IsQueryAnswer}
+use Rattle.dgram.specs.Messages.{IsDepositAnswer, IsQueryAnswer}
 use Rattle.dgram.specs.Layout.{kind_code, deposit_code, deposit_bag, query_code, query_bag, no_bag}
 use Rattle.dgram.specs.Reading.{unnamed_answer, deposit_answer, unnamed_query, query_answer, kind_in, kinds_all, kind_of}
-use Rattle.dgram.proofs.Bytes.{some_is, in_test}
 
 -- a choice: what was chosen, and by which test
 choice : {A : Type 0} (b : Bool) (r r' : Option A) (y : A) → cond b r r' ≡ Some y → ((b ≡ true) × (r ≡ Some y)) ⊎ ((b ≡ false) × (r' ≡ Some y))

@@ -1,6 +1,4 @@
-pub mod Texts
-pub mod Bytes
-pub mod Fields
+pub mod Parts
 pub mod Codes
 pub mod Bodies
 pub mod Whole

@@ -1,20 +1,26 @@
 -- A whole datagram is read as it is written.
-use Rattle.std.proofs.Common.{◌≡◌, ℕ, ◌-◌, ◌≤◌, inl, inr, eqb, List, [], ◌∷◌, ◌++◌, length, get_or, take, drop, Option, Some, Result, Ok, Err, refl, sym, ap, subst, ◌∙◌, arith}
-use Rattle.std.specs.Prelude.{IfOk, IsErrOf}
+use Rattle.std.proofs.Common.{◌≡◌, ℕ, ◌-◌, ◌≤◌, inl, eqb, List, [], ◌∷◌, ◌++◌, length, get_or, take, drop, Some, Result, Ok, Err, refl, sym, ap, subst, ◌∙◌, arith}
+use Rattle.std.specs.Prelude.{IsErrOf}
+use Rattle.std.specs.Result.{IsErrAnd}
 use Rattle.std.specs.Int.{w64, to_be_bytes}
 use Rattle.std.proofs.lemmas.Bool.{eqb-true}
 use Rattle.std.proofs.lemmas.List.{append-nil, nil_from_length, take-append-drop, length-drop}
 use Rattle.std.proofs.Math.Seq.{take-length}
+use Rattle.fields.specs.declared.fault.FieldFault.{FieldFault}
+use Rattle.fields.specs.declared.fault.FieldFault.TheVariants as field_faults
+use Rattle.fields.specs.Spelling.{slot_bytes}
+use Rattle.fields.specs.Reading.{◌>>=◌, Fails, Gives, byte_at, slot_at}
+use Rattle.fields.proofs.Bytes.{IsBytes, IsBytes-back, bind_some, some_is, in_test, not_some}
+use Rattle.fields.proofs.Fields.{byte_read, slot_read}
 use Rattle.dgram.specs.declared.layout.TheConstants.{MAGIC, LAYOUT, FRONT}
 use Rattle.dgram.specs.declared.fault.DgramFault.{DgramFault}
 use Rattle.dgram.specs.declared.fault.DgramFault.TheVariants as faults
 use Rattle.dgram.specs.declared.message.Message.{Message}
+use Rattle.dgram.specs.Faults.{fault_of_field}
 use Rattle.dgram.specs.Messages.{IsMessage}
-use Rattle.dgram.specs.Layout.{kind_code, body_kind, body_from, from_byte, slot_bytes, body_bytes, front_bytes, datagram_of}
-use Rattle.dgram.specs.Reading.{◌>>=◌, Gives, byte_at, kind_of, slot_at, body_at, ended, message_at}
+use Rattle.dgram.specs.Layout.{kind_code, body_kind, body_from, from_byte, body_bytes, front_bytes, datagram_of}
+use Rattle.dgram.specs.Reading.{kind_of, body_at, ended, message_at}
 use Rattle.dgram.specs.Decoded.{IsOurs, IsNoDatagram, IsOkOrMemory}
-use Rattle.dgram.proofs.Bytes.{IsBytes, IsBytes-back, bind_some, some_is, in_test, not_some}
-use Rattle.dgram.proofs.Fields.{byte_read, slot_read}
 use Rattle.dgram.proofs.Codes.{kind_is, kind_again}
 use Rattle.dgram.proofs.Bodies.{body_taken, body_again}
 
@@ -57,47 +63,40 @@ front_parts federation (a ∷ b ∷ c ∷ k ∷ rest) long ours =
     let behind : rest ≡ to_be_bytes w64 federation ++ drop 8 rest = sym (take-append-drop 8 rest) ∙ ap (λ (xs : List ℕ). xs ++ drop 8 rest) ours.1 in
     ap (λ (xs : List ℕ). xs ++ (k ∷ rest)) ours.0 ∙ ap (λ (xs : List ℕ). MAGIC ++ (LAYOUT ∷ (k ∷ xs))) behind
 
-pub is_found : (federation : ℕ) (bytes : List ℕ) (r : Result Message DgramFault) → IsBytes bytes → FRONT ≤ length bytes → IsOurs federation bytes → Gives (λ m. m) r (message_at (get_or bytes 3 0) (drop 12 bytes))
-    → IfOk r (λ m. IsMessage m × (bytes ≡ datagram_of federation m))
-is_found federation bytes (Err e) fits long ours given = tt
-is_found federation bytes (Ok m) fits long ours given =
+pub is_found : (federation : ℕ) (bytes : List ℕ) (m : Message) → IsBytes bytes → FRONT ≤ length bytes → IsOurs federation bytes → message_at (get_or bytes 3 0) (drop 12 bytes) ≡ Some m
+    → IsMessage m × (bytes ≡ datagram_of federation m)
+is_found federation bytes m fits long ours given =
     let parts = front_parts federation bytes long ours in
     let back : IsBytes (drop 12 bytes) = IsBytes-back (front_bytes federation (get_or bytes 3 0)) (drop 12 bytes) (subst IsBytes parts fits) in
     let t = message_taken (get_or bytes 3 0) (drop 12 bytes) m back given in
     let e : bytes ≡ datagram_of federation m = parts ∙ ap (λ (k : ℕ). front_bytes federation k ++ drop 12 bytes) t.0 ∙ ap (λ (xs : List ℕ). front_bytes federation (kind_code (body_kind m.body)) ++ xs) t.1 in
     (t.2, e)
 
-gives_ok : (r : Result Message DgramFault) (read : Option Message) (m : Message) → Gives (λ m. m) r read → read ≡ Some m → IsOkOrMemory r m
-gives_ok (Ok x) read m given e = let P : Message → Result Message DgramFault = λ y. Ok y in inl (ap P (some_is x m (sym given ∙ e)))
-gives_ok (Err faults.NotOurs) read m given e = absurd given
-gives_ok (Err faults.Malformed) read m given e = absurd (not_some read m given e)
-gives_ok (Err faults.Memory) read m given e = inr refl
+-- what reading a message's datagram gives
+pub is_read : (federation : ℕ) (bytes : List ℕ) (m : Message) → IsMessage m → bytes ≡ datagram_of federation m → message_at (get_or bytes 3 0) (drop 12 bytes) ≡ Some m
+is_read federation bytes m h e = ap (λ (xs : List ℕ). message_at (get_or xs 3 0) (drop 12 xs)) e ∙ message_again m h
 
-pub is_read : (federation : ℕ) (bytes : List ℕ) (r : Result Message DgramFault) → Gives (λ m. m) r (message_at (get_or bytes 3 0) (drop 12 bytes))
-    → (m : Message) → IsMessage m → bytes ≡ datagram_of federation m → IsOkOrMemory r m
-is_read federation bytes r given m h e =
-    let read : message_at (get_or bytes 3 0) (drop 12 bytes) ≡ Some m = ap (λ (xs : List ℕ). message_at (get_or xs 3 0) (drop 12 xs)) e ∙ message_again m h in
-    gives_ok r (message_at (get_or bytes 3 0) (drop 12 bytes)) m given read
+-- where a message was read, and where a field was at fault
+pub ok_is : (federation : ℕ) (bytes : List ℕ) (x : Message) → message_at (get_or bytes 3 0) (drop 12 bytes) ≡ Some x
+    → (m : Message) → IsMessage m → bytes ≡ datagram_of federation m → IsOkOrMemory (Ok x) m
+ok_is federation bytes x given m h e = let P : Message → Result Message DgramFault = λ y. Ok y in inl (ap P (some_is x m (sym given ∙ is_read federation bytes m h e)))
 
-ok_err : (m : Message) (e : DgramFault) → let r : Result Message DgramFault = Ok m in let r' : Result Message DgramFault = Err e in r ≡ r' → ⊥
-ok_err m e h = cc
+pub err_is : (federation : ℕ) (bytes : List ℕ) (f : FieldFault) (r : Result Message DgramFault) → Fails f (message_at (get_or bytes 3 0) (drop 12 bytes)) → IsErrAnd r (λ d. d ≡ fault_of_field f)
+    → (m : Message) → IsMessage m → bytes ≡ datagram_of federation m → r ≡ Err faults.Memory
+err_is federation bytes f (Ok x) given told m h e = absurd told
+err_is federation bytes field_faults.Malformed (Err d) given told m h e = absurd (not_some (message_at (get_or bytes 3 0) (drop 12 bytes)) m given (is_read federation bytes m h e))
+err_is federation bytes field_faults.Memory (Err d) given told m h e = let P : DgramFault → Result Message DgramFault = λ y. Err y in ap P told
 
-no_fault : (r : Result Message DgramFault) (m : Message) → r ≡ Err faults.Malformed → IsOkOrMemory r m → ⊥
-no_fault (Ok x) m f w = ok_err x faults.Malformed f
-no_fault (Err faults.NotOurs) m f w = cc
-no_fault (Err faults.Malformed) m f (inl e) = ok_err m faults.Malformed (sym e)
-no_fault (Err faults.Malformed) m f (inr e) = cc
-no_fault (Err faults.Memory) m f w = cc
+pub err_is_none : (federation : ℕ) (bytes : List ℕ) (f : FieldFault) (r : Result Message DgramFault) → Fails f (message_at (get_or bytes 3 0) (drop 12 bytes)) → IsErrAnd r (λ d. d ≡ fault_of_field f)
+    → IsErrOf r faults.Malformed → IsNoDatagram federation bytes
+err_is_none federation bytes f r given told bad = λ m h e. let memory = err_is federation bytes f r given told m h e in absurd cc
 
 -- the slice behind the front
-pub given_rest : (bytes : List ℕ) (r : Result Message DgramFault) → Gives (λ m. m) r (message_at (get_or bytes 3 0) (take (length bytes - 12) (drop 12 bytes))) → Gives (λ m. m) r (message_at (get_or bytes 3 0) (drop 12 bytes))
+pub given_rest : (bytes : List ℕ) (r : Result Message FieldFault) → Gives (λ m. m) r (message_at (get_or bytes 3 0) (take (length bytes - 12) (drop 12 bytes))) → Gives (λ m. m) r (message_at (get_or bytes 3 0) (drop 12 bytes))
 given_rest bytes r given =
     let len : length bytes - 12 ≡ length (drop 12 bytes) = sym (length-drop 12 bytes) in
     let same : take (length bytes - 12) (drop 12 bytes) ≡ drop 12 bytes = ap (λ (n : ℕ). take n (drop 12 bytes)) len ∙ take-length (drop 12 bytes) in
     subst (λ (xs : List ℕ). Gives (λ m. m) r (message_at (get_or bytes 3 0) xs)) same given
-
-pub is_malformed : (federation : ℕ) (bytes : List ℕ) (r : Result Message DgramFault) → Gives (λ m. m) r (message_at (get_or bytes 3 0) (drop 12 bytes)) → IsErrOf r faults.Malformed → IsNoDatagram federation bytes
-is_malformed federation bytes r given f = λ m h e. no_fault r m f (is_read federation bytes r given m h e)
 
 -- two messages that have one datagram
 pub same_message : (federation : ℕ) (a b : Message) → IsMessage a → IsMessage b → datagram_of federation a ≡ datagram_of federation b → a ≡ b

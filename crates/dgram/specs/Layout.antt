@@ -1,9 +1,8 @@
 -- The one spelling of each message, field by field. Numbers are big-endian.
 use Rattle.std.specs.Prelude.{ℕ, ◌+◌, List, [], ◌∷◌, ◌++◌, length, Option, Some, None}
-use Rattle.std.specs.Int.{w16, w32, w64, to_be_bytes}
+use Rattle.std.specs.Int.{w16, w64, to_be_bytes}
 use Rattle.fed_types.specs.declared.bag_id.BagId.{BagId}
-use Rattle.fed_types.specs.Ballots.{BallotNumber}
-use Rattle.fed_types.specs.Slots.{SlotName}
+use Rattle.fields.specs.Spelling.{ballot_bytes, bag_bytes, vote_bytes, slot_bytes}
 use Rattle.dgram.specs.declared.layout.TheConstants.{MAGIC, LAYOUT, NO_SITE, NO_BAG, NO_PRIOR, PRIOR, PREPARE, PROMISE, ACCEPT, ACCEPTED, REFUSED, ASK, KNOWN, DEPOSIT, QUERY, DEPOSIT_REPLY, QUERY_REPLY, REGISTERED, OTHER_DEPOSIT, OTHER_KNOWN, DEVICE, MEMORY, NEEDS_OPEN, BEFORE_TREE_FAULTS, BEFORE_BAG_FAULTS, IS_KNOWN, IS_PENDING, IS_NOTHING}
 use Rattle.dgram.specs.declared.kind.Kind.{Kind}
 use Rattle.dgram.specs.declared.kind.Kind.TheVariants as kinds
@@ -62,18 +61,6 @@ abbrev pub from_byte : Option ℕ → ℕ
 from_byte None = NO_SITE
 from_byte (Some site) = site
 
--- round, site
-abbrev pub ballot_bytes : BallotNumber → List ℕ
-ballot_bytes b = to_be_bytes w32 b.round ++ b.site ∷ []
-
--- the 64 bytes of the identity
-abbrev pub bag_bytes : BagId → List ℕ
-bag_bytes b = b.0
-
--- ballot, bag
-abbrev pub vote_bytes : BallotNumber → BagId → List ℕ
-vote_bytes ballot bag = ballot_bytes ballot ++ bag_bytes bag
-
 -- a flag, and the prior vote where there is one
 abbrev pub prior_bytes : Option PriorVote → List ℕ
 prior_bytes None = NO_PRIOR ∷ []
@@ -82,10 +69,6 @@ prior_bytes (Some v) = PRIOR ∷ vote_bytes v.ballot v.bag
 -- length in two bytes, path
 abbrev pub path_bytes : List ℕ → List ℕ
 path_bytes path = to_be_bytes w16 (length path) ++ path
-
--- length in one byte, object; version
-abbrev pub slot_bytes : SlotName → List ℕ
-slot_bytes s = (length s.object ∷ s.object) ++ to_be_bytes w32 s.version
 
 -- the code of an answer to a deposit, and its bag: zeros where none is named
 abbrev pub deposit_code : DepositAnswer → ℕ

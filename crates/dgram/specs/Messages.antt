@@ -1,11 +1,8 @@
 -- What is true of every message.
-use Rattle.std.specs.Prelude.{◌≡◌, ℕ, ◌≤◌, ◌<◌, ◌^◌, List, length, Option, Some, None}
+use Rattle.std.specs.Prelude.{ℕ, List, Option, Some, None}
 use Rattle.std.specs.Str.{IsUtf8}
-use Rattle.fed_types.specs.declared.bag_id.BagId.{BagId}
-use Rattle.fed_types.specs.Ballots.{BallotNumber}
 use Rattle.fed_types.specs.Sites.{IsSiteNumber}
-use Rattle.fed_types.specs.Slots.{SlotName, IsSlotName}
-use Rattle.dgram.specs.declared.layout.TheConstants.{BAG_BYTES}
+use Rattle.fields.specs.Values.{IsSlot, IsBallot, IsBag}
 use Rattle.dgram.specs.Limits.{IsTreeFault, IsBagFault, IsPathLong}
 use Rattle.dgram.specs.declared.answers.DepositAnswer.{DepositAnswer}
 use Rattle.dgram.specs.declared.answers.DepositAnswer.TheVariants as deposit
@@ -19,18 +16,6 @@ use Rattle.dgram.specs.declared.message.Message.{Message}
 -- a path is a text besides
 abbrev pub IsPath : List ℕ → Type 0
 IsPath bytes = IsPathLong bytes × IsUtf8 bytes
-
--- a slot's object is a text, and its version has 32 bits
-abbrev pub IsSlot : SlotName → Type 0
-IsSlot s = IsSlotName s × IsUtf8 s.object × (s.version < 2 ^ 32)
-
--- a round is at least 1 and has 32 bits
-abbrev pub IsBallot : BallotNumber → Type 0
-IsBallot b = (1 ≤ b.round) × (b.round < 2 ^ 32) × IsSiteNumber b.site
-
--- an identity has 64 bytes
-abbrev pub IsBag : BagId → Type 0
-IsBag b = length b.0 ≡ BAG_BYTES
 
 -- a prior vote, if there is one
 abbrev pub IsPrior : Option PriorVote → Type 0

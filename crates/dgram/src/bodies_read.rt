@@ -1,49 +1,50 @@
 //! The body of each kind of datagram, read from what is left. `from` is the sender's byte.
 
 ghost use Rattle.std.specs.Prelude.{◌≡◌};
-ghost use Rattle.dgram.specs.Reading.{Gives, site_of, from_none, from_ballot, body_at};
+ghost use Rattle.fields.specs.Reading.{Gives, site_of};
+ghost use Rattle.dgram.specs.Reading.{from_none, from_ballot, body_at};
 ghost use Rattle.dgram.specs.declared.kind.Kind.TheVariants as kinds;
 
 use crate::answers::{DepositAnswer, QueryAnswer};
 use crate::body::Body;
-use crate::fault::DgramFault;
 use crate::kind::Kind;
 use crate::layout::NO_SITE;
-use crate::reader::Reader;
+use crate::parts_read::{read_path, read_prior, read_vote};
 use fed_types::{Ballot, SiteNo};
+use fields::{FieldFault, Reader};
 use std::alloc::Global;
 
-fn read_site(from: u8) -> Result<SiteNo, DgramFault>
+fn read_site(from: u8) -> Result<SiteNo, FieldFault>
     ensures { Gives (λ x. x) result (site_of from) }
 {
     match SiteNo::new(from) {
         Ok(site) => Ok(site),
-        Err(_) => Err(DgramFault::Malformed),
+        Err(_) => Err(FieldFault::Malformed),
     }
 }
 
-fn read_no_site(from: u8) -> Result<(), DgramFault>
+fn read_no_site(from: u8) -> Result<(), FieldFault>
     ensures { Gives (λ x. x) result (from_none from tt) }
 {
     if from == NO_SITE {
         Ok(())
     } else {
-        Err(DgramFault::Malformed)
+        Err(FieldFault::Malformed)
     }
 }
 
-fn read_own(from: u8, ballot: Ballot) -> Result<(), DgramFault>
+fn read_own(from: u8, ballot: Ballot) -> Result<(), FieldFault>
     ensures { Gives (λ x. x) result (from_ballot from ballot tt) }
 {
     if ballot.site().number() == from {
         Ok(())
     } else {
-        Err(DgramFault::Malformed)
+        Err(FieldFault::Malformed)
     }
 }
 
 #[tactic(auto, unfolding(crate::specs::Reading::body_at))]
-fn read_prepare(from: u8, reader: &mut Reader) -> Result<Body, DgramFault>
+fn read_prepare(from: u8, reader: &mut Reader) -> Result<Body, FieldFault>
     ensures { Gives (λ x. (x, reader.new)) result (body_at kinds.Prepare from reader.old) }
 {
     let ballot = reader.ballot()?;
@@ -52,11 +53,11 @@ fn read_prepare(from: u8, reader: &mut Reader) -> Result<Body, DgramFault>
 }
 
 #[tactic(auto, unfolding(crate::specs::Reading::body_at))]
-fn read_promise(from: u8, reader: &mut Reader) -> Result<Body, DgramFault>
+fn read_promise(from: u8, reader: &mut Reader) -> Result<Body, FieldFault>
     ensures { Gives (λ x. (x, reader.new)) result (body_at kinds.Promise from reader.old) }
 {
     let ballot = reader.ballot()?;
-    let prior = reader.prior()?;
+    let prior = read_prior(reader)?;
     let from = read_site(from)?;
     Ok(Body::Promise {
         from,
@@ -66,27 +67,27 @@ fn read_promise(from: u8, reader: &mut Reader) -> Result<Body, DgramFault>
 }
 
 #[tactic(auto, unfolding(crate::specs::Reading::body_at))]
-fn read_accept(from: u8, reader: &mut Reader) -> Result<Body, DgramFault>
+fn read_accept(from: u8, reader: &mut Reader) -> Result<Body, FieldFault>
     ensures { Gives (λ x. (x, reader.new)) result (body_at kinds.Accept from reader.old) }
 {
-    let vote = reader.vote()?;
+    let vote = read_vote(reader)?;
     read_own(from, vote.ballot)?;
     let (ballot, bag) = (vote.ballot, vote.bag);
     Ok(Body::Accept { ballot, bag })
 }
 
 #[tactic(auto, unfolding(crate::specs::Reading::body_at))]
-fn read_accepted(from: u8, reader: &mut Reader) -> Result<Body, DgramFault>
+fn read_accepted(from: u8, reader: &mut Reader) -> Result<Body, FieldFault>
     ensures { Gives (λ x. (x, reader.new)) result (body_at kinds.Accepted from reader.old) }
 {
-    let vote = reader.vote()?;
+    let vote = read_vote(reader)?;
     let from = read_site(from)?;
     let (ballot, bag) = (vote.ballot, vote.bag);
     Ok(Body::Accepted { from, ballot, bag })
 }
 
 #[tactic(auto, unfolding(crate::specs::Reading::body_at))]
-fn read_refused(from: u8, reader: &mut Reader) -> Result<Body, DgramFault>
+fn read_refused(from: u8, reader: &mut Reader) -> Result<Body, FieldFault>
     ensures { Gives (λ x. (x, reader.new)) result (body_at kinds.Refused from reader.old) }
 {
     let asked = reader.ballot()?;
@@ -100,7 +101,7 @@ fn read_refused(from: u8, reader: &mut Reader) -> Result<Body, DgramFault>
 }
 
 #[tactic(auto, unfolding(crate::specs::Reading::body_at))]
-fn read_ask(from: u8, reader: &mut Reader) -> Result<Body, DgramFault>
+fn read_ask(from: u8, reader: &mut Reader) -> Result<Body, FieldFault>
     ensures { Gives (λ x. (x, reader.new)) result (body_at kinds.Ask from reader.old) }
 {
     let from = read_site(from)?;
@@ -108,7 +109,7 @@ fn read_ask(from: u8, reader: &mut Reader) -> Result<Body, DgramFault>
 }
 
 #[tactic(auto, unfolding(crate::specs::Reading::body_at))]
-fn read_known(from: u8, reader: &mut Reader) -> Result<Body, DgramFault>
+fn read_known(from: u8, reader: &mut Reader) -> Result<Body, FieldFault>
     ensures { Gives (λ x. (x, reader.new)) result (body_at kinds.Known from reader.old) }
 {
     let bag = reader.bag()?;
@@ -117,16 +118,16 @@ fn read_known(from: u8, reader: &mut Reader) -> Result<Body, DgramFault>
 }
 
 #[tactic(auto, unfolding(crate::specs::Reading::body_at))]
-fn read_deposit(alloc: Global, from: u8, reader: &mut Reader) -> Result<Body, DgramFault>
+fn read_deposit(alloc: Global, from: u8, reader: &mut Reader) -> Result<Body, FieldFault>
     ensures { Gives (λ x. (x, reader.new)) result (body_at kinds.Deposit from reader.old) }
 {
-    let path = reader.path(alloc)?;
+    let path = read_path(alloc, reader)?;
     read_no_site(from)?;
     Ok(Body::Deposit { path })
 }
 
 #[tactic(auto, unfolding(crate::specs::Reading::body_at))]
-fn read_query(from: u8, reader: &mut Reader) -> Result<Body, DgramFault>
+fn read_query(from: u8, reader: &mut Reader) -> Result<Body, FieldFault>
     ensures { Gives (λ x. (x, reader.new)) result (body_at kinds.Query from reader.old) }
 {
     read_no_site(from)?;
@@ -134,7 +135,7 @@ fn read_query(from: u8, reader: &mut Reader) -> Result<Body, DgramFault>
 }
 
 #[tactic(auto, unfolding(crate::specs::Reading::body_at))]
-fn read_deposit_reply(from: u8, reader: &mut Reader) -> Result<Body, DgramFault>
+fn read_deposit_reply(from: u8, reader: &mut Reader) -> Result<Body, FieldFault>
     ensures { Gives (λ x. (x, reader.new)) result (body_at kinds.DepositReply from reader.old) }
 {
     let code = reader.byte()?;
@@ -142,12 +143,12 @@ fn read_deposit_reply(from: u8, reader: &mut Reader) -> Result<Body, DgramFault>
     let from = read_site(from)?;
     match DepositAnswer::of(code, bag) {
         Some(answer) => Ok(Body::DepositReply { from, answer }),
-        None => Err(DgramFault::Malformed),
+        None => Err(FieldFault::Malformed),
     }
 }
 
 #[tactic(auto, unfolding(crate::specs::Reading::body_at))]
-fn read_query_reply(from: u8, reader: &mut Reader) -> Result<Body, DgramFault>
+fn read_query_reply(from: u8, reader: &mut Reader) -> Result<Body, FieldFault>
     ensures { Gives (λ x. (x, reader.new)) result (body_at kinds.QueryReply from reader.old) }
 {
     let code = reader.byte()?;
@@ -155,7 +156,7 @@ fn read_query_reply(from: u8, reader: &mut Reader) -> Result<Body, DgramFault>
     let from = read_site(from)?;
     match QueryAnswer::of(code, bag) {
         Some(answer) => Ok(Body::QueryReply { from, answer }),
-        None => Err(DgramFault::Malformed),
+        None => Err(FieldFault::Malformed),
     }
 }
 
@@ -165,7 +166,7 @@ pub(crate) fn read_body(
     kind: Kind,
     from: u8,
     reader: &mut Reader,
-) -> Result<Body, DgramFault>
+) -> Result<Body, FieldFault>
     ensures { Gives (λ x. (x, reader.new)) result (body_at kind from reader.old) }
 {
     match kind {

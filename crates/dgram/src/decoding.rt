@@ -1,7 +1,8 @@
 ghost use Rattle.std.specs.Prelude.{◌≡◌, ◌↔◌, ◌<◌, ◌≤◌, length, IsTrue, IsErrOf, IfOk};
+ghost use Rattle.fields.specs.Reading.{Gives};
 ghost use Rattle.dgram.specs.Messages.{IsMessage};
 ghost use Rattle.dgram.specs.Layout.{datagram_of};
-ghost use Rattle.dgram.specs.Reading.{Gives, message_at};
+ghost use Rattle.dgram.specs.Reading.{message_at};
 ghost use Rattle.dgram.specs.Decoded.{IsOurs, IsAnothers, IsNoDatagram, IsOkOrMemory};
 ghost use Rattle.dgram.specs.declared.message.Message as declared;
 
@@ -10,7 +11,7 @@ use crate::fault::DgramFault;
 use crate::kind::Kind;
 use crate::layout::{FRONT, LAYOUT, MAGIC};
 use crate::message::Message;
-use crate::reader::Reader;
+use fields::{FieldFault, Reader};
 use std::alloc::Global;
 
 // Whether the first bytes are those of this layout and federation.
@@ -24,18 +25,18 @@ fn is_ours(federation: u64, bytes: &[u8]) -> bool
 
 // The message of the kind of this byte, from its sender's byte on.
 #[tactic(auto, unfolding(crate::specs::Reading::message_at))]
-fn read_message(alloc: Global, kind: u8, bytes: &[u8]) -> Result<Message, DgramFault>
+fn read_message(alloc: Global, kind: u8, bytes: &[u8]) -> Result<Message, FieldFault>
     ensures { Gives (λ m. m) result (message_at kind bytes.now) }
 {
     let Some(kind) = Kind::of(kind) else {
-        return Err(DgramFault::Malformed);
+        return Err(FieldFault::Malformed);
     };
     let mut reader = Reader::new(bytes);
     let from = reader.byte()?;
     let slot = reader.slot(alloc)?;
     let body = read_body(alloc, kind, from, &mut reader)?;
     if !reader.is_empty() {
-        return Err(DgramFault::Malformed);
+        return Err(FieldFault::Malformed);
     }
     Ok(Message { slot, body })
 }
@@ -58,5 +59,5 @@ pub fn decode(alloc: Global, federation: u64, bytes: &[u8]) -> Result<Message, D
     if !is_ours(federation, bytes) {
         return Err(DgramFault::NotOurs);
     }
-    read_message(alloc, bytes[3], &bytes[FRONT..])
+    Ok(read_message(alloc, bytes[3], &bytes[FRONT..])?)
 }

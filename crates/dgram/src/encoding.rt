@@ -1,45 +1,13 @@
 ghost use Rattle.std.specs.Prelude.{◌≡◌, ◌+◌, ◌<◌, ◌≤◌, ◌++◌, length, take, vec_len, vec_capacity, OnOk, OnErr};
-ghost use Rattle.dgram.specs.Layout.{slot_bytes, ballot_bytes, prior_bytes, path_bytes, vote_bytes, reply_bytes, body_bytes, front_bytes, from_byte, datagram_of};
+ghost use Rattle.dgram.specs.Layout.{prior_bytes, path_bytes, reply_bytes, body_bytes, front_bytes, from_byte, datagram_of};
 
 use crate::body::{Body, PriorVote};
 use crate::layout::{LAYOUT, MAGIC, NO_PRIOR, NO_SITE, PRIOR};
 use crate::message::Message;
 use crate::path::FolderPath;
-use fed_types::{BagId, Ballot, SiteNo, Slot};
+use fed_types::{BagId, SiteNo};
+use fields::{put_bag, put_ballot, put_slot, put_vote};
 use std::alloc::AllocError;
-
-fn put_slot(out: &mut Vec<u8>, slot: &Slot) -> Result<(), AllocError>
-    ensures put { OnOk result (out.new.items ≡ out.old.items ++ slot_bytes slot.now) }
-    ensures kept { take (length out.old.items) out.new.items ≡ out.old.items }
-    ensures room { vec_capacity out.old ≤ vec_capacity out.new }
-    ensures full { OnErr result (vec_capacity out.old < vec_len out.old + length (slot_bytes slot.now)) }
-{
-    let object = slot.object();
-    out.push(object.len() as u8)?;
-    out.extend_from_slice(object.as_bytes())?;
-    out.extend_from_slice(&slot.version().to_be_bytes())
-}
-
-fn put_ballot(out: &mut Vec<u8>, ballot: Ballot) -> Result<(), AllocError>
-    ensures put { OnOk result (out.new.items ≡ out.old.items ++ ballot_bytes ballot) }
-    ensures kept { take (length out.old.items) out.new.items ≡ out.old.items }
-    ensures room { vec_capacity out.old ≤ vec_capacity out.new }
-    ensures full { OnErr result (vec_capacity out.old < vec_len out.old + length (ballot_bytes ballot)) }
-{
-    out.extend_from_slice(&ballot.round().to_be_bytes())?;
-    out.push(ballot.site().number())?;
-    Ok(())
-}
-
-fn put_vote(out: &mut Vec<u8>, ballot: Ballot, bag: &BagId) -> Result<(), AllocError>
-    ensures put { OnOk result (out.new.items ≡ out.old.items ++ vote_bytes ballot bag.now) }
-    ensures kept { take (length out.old.items) out.new.items ≡ out.old.items }
-    ensures room { vec_capacity out.old ≤ vec_capacity out.new }
-    ensures full { OnErr result (vec_capacity out.old < vec_len out.old + length (vote_bytes ballot bag.now)) }
-{
-    put_ballot(out, ballot)?;
-    out.extend_from_slice(&bag.0)
-}
 
 fn put_prior(out: &mut Vec<u8>, prior: Option<PriorVote>) -> Result<(), AllocError>
     ensures put { OnOk result (out.new.items ≡ out.old.items ++ prior_bytes prior) }
@@ -77,7 +45,7 @@ fn put_reply(out: &mut Vec<u8>, code: u8, bag: &BagId) -> Result<(), AllocError>
     ensures full { OnErr result (vec_capacity out.old < vec_len out.old + length (reply_bytes code bag.now)) }
 {
     out.push(code)?;
-    out.extend_from_slice(&bag.0)
+    put_bag(out, bag)
 }
 
 fn put_body(out: &mut Vec<u8>, body: &Body) -> Result<(), AllocError>
@@ -104,7 +72,7 @@ fn put_body(out: &mut Vec<u8>, body: &Body) -> Result<(), AllocError>
             put_ballot(out, *standing)
         }
         Body::Ask { .. } | Body::Query => Ok(()),
-        Body::Known { bag, .. } => out.extend_from_slice(&bag.0),
+        Body::Known { bag, .. } => put_bag(out, bag),
         Body::Deposit { path } => put_path(out, path),
         Body::DepositReply { answer, .. } => put_reply(out, answer.code(), &answer.bag()),
         Body::QueryReply { answer, .. } => put_reply(out, answer.code(), &answer.bag()),

@@ -1,6 +1,6 @@
 ghost use Rattle.std.specs.Prelude.{◌≡◌};
 
-use std::alloc::AllocError;
+use fields::FieldFault;
 use thiserror::Error;
 
 /// Why bytes could not be read as a message.
@@ -17,13 +17,16 @@ pub enum DgramFault {
     Memory,
 }
 
-impl From<AllocError> for DgramFault {
-    ghost use Rattle.dgram.specs.declared.fault.DgramFault.TheVariants.{Memory};
+impl From<FieldFault> for DgramFault {
+    ghost use Rattle.dgram.specs.Faults.{fault_of_field};
 
-    ghost from_gives = { λ _ e. e ≡ Memory };
+    ghost from_gives = { λ fault e. e ≡ fault_of_field fault };
 
-    fn from(_e: AllocError) -> DgramFault {
-        Self::Memory
+    fn from(fault: FieldFault) -> DgramFault {
+        match fault {
+            FieldFault::Malformed => Self::Malformed,
+            FieldFault::Memory => Self::Memory,
+        }
     }
 }
 

@@ -12,9 +12,6 @@ pub(crate) const FRONT: usize = 12;
 /// The sender's byte where no site sends.
 pub(crate) const NO_SITE: u8 = 0;
 
-/// The bytes of a bag's identity.
-pub(crate) const BAG_BYTES: usize = 64;
-
 /// What stands for a bag where none is named.
 pub(crate) const NO_BAG: [u8; 64] = [0; 64];
 

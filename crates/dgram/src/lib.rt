@@ -11,8 +11,8 @@ mod fault;
 mod kind;
 mod layout;
 mod message;
+mod parts_read;
 mod path;
-mod reader;
 mod tree_fault;
 mod uniqueness;
 

@@ -1,5 +1,5 @@
 -- Each field is read as it is written.
-use Rattle.std.proofs.Common.{◌≡◌, ℕ, ◌^◌, ◌<◌, ◌≤◌, ◌&&◌, true, false, cond, eqb, ltb, leb, List, [], ◌∷◌, ◌++◌, length, take, drop, Option, Some, None, refl, sym, ap, subst, ◌∙◌, append_assoc, arith, inl, inr}
+use Rattle.std.proofs.Common.{◌≡◌, ℕ, ◌^◌, ◌<◌, ◌≤◌, ◌&&◌, true, false, cond, eqb, ltb, leb, List, [], ◌∷◌, ◌++◌, length, take, drop, Option, Some, None, refl, sym, ap, subst, ◌∙◌, append_assoc, arith}
 use Rattle.std.specs.Int.{w16, w32, from_be_bytes, to_be_bytes}
 use Rattle.std.specs.Str.{is_utf8, IsUtf8}
 use Rattle.std.proofs.lemmas.Bool.{ltb-false, le-ltb, le-leb}
@@ -16,7 +16,7 @@ use Rattle.fields.specs.declared.limits.TheConstants.{BAG_BYTES}
 use Rattle.fields.specs.Values.{IsSlot, IsBallot, IsBag}
 use Rattle.fields.specs.Spelling.{ballot_bytes, bag_bytes, slot_bytes}
 use Rattle.fields.specs.Reading.{◌>>=◌, both, meant, nothing_at, byte_at, bytes_at, number_at, site_of, ballot_of, ballot_at, bag_at, text_at, object_at, slot_of, slot_at}
-use Rattle.fields.proofs.Bytes.{IsBytes, bind_some, some_is, past_test, in_test, not_some, Takes, takes, Reads, both_read, meant_taken, meant_again, meant_read}
+use Rattle.fields.proofs.Bytes.{IsBytes, bind_some, some_is, past_test, in_test, Takes, takes, Reads, both_read, meant_taken, meant_again, meant_read}
 
 byte_taken : (bytes : List ℕ) (b : ℕ) (rest : List ℕ) → IsBytes bytes → byte_at bytes ≡ Some (b, rest) → Takes bytes (b ∷ []) rest × (b < 256)
 byte_taken [] b rest fits e = absurd cc
