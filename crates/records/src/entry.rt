@@ -1,5 +1,8 @@
 ghost use Rattle.std.specs.Prelude.{◌≡◌, ◌≤◌, length};
+ghost use Rattle.fields.specs.Spelling.{ballot_bytes};
+ghost use Rattle.fields.specs.Values.{IsBallot};
 ghost use Rattle.records.specs.Layout.{kind_code, entry_bytes};
+ghost use Rattle.records.specs.Records.{IsEntry};
 
 use crate::layout::*;
 use crate::round::Round;
@@ -39,14 +42,23 @@ impl Entry {
     pub(crate) fn size(&self) -> usize
         ensures value { result ≡ length (entry_bytes self.now) }
         ensures in_range { (4 ≤ result) × (result ≤ 69) }
+        ensures sound { IsEntry self.now }
     {
         match self {
             Entry::Deposit(bag) | Entry::Known(bag) => size_of(&bag.0),
-            Entry::Round(_) => 4,
-            Entry::Promise(_) => 5,
-            Entry::Vote { bag, .. } => 5 + size_of(&bag.0),
+            Entry::Round(round) => round.number().to_be_bytes().len(),
+            Entry::Promise(ballot) => size_of_ballot(*ballot),
+            Entry::Vote { ballot, bag } => size_of_ballot(*ballot) + size_of(&bag.0),
         }
     }
+}
+
+fn size_of_ballot(ballot: Ballot) -> usize
+    ensures value { result ≡ length (ballot_bytes ballot) }
+    ensures fixed { result ≡ 5 }
+    ensures sound { IsBallot ballot }
+{
+    ballot.round().to_be_bytes().len() + [ballot.site().number()].len()
 }
 
 // As many bytes as a clause sees in the bag.

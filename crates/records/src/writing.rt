@@ -1,5 +1,6 @@
 ghost use Rattle.std.specs.Prelude.{◌≡◌, ◌≤◌, ◌++◌, length, IfOk, OnOk};
 ghost use Rattle.records.specs.declared.layout.TheConstants.{SHORTEST, LONGEST};
+ghost use Rattle.records.specs.Records.{IsRecord};
 ghost use Rattle.records.specs.Layout.{entry_bytes, content_bytes, record_bytes, header_bytes};
 
 use crate::entry::Entry;
@@ -42,13 +43,16 @@ impl Record {
     fn size(&self) -> usize
         ensures value { result ≡ length (content_bytes self.now) }
         ensures in_range { (SHORTEST ≤ result) × (result ≤ LONGEST) }
+        ensures sound { IsRecord self.now }
     {
-        6 + self.slot.object().len() + self.body.size()
+        let head = 1 + 1 + self.slot.object().len() + self.slot.version().to_be_bytes().len();
+        head + self.body.size()
     }
 
     /// The record's bytes.
     pub fn to_bytes(&self, alloc: Global) -> Result<Vec<u8>, AllocError>
-        ensures { IfOk result (λ bytes. bytes.items ≡ record_bytes self.now) }
+        ensures bytes { IfOk result (λ bytes. bytes.items ≡ record_bytes self.now) }
+        ensures sound { IsRecord self.now }
     {
         let mut out = Vec::with_capacity(alloc, 2 + self.size())?;
         put_record(&mut out, self)?;

@@ -1,0 +1,4 @@
+pub mod Faults
+pub mod Volumes
+pub mod Opened
+pub mod Committed

@@ -1,0 +1,37 @@
+-- What an open book holds.
+use Rattle.std.specs.Prelude.{◌≡◌, ℕ, List, Bool, false, Option, Some, None}
+use Rattle.fed_types.specs.Sites.{Membership}
+use Rattle.cell_device.specs.Images.{Image, MayLeave, at_rest}
+use Rattle.records.specs.declared.record.Record.{Record}
+use Rattle.records.specs.Layout.{cell_text}
+use Rattle.records.specs.Records.{AreRecords}
+
+-- the cell, the records that were read or committed, in order, and whether the book needs opening; whose book it is
+pub record Volume (C : Type 0) : Type 0 where
+  pub cell : C
+  pub records : List Record
+  pub needs_opening : Bool
+  pub members : Membership
+  pub site : ℕ
+
+-- where the cell tells its bytes
+abbrev pub IfTold : Option Image → (Image → Type 0) → Type 0
+IfTold None P = Unit {0}
+IfTold (Some i) P = P i
+
+-- the cell keeps these bytes, all of them synced
+abbrev pub RestsAt : List ℕ → Option Image → Type 0
+RestsAt bytes image = IfTold image (λ i. i ≡ at_rest bytes)
+
+-- a crash leaves these bytes and no others
+abbrev pub LeavesBytes : List ℕ → Option Image → Type 0
+LeavesBytes bytes image = IfTold image (λ i. (c : List ℕ) → MayLeave (Some i) c → c ≡ bytes)
+
+-- the cell keeps the text of the records
+abbrev pub Keeps : ℕ → ℕ → List Record → Option Image → Type 0
+Keeps federation site records image = RestsAt (cell_text federation site records) image
+
+-- a book that was opened keeps its records, all of them synced
+pub record IsSound (needs_opening : Bool) (federation site : ℕ) (records : List Record) (image : Option Image) : Type 0 where
+  pub whole : AreRecords records
+  pub kept : needs_opening ≡ false → Keeps federation site records image
