@@ -16,15 +16,13 @@ pub struct Book<C: Cell> {
 }
 
 impl<C: Cell> Model for Book<C> {
-    ghost use Rattle.std.specs.Prelude.{◌≡◌, false};
-    ghost use Rattle.records.specs.Records.{AreRecords};
-    ghost use Rattle.book.specs.Volumes.{Volume, Keeps};
+    ghost use Rattle.book.specs.Volumes.{Volume, IsSound};
 
     ghost Value = { Volume C };
 
     ghost view = { λ b. record { cell = b.cell; records = b.records.items; needs_opening = b.needs_opening; members = b.members; site = b.site } };
 
-    ghost invariant = { λ b. b.needs_opening ≡ false → Keeps b.members.federation b.site b.records.items (C.image b.cell) };
+    ghost invariant = { λ b. IsSound b.needs_opening b.members.federation b.site b.records.items (C.image b.cell) };
 }
 
 impl<C: Cell> Book<C> {

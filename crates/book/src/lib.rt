@@ -2,6 +2,9 @@
 #![tactic(auto)]
 
 mod book;
+mod fault;
+mod opening;
 
 pub use book::Book;
+pub use fault::CommitFault;
 pub use records::{Entry, OpenFault, Record, Round};

@@ -5,3 +5,4 @@ pub mod Steps
 pub mod Walk
 pub mod Told
 pub mod Words
+pub mod Fronts

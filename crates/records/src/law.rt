@@ -1,13 +1,23 @@
-ghost use Rattle.std.specs.Prelude.{◌≡◌, ℕ, max, List, [], ◌∷◌, ◌++◌, Result};
+ghost use Rattle.std.specs.Prelude.{◌≡◌, ℕ, max, List, [], ◌∷◌, ◌++◌, take, Result, Ok};
 ghost use Rattle.fed_types.specs.Slots.{SlotName};
 ghost use Rattle.records.specs.declared.fault.OpenFault.{OpenFault};
 ghost use Rattle.records.specs.declared.record.Record.{Record};
 ghost use Rattle.records.specs.Journals.{Says};
+ghost use Rattle.records.specs.Layout.{record_bytes, cell_text};
+ghost use Rattle.records.specs.Records.{IsRecord, AreRecords};
+ghost use Rattle.records.specs.Kept.{kept_records};
 ghost use Rattle.records.specs.Words.{higher, earlier, with_one, said_in, ballot_in, vote_in, round_in, deposit_in, known_in, promised_of, vote_of, used_of, deposit_of, known_of};
 
 /// Bytes say one thing at most: these records, or this fault. It does nothing: its contract is the law.
 pub fn one_reading()
     ensures { (federation site : ℕ) (bytes : List ℕ) (a b : Result (List Record) OpenFault) → Says federation site bytes a → Says federation site bytes b → a ≡ b }
+{}
+
+/// A journal to which a record was appended and of which a crash has kept `k` bytes of it opens with the
+/// record exactly if these are all its bytes, and else with those before it. It does nothing: its
+/// contract is the law.
+pub fn whole_or_not_at_all()
+    ensures { (federation site : ℕ) (records : List Record) (r : Record) (k : ℕ) → AreRecords records → IsRecord r → Says federation site (cell_text federation site records ++ take k (record_bytes r)) (Ok (kept_records k records r)) }
 {}
 
 /// What one more record makes of what the records say of a slot: the greater ballot, the vote of the
