@@ -12,9 +12,9 @@ Outcome (Ok x) tried done i new = new ≡ Some (done i)
 Outcome (Err Memory) tried done i new = new ≡ Some i
 Outcome (Err Device) tried done i new = (new ≡ Some i) ⊎ ((k : ℕ) × (new ≡ Some (failed k (tried i))))
 
--- the same, where the cell tells its bytes
+-- the same, where the cell tells its bytes; one that doesn't tell them goes on so
 abbrev pub Turns : {T : Type 0} → Result T CellFault → (tried done : Image → Image) → Option Image → Option Image → Type 0
-Turns result tried done None new = Unit {0}
+Turns result tried done None new = new ≡ None
 Turns result tried done (Some i) new = Outcome result tried done i new
 
 -- the image after a call, by the fuse
