@@ -1,5 +1,6 @@
 -- What the calls leave of a cell whose bytes are all synced.
 use Rattle.std.proofs.Common.{◌≡◌, ◌⊎◌, inl, inr, ⊎_elim, ℕ, zero, suc, ◌+◌, ◌≤◌, Bool, true, List, [], ◌∷◌, ◌++◌, length, take, drop, Option, Some, None, Result, Ok, Err, refl, sym, ap, subst, ◌∙◌, arith, length-append}
+use Rattle.std.specs.Prelude.{OnOk}
 use Rattle.std.proofs.lemmas.Bool.{le-leb}
 use Rattle.std.proofs.lemmas.Bool.Decides.{leb_tells}
 use Rattle.std.proofs.lemmas.List.{append-nil, length-take, take_all}
@@ -9,8 +10,8 @@ use Rattle.cell_device.specs.Images.{Image, keeps, Leaves, MayLeave, at_rest, ap
 use Rattle.cell_device.specs.Calls.{Outcome, Turns}
 use Rattle.book.specs.Volumes.{IfTold, RestsAt}
 
-take_past : (t b : List ℕ) (k : ℕ) → take (length t + k) (t ++ b) ≡ t ++ take k b
-take_past [] b k = refl
+pub take_past : (t b : List ℕ) (k : ℕ) → take (length t + k) (t ++ b) ≡ t ++ take k b
+take_past [] b k = let none : length {A = ℕ} [] + k ≡ k = omega arith in ap (λ (n : ℕ). take n b) none
 take_past (x ∷ t) b k = let more : length (x ∷ t) + k ≡ suc (length t + k) = omega arith in ap (λ (n : ℕ). take n (x ∷ (t ++ b))) more ∙ ap (λ (l : List ℕ). x ∷ l) (take_past t b k)
 
 pub keeps_same : (k : ℕ) (t : List ℕ) → keeps k t t ≡ t
@@ -74,3 +75,48 @@ sync_leaves (Ok x) (Some i) new Q is before seen c left = subst Q (sym (rest_lea
 sync_leaves (Err Memory) (Some i) new Q is before seen c left = before c (subst (λ (o : Option Image). MayLeave o c) is left)
 sync_leaves (Err Device) (Some i) new Q (inl is) before seen c left = before c (subst (λ (o : Option Image). MayLeave o c) is left)
 sync_leaves (Err Device) (Some i) new Q (inr (k, is)) before seen c left = before c (subst (λ (o : Option Image). MayLeave o c) is left)
+
+-- what was appended to bytes at rest, and synced, is at rest
+pub append_mends : {T U : Type 0} (x : T) (result : Result U CellFault) (bytes b text : List ℕ) (old mid new : Option Image) → RestsAt bytes old → Turns (Ok x) (appended b) (appended b) old mid → Turns result untouched made_durable mid new
+    → bytes ++ b ≡ text → OnOk result (RestsAt text new)
+append_mends {U = U} x result bytes b text old mid new rest first second e = synced old result rest first second
+  where
+    synced : (old : Option Image) (result : Result U CellFault) → RestsAt bytes old → Turns (Ok x) (appended b) (appended b) old mid → Turns result untouched made_durable mid new → OnOk result (RestsAt text new)
+    synced old (Err fault) rest first second = tt
+    synced None (Ok y) rest first second =
+        let is : new ≡ None = subst (λ (o : Option Image). Turns (Ok y) untouched made_durable o new) first second in
+        subst (RestsAt text) (sym is) tt
+    synced (Some i) (Ok y) is first second =
+        let made : new ≡ Some (at_rest (i.seen ++ b)) = subst (λ (o : Option Image). Turns (Ok y) untouched made_durable o new) first second in
+        subst (RestsAt text) (sym made) (ap at_rest (ap (λ (j : Image). j.seen ++ b) is ∙ e))
+
+pub cut_mends : {T U : Type 0} (x : T) (result : Result U CellFault) (bytes text : List ℕ) (len : ℕ) (old mid new : Option Image) → RestsAt bytes old → Turns (Ok x) (cut_to len) (cut_to len) old mid → Turns result untouched made_durable mid new
+    → take len bytes ≡ text → OnOk result (RestsAt text new)
+cut_mends {U = U} x result bytes text len old mid new rest first second e = synced old result rest first second
+  where
+    synced : (old : Option Image) (result : Result U CellFault) → RestsAt bytes old → Turns (Ok x) (cut_to len) (cut_to len) old mid → Turns result untouched made_durable mid new → OnOk result (RestsAt text new)
+    synced old (Err fault) rest first second = tt
+    synced None (Ok y) rest first second =
+        let is : new ≡ None = subst (λ (o : Option Image). Turns (Ok y) untouched made_durable o new) first second in
+        subst (RestsAt text) (sym is) tt
+    synced (Some i) (Ok y) is first second =
+        let made : new ≡ Some (at_rest (take len i.seen)) = subst (λ (o : Option Image). Turns (Ok y) untouched made_durable o new) first second in
+        subst (RestsAt text) (sym made) (ap at_rest (ap (λ (j : Image). take len j.seen) is ∙ e))
+
+-- after both calls a crash leaves what it might have left after the first
+pub append_sync_leaves : {T U : Type 0} (x : T) (result : Result U CellFault) (bytes b : List ℕ) (old mid new : Option Image) (Q : List ℕ → Type 0) → RestsAt bytes old → Turns (Ok x) (appended b) (appended b) old mid → Turns result untouched made_durable mid new
+    → ((k : ℕ) → Q (bytes ++ take k b)) → (c : List ℕ) → MayLeave new c → IfTold old (λ i. Q c)
+append_sync_leaves x result bytes b None mid new Q rest first second q c left = tt
+append_sync_leaves {T = T} x result bytes b (Some i) mid new Q is first second q c left =
+    let ok : Result T CellFault = Ok x in
+    let seen : Q (i.seen ++ b) = subst Q (ap (λ (l : List ℕ). bytes ++ l) (take_all (length b) b (omega arith)) ∙ ap (λ (j : Image). j.seen ++ b) (sym is)) (q (length b)) in
+    sync_leaves result mid new Q second (append_leaves ok bytes b (Some i) mid Q is first q) (subst (λ (o : Option Image). IfTold o (λ j. Q j.seen)) (sym first) seen) c left
+
+pub cut_sync_leaves : {T U : Type 0} (x : T) (result : Result U CellFault) (bytes : List ℕ) (len : ℕ) (old mid new : Option Image) (Q : List ℕ → Type 0) → len ≤ length bytes → RestsAt bytes old → Turns (Ok x) (cut_to len) (cut_to len) old mid → Turns result untouched made_durable mid new
+    → ((k : ℕ) → Q (take (len + k) bytes)) → (c : List ℕ) → MayLeave new c → IfTold old (λ i. Q c)
+cut_sync_leaves x result bytes len None mid new Q le rest first second q c left = tt
+cut_sync_leaves {T = T} x result bytes len (Some i) mid new Q le is first second q c left =
+    let ok : Result T CellFault = Ok x in
+    let none : len + 0 ≡ len = omega arith in
+    let seen : Q (take len i.seen) = subst Q (ap (λ (n : ℕ). take n bytes) none ∙ ap (λ (j : Image). take len j.seen) (sym is)) (q 0) in
+    sync_leaves result mid new Q second (cut_leaves ok bytes len (Some i) mid Q le is first q) (subst (λ (o : Option Image). IfTold o (λ j. Q j.seen)) (sym first) seen) c left

@@ -51,12 +51,12 @@ other a b differ = elim (split (bytes_eq a b)) [
   | inr f ↦ f
 ]
 
-header_size : (federation site : ℕ) → length (header_bytes federation site) ≡ HEADER
+pub header_size : (federation site : ℕ) → length (header_bytes federation site) ≡ HEADER
 unfolding header_bytes
 header_size federation site = refl
 
 -- a proper beginning of the header is shorter, and is its front
-new_short : (federation site : ℕ) (bytes : List ℕ) → IsNew federation site bytes → length bytes < HEADER
+pub new_short : (federation site : ℕ) (bytes : List ℕ) → IsNew federation site bytes → length bytes < HEADER
 new_short federation site bytes (rest, some, e) =
     elim (length_cases rest) [
       | inl none ↦ absurd (some none)
