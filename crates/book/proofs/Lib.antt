@@ -1,3 +1,4 @@
 pub mod Moments
 pub mod Told
 pub mod Mending
+pub mod Alike

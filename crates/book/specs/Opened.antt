@@ -1,12 +1,15 @@
 -- What opening answers.
-use Rattle.std.specs.Prelude.{◌≡◌, ◌≢◌, ◌⊎◌, ◌≤◌, ℕ, List, Option, Some, None, Result, Ok, Err}
+use Rattle.std.specs.Prelude.{◌≡◌, ◌⊎◌, ◌≤◌, ℕ, List, Option, Some, None, Result, Ok, Err, Vec}
+use Rattle.std.specs.declared.alloc.Global.{Global}
+use Rattle.cell_device.specs.declared.fault.CellFault.{CellFault}
+use Rattle.cell_device.specs.declared.fault.CellFault.TheVariants as cells
 use Rattle.cell_device.specs.Images.{Image, MayLeave}
 use Rattle.cell_device.specs.Calls.{HasGrown}
 use Rattle.records.specs.declared.fault.OpenFault.{OpenFault}
 use Rattle.records.specs.declared.fault.OpenFault.TheVariants as faults
 use Rattle.records.specs.declared.record.Record.{Record}
 use Rattle.records.specs.Journals.{Says}
-use Rattle.book.specs.Volumes.{IfTold}
+use Rattle.book.specs.Volumes.{Volume, IfTold}
 
 -- the bytes open with the same records as those that a read gave
 abbrev pub OpensAlike : ℕ → ℕ → Image → List ℕ → Type 0
@@ -25,6 +28,25 @@ IsFault federation site (faults.Damaged place) old new = (new ≡ old) × IfTold
 IsFault federation site faults.Device old new = Unit {0}
 IsFault federation site faults.Memory old new = Unit {0}
 
+-- the records that an answer tells, or its fault
+abbrev pub told : Result (Vec Record Global) OpenFault → Result (List Record) OpenFault
+told (Ok records) = Ok records.items
+told (Err fault) = Err fault
+
+abbrev pub told_of : {C : Type 0} → Result (Volume C) (C × OpenFault) → Result (List Record) OpenFault
+told_of (Ok book) = Ok book.records
+told_of (Err e) = Err e.1
+
 -- what the bytes say is answered, but for a failure of the device or want of memory
 abbrev pub IsAnswered : Result (List Record) OpenFault → Result (List Record) OpenFault → Type 0
-IsAnswered result said = (result ≡ said) ⊎ (result ≡ Err faults.Device) ⊎ (result ≡ Err faults.Memory)
+IsAnswered answer said = (answer ≡ said) ⊎ (answer ≡ Err faults.Device) ⊎ (answer ≡ Err faults.Memory)
+
+-- Device is answered only where the device failed
+pub record OpenCause (before now : ℕ) (answer : Result (List Record) OpenFault) : Type 0 where
+  pub later : before ≤ now
+  pub failed : answer ≡ Err faults.Device → HasGrown before now
+
+-- the fault of a cell
+abbrev pub cell_fault : CellFault → OpenFault
+cell_fault cells.Device = faults.Device
+cell_fault cells.Memory = faults.Memory

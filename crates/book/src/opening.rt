@@ -1,6 +1,6 @@
 //! A cell is read, and its end is mended.
 
-ghost use Rattle.std.specs.Prelude.{◌≡◌, ◌≢◌, ◌≤◌, List, ℕ, Option, Some, Result, Ok, Err, length, IfOk, IfErr, OnOk, IsErrOf};
+ghost use Rattle.std.specs.Prelude.{◌≡◌, ◌≢◌, false, List, ℕ, Option, Some, Result, Ok, Err, length, IfOk, IfErr, OnOk, IsErrOf};
 ghost use Rattle.cell_device.specs.declared.fault.CellFault.TheVariants.{Device};
 ghost use Rattle.cell_device.specs.declared.fuse.FuseState.TheVariants.{Clear};
 ghost use Rattle.cell_device.specs.Images.{Image};
@@ -9,11 +9,16 @@ ghost use Rattle.cell_device.specs.Calls.{HasCause};
 ghost use Rattle.records.specs.Layout.{cell_text};
 ghost use Rattle.records.specs.Journals.{Says};
 ghost use Rattle.records.specs.Answers.{IsText};
-ghost use Rattle.book.specs.Volumes.{IfTold, RestsAt};
+ghost use Rattle.records.specs.declared.fault.OpenFault.{OpenFault as declared_fault};
+ghost use Rattle.records.specs.declared.fault.OpenFault.TheVariants as open_faults;
+ghost use Rattle.records.specs.declared.record.Record.{Record as declared_record};
+ghost use Rattle.book.specs.Volumes.{IfTold, RestsAt, IsSound};
+ghost use Rattle.book.specs.Opened.{LeavesAlike, IsFault, IsAnswered, OpenCause, told, cell_fault};
 
 use cell_device::{Cell, CellFault};
-use records::{HEADER, Journal, header};
 use fed_types::SiteNo;
+use records::{HEADER, Journal, OpenFault, Record, header, read_journal};
+use std::alloc::Global;
 
 /// Completes the header, or cuts a torn end off, so that the cell is the text of its records.
 pub(crate) fn mend<C: Cell>(
@@ -40,4 +45,43 @@ pub(crate) fn mend<C: Cell>(
         return cell.sync();
     }
     Ok(())
+}
+
+// The fault of a cell, as one of opening.
+fn fault_of(fault: CellFault) -> OpenFault
+    ensures { result ≡ cell_fault fault }
+{
+    match fault {
+        CellFault::Device => OpenFault::Device,
+        CellFault::Memory => OpenFault::Memory,
+    }
+}
+
+/// The records of a cell, whose end is mended, all of it synced.
+pub(crate) fn read_cell<C: Cell>(
+    alloc: Global,
+    cell: &mut C,
+    federation: u64,
+    site: SiteNo,
+) -> Result<Vec<Record>, OpenFault>
+    ensures records { IfOk result (λ records. IfTold (C.image cell.old) (λ i. Says federation site i.seen (Ok records.items))) }
+    ensures only { (said : Result (List declared_record) declared_fault) → IfTold (C.image cell.old) (λ i. Says federation site i.seen said → IsAnswered (told result) said) }
+    ensures faults { IfErr result (λ fault. IsFault federation site fault (C.image cell.old) (C.image cell.new)) }
+    ensures sound { IfOk result (λ records. IsSound false federation site records.items (C.image cell.new)) }
+    ensures any_moment { LeavesOnly C.moment C.left_since cell.old cell.new (LeavesAlike federation site (C.image cell.old)) }
+    ensures cause { OpenCause (C.failures cell.old) (C.failures cell.new) (told result) }
+    ensures clear { C.fuse cell.old ≡ Some Clear → (C.fuse cell.new ≡ Some Clear) × IfErr result (λ fault. fault ≢ open_faults.Device) }
+{
+    let bytes = match cell.load(alloc) {
+        Ok(bytes) => bytes,
+        Err(fault) => return Err(fault_of(fault)),
+    };
+    let journal = read_journal(alloc, federation, site, &bytes)?;
+    if let Err(fault) = cell.sync() {
+        return Err(fault_of(fault));
+    }
+    if let Err(fault) = mend(cell, federation, site, &bytes, &journal) {
+        return Err(fault_of(fault));
+    }
+    Ok(journal.records)
 }
