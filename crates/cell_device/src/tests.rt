@@ -4,6 +4,7 @@ ghost use Rattle.cell_device.specs.Memory.{image_of};
 
 use super::*;
 use std::alloc::{AllocError, Global};
+use std::os::unix::fs::symlink;
 use std::test::Fail;
 use std::{env, fs, process};
 
@@ -261,6 +262,15 @@ fn a_file_is_kept(rt: HostRuntime) -> Result<(), Fail> {
     cell.sync()?;
     assert_eq!(rt; cell.load(alloc)?.as_slice(), b"abf".as_slice());
     drop(cell);
+    // A link to it is refused.
+    let link = format!(in alloc; "{path}_link")?;
+    let _ = fs::remove_file(&rt, link.as_str());
+    symlink(&rt, path, link.as_str())?;
+    assert_eq!(rt;
+        FileCell::open(&rt, link.as_str()).err(),
+        Some(CellFault::Device)
+    );
+    fs::remove_file(&rt, link.as_str())?;
     fs::remove_file(&rt, path)?;
     Ok(())
 }
