@@ -4,12 +4,17 @@ use std::alloc::Global;
 use std::fs;
 use std::fs::{File, Files, OpenOptions};
 use std::io::{self, ErrorKind, Read, Seek, SeekFrom, Write};
+use std::os::fd::AsRawFd;
 use std::path::Path;
 
-/// A cell in a file. No contract tells what a file holds.
+/// A cell in a file. No contract tells what a file holds. Where a sync has failed, each later one
+/// fails, until the file is opened again.
 #[derive(Drop)]
 pub struct FileCell {
     file: File,
+    /// A sync has failed. The system may have dropped what it was to write, and would not tell at
+    /// the next sync.
+    has_lost: bool,
     failures: u64,
 }
 
@@ -26,7 +31,11 @@ impl FileCell {
         ensures { IfOk result (λ cell. failures_of cell ≡ 0) }
     {
         match open_locked(rt, path) {
-            Ok(file) => Ok(FileCell { file, failures: 0 }),
+            Ok(file) => Ok(FileCell {
+                file,
+                has_lost: false,
+                failures: 0,
+            }),
             Err(error) => Err(fault_of(&error)),
         }
     }
@@ -85,9 +94,15 @@ impl Cell for FileCell {
     }
 
     fn sync(&mut self) -> Result<(), CellFault> {
+        if self.has_lost {
+            return Err(self.fail());
+        }
         match self.file.sync_all() {
             Ok(()) => Ok(()),
-            Err(_) => Err(self.fail()),
+            Err(_) => {
+                self.has_lost = true;
+                Err(self.fail())
+            }
         }
     }
 }
@@ -105,9 +120,23 @@ fn open_locked<R: Files<File = File>>(rt: &R, path: &str) -> io::Result<File> {
         return Err(ErrorKind::InvalidInput.into());
     }
     file.try_lock()?;
+    settle(&file)?;
     let folder = fs::open(rt, folder_of(path))?;
     folder.sync_all()?;
     Ok(file)
+}
+
+/// What a read of the file gives is on the disk.
+fn settle(file: &File) -> io::Result<()> {
+    file.sync_all()?;
+    // A sync that failed before may have left the system's copies of the bytes other than the disk
+    // has them: they are read again.
+    let advised = libc::posix_fadvise(file.as_raw_fd(), 0, 0, libc::POSIX_FADV_DONTNEED);
+    if advised == 0 {
+        Ok(())
+    } else {
+        Err(io::Error::from_raw_os_error(advised))
+    }
 }
 
 /// The folder that holds the file of this path.

@@ -74,6 +74,7 @@ impl Medium {
         };
         self.changes.push_reserved(change);
         self.buffer.truncate(self.seen);
+        // There is room.
         self.buffer.extend_from_slice(bytes).unwrap();
         self.most = self.buffer.len();
         self.seen = self.most;
@@ -89,6 +90,7 @@ impl Medium {
         ensures refused { OnErr result (held self.new ≡ held self.old) }
         ensures time { GoesOn self.old self.new }
     {
+        // For this change, and that of the sync behind it.
         self.changes.reserve(2)?;
         let change = self.now();
         self.changes.push_reserved(change);

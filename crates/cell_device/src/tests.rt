@@ -4,6 +4,7 @@ ghost use Rattle.cell_device.specs.Memory.{image_of};
 
 use super::*;
 use std::alloc::{AllocError, Global};
+use std::os::unix::fs::symlink;
 use std::test::Fail;
 use std::{env, fs, process};
 
@@ -20,6 +21,12 @@ fn new_cell(alloc: Global, bytes: &[u8]) -> Result<MemoryCell, AllocError>
     ensures { IfOk result (λ cell. image_of cell ≡ at_rest bytes.now) }
 {
     Ok(MemoryCell::new(alloc, bytes.to_vec(alloc)?))
+}
+
+// What any cell holds once it is synced.
+fn kept_bytes<C: Cell>(cell: &mut C, alloc: Global) -> Result<Vec<u8>, CellFault> {
+    cell.sync()?;
+    cell.load(alloc)
 }
 
 fn fuse(call: usize, how: How, kept: usize) -> Option<Fuse> {
@@ -85,7 +92,7 @@ fn calls_that_succeed(rt: HostRuntime) -> Result<(), Fail> {
         assert_eq!(rt; cell.fuse(), FuseState::Clear);
         call(&mut cell, alloc, kind)?;
         assert_eq!(rt; cell.bytes(), after, "after {kind:?}");
-        let bytes = cell.load(alloc)?;
+        let bytes = kept_bytes(&mut cell, alloc)?;
         assert_eq!(rt; bytes.as_slice(), after, "after {kind:?}");
         assert_eq!(rt; cell.failures(), 0);
     }
@@ -258,9 +265,17 @@ fn a_file_is_kept(rt: HostRuntime) -> Result<(), Fail> {
     cell.cut(7)?;
     cell.cut(2)?;
     cell.append(b"f")?;
-    cell.sync()?;
-    assert_eq!(rt; cell.load(alloc)?.as_slice(), b"abf".as_slice());
+    assert_eq!(rt; kept_bytes(&mut cell, alloc)?.as_slice(), b"abf".as_slice());
     drop(cell);
+    // A link to it is refused.
+    let link = format!(in alloc; "{path}_link")?;
+    let _ = fs::remove_file(&rt, link.as_str());
+    symlink(&rt, path, link.as_str())?;
+    assert_eq!(rt;
+        FileCell::open(&rt, link.as_str()).err(),
+        Some(CellFault::Device)
+    );
+    fs::remove_file(&rt, link.as_str())?;
     fs::remove_file(&rt, path)?;
     Ok(())
 }
