@@ -16,6 +16,11 @@ module _ (federation site : ℕ) where
   said_seen None bytes records read said = tt
   said_seen (Some i) bytes records read said = subst (λ (b : List ℕ). Says federation site b (Ok records)) read said
 
+  -- before any call
+  pub old_leaves : (old : Option Image) (c : List ℕ) → MayLeave old c → LeavesAlike federation site old c
+  old_leaves None c left = tt
+  old_leaves (Some i) c left = inl left
+
   -- a read changes nothing that a crash leaves
   pub load_leaves : {T : Type 0} (result : Result T CellFault) (old new : Option Image) → Turns result untouched untouched old new → (c : List ℕ) → MayLeave new c → LeavesAlike federation site old c
   load_leaves result None new turns c left = tt
