@@ -1,11 +1,28 @@
-ghost use Rattle.std.specs.Prelude.{◌≡◌};
+ghost use Rattle.std.specs.Prelude.{◌≡◌, ◌≢◌, ◌↔◌, true, false, List, [], ◌∷◌, ◌++◌, Some, Result, Ok, Err, IfOk, IfErr, OnOk, IsErrOf};
+ghost use Rattle.cell_device.specs.declared.fuse.FuseState.{FuseState};
+ghost use Rattle.cell_device.specs.declared.fuse.FuseState.TheVariants.{Clear};
+ghost use Rattle.cell_device.specs.Time.{LeavesOnly};
+ghost use Rattle.records.specs.declared.fault.OpenFault.{OpenFault as declared_fault};
+ghost use Rattle.records.specs.declared.fault.OpenFault.TheVariants as open_faults;
+ghost use Rattle.records.specs.declared.record.Record.{Record as declared_record};
+ghost use Rattle.records.specs.Layout.{cell_text};
+ghost use Rattle.records.specs.Journals.{Says};
+ghost use Rattle.records.specs.Records.{IsRecord};
+ghost use Rattle.book.specs.Volumes.{IfTold, LeavesBytes};
+ghost use Rattle.book.specs.Opened.{LeavesAlike, IsFault, IsAnswered, OpenCause, told_of};
+ghost use Rattle.book.specs.Committed.{OpensWithOrWithout, Burns, CommitCause, IsUnchanged};
 
-use cell_device::Cell;
+use crate::fault::CommitFault;
+use crate::opening::read_cell;
+use crate::writing::append_synced;
+use cell_device::{Cell, CellFault};
 use fed_types::{Members, SiteNo};
-use records::Record;
+use records::{OpenFault, Record};
+use std::alloc::Global;
 use std::marker::Model;
 
-/// The records of a site, in a cell.
+/// The records of a site, in a cell: what is committed outlives every crash, whole or not at all. A
+/// clause sees a `Volume`.
 #[derive(Drop)]
 pub struct Book<C: Cell> {
     cell: C,
@@ -26,6 +43,43 @@ impl<C: Cell> Model for Book<C> {
 }
 
 impl<C: Cell> Book<C> {
+    /// Opens the book of this site, from the journal in the cell: its records in order. What a crash
+    /// has left of an unfinished header or record is mended, and all is synced. On a refusal the
+    /// cell is handed back; the faults of the bytes leave it as it was.
+    pub fn open(
+        alloc: Global,
+        cell: C,
+        members: Members,
+        site: SiteNo,
+    ) -> Result<Book<C>, (C, OpenFault)>
+        ensures records { IfOk result (λ book. IfTold (C.image cell) (λ i. Says members.federation site i.seen (Ok book.records))) }
+        // What the bytes say is answered.
+        ensures only { (said : Result (List declared_record) declared_fault) → IfTold (C.image cell) (λ i. Says members.federation site i.seen said → IsAnswered (told_of result) said) }
+        ensures faults { IfErr result (λ e. IsFault members.federation site e.1 (C.image cell) (C.image e.0)) }
+        ensures durable { IfOk result (λ book. LeavesBytes (cell_text members.federation site book.records) (C.image book.cell)) }
+        // A crash at any moment leaves the same records, or what it might have left before.
+        ensures any_moment { IfOk result (λ book. LeavesOnly C.moment C.left_since cell book.cell (LeavesAlike members.federation site (C.image cell))) }
+        ensures any_moment_err { IfErr result (λ e. LeavesOnly C.moment C.left_since cell e.0 (LeavesAlike members.federation site (C.image cell))) }
+        ensures cause { IfOk result (λ book. OpenCause (C.failures cell) (C.failures book.cell) (Ok book.records)) }
+        ensures cause_err { IfErr result (λ e. OpenCause (C.failures cell) (C.failures e.0) (Err e.1)) }
+        // Where the cell tells that no call fails, none does.
+        ensures clear { IfOk result (λ book. C.fuse cell ≡ Some Clear → C.fuse book.cell ≡ Some Clear) }
+        ensures clear_err { IfErr result (λ e. C.fuse cell ≡ Some Clear → (C.fuse e.0 ≡ Some Clear) × (e.1 ≢ open_faults.Device)) }
+        ensures whose { IfOk result (λ book. (book.members ≡ members) × (book.site ≡ site) × (book.needs_opening ≡ false)) }
+    {
+        let mut cell = cell;
+        match read_cell(alloc, &mut cell, members.federation(), site) {
+            Ok(records) => Ok(Book {
+                cell,
+                records,
+                members,
+                site,
+                needs_opening: false,
+            }),
+            Err(fault) => Err((cell, fault)),
+        }
+    }
+
     /// The records that were read or committed, in order.
     pub fn records(&self) -> &[Record]
         ensures { result.now ≡ self.now.records }
@@ -33,14 +87,48 @@ impl<C: Cell> Book<C> {
         &self.records
     }
 
-    /// Whether the device has failed since the book was opened.
+    /// Whether the device has failed in a commit since the book was opened.
     pub fn needs_opening(&self) -> bool
         ensures { result ≡ self.now.needs_opening }
     {
         self.needs_opening
     }
 
-    /// Hands the cell back, as it is.
+    /// Commits a record: appends it, and syncs. After Ok every crash leaves the cell with it, after
+    /// `Device` with it or without it, and the book needs opening.
+    pub fn commit(&mut self, entry: Record) -> Result<(), CommitFault>
+        ensures committed { OnOk result ((self.new.records ≡ self.old.records ++ entry ∷ []) × (self.new.needs_opening ≡ false)) }
+        ensures durable { OnOk result (LeavesBytes (cell_text self.new.members.federation self.new.site self.new.records) (C.image self.new.cell)) }
+        ensures device { IsErrOf result CommitFault.Device → (self.new.records ≡ self.old.records) × (self.new.needs_opening ≡ true) }
+        ensures memory { IsErrOf result CommitFault.Memory → IsUnchanged C.image self.old self.new }
+        ensures needs_open { IsErrOf result CommitFault.NeedsOpen ↔ (self.old.needs_opening ≡ true) }
+        ensures untouched { IsErrOf result CommitFault.NeedsOpen → self.new ≡ self.old }
+        // A crash at any moment leaves the records from before the call, with the new one or without.
+        ensures any_moment { self.old.needs_opening ≡ false → LeavesOnly C.moment C.left_since self.old.cell self.new.cell (λ c. IfTold (C.image self.old.cell) (λ i. OpensWithOrWithout self.old.members.federation self.old.site self.old.records entry c)) }
+        ensures cause { CommitCause (C.failures self.old.cell) (C.failures self.new.cell) result }
+        ensures fuse { (f : FuseState) → C.fuse self.old.cell ≡ Some f → Burns self.old.members.federation self.old.site result f self.old.records entry (C.fuse self.new.cell) (C.image self.new.cell) }
+        ensures whose { (self.new.members ≡ self.old.members) × (self.new.site ≡ self.old.site) }
+    {
+        if self.needs_opening {
+            return Err(CommitFault::NeedsOpen);
+        }
+        // Whatever grows does so before the record is written.
+        let bytes = entry.to_bytes(*self.records.allocator())?;
+        self.records.reserve(1)?;
+        match append_synced(&mut self.cell, &bytes) {
+            Ok(()) => {
+                self.records.push(entry)?;
+                Ok(())
+            }
+            Err(CellFault::Memory) => Err(CommitFault::Memory),
+            Err(CellFault::Device) => {
+                self.needs_opening = true;
+                Err(CommitFault::Device)
+            }
+        }
+    }
+
+    /// Hands the cell back as it is.
     pub fn close(self) -> C
         ensures { result ≡ self.cell }
     {

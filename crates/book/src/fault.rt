@@ -1,6 +1,5 @@
 ghost use Rattle.std.specs.Prelude.{◌≡◌};
 
-use cell_device::CellFault;
 use std::alloc::{AllocError, AllocFailed};
 use thiserror::Error;
 
@@ -25,6 +24,16 @@ impl From<AllocError> for CommitFault {
     ghost from_gives = { λ _ e. e ≡ Memory };
 
     fn from(_e: AllocError) -> CommitFault {
+        Self::Memory
+    }
+}
+
+impl<T: Drop> From<AllocFailed<T>> for CommitFault {
+    ghost use Rattle.book.specs.declared.fault.CommitFault.TheVariants.{Memory};
+
+    ghost from_gives = { λ _ e. e ≡ Memory };
+
+    fn from(_e: AllocFailed<T>) -> CommitFault {
         Self::Memory
     }
 }

@@ -4,6 +4,7 @@
 mod book;
 mod fault;
 mod opening;
+mod writing;
 
 pub use book::Book;
 pub use fault::CommitFault;
