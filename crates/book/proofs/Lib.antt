@@ -2,3 +2,5 @@ pub mod Moments
 pub mod Told
 pub mod Mending
 pub mod Alike
+pub mod Burning
+pub mod Entries

@@ -24,3 +24,11 @@ module _ {C : Type 0} (image : C → Option Image) (moment : C → ℕ) (left_si
     each = λ c left. ⊎_elim (first.each c) (so c) (second.before (moment old) c first.later left);
     before = λ t c le left. ⊎_elim (first.before t c le) (λ now. inr (so c now)) (second.before t c (omega (arith, le, first.later)) left);
   }
+
+  -- of what has P it is known that it has Q
+  pub weaker : (old new : C) (P Q : List ℕ → Type 0) → LeavesOnly moment left_since old new P → ((c : List ℕ) → P c → Q c) → LeavesOnly moment left_since old new Q
+  weaker old new P Q run so = record {
+    later = run.later;
+    each = λ c left. so c (run.each c left);
+    before = λ t c le left. ⊎_elim (λ past. inl past) (λ now. inr (so c now)) (run.before t c le left);
+  }

@@ -14,8 +14,8 @@ ghost use Rattle.book.specs.Committed.{OpensWithOrWithout, Burns, CommitCause, I
 
 use crate::fault::CommitFault;
 use crate::opening::read_cell;
-use crate::writing::append_synced;
-use cell_device::{Cell, CellFault};
+use crate::writing::write_entry;
+use cell_device::Cell;
 use fed_types::{Members, SiteNo};
 use records::{OpenFault, Record};
 use std::alloc::Global;
@@ -112,20 +112,12 @@ impl<C: Cell> Book<C> {
         if self.needs_opening {
             return Err(CommitFault::NeedsOpen);
         }
-        // Whatever grows does so before the record is written.
-        let bytes = entry.to_bytes(*self.records.allocator())?;
-        self.records.reserve(1)?;
-        match append_synced(&mut self.cell, &bytes) {
-            Ok(()) => {
-                self.records.push(entry)?;
-                Ok(())
-            }
-            Err(CellFault::Memory) => Err(CommitFault::Memory),
-            Err(CellFault::Device) => {
-                self.needs_opening = true;
-                Err(CommitFault::Device)
-            }
+        let (federation, site) = (self.members.federation(), self.site);
+        let written = write_entry(&mut self.cell, &mut self.records, federation, site, entry);
+        if let Err(CommitFault::Device) = written {
+            self.needs_opening = true;
         }
+        written
     }
 
     /// Hands the cell back as it is.

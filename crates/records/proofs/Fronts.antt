@@ -36,6 +36,11 @@ record_front r (suc (suc k)) h lt =
     let tells : length_told (record_bytes r ++ []) ≡ length (content_bytes r) = told r [] h in
     inr (inr (omega arith, subst IsRecordLength (sym tells) (content_size r h), omega (arith, tells, lt, length-take k (content_bytes r))))
 
+-- a record behind the text of others makes the text of all
+pub text-push : (federation site : ℕ) (records : List Record) (r : Record) → cell_text federation site records ++ record_bytes r ≡ cell_text federation site (records ++ r ∷ [])
+text-push federation site records r =
+    append_assoc (header_bytes federation site) (records_bytes records) (record_bytes r) ∙ ap (λ (b : List ℕ). header_bytes federation site ++ b) (sym (records-push records r))
+
 module _ (federation site : ℕ) (records : List Record) (whole : AreRecords records) where
   pub end_says : (e : List ℕ) (k : ℕ) → IsEnd e → Says federation site (cell_text federation site records ++ take k e) (Ok records)
   end_says e k h = (whole, inr (take k e, refl, end_front e k h))
@@ -48,8 +53,7 @@ module _ (federation site : ℕ) (records : List Record) (whole : AreRecords rec
   record_says r k is = elim (leb_tells (length (record_bytes r)) k) [
     | inl t ↦
         let text : cell_text federation site records ++ take k (record_bytes r) ≡ cell_text federation site (records ++ r ∷ []) =
-        ap (λ (b : List ℕ). cell_text federation site records ++ b) (take_all k (record_bytes r) t.1) ∙ append_assoc (header_bytes federation site) (records_bytes records) (record_bytes r)
-        ∙ ap (λ (b : List ℕ). header_bytes federation site ++ b) (sym (records-push records r)) in
+        ap (λ (b : List ℕ). cell_text federation site records ++ b) (take_all k (record_bytes r) t.1) ∙ text-push federation site records r in
         let kept : kept_records k records r ≡ records ++ r ∷ [] = rw t.0 refl in
         subst (λ (rs : List Record). Says federation site (cell_text federation site records ++ take k (record_bytes r)) (Ok rs)) (sym kept)
           (whole-push records r whole is, inr ([], text ∙ sym (append-nil (cell_text federation site (records ++ r ∷ []))), inl refl))
@@ -58,6 +62,22 @@ module _ (federation site : ℕ) (records : List Record) (whole : AreRecords rec
         subst (λ (rs : List Record). Says federation site (cell_text federation site records ++ take k (record_bytes r)) (Ok rs)) (sym kept)
           (whole, inr (take k (record_bytes r), refl, record_front r k is f.1))
   ]
+
+  -- as two cases
+  pub with_or_without : (r : Record) (k : ℕ) → IsRecord r → Says federation site (cell_text federation site records ++ take k (record_bytes r)) (Ok records) ⊎ Says federation site (cell_text federation site records ++ take k (record_bytes r)) (Ok (records ++ r ∷ []))
+  with_or_without r k is =
+      let said = record_says r k is in
+      elim (leb_tells (length (record_bytes r)) k) [
+        | inl t ↦ inr (subst (λ (rs : List Record). Says federation site (cell_text federation site records ++ take k (record_bytes r)) (Ok rs)) (rw t.0 refl) said)
+        | inr f ↦ inl (subst (λ (rs : List Record). Says federation site (cell_text federation site records ++ take k (record_bytes r)) (Ok rs)) (rw f.0 refl) said)
+      ]
+
+-- none of its bytes is no record
+pub none_kept : (records : List Record) (r : Record) → IsRecord r → kept_records 0 records r ≡ records
+none_kept records r is = elim (leb_tells (length (record_bytes r)) 0) [
+  | inl t ↦ absurd (omega (arith, t.1, record_size r [], ap length (append-nil (record_bytes r))))
+  | inr f ↦ rw f.0 refl
+]
 
 -- the rest of a header that was begun
 pub new_says : (federation site : ℕ) (bytes : List ℕ) (k : ℕ) → IsNew federation site bytes → Says federation site (bytes ++ take k (drop (length bytes) (header_bytes federation site))) (Ok [])

@@ -2,6 +2,8 @@ use Rattle.std.proofs.Common.{◌≡◌, List, ℕ, Ok, subst}
 use Rattle.book.specs.Volumes.{IfTold}
 use Rattle.book.specs.Opened.{LeavesAlike}
 use Rattle.records.specs.Journals.{Says}
+use Rattle.records.specs.Layout.{cell_text}
+use Rattle.book.proofs.Entries.{rest_only}
 use Rattle.book.proofs.Moments.{started, goes_on, joined}
 use Rattle.book.proofs.Alike.{said_seen, old_leaves, load_leaves, load_sync_leaves, mend_leaves}
 use Rattle.book.proofs.opening.read_cell.Goals as goal
@@ -55,3 +57,6 @@ returns-clause-any_moment g c =
       (load_sync_leaves c.args.federation c.args.site c.in-Ok.bytes c.sync.result (image old) (image c.load.new.self) (image c.sync.new.self) records c.in-Ok.ensures.bytes c.sync.ensures.bytes said) in
     joined image moment since only old c.sync.new.self c.mend.new.cell P (λ b. IfTold (image c.sync.new.self) (λ i. Says c.args.federation c.args.site b (Ok records))) synced c.mend.ensures.any_moment
       (mend_leaves c.args.federation c.args.site c.in-Ok.bytes c.in_default.field-0 (image old) (image c.load.new.self) (image c.sync.new.self) records c.in-Ok.ensures.bytes c.in_default.ensures.bytes said)
+
+pub returns-clause-durable : goal.returns-clause-durable
+returns-clause-durable g c = rest_only (cell_text c.args.federation c.args.site c.in_ok-journal.journal.records.items) (g.C.Cell.image c.mend.new.cell) c.in_default-mend.ensures.mended
