@@ -2,6 +2,7 @@ ghost use Rattle.std.specs.Prelude.{◌≡◌, ◌≢◌, ◌↔◌, true, false
 ghost use Rattle.cell_device.specs.declared.fuse.FuseState.{FuseState};
 ghost use Rattle.cell_device.specs.declared.fuse.FuseState.TheVariants.{Clear};
 ghost use Rattle.cell_device.specs.Time.{LeavesOnly};
+ghost use Rattle.cell_device.specs.Memory.{fuse_of, failures_of, fuse_set, IsSameMedium};
 ghost use Rattle.records.specs.declared.fault.OpenFault.{OpenFault as declared_fault};
 ghost use Rattle.records.specs.declared.fault.OpenFault.TheVariants as open_faults;
 ghost use Rattle.records.specs.declared.record.Record.{Record as declared_record};
@@ -15,7 +16,7 @@ ghost use Rattle.book.specs.Committed.{OpensWithOrWithout, Burns, CommitCause, I
 use crate::fault::CommitFault;
 use crate::opening::read_cell;
 use crate::writing::write_entry;
-use cell_device::Cell;
+use cell_device::{Cell, Fuse, MemoryCell};
 use fed_types::{Members, SiteNo};
 use records::{OpenFault, Record};
 use std::alloc::Global;
@@ -125,5 +126,18 @@ impl<C: Cell> Book<C> {
         ensures { result ≡ self.cell }
     {
         self.cell
+    }
+}
+
+impl Book<MemoryCell> {
+    /// Sets the cell's fuse, or takes it away. It changes nothing else.
+    pub fn set_fuse(&mut self, fuse: Option<Fuse>)
+        ensures fuse { fuse_of self.new.cell ≡ fuse_set fuse (fuse_of self.old.cell) }
+        ensures medium { IsSameMedium self.old.cell self.new.cell }
+        ensures failures { failures_of self.new.cell ≡ failures_of self.old.cell }
+        ensures records { (self.new.records ≡ self.old.records) × (self.new.needs_opening ≡ self.old.needs_opening) }
+        ensures whose { (self.new.members ≡ self.old.members) × (self.new.site ≡ self.old.site) }
+    {
+        self.cell.set_fuse(fuse);
     }
 }
