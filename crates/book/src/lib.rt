@@ -9,3 +9,6 @@ mod writing;
 pub use book::Book;
 pub use fault::CommitFault;
 pub use records::{Entry, OpenFault, Record, Round};
+
+#[cfg(test)]
+mod tests;

@@ -1,0 +1,252 @@
+use super::*;
+use cell_device::{Cell, Fuse, How, MemoryCell};
+use fed_types::{BagId, Ballot, Members, SiteNo, Slot};
+use std::alloc::Global;
+use std::test::Fail;
+
+// The journal of site 1 of federation 7: round 1 and a promise of ballot (1, 1), both for version 1
+// of the object `a`.
+const WORKED: &str =
+    "42504a31000000000000000701000b0201610000000100000001000c030161000000010000000101";
+
+const HEADER: &str = "42504a31000000000000000701";
+
+// The bytes of a vote for that version.
+const VOTE_SIZE: usize = 78;
+
+fn slot(alloc: Global) -> Result<Slot, Fail> {
+    Ok(Slot::new(String::from_str(alloc, "a")?, 1)?)
+}
+
+fn ballot() -> Result<Ballot, Fail> {
+    Ok(Ballot::new(1, SiteNo::new(1)?)?)
+}
+
+fn vote(alloc: Global) -> Result<Record, Fail> {
+    Ok(Record {
+        slot: slot(alloc)?,
+        body: Entry::Vote {
+            ballot: ballot()?,
+            bag: BagId([0xaa; 64]),
+        },
+    })
+}
+
+fn cell(alloc: Global, bytes: &str) -> Result<MemoryCell, Fail> {
+    Ok(MemoryCell::new(alloc, hex::decode(alloc, bytes)?))
+}
+
+fn open(alloc: Global, cell: MemoryCell, site: u8) -> Result<Book<MemoryCell>, (MemoryCell, OpenFault)> {
+    let (Ok(members), Ok(site)) = (Members::new(7, 3), SiteNo::new(site)) else {
+        return Err((cell, OpenFault::Memory));
+    };
+    Book::open(alloc, cell, members, site)
+}
+
+// The book of site 1 in this cell.
+fn opened(alloc: Global, cell: MemoryCell) -> Result<Book<MemoryCell>, Fail> {
+    match open(alloc, cell, 1) {
+        Ok(book) => Ok(book),
+        Err((_, fault)) => Err(Fail::from(fault.to_string(alloc)?)),
+    }
+}
+
+// What the records say, a letter each.
+fn told(alloc: Global, records: &[Record]) -> Result<String, Fail> {
+    let mut text = String::new(alloc);
+    for entry in records {
+        text.push(match entry.body {
+            Entry::Deposit(_) => 'D',
+            Entry::Round(_) => 'R',
+            Entry::Promise(_) => 'P',
+            Entry::Vote { .. } => 'V',
+            Entry::Known(_) => 'K',
+        })?;
+    }
+    Ok(text)
+}
+
+// A book of this cell says this, and the cell then has so many bytes.
+fn says(alloc: Global, cell: MemoryCell, want: &str, size: usize) -> Result<(), Fail> {
+    let book = opened(alloc, cell)?;
+    let text = told(alloc, book.records())?;
+    if text.as_str() != want {
+        return Err(Fail::from(format!(in alloc; "{text} where {want} is wanted")?));
+    }
+    let needs_opening = book.needs_opening();
+    let len = book.close().bytes().len();
+    if needs_opening || len != size {
+        return Err(Fail::from(format!(in alloc; "{len} bytes where {size} are wanted")?));
+    }
+    Ok(())
+}
+
+#[test]
+fn a_journal_is_opened_and_mended(rt: HostRuntime) -> Result<(), Fail> {
+    let alloc = rt.alloc();
+    for (digits, want, size) in [
+        (0, "", 13),
+        (10, "", 13),
+        (24, "", 13),
+        (26, "", 13),
+        (28, "", 13),
+        (54, "R", 26),
+        (52, "R", 26),
+        (76, "R", 26),
+        (78, "R", 26),
+        (80, "RP", 40),
+    ] {
+        says(alloc, cell(alloc, &WORKED[..digits])?, want, size)?;
+    }
+    let book = opened(alloc, cell(alloc, "")?)?;
+    let cell = book.close();
+    assert_eq!(rt; cell.bytes(), hex::decode(alloc, HEADER)?.as_slice());
+    Ok(())
+}
+
+#[test]
+fn a_refused_journal_is_left_as_it_was(rt: HostRuntime) -> Result<(), Fail> {
+    let alloc = rt.alloc();
+    let mut damaged = hex::decode(alloc, WORKED)?;
+    damaged[27] = 10;
+    let mut strange = hex::decode(alloc, WORKED)?;
+    strange[11] = 8;
+    for (bytes, site, want) in [
+        (hex::decode(alloc, WORKED)?, 2, OpenFault::OtherSite),
+        (damaged, 1, OpenFault::Damaged(26)),
+        (strange, 1, OpenFault::OtherFederation),
+    ] {
+        let before = bytes.clone()?;
+        match open(alloc, MemoryCell::new(alloc, bytes), site) {
+            Ok(_) => return Err(Fail::from("it opens")),
+            Err((cell, fault)) => {
+                assert_eq!(rt; fault, want);
+                assert_eq!(rt; cell.bytes(), before.as_slice());
+            }
+        }
+    }
+    Ok(())
+}
+
+#[test]
+fn a_record_is_committed(rt: HostRuntime) -> Result<(), Fail> {
+    let alloc = rt.alloc();
+    let mut book = opened(alloc, cell(alloc, WORKED)?)?;
+    book.commit(vote(alloc)?)?;
+    assert_eq!(rt; told(alloc, book.records())?.as_str(), "RPV");
+    let cell = book.close();
+    let mut want = hex::decode(alloc, WORKED)?;
+    want.extend_from_slice(&hex::decode(alloc, "004c040161000000010000000101")?)?;
+    want.extend_from_slice(&[0xaa; 64])?;
+    assert_eq!(rt; cell.bytes(), want.as_slice());
+    says(alloc, cell, "RPV", 40 + VOTE_SIZE)
+}
+
+// Of each call of a commit that fails, with each number of bytes kept: the record is there whole or
+// not at all.
+#[test]
+fn a_commit_that_fails_is_whole_or_not_at_all(rt: HostRuntime) -> Result<(), Fail> {
+    let alloc = rt.alloc();
+    for how in [How::Fail, How::Stop] {
+        for call in [1, 2] {
+            for kept in 0..=VOTE_SIZE {
+                let mut book = opened(alloc, cell(alloc, WORKED)?)?;
+                book.set_fuse(Some(Fuse { call, how, kept }));
+                assert_eq!(rt; book.commit(vote(alloc)?), Err(CommitFault::Device));
+                assert!(rt; book.needs_opening());
+                assert_eq!(rt; book.commit(vote(alloc)?), Err(CommitFault::NeedsOpen));
+                assert_eq!(rt; told(alloc, book.records())?.as_str(), "RP");
+                let mut cell = book.close();
+                assert_eq!(rt; cell.bytes().len(), 40 + kept);
+                if how == How::Stop {
+                    cell.restart();
+                }
+                let whole = kept == VOTE_SIZE;
+                let (want, size) = if whole { ("RPV", 118) } else { ("RP", 40) };
+                says(alloc, cell, want, size)?;
+            }
+        }
+    }
+    Ok(())
+}
+
+#[test]
+fn a_book_goes_on_after_a_failure(rt: HostRuntime) -> Result<(), Fail> {
+    let alloc = rt.alloc();
+    let mut book = opened(alloc, cell(alloc, WORKED)?)?;
+    let fuse = Fuse {
+        call: 2,
+        how: How::Fail,
+        kept: 0,
+    };
+    book.set_fuse(Some(fuse));
+    assert_eq!(rt; book.commit(vote(alloc)?), Err(CommitFault::Device));
+    let mut book = opened(alloc, book.close())?;
+    assert_eq!(rt; told(alloc, book.records())?.as_str(), "RP");
+    book.commit(vote(alloc)?)?;
+    says(alloc, book.close(), "RPV", 40 + VOTE_SIZE)
+}
+
+// A fuse that is to fire later than the commit's two calls stays.
+#[test]
+fn a_later_fuse_leaves_a_commit_alone(rt: HostRuntime) -> Result<(), Fail> {
+    let alloc = rt.alloc();
+    let mut book = opened(alloc, cell(alloc, WORKED)?)?;
+    let fuse = Fuse {
+        call: 3,
+        how: How::Stop,
+        kept: 7,
+    };
+    book.set_fuse(Some(fuse));
+    book.commit(vote(alloc)?)?;
+    assert_eq!(rt; book.commit(vote(alloc)?), Err(CommitFault::Device));
+    let mut cell = book.close();
+    cell.restart();
+    says(alloc, cell, "RPV", 40 + VOTE_SIZE)
+}
+
+// Each call of an opening fails, with each number of bytes kept: opened again, the records are the
+// same. A torn end is cut and a header completed, each between two syncs.
+#[test]
+fn an_opening_that_fails_loses_nothing(rt: HostRuntime) -> Result<(), Fail> {
+    let alloc = rt.alloc();
+    for (digits, calls, want, size) in [(80, 2, "RP", 40), (78, 4, "R", 26), (10, 4, "", 13)] {
+        for how in [How::Fail, How::Stop] {
+            for call in 1..=calls {
+                for kept in 0..=14 {
+                    let mut broken = cell(alloc, &WORKED[..digits])?;
+                    broken.set_fuse(Some(Fuse { call, how, kept }));
+                    match open(alloc, broken, 1) {
+                        Ok(_) => return Err(Fail::from("it opens")),
+                        Err((mut cell, fault)) => {
+                            assert_eq!(rt; fault, OpenFault::Device);
+                            if how == How::Stop {
+                                cell.restart();
+                            }
+                            says(alloc, cell, want, size)?;
+                        }
+                    }
+                }
+            }
+            let mut sound = cell(alloc, &WORKED[..digits])?;
+            sound.set_fuse(Some(Fuse {
+                call: calls + 1,
+                how,
+                kept: 0,
+            }));
+            says(alloc, sound, want, size)?;
+        }
+    }
+    Ok(())
+}
+
+#[test]
+fn faults_have_numbers(rt: HostRuntime) {
+    for (fault, number) in [
+        (CommitFault::Device, 1),
+        (CommitFault::Memory, 2),
+        (CommitFault::NeedsOpen, 3),
+    ] {
+        assert_eq!(rt; fault.number(), number);
+    }
+}
