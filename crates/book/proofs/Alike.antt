@@ -36,7 +36,7 @@ module _ (federation site : ℕ) where
   load_sync_leaves {T = T} x result (Some i) mid new records first second said c left =
       let ok : Result T CellFault = Ok x in
       sync_leaves result mid new (LeavesAlike federation site (Some i)) second (load_leaves ok (Some i) mid first)
-        (subst (λ (o : Option Image). IfTold o (λ j. LeavesAlike federation site (Some i) j.seen)) (sym first) (inr (records, said, said))) c left
+      (subst (λ (o : Option Image). IfTold o (λ j. LeavesAlike federation site (Some i) j.seen)) (sym first) (inr (records, said, said))) c left
 
   -- nor the mending
   pub mend_leaves : {T U : Type 0} (x : T) (y : U) (old mid new : Option Image) (records : List Record) → Turns (Ok x) untouched untouched old mid → Turns (Ok y) untouched made_durable mid new

@@ -54,4 +54,4 @@ module _ (federation site : ℕ) (records : List Record) (r : Record) where
   seen_says f bytes (Some i) whole is e seen =
       let there : i.seen ≡ cell_text federation site records ++ take (bytes_kept f) (record_bytes r) = seen ∙ ap (λ (b : List ℕ). cell_text federation site records ++ take (bytes_kept f) b) e in
       subst (λ (b : List ℕ). Says federation site b (Ok (records_kept f records r))) (sym there)
-        (subst (λ (rs : List Record). Says federation site (cell_text federation site records ++ take (bytes_kept f) (record_bytes r)) (Ok rs)) (kept_is f is) (record_says federation site records whole r (bytes_kept f) is))
+      (subst (λ (rs : List Record). Says federation site (cell_text federation site records ++ take (bytes_kept f) (record_bytes r)) (Ok rs)) (kept_is f is) (record_says federation site records whole r (bytes_kept f) is))

@@ -32,7 +32,7 @@ module _ (federation site : ℕ) (bytes : List ℕ) (journal : Journal) (text : 
   header_says header short is k =
       let n = new_is short in
       subst (λ (rs : List Record). Says federation site (bytes ++ take k (header_rest bytes header)) (Ok rs)) (sym n.1)
-        (subst (λ (b : List ℕ). Says federation site (bytes ++ take k b) (Ok [])) (sym (rest_is federation site bytes header is)) (new_says federation site bytes k n.0))
+      (subst (λ (b : List ℕ). Says federation site (bytes ++ take k b) (Ok [])) (sym (rest_is federation site bytes header is)) (new_says federation site bytes k n.0))
 
   pub header_text : (header : List ℕ) → length bytes < HEADER → header ≡ header_bytes federation site → bytes ++ header_rest bytes header ≡ cell_text federation site journal.records.items
   unfolding records_bytes

@@ -54,18 +54,18 @@ pub append_leaves : {T : Type 0} (result : Result T CellFault) (bytes b : List �
 append_leaves result bytes b None new Q rest turns q c left = tt
 append_leaves result bytes b (Some i) new Q is turns q c left =
     leaves_tried result (appended b) i new Q turns
-      (λ c here. subst Q (append-nil bytes ∙ sym (rest_leaves bytes i c is here)) (q 0))
-      (λ c here. subst Q (sym (here.1 ∙ ap (λ (j : Image). keeps here.0 j.synced (j.seen ++ b)) is ∙ keeps_appended here.0 bytes b)) (q here.0))
-      c left
+    (λ c here. subst Q (append-nil bytes ∙ sym (rest_leaves bytes i c is here)) (q 0))
+    (λ c here. subst Q (sym (here.1 ∙ ap (λ (j : Image). keeps here.0 j.synced (j.seen ++ b)) is ∙ keeps_appended here.0 bytes b)) (q here.0))
+    c left
 
 pub cut_leaves : {T : Type 0} (result : Result T CellFault) (bytes : List ℕ) (len : ℕ) (old new : Option Image) (Q : List ℕ → Type 0) → len ≤ length bytes → RestsAt bytes old → Turns result (cut_to len) (cut_to len) old new
     → ((k : ℕ) → Q (take (len + k) bytes)) → (c : List ℕ) → MayLeave new c → IfTold old (λ i. Q c)
 cut_leaves result bytes len None new Q le rest turns q c left = tt
 cut_leaves result bytes len (Some i) new Q le is turns q c left =
     leaves_tried result (cut_to len) i new Q turns
-      (λ c here. subst Q (take_all (len + length bytes) bytes (omega arith) ∙ sym (rest_leaves bytes i c is here)) (q (length bytes)))
-      (λ c here. subst Q (sym (here.1 ∙ ap (λ (j : Image). keeps here.0 j.synced (take len j.seen)) is ∙ keeps_cut here.0 len bytes le)) (q here.0))
-      c left
+    (λ c here. subst Q (take_all (len + length bytes) bytes (omega arith) ∙ sym (rest_leaves bytes i c is here)) (q (length bytes)))
+    (λ c here. subst Q (sym (here.1 ∙ ap (λ (j : Image). keeps here.0 j.synced (take len j.seen)) is ∙ keeps_cut here.0 len bytes le)) (q here.0))
+    c left
 
 -- a sync leaves what might have been left before it, or what a read gives
 pub sync_leaves : {T : Type 0} (result : Result T CellFault) (old new : Option Image) (Q : List ℕ → Type 0) → Turns result untouched made_durable old new

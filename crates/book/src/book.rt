@@ -125,7 +125,8 @@ impl<C: Cell> Book<C> {
     pub fn close(self) -> C
         ensures { result ≡ self.cell }
     {
-        self.cell
+        let Book { cell, .. } = self;
+        cell
     }
 }
 

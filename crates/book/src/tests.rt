@@ -36,7 +36,11 @@ fn cell(alloc: Global, bytes: &str) -> Result<MemoryCell, Fail> {
     Ok(MemoryCell::new(alloc, hex::decode(alloc, bytes)?))
 }
 
-fn open(alloc: Global, cell: MemoryCell, site: u8) -> Result<Book<MemoryCell>, (MemoryCell, OpenFault)> {
+fn open(
+    alloc: Global,
+    cell: MemoryCell,
+    site: u8,
+) -> Result<Book<MemoryCell>, (MemoryCell, OpenFault)> {
     let (Ok(members), Ok(site)) = (Members::new(7, 3), SiteNo::new(site)) else {
         return Err((cell, OpenFault::Memory));
     };

@@ -18,7 +18,7 @@ returns-in_err-append-clause-any_moment g c =
     let said = header_says c.args.federation c.args.site c.args.bytes.now c.args.journal.now c.requires.text c.header.result c.if-bytes-lt-HEADER.true c.header.ensures in
     let first = started image moment since g.met.C.Cell.only_now old P (at_start c.args.bytes.now (image old) Q c.requires.rest c.requires.said) in
     goes_on image moment since g.met.C.Cell.only_now old old c.append.new.self P first c.append.ensures.time
-      (append_leaves c.append.result c.args.bytes.now (header_rest c.args.bytes.now c.header.result) (image old) (image c.append.new.self) Q c.requires.rest c.append.ensures.bytes said)
+    (append_leaves c.append.result c.args.bytes.now (header_rest c.args.bytes.now c.header.result) (image old) (image c.append.new.self) Q c.requires.rest c.append.ensures.bytes said)
 
 pub returns-then-bytes-lt-HEADER-clause-any_moment : goal.returns-then-bytes-lt-HEADER-clause-any_moment
 returns-then-bytes-lt-HEADER-clause-any_moment g c =
@@ -32,16 +32,16 @@ returns-then-bytes-lt-HEADER-clause-any_moment g c =
     let said = header_says c.args.federation c.args.site c.args.bytes.now c.args.journal.now c.requires.text c.header.result c.if-bytes-lt-HEADER.true c.header.ensures in
     let first = started image moment since g.met.C.Cell.only_now old P (at_start c.args.bytes.now (image old) Q c.requires.rest c.requires.said) in
     let second = goes_on image moment since g.met.C.Cell.only_now old old c.append.new.self P first c.append.ensures.time
-      (append_leaves c.append.result c.args.bytes.now b (image old) (image c.append.new.self) Q c.requires.rest c.append.ensures.bytes said) in
+    (append_leaves c.append.result c.args.bytes.now b (image old) (image c.append.new.self) Q c.requires.rest c.append.ensures.bytes said) in
     goes_on image moment since g.met.C.Cell.only_now old c.append.new.self c.sync.new.self P second c.sync.ensures.time
-      (append_sync_leaves c.in_ok-append.field-0 c.sync.result c.args.bytes.now b (image old) (image c.append.new.self) (image c.sync.new.self) Q c.requires.rest c.in_ok-append.ensures.bytes c.sync.ensures.bytes said)
+    (append_sync_leaves c.in_ok-append.field-0 c.sync.result c.args.bytes.now b (image old) (image c.append.new.self) (image c.sync.new.self) Q c.requires.rest c.in_ok-append.ensures.bytes c.sync.ensures.bytes said)
 
 pub returns-then-bytes-lt-HEADER-clause-mended : goal.returns-then-bytes-lt-HEADER-clause-mended
 returns-then-bytes-lt-HEADER-clause-mended g c =
     let image = g.C.Cell.image in
     append_mends c.in_ok-append.field-0 c.sync.result c.args.bytes.now (header_rest c.args.bytes.now c.header.result) (cell_text c.args.federation c.args.site c.args.journal.now.records.items) (image c.args.cell.now) (image c.append.new.self) (image c.sync.new.self)
-      c.requires.rest c.in_ok-append.ensures.bytes c.sync.ensures.bytes
-      (header_text c.args.federation c.args.site c.args.bytes.now c.args.journal.now c.requires.text c.header.result c.if-bytes-lt-HEADER.true c.header.ensures)
+    c.requires.rest c.in_ok-append.ensures.bytes c.sync.ensures.bytes
+    (header_text c.args.federation c.args.site c.args.bytes.now c.args.journal.now c.requires.text c.header.result c.if-bytes-lt-HEADER.true c.header.ensures)
 
 pub returns-in_err-cut-clause-any_moment : goal.returns-in_err-cut-clause-any_moment
 returns-in_err-cut-clause-any_moment g c =
@@ -54,7 +54,7 @@ returns-in_err-cut-clause-any_moment g c =
     let said = cut_says c.args.federation c.args.site c.args.bytes.now c.args.journal.now c.requires.text c.if-bytes-lt-HEADER.false c.requires.said in
     let first = started image moment since g.met.C.Cell.only_now old P (at_start c.args.bytes.now (image old) Q c.requires.rest c.requires.said) in
     goes_on image moment since g.met.C.Cell.only_now old old c.cut.new.self P first c.cut.ensures.time
-      (cut_leaves c.cut.result c.args.bytes.now c.args.journal.now.end (image old) (image c.cut.new.self) Q (omega (arith, c.if-journal-bytes.true)) c.requires.rest c.cut.ensures.bytes said)
+    (cut_leaves c.cut.result c.args.bytes.now c.args.journal.now.end (image old) (image c.cut.new.self) Q (omega (arith, c.if-journal-bytes.true)) c.requires.rest c.cut.ensures.bytes said)
 
 pub returns-then-journal-bytes-clause-any_moment : goal.returns-then-journal-bytes-clause-any_moment
 returns-then-journal-bytes-clause-any_moment g c =
@@ -70,16 +70,16 @@ returns-then-journal-bytes-clause-any_moment g c =
     let said = cut_says c.args.federation c.args.site c.args.bytes.now c.args.journal.now c.requires.text c.if-bytes-lt-HEADER.false c.requires.said in
     let first = started image moment since g.met.C.Cell.only_now old P (at_start c.args.bytes.now (image old) Q c.requires.rest c.requires.said) in
     let second = goes_on image moment since g.met.C.Cell.only_now old old c.cut.new.self P first c.cut.ensures.time
-      (cut_leaves c.cut.result c.args.bytes.now len (image old) (image c.cut.new.self) Q le c.requires.rest c.cut.ensures.bytes said) in
+    (cut_leaves c.cut.result c.args.bytes.now len (image old) (image c.cut.new.self) Q le c.requires.rest c.cut.ensures.bytes said) in
     goes_on image moment since g.met.C.Cell.only_now old c.cut.new.self new P second c.sync-then-journal-bytes.ensures.time
-      (cut_sync_leaves c.in_ok-cut.field-0 c.sync-then-journal-bytes.result c.args.bytes.now len (image old) (image c.cut.new.self) (image new) Q le c.requires.rest c.in_ok-cut.ensures.bytes c.sync-then-journal-bytes.ensures.bytes said)
+    (cut_sync_leaves c.in_ok-cut.field-0 c.sync-then-journal-bytes.result c.args.bytes.now len (image old) (image c.cut.new.self) (image new) Q le c.requires.rest c.in_ok-cut.ensures.bytes c.sync-then-journal-bytes.ensures.bytes said)
 
 pub returns-then-journal-bytes-clause-mended : goal.returns-then-journal-bytes-clause-mended
 returns-then-journal-bytes-clause-mended g c =
     let image = g.C.Cell.image in
     cut_mends c.in_ok-cut.field-0 c.sync-then-journal-bytes.result c.args.bytes.now (cell_text c.args.federation c.args.site c.args.journal.now.records.items) c.args.journal.now.end (image c.args.cell.now) (image c.cut.new.self) (image c.sync-then-journal-bytes.new.self)
-      c.requires.rest c.in_ok-cut.ensures.bytes c.sync-then-journal-bytes.ensures.bytes
-      (cut_text c.args.federation c.args.site c.args.bytes.now c.args.journal.now c.requires.text c.if-bytes-lt-HEADER.false)
+    c.requires.rest c.in_ok-cut.ensures.bytes c.sync-then-journal-bytes.ensures.bytes
+    (cut_text c.args.federation c.args.site c.args.bytes.now c.args.journal.now c.requires.text c.if-bytes-lt-HEADER.false)
 
 pub returns-clause-any_moment : goal.returns-clause-any_moment
 returns-clause-any_moment g c =

@@ -21,7 +21,7 @@ returns-in-Err-sync-clause-any_moment g c =
     let first = started image moment since only old P (old_leaves c.args.federation c.args.site (image old)) in
     let read = goes_on image moment since only old old c.load.new.self P first c.load.ensures.time (load_leaves c.args.federation c.args.site c.load.result (image old) (image c.load.new.self) c.load.ensures.bytes) in
     let synced = goes_on image moment since only old c.load.new.self c.sync.new.self P read c.sync.ensures.time
-      (load_sync_leaves c.args.federation c.args.site c.in-Ok.bytes c.sync.result (image old) (image c.load.new.self) (image c.sync.new.self) records c.in-Ok.ensures.bytes c.sync.ensures.bytes said) in
+    (load_sync_leaves c.args.federation c.args.site c.in-Ok.bytes c.sync.result (image old) (image c.load.new.self) (image c.sync.new.self) records c.in-Ok.ensures.bytes c.sync.ensures.bytes said) in
     synced
 
 pub returns-in-Err-mend-clause-any_moment : goal.returns-in-Err-mend-clause-any_moment
@@ -37,9 +37,9 @@ returns-in-Err-mend-clause-any_moment g c =
     let first = started image moment since only old P (old_leaves c.args.federation c.args.site (image old)) in
     let read = goes_on image moment since only old old c.load.new.self P first c.load.ensures.time (load_leaves c.args.federation c.args.site c.load.result (image old) (image c.load.new.self) c.load.ensures.bytes) in
     let synced = goes_on image moment since only old c.load.new.self c.sync.new.self P read c.sync.ensures.time
-      (load_sync_leaves c.args.federation c.args.site c.in-Ok.bytes c.sync.result (image old) (image c.load.new.self) (image c.sync.new.self) records c.in-Ok.ensures.bytes c.sync.ensures.bytes said) in
+    (load_sync_leaves c.args.federation c.args.site c.in-Ok.bytes c.sync.result (image old) (image c.load.new.self) (image c.sync.new.self) records c.in-Ok.ensures.bytes c.sync.ensures.bytes said) in
     joined image moment since only old c.sync.new.self c.mend.new.cell P (λ b. IfTold (image c.sync.new.self) (λ i. Says c.args.federation c.args.site b (Ok records))) synced c.mend.ensures.any_moment
-      (mend_leaves c.args.federation c.args.site c.in-Ok.bytes c.in_default.field-0 (image old) (image c.load.new.self) (image c.sync.new.self) records c.in-Ok.ensures.bytes c.in_default.ensures.bytes said)
+    (mend_leaves c.args.federation c.args.site c.in-Ok.bytes c.in_default.field-0 (image old) (image c.load.new.self) (image c.sync.new.self) records c.in-Ok.ensures.bytes c.in_default.ensures.bytes said)
 
 pub returns-clause-any_moment : goal.returns-clause-any_moment
 returns-clause-any_moment g c =
@@ -54,9 +54,9 @@ returns-clause-any_moment g c =
     let first = started image moment since only old P (old_leaves c.args.federation c.args.site (image old)) in
     let read = goes_on image moment since only old old c.load.new.self P first c.load.ensures.time (load_leaves c.args.federation c.args.site c.load.result (image old) (image c.load.new.self) c.load.ensures.bytes) in
     let synced = goes_on image moment since only old c.load.new.self c.sync.new.self P read c.sync.ensures.time
-      (load_sync_leaves c.args.federation c.args.site c.in-Ok.bytes c.sync.result (image old) (image c.load.new.self) (image c.sync.new.self) records c.in-Ok.ensures.bytes c.sync.ensures.bytes said) in
+    (load_sync_leaves c.args.federation c.args.site c.in-Ok.bytes c.sync.result (image old) (image c.load.new.self) (image c.sync.new.self) records c.in-Ok.ensures.bytes c.sync.ensures.bytes said) in
     joined image moment since only old c.sync.new.self c.mend.new.cell P (λ b. IfTold (image c.sync.new.self) (λ i. Says c.args.federation c.args.site b (Ok records))) synced c.mend.ensures.any_moment
-      (mend_leaves c.args.federation c.args.site c.in-Ok.bytes c.in_default.field-0 (image old) (image c.load.new.self) (image c.sync.new.self) records c.in-Ok.ensures.bytes c.in_default.ensures.bytes said)
+    (mend_leaves c.args.federation c.args.site c.in-Ok.bytes c.in_default.field-0 (image old) (image c.load.new.self) (image c.sync.new.self) records c.in-Ok.ensures.bytes c.in_default.ensures.bytes said)
 
 pub returns-clause-durable : goal.returns-clause-durable
 returns-clause-durable g c = rest_only (cell_text c.args.federation c.args.site c.in_ok-journal.journal.records.items) (g.C.Cell.image c.mend.new.cell) c.in_default-mend.ensures.mended

@@ -48,7 +48,7 @@ returns-in-Ok-clause-any_moment g c =
     let Q = OpensWithOrWithout c.args.federation c.args.site records c.args.entry in
     let P : List ℕ → Type 0 = λ b. IfTold (image old) (λ i. Q b) in
     weaker image moment since only old c.append_synced.new.cell (λ b. IfTold (image old) (λ i. (k : ℕ) × (b ≡ text ++ take k c.deref.result.now))) P (c.append_synced.ensures.any_moment text (c.requires.kept refl))
-      (entry_leaves c.args.federation c.args.site records c.args.entry (image old) c.deref.result.now c.requires c.to_bytes.ensures.sound (c.deref.ensures.value ∙ c.in_ok-bytes.ensures.bytes))
+    (entry_leaves c.args.federation c.args.site records c.args.entry (image old) c.deref.result.now c.requires c.to_bytes.ensures.sound (c.deref.ensures.value ∙ c.in_ok-bytes.ensures.bytes))
 
 pub returns-in-Err-Memory-clause-any_moment : goal.returns-in-Err-Memory-clause-any_moment
 returns-in-Err-Memory-clause-any_moment g c =
@@ -62,7 +62,7 @@ returns-in-Err-Memory-clause-any_moment g c =
     let Q = OpensWithOrWithout c.args.federation c.args.site records c.args.entry in
     let P : List ℕ → Type 0 = λ b. IfTold (image old) (λ i. Q b) in
     weaker image moment since only old c.append_synced.new.cell (λ b. IfTold (image old) (λ i. (k : ℕ) × (b ≡ text ++ take k c.deref.result.now))) P (c.append_synced.ensures.any_moment text (c.requires.kept refl))
-      (entry_leaves c.args.federation c.args.site records c.args.entry (image old) c.deref.result.now c.requires c.to_bytes.ensures.sound (c.deref.ensures.value ∙ c.in_ok-bytes.ensures.bytes))
+    (entry_leaves c.args.federation c.args.site records c.args.entry (image old) c.deref.result.now c.requires c.to_bytes.ensures.sound (c.deref.ensures.value ∙ c.in_ok-bytes.ensures.bytes))
 
 pub returns-clause-any_moment : goal.returns-clause-any_moment
 returns-clause-any_moment g c =
@@ -76,7 +76,7 @@ returns-clause-any_moment g c =
     let Q = OpensWithOrWithout c.args.federation c.args.site records c.args.entry in
     let P : List ℕ → Type 0 = λ b. IfTold (image old) (λ i. Q b) in
     weaker image moment since only old c.append_synced.new.cell (λ b. IfTold (image old) (λ i. (k : ℕ) × (b ≡ text ++ take k c.deref.result.now))) P (c.append_synced.ensures.any_moment text (c.requires.kept refl))
-      (entry_leaves c.args.federation c.args.site records c.args.entry (image old) c.deref.result.now c.requires c.to_bytes.ensures.sound (c.deref.ensures.value ∙ c.in_ok-bytes.ensures.bytes))
+    (entry_leaves c.args.federation c.args.site records c.args.entry (image old) c.deref.result.now c.requires c.to_bytes.ensures.sound (c.deref.ensures.value ∙ c.in_ok-bytes.ensures.bytes))
 
 pub returns-in-Ok-clause-sound : goal.returns-in-Ok-clause-sound
 returns-in-Ok-clause-sound g c =
@@ -84,8 +84,8 @@ returns-in-Ok-clause-sound g c =
     let records = c.args.records.now.items in
     let b = c.deref.result.now in
     sound_after c.args.federation c.args.site records c.args.entry (image c.args.cell.now) (image c.append_synced.new.cell) b c.push.new.self.items c.requires c.to_bytes.ensures.sound (c.deref.ensures.value ∙ c.in_ok-bytes.ensures.bytes)
-      (c.in_ok-push-in-Ok.ensures.items ∙ ap (λ (l : List Record). l ++ c.args.entry ∷ []) c.reserve.ensures.items)
-      (c.in-Ok.ensures.kept (cell_text c.args.federation c.args.site records) (c.requires.kept refl))
+    (c.in_ok-push-in-Ok.ensures.items ∙ ap (λ (l : List Record). l ++ c.args.entry ∷ []) c.reserve.ensures.items)
+    (c.in-Ok.ensures.kept (cell_text c.args.federation c.args.site records) (c.requires.kept refl))
 
 pub returns-in-Ok-clause-durable : goal.returns-in-Ok-clause-durable
 returns-in-Ok-clause-durable g c =
