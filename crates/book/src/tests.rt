@@ -9,6 +9,13 @@ use std::test::Fail;
 const WORKED: &str =
     "42504a31000000000000000701000b0201610000000100000001000c030161000000010000000101";
 
+// The same with a second record of a length that no record has, and of another federation.
+const DAMAGED: &str =
+    "42504a31000000000000000701000b0201610000000100000001000a030161000000010000000101";
+
+const STRANGE: &str =
+    "42504a31000000000000000801000b0201610000000100000001000c030161000000010000000101";
+
 const HEADER: &str = "42504a31000000000000000701";
 
 // The bytes of a vote for that version.
@@ -111,17 +118,13 @@ fn a_journal_is_opened_and_mended(rt: HostRuntime) -> Result<(), Fail> {
 #[test]
 fn a_refused_journal_is_left_as_it_was(rt: HostRuntime) -> Result<(), Fail> {
     let alloc = rt.alloc();
-    let mut damaged = hex::decode(alloc, WORKED)?;
-    damaged[27] = 10;
-    let mut strange = hex::decode(alloc, WORKED)?;
-    strange[11] = 8;
-    for (bytes, site, want) in [
-        (hex::decode(alloc, WORKED)?, 2, OpenFault::OtherSite),
-        (damaged, 1, OpenFault::Damaged(26)),
-        (strange, 1, OpenFault::OtherFederation),
+    for (digits, site, want) in [
+        (WORKED, 2, OpenFault::OtherSite),
+        (DAMAGED, 1, OpenFault::Damaged(26)),
+        (STRANGE, 1, OpenFault::OtherFederation),
     ] {
-        let before = bytes.clone()?;
-        match open(alloc, MemoryCell::new(alloc, bytes), site) {
+        let before = hex::decode(alloc, digits)?;
+        match open(alloc, cell(alloc, digits)?, site) {
             Ok(_) => return Err(Fail::from("it opens")),
             Err((cell, fault)) => {
                 assert_eq!(rt; fault, want);
