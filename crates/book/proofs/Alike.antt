@@ -1,9 +1,9 @@
 -- What a crash leaves while a cell is opened.
-use Rattle.std.proofs.Common.{◌≡◌, ◌⊎◌, inl, inr, ℕ, List, Option, Some, None, Result, Ok, Err, refl, sym, subst}
+use Rattle.std.proofs.Common.{◌≡◌, inl, inr, ℕ, List, Option, Some, None, Result, Ok, Err, sym, subst}
 use Rattle.cell_device.specs.declared.fault.CellFault.{CellFault}
 use Rattle.cell_device.specs.declared.fault.CellFault.TheVariants.{Device, Memory}
-use Rattle.cell_device.specs.Images.{Image, MayLeave, at_rest, untouched, made_durable, failed}
-use Rattle.cell_device.specs.Calls.{Outcome, Turns, IsRead}
+use Rattle.cell_device.specs.Images.{Image, MayLeave, at_rest, untouched, made_durable}
+use Rattle.cell_device.specs.Calls.{Turns, IsRead}
 use Rattle.records.specs.declared.record.Record.{Record}
 use Rattle.records.specs.Journals.{Says}
 use Rattle.book.specs.Volumes.{IfTold}

@@ -1,18 +1,17 @@
 -- What a fuse makes of appending and syncing.
-use Rattle.std.proofs.Common.{◌≡◌, ◌≢◌, ◌⊎◌, inl, inr, ℕ, ◌-◌, Bool, true, false, ◌||◌, eqb, cond, List, [], ◌++◌, length, take, Option, Some, None, Result, Ok, Err, refl, sym, ap, subst, ◌∙◌}
+use Rattle.std.proofs.Common.{◌≡◌, ◌≢◌, ℕ, ◌-◌, Bool, true, false, ◌||◌, eqb, List, ◌++◌, take, Option, Some, None, Result, Ok, Err, refl, sym, ap, subst, ◌∙◌}
 use Rattle.std.specs.Prelude.{IfErr}
 use Rattle.std.specs.Result.{IsErrAnd}
 use Rattle.std.proofs.lemmas.List.{append-nil}
 use Rattle.cell_device.specs.declared.fault.CellFault.{CellFault}
 use Rattle.cell_device.specs.declared.fault.CellFault.TheVariants.{Device, Memory}
-use Rattle.cell_device.specs.declared.fuse.Fuse.{Fuse}
 use Rattle.cell_device.specs.declared.fuse.FuseState.{FuseState}
 use Rattle.cell_device.specs.declared.fuse.FuseState.TheVariants.{Clear, Burning, Stopped}
 use Rattle.cell_device.specs.Images.{Image, keeps, at_rest, appended, made_durable, untouched, failed}
 use Rattle.cell_device.specs.Fuses.{fires, burnt, fused}
 use Rattle.cell_device.specs.Calls.{Turns, IsFused, Burns, Follows}
 use Rattle.book.specs.Volumes.{IfTold, RestsAt}
-use Rattle.book.specs.Committed.{fires_within, bytes_kept, AppendBurns}
+use Rattle.book.specs.Committed.{bytes_kept, AppendBurns}
 use Rattle.book.proofs.Told.{keeps_appended}
 
 either : (a b : Bool) → b ≡ true → (a || b) ≡ true

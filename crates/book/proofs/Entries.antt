@@ -1,10 +1,8 @@
 -- What a commit makes of a book's text.
-use Rattle.std.proofs.Common.{◌≡◌, ◌⊎◌, inl, inr, ℕ, Bool, false, List, [], ◌∷◌, ◌++◌, take, Option, Some, None, Result, Ok, Err, refl, sym, ap, subst, ◌∙◌}
-use Rattle.cell_device.specs.declared.fault.CellFault.{CellFault}
-use Rattle.cell_device.specs.declared.fault.CellFault.TheVariants as cells
+use Rattle.std.proofs.Common.{◌≡◌, inl, ℕ, false, List, [], ◌∷◌, ◌++◌, take, Option, Some, None, Ok, refl, sym, ap, subst, ◌∙◌}
 use Rattle.cell_device.specs.declared.fuse.FuseState.{FuseState}
 use Rattle.cell_device.specs.declared.fuse.FuseState.TheVariants.{Clear, Burning, Stopped}
-use Rattle.cell_device.specs.Images.{Image, MayLeave}
+use Rattle.cell_device.specs.Images.{Image}
 use Rattle.records.specs.declared.record.Record.{Record}
 use Rattle.records.specs.Layout.{record_bytes, cell_text}
 use Rattle.records.specs.Records.{IsRecord, AreRecords}
@@ -13,7 +11,7 @@ use Rattle.records.specs.Journals.{Says}
 use Rattle.records.proofs.Walk.{whole-push}
 use Rattle.records.proofs.Fronts.{text-push, text_says, record_says, with_or_without, none_kept}
 use Rattle.book.specs.Volumes.{IfTold, RestsAt, LeavesBytes, IsSound}
-use Rattle.book.specs.Committed.{OpensWithOrWithout, bytes_kept, records_kept, fires_within, AppendBurns}
+use Rattle.book.specs.Committed.{OpensWithOrWithout, bytes_kept, records_kept}
 use Rattle.book.proofs.Told.{rest_leaves}
 
 -- of bytes at rest a crash leaves these and no others

@@ -1,5 +1,5 @@
 -- How a run of calls goes on.
-use Rattle.std.proofs.Common.{◌⊎◌, inl, inr, ⊎_elim, ℕ, ◌≤◌, List, Option, arith}
+use Rattle.std.proofs.Common.{inl, inr, ⊎_elim, ℕ, List, Option, arith}
 use Rattle.cell_device.specs.Images.{Image, MayLeave}
 use Rattle.cell_device.specs.Time.{Elapses, LeavesOnly}
 

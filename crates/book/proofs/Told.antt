@@ -1,12 +1,12 @@
 -- What the calls leave of a cell whose bytes are all synced.
-use Rattle.std.proofs.Common.{◌≡◌, ◌⊎◌, inl, inr, ⊎_elim, ℕ, zero, suc, ◌+◌, ◌≤◌, Bool, true, List, [], ◌∷◌, ◌++◌, length, take, drop, Option, Some, None, Result, Ok, Err, refl, sym, ap, subst, ◌∙◌, arith, length-append}
+use Rattle.std.proofs.Common.{◌≡◌, inl, inr, ℕ, suc, ◌+◌, ◌≤◌, List, [], ◌∷◌, ◌++◌, length, take, Option, Some, None, Result, Ok, Err, refl, sym, ap, subst, ◌∙◌, arith, length-append}
 use Rattle.std.specs.Prelude.{OnOk}
 use Rattle.std.proofs.lemmas.Bool.{le-leb}
 use Rattle.std.proofs.lemmas.Bool.Decides.{leb_tells}
 use Rattle.std.proofs.lemmas.List.{append-nil, length-take, take_all}
 use Rattle.cell_device.specs.declared.fault.CellFault.{CellFault}
 use Rattle.cell_device.specs.declared.fault.CellFault.TheVariants.{Device, Memory}
-use Rattle.cell_device.specs.Images.{Image, keeps, Leaves, MayLeave, at_rest, appended, cut_to, made_durable, untouched, failed}
+use Rattle.cell_device.specs.Images.{Image, keeps, Leaves, MayLeave, at_rest, appended, cut_to, made_durable, untouched}
 use Rattle.cell_device.specs.Calls.{Outcome, Turns}
 use Rattle.book.specs.Volumes.{IfTold, RestsAt}
 

@@ -1,10 +1,10 @@
-use Rattle.std.proofs.Common.{◌≡◌, ℕ, ◌≤◌, ◌++◌, List, take, length, Result, Ok, refl, arith, subst}
+use Rattle.std.proofs.Common.{ℕ, ◌≤◌, List, length, Ok, arith}
 use Rattle.records.specs.Layout.{cell_text}
 use Rattle.records.specs.Journals.{Says}
-use Rattle.book.specs.Volumes.{IfTold, RestsAt}
+use Rattle.book.specs.Volumes.{IfTold}
 use Rattle.book.proofs.Moments.{started, goes_on}
 use Rattle.book.proofs.Told.{at_start, append_leaves, append_sync_leaves, append_mends, cut_leaves, cut_sync_leaves, cut_mends}
-use Rattle.book.proofs.Mending.{header_rest, header_says, header_text, cut_says, cut_text, whole_text}
+use Rattle.book.proofs.Mending.{header_rest, header_says, header_text, cut_says, cut_text}
 use Rattle.book.proofs.opening.mend.Goals as goal
 
 pub returns-in_err-append-clause-any_moment : goal.returns-in_err-append-clause-any_moment

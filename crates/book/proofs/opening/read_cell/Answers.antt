@@ -1,4 +1,4 @@
-use Rattle.std.proofs.Common.{◌≡◌, List, ℕ, Ok, subst}
+use Rattle.std.proofs.Common.{List, ℕ, Ok, subst}
 use Rattle.book.specs.Volumes.{IfTold}
 use Rattle.book.specs.Opened.{LeavesAlike}
 use Rattle.records.specs.Journals.{Says}

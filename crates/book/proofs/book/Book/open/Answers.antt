@@ -1,4 +1,4 @@
-use Rattle.std.proofs.Common.{◌≡◌, ℕ, List, Result, Err, subst}
+use Rattle.std.proofs.Common.{ℕ, List, Result, Err, subst}
 use Rattle.records.specs.declared.fault.OpenFault.{OpenFault}
 use Rattle.records.specs.declared.record.Record.{Record}
 use Rattle.records.specs.Journals.{Says}
