@@ -52,11 +52,11 @@ module _ (federation site : ℕ) (records : List Record) (whole : AreRecords rec
         ∙ ap (λ (b : List ℕ). header_bytes federation site ++ b) (sym (records-push records r)) in
         let kept : kept_records k records r ≡ records ++ r ∷ [] = rw t.0 refl in
         subst (λ (rs : List Record). Says federation site (cell_text federation site records ++ take k (record_bytes r)) (Ok rs)) (sym kept)
-          (whole-push records r whole is, inr ([], text ∙ sym (append-nil (cell_text federation site (records ++ r ∷ []))), inl refl))
+        (whole-push records r whole is, inr ([], text ∙ sym (append-nil (cell_text federation site (records ++ r ∷ []))), inl refl))
     | inr f ↦
         let kept : kept_records k records r ≡ records = rw f.0 refl in
         subst (λ (rs : List Record). Says federation site (cell_text federation site records ++ take k (record_bytes r)) (Ok rs)) (sym kept)
-          (whole, inr (take k (record_bytes r), refl, record_front r k is f.1))
+        (whole, inr (take k (record_bytes r), refl, record_front r k is f.1))
   ]
 
 -- the rest of a header that was begun

@@ -63,6 +63,6 @@ front_content (a ∷ b ∷ rest) n two = ap (drop 2) (two_more a b rest n) ∙ a
 pub step_none : (bytes : List ℕ) (n : ℕ) → 2 ≤ length bytes → n ≡ length_told bytes → n ≤ length (rest_of bytes) → content_at (take n (rest_of bytes)) ≡ None → IsNoRecord bytes
 step_none bytes n two is long e =
     let none : (r : Record) → IsRecord r → take (2 + length_told bytes) bytes ≢ record_bytes r = λ r h s.
-        let content : take n (rest_of bytes) ≡ content_bytes r = sym (front_content bytes n two) ∙ ap (λ (m : ℕ). drop 2 (take (2 + m) bytes)) is ∙ ap (drop 2) s ∙ spelled_content r in
-        not_some (content_at (take n (rest_of bytes))) r e (ap content_at content ∙ content_again r h) in
+    let content : take n (rest_of bytes) ≡ content_bytes r = sym (front_content bytes n two) ∙ ap (λ (m : ℕ). drop 2 (take (2 + m) bytes)) is ∙ ap (drop 2) s ∙ spelled_content r in
+    not_some (content_at (take n (rest_of bytes))) r e (ap content_at content ∙ content_again r h) in
     (two, inr (omega (arith, long, is, ap length (rest_is bytes), length-drop 2 bytes, two), none))
