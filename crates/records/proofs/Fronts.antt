@@ -1,16 +1,13 @@
 -- What a crash makes of a journal's text.
-use Rattle.std.proofs.Common.{◌≡◌, ◌⊎◌, ℕ, zero, suc, ◌<◌, ◌≤◌, ◌+◌, ◌-◌, Bool, true, false, List, [], ◌∷◌, ◌++◌, length, take, drop, Result, Ok, Err, refl, sym, ap, subst, ◌∙◌, arith, inl, inr, append_assoc, length-append}
-use Rattle.std.specs.Prelude.{nat_le, if◌then◌else◌}
-use Rattle.std.proofs.lemmas.Bool.{le-leb}
+use Rattle.std.proofs.Common.{◌≡◌, ◌⊎◌, ℕ, zero, suc, ◌<◌, List, [], ◌∷◌, ◌++◌, length, take, drop, Ok, refl, sym, ap, subst, ◌∙◌, arith, inl, inr, append_assoc}
 use Rattle.std.proofs.lemmas.Bool.Decides.{leb_tells}
 use Rattle.std.proofs.lemmas.List.{append-nil, length-take, take_all, take-append-drop, length-drop, drop_at}
-use Rattle.records.specs.declared.layout.TheConstants.{HEADER}
 use Rattle.records.specs.declared.record.Record.{Record}
 use Rattle.records.specs.Layout.{content_bytes, record_bytes, header_bytes, records_bytes, cell_text}
 use Rattle.records.specs.Records.{IsRecord, AreRecords}
 use Rattle.records.specs.Journals.{length_told, IsRecordLength, IsTornEnd, IsNew, Says}
 use Rattle.records.specs.Kept.{kept_records}
-use Rattle.records.proofs.Begins.{content_size, told, record_size}
+use Rattle.records.proofs.Begins.{content_size, told}
 use Rattle.records.proofs.Walk.{records-push, whole-push}
 
 -- an end

@@ -1,18 +1,18 @@
 -- Bytes say one thing at most.
-use Rattle.std.proofs.Common.{◌≡◌, ◌≢◌, ◌⊎◌, ℕ, ◌^◌, ◌<◌, ◌≤◌, ◌+◌, Bool, true, false, cond, eqb, ltb, List, [], ◌∷◌, ◌++◌, length, take, drop, get_or, Option, Some, None, Result, Ok, Err, refl, sym, ap, subst, ◌∙◌, arith, inl, inr, append_assoc, length-append}
+use Rattle.std.proofs.Common.{◌≡◌, ◌⊎◌, ℕ, ◌<◌, ◌≤◌, Bool, true, false, cond, eqb, ltb, List, [], ◌∷◌, ◌++◌, length, take, drop, get_or, Option, Some, None, Result, Ok, Err, refl, sym, ap, subst, ◌∙◌, arith, inl, inr, append_assoc, length-append}
 use Rattle.std.specs.Prelude.{bytes_eq}
 use Rattle.std.specs.Int.{w64, to_be_bytes}
 use Rattle.std.proofs.lemmas.Bool.{lt-ltb, le-ltb, eq-eqb}
 use Rattle.std.proofs.lemmas.Bool.Decides.{eqb_tells}
 use Rattle.std.proofs.lemmas.Slice.Eq.{bytes_eq-Decides}
-use Rattle.std.proofs.lemmas.List.{append-nil, take_at, append_cancel_left, take-append-drop, length-drop}
+use Rattle.std.proofs.lemmas.List.{take_at, append_cancel_left, take-append-drop, length-drop}
 use Rattle.records.specs.declared.layout.TheConstants.{MAGIC, HEADER}
 use Rattle.records.specs.declared.fault.OpenFault.{OpenFault}
 use Rattle.records.specs.declared.fault.OpenFault.TheVariants as faults
 use Rattle.records.specs.declared.record.Record.{Record}
 use Rattle.records.specs.Layout.{header_bytes, records_bytes, cell_text}
-use Rattle.records.specs.Records.{IsRecord, AreRecords}
-use Rattle.records.specs.Journals.{IsTornEnd, IsNew, OpensWith, IsOfOtherFederation, IsOfOtherSite, HasNoHeader, IsNoRecord, IsDamagedAt, Says}
+use Rattle.records.specs.Records.{AreRecords}
+use Rattle.records.specs.Journals.{IsTornEnd, IsNew, IsNoRecord, Says}
 use Rattle.records.proofs.Begins.{Stuck, same_records, no_both}
 
 abbrev pub Said : Type 0

@@ -1,12 +1,12 @@
 -- A record is read as it is written.
-use Rattle.std.proofs.Common.{◌≡◌, ℕ, ◌^◌, ◌<◌, ◌≤◌, ◌+◌, true, false, cond, eqb, List, [], ◌∷◌, ◌++◌, length, Option, Some, None, refl, sym, ap, subst, ◌∙◌, arith, inl, inr}
+use Rattle.std.proofs.Common.{◌≡◌, ℕ, ◌^◌, ◌<◌, ◌≤◌, false, eqb, List, [], ◌∷◌, ◌++◌, length, Option, Some, None, refl, sym, ap, subst, ◌∙◌, arith, inl, inr}
 use Rattle.std.specs.Int.{w32, to_be_bytes}
 use Rattle.std.proofs.lemmas.Bool.{eqb-true}
 use Rattle.std.proofs.lemmas.Bool.Decides.{eqb_tells}
 use Rattle.std.proofs.lemmas.List.{append-nil, nil_from_length}
 use Rattle.fed_types.specs.declared.bag_id.BagId.{BagId}
 use Rattle.fed_types.specs.Ballots.{BallotNumber}
-use Rattle.fields.specs.Values.{IsSlot, IsBallot, IsBag}
+use Rattle.fields.specs.Values.{IsBallot, IsBag}
 use Rattle.fields.specs.Spelling.{bag_bytes, ballot_bytes, vote_bytes, slot_bytes}
 use Rattle.fields.specs.Reading.{◌>>=◌, both, meant, byte_at, number_at, ballot_at, bag_at, slot_at}
 use Rattle.fields.proofs.Bytes.{IsBytes, bind_some, some_is, past_test, in_test, Takes, Reads, both_read, meant_taken, meant_again, meant_read}

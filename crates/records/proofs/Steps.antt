@@ -1,5 +1,5 @@
 -- What stands next, by the length that is told.
-use Rattle.std.proofs.Common.{◌≡◌, ◌≢◌, ◌⊎◌, ℕ, suc, ◌^◌, ◌<◌, ◌≤◌, ◌+◌, ◌-◌, ◌*◌, List, [], ◌∷◌, ◌++◌, length, take, drop, get_or, Option, Some, None, refl, sym, ap, subst, ◌∙◌, arith, inl, inr}
+use Rattle.std.proofs.Common.{◌≡◌, ◌≢◌, ℕ, suc, ◌≤◌, ◌+◌, ◌-◌, ◌*◌, List, [], ◌∷◌, ◌++◌, length, take, drop, get_or, Some, None, refl, sym, ap, ◌∙◌, arith, inr}
 use Rattle.std.specs.Int.{w16, to_be_bytes}
 use Rattle.std.proofs.lemmas.List.{take-append-drop, length-drop, length-take}
 use Rattle.std.proofs.lemmas.Nat.{be_bytes_2}
@@ -13,7 +13,6 @@ use Rattle.records.specs.Journals.{length_told, IsNoRecord}
 use Rattle.records.specs.Answers.{IsStep}
 use Rattle.records.specs.Reading.{content_at}
 use Rattle.records.proofs.Spelled.{content_taken, content_again}
-use Rattle.records.proofs.Begins.{content_of}
 
 -- the bytes behind the length
 abbrev pub rest_of : List ℕ → List ℕ
