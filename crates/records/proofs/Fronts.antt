@@ -1,16 +1,13 @@
 -- What a crash makes of a journal's text.
-use Rattle.std.proofs.Common.{◌≡◌, ◌⊎◌, ℕ, zero, suc, ◌<◌, ◌≤◌, ◌+◌, ◌-◌, Bool, true, false, List, [], ◌∷◌, ◌++◌, length, take, drop, Result, Ok, Err, refl, sym, ap, subst, ◌∙◌, arith, inl, inr, append_assoc, length-append}
-use Rattle.std.specs.Prelude.{nat_le, if◌then◌else◌}
-use Rattle.std.proofs.lemmas.Bool.{le-leb}
+use Rattle.std.proofs.Common.{◌≡◌, ◌⊎◌, ℕ, zero, suc, ◌<◌, List, [], ◌∷◌, ◌++◌, length, take, drop, Ok, refl, sym, ap, subst, ◌∙◌, arith, inl, inr, append_assoc}
 use Rattle.std.proofs.lemmas.Bool.Decides.{leb_tells}
 use Rattle.std.proofs.lemmas.List.{append-nil, length-take, take_all, take-append-drop, length-drop, drop_at}
-use Rattle.records.specs.declared.layout.TheConstants.{HEADER}
 use Rattle.records.specs.declared.record.Record.{Record}
 use Rattle.records.specs.Layout.{content_bytes, record_bytes, header_bytes, records_bytes, cell_text}
 use Rattle.records.specs.Records.{IsRecord, AreRecords}
 use Rattle.records.specs.Journals.{length_told, IsRecordLength, IsTornEnd, IsNew, Says}
 use Rattle.records.specs.Kept.{kept_records}
-use Rattle.records.proofs.Begins.{content_size, told, record_size}
+use Rattle.records.proofs.Begins.{content_size, told}
 use Rattle.records.proofs.Walk.{records-push, whole-push}
 
 -- an end
@@ -56,11 +53,11 @@ module _ (federation site : ℕ) (records : List Record) (whole : AreRecords rec
         ap (λ (b : List ℕ). cell_text federation site records ++ b) (take_all k (record_bytes r) t.1) ∙ text-push federation site records r in
         let kept : kept_records k records r ≡ records ++ r ∷ [] = rw t.0 refl in
         subst (λ (rs : List Record). Says federation site (cell_text federation site records ++ take k (record_bytes r)) (Ok rs)) (sym kept)
-          (whole-push records r whole is, inr ([], text ∙ sym (append-nil (cell_text federation site (records ++ r ∷ []))), inl refl))
+        (whole-push records r whole is, inr ([], text ∙ sym (append-nil (cell_text federation site (records ++ r ∷ []))), inl refl))
     | inr f ↦
         let kept : kept_records k records r ≡ records = rw f.0 refl in
         subst (λ (rs : List Record). Says federation site (cell_text federation site records ++ take k (record_bytes r)) (Ok rs)) (sym kept)
-          (whole, inr (take k (record_bytes r), refl, record_front r k is f.1))
+        (whole, inr (take k (record_bytes r), refl, record_front r k is f.1))
   ]
 
   -- as two cases

@@ -1,18 +1,18 @@
 -- Bytes say one thing at most.
-use Rattle.std.proofs.Common.{◌≡◌, ◌≢◌, ◌⊎◌, ℕ, ◌^◌, ◌<◌, ◌≤◌, ◌+◌, Bool, true, false, cond, eqb, ltb, List, [], ◌∷◌, ◌++◌, length, take, drop, get_or, Option, Some, None, Result, Ok, Err, refl, sym, ap, subst, ◌∙◌, arith, inl, inr, append_assoc, length-append}
+use Rattle.std.proofs.Common.{◌≡◌, ◌⊎◌, ℕ, ◌<◌, ◌≤◌, Bool, true, false, cond, eqb, ltb, List, [], ◌∷◌, ◌++◌, length, take, drop, get_or, Option, Some, None, Result, Ok, Err, refl, sym, ap, subst, ◌∙◌, arith, inl, inr, append_assoc, length-append}
 use Rattle.std.specs.Prelude.{bytes_eq}
 use Rattle.std.specs.Int.{w64, to_be_bytes}
 use Rattle.std.proofs.lemmas.Bool.{lt-ltb, le-ltb, eq-eqb}
 use Rattle.std.proofs.lemmas.Bool.Decides.{eqb_tells}
 use Rattle.std.proofs.lemmas.Slice.Eq.{bytes_eq-Decides}
-use Rattle.std.proofs.lemmas.List.{append-nil, take_at, append_cancel_left, take-append-drop, length-drop}
+use Rattle.std.proofs.lemmas.List.{take_at, append_cancel_left, take-append-drop, length-drop}
 use Rattle.records.specs.declared.layout.TheConstants.{MAGIC, HEADER}
 use Rattle.records.specs.declared.fault.OpenFault.{OpenFault}
 use Rattle.records.specs.declared.fault.OpenFault.TheVariants as faults
 use Rattle.records.specs.declared.record.Record.{Record}
 use Rattle.records.specs.Layout.{header_bytes, records_bytes, cell_text}
-use Rattle.records.specs.Records.{IsRecord, AreRecords}
-use Rattle.records.specs.Journals.{IsTornEnd, IsNew, OpensWith, IsOfOtherFederation, IsOfOtherSite, HasNoHeader, IsNoRecord, IsDamagedAt, Says}
+use Rattle.records.specs.Records.{AreRecords}
+use Rattle.records.specs.Journals.{IsTornEnd, IsNew, IsNoRecord, Says}
 use Rattle.records.proofs.Begins.{Stuck, same_records, no_both}
 
 abbrev pub Said : Type 0
@@ -31,12 +31,12 @@ said s = Some s
 abbrev head : ℕ → ℕ → List ℕ → Option Said
 head federation site bytes =
     cond (ltb (length bytes) HEADER)
-      (cond (bytes_eq bytes (take (length bytes) (header_bytes federation site))) (Some (Ok [])) (Some (Err (faults.Damaged 0))))
-      (cond (bytes_eq (take 4 bytes) MAGIC)
-        (cond (bytes_eq (take 8 (drop 4 bytes)) (to_be_bytes w64 federation))
-          (cond (eqb (get_or bytes 12 0) site) None (Some (Err faults.OtherSite)))
-          (Some (Err faults.OtherFederation)))
-        (Some (Err (faults.Damaged 0))))
+    (cond (bytes_eq bytes (take (length bytes) (header_bytes federation site))) (Some (Ok [])) (Some (Err (faults.Damaged 0))))
+    (cond (bytes_eq (take 4 bytes) MAGIC)
+    (cond (bytes_eq (take 8 (drop 4 bytes)) (to_be_bytes w64 federation))
+    (cond (eqb (get_or bytes 12 0) site) None (Some (Err faults.OtherSite)))
+    (Some (Err faults.OtherFederation)))
+    (Some (Err (faults.Damaged 0))))
 
 same : (a b : List ℕ) → a ≡ b → bytes_eq a b ≡ true
 same a b e = (bytes_eq-Decides a b).1 e
@@ -80,8 +80,7 @@ pub new_tells : (federation site : ℕ) (bytes header : List ℕ) (b : Bool) →
     → (b ≡ true → IsNew federation site bytes) × (IsNew federation site bytes → b ≡ true)
 new_tells federation site bytes header b short is test =
     let front : take (length bytes) header ≡ take (length bytes) (header_bytes federation site) = ap (take (length bytes)) is in
-    let d = bytes_eq-Decides (take (length bytes) header) bytes in
-    (
+    let d = bytes_eq-Decides (take (length bytes) header) bytes in (
       λ t. new_from federation site bytes short (sym (d.0 (sym test ∙ t)) ∙ front),
       λ new. test ∙ d.1 (front ∙ sym (new_front federation site bytes new)),
     )
@@ -154,11 +153,12 @@ same_body federation site bytes v w a b =
     stuck_rest : {v : Said} (a : Body federation site bytes v) → Stuck a.rest
     stuck_rest a = elim a.tells [
       | inl t ↦ elim t.0 [
-          | inl none ↦ inl none
-          | inr torn ↦ inr (inl torn)
-        ]
+        | inl none ↦ inl none
+        | inr torn ↦ inr (inl torn)
+      ]
       | inr t ↦ inr (inr t.0)
     ]
+
     by_tells : {v w : Said} (a : Body federation site bytes v) (b : Body federation site bytes w) → a.records ≡ b.records → a.rest ≡ b.rest
         → (((a.rest ≡ []) ⊎ IsTornEnd a.rest) × (v ≡ opens a.records)) ⊎ (IsNoRecord a.rest × (v ≡ fault (faults.Damaged (length (cell_text federation site a.records)))))
         → (((b.rest ≡ []) ⊎ IsTornEnd b.rest) × (w ≡ opens b.records)) ⊎ (IsNoRecord b.rest × (w ≡ fault (faults.Damaged (length (cell_text federation site b.records)))))
@@ -173,9 +173,11 @@ one_saying federation site bytes v w a b = by (says_by federation site bytes v a
   where
     some_same : (v w : Said) → said v ≡ said w → v ≡ w
     some_same v w e = cc
+
     none_some : (o : Option Said) (v : Said) → o ≡ None → o ≡ Some v → ⊥
     none_some None v e f = cc
     none_some (Some x) v e f = cc
+
     by : (head federation site bytes ≡ said v) ⊎ Body federation site bytes v → (head federation site bytes ≡ said w) ⊎ Body federation site bytes w → v ≡ w
     by (inl x) (inl y) = some_same v w (sym x ∙ y)
     by (inl x) (inr y) = absurd (none_some (head federation site bytes) v (ours federation site bytes (records_bytes y.records ++ y.rest) y.parts) x)

@@ -6,3 +6,4 @@ pub mod Walk
 pub mod Told
 pub mod Words
 pub mod Fronts
+mod Examples

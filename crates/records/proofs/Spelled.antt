@@ -1,12 +1,12 @@
 -- A record is read as it is written.
-use Rattle.std.proofs.Common.{◌≡◌, ℕ, ◌^◌, ◌<◌, ◌≤◌, ◌+◌, true, false, cond, eqb, List, [], ◌∷◌, ◌++◌, length, Option, Some, None, refl, sym, ap, subst, ◌∙◌, arith, inl, inr}
+use Rattle.std.proofs.Common.{◌≡◌, ℕ, ◌^◌, ◌<◌, ◌≤◌, false, eqb, List, [], ◌∷◌, ◌++◌, length, Option, Some, None, refl, sym, ap, subst, ◌∙◌, arith, inl, inr}
 use Rattle.std.specs.Int.{w32, to_be_bytes}
 use Rattle.std.proofs.lemmas.Bool.{eqb-true}
 use Rattle.std.proofs.lemmas.Bool.Decides.{eqb_tells}
 use Rattle.std.proofs.lemmas.List.{append-nil, nil_from_length}
 use Rattle.fed_types.specs.declared.bag_id.BagId.{BagId}
 use Rattle.fed_types.specs.Ballots.{BallotNumber}
-use Rattle.fields.specs.Values.{IsSlot, IsBallot, IsBag}
+use Rattle.fields.specs.Values.{IsBallot, IsBag}
 use Rattle.fields.specs.Spelling.{bag_bytes, ballot_bytes, vote_bytes, slot_bytes}
 use Rattle.fields.specs.Reading.{◌>>=◌, both, meant, byte_at, number_at, ballot_at, bag_at, slot_at}
 use Rattle.fields.proofs.Bytes.{IsBytes, bind_some, some_is, past_test, in_test, Takes, Reads, both_read, meant_taken, meant_again, meant_read}
@@ -66,28 +66,28 @@ entry_taken kind bytes e rest fits h =
           let is : entry_at kind bytes ≡ meant bag_at (λ b. Some (Deposit b)) bytes = rw t.0 refl in
           subst (λ (k : ℕ). IsRead k bytes rest e) (sym t.1) (made bag_at bag_bytes IsBag DEPOSIT Deposit bag_read (λ a. (refl, refl, λ f. f)) bytes e rest fits (sym is ∙ h))
       | inr f ↦ elim (eqb_tells kind ROUND) [
+        | inl t ↦
+            let is : entry_at kind bytes ≡ meant round_at (λ n. Some (Round n)) bytes = rw (f.0, t.0) refl in
+            subst (λ (k : ℕ). IsRead k bytes rest e) (sym t.1) (made round_at (to_be_bytes w32) IsRound ROUND Round round_read (λ a. (refl, refl, λ f. f)) bytes e rest fits (sym is ∙ h))
+        | inr g ↦ elim (eqb_tells kind PROMISE) [
           | inl t ↦
-              let is : entry_at kind bytes ≡ meant round_at (λ n. Some (Round n)) bytes = rw (f.0, t.0) refl in
-              subst (λ (k : ℕ). IsRead k bytes rest e) (sym t.1) (made round_at (to_be_bytes w32) IsRound ROUND Round round_read (λ a. (refl, refl, λ f. f)) bytes e rest fits (sym is ∙ h))
-          | inr g ↦ elim (eqb_tells kind PROMISE) [
+              let is : entry_at kind bytes ≡ meant ballot_at (λ b. Some (Promise b)) bytes = rw (f.0, g.0, t.0) refl in
+              subst (λ (k : ℕ). IsRead k bytes rest e) (sym t.1) (made ballot_at ballot_bytes IsBallot PROMISE Promise ballot_read (λ a. (refl, refl, λ f. f)) bytes e rest fits (sym is ∙ h))
+          | inr i ↦ elim (eqb_tells kind VOTE) [
+            | inl t ↦
+                let is : entry_at kind bytes ≡ meant (both ballot_at bag_at) (λ p. Some (Vote p.0 p.1)) bytes = rw (f.0, g.0, i.0, t.0) refl in
+                subst (λ (k : ℕ). IsRead k bytes rest e) (sym t.1) (made (both ballot_at bag_at) spell_vote IsVote VOTE (λ p. Vote p.0 p.1) vote_read (λ a. (refl, refl, λ f. f)) bytes e rest fits (sym is ∙ h))
+            | inr j ↦ elim (eqb_tells kind KNOWN) [
               | inl t ↦
-                  let is : entry_at kind bytes ≡ meant ballot_at (λ b. Some (Promise b)) bytes = rw (f.0, g.0, t.0) refl in
-                  subst (λ (k : ℕ). IsRead k bytes rest e) (sym t.1) (made ballot_at ballot_bytes IsBallot PROMISE Promise ballot_read (λ a. (refl, refl, λ f. f)) bytes e rest fits (sym is ∙ h))
-              | inr i ↦ elim (eqb_tells kind VOTE) [
-                  | inl t ↦
-                      let is : entry_at kind bytes ≡ meant (both ballot_at bag_at) (λ p. Some (Vote p.0 p.1)) bytes = rw (f.0, g.0, i.0, t.0) refl in
-                      subst (λ (k : ℕ). IsRead k bytes rest e) (sym t.1) (made (both ballot_at bag_at) spell_vote IsVote VOTE (λ p. Vote p.0 p.1) vote_read (λ a. (refl, refl, λ f. f)) bytes e rest fits (sym is ∙ h))
-                  | inr j ↦ elim (eqb_tells kind KNOWN) [
-                      | inl t ↦
-                          let is : entry_at kind bytes ≡ meant bag_at (λ b. Some (Known b)) bytes = rw (f.0, g.0, i.0, j.0, t.0) refl in
-                          subst (λ (k : ℕ). IsRead k bytes rest e) (sym t.1) (made bag_at bag_bytes IsBag KNOWN Known bag_read (λ a. (refl, refl, λ f. f)) bytes e rest fits (sym is ∙ h))
-                      | inr k ↦
-                          let is : entry_at kind bytes ≡ None = rw (f.0, g.0, i.0, j.0, k.0) refl in
-                          absurd (cc (is, h))
-                    ]
-                ]
+                  let is : entry_at kind bytes ≡ meant bag_at (λ b. Some (Known b)) bytes = rw (f.0, g.0, i.0, j.0, t.0) refl in
+                  subst (λ (k : ℕ). IsRead k bytes rest e) (sym t.1) (made bag_at bag_bytes IsBag KNOWN Known bag_read (λ a. (refl, refl, λ f. f)) bytes e rest fits (sym is ∙ h))
+              | inr k ↦
+                  let is : entry_at kind bytes ≡ None = rw (f.0, g.0, i.0, j.0, k.0) refl in
+                  absurd (cc (is, h))
             ]
+          ]
         ]
+      ]
     ]
 
 entry_again : (e : Entry) (rest : List ℕ) → IsEntry e → Tells (kind_code e) (entry_bytes e ++ rest) rest e

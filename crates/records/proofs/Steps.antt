@@ -1,5 +1,5 @@
 -- What stands next, by the length that is told.
-use Rattle.std.proofs.Common.{◌≡◌, ◌≢◌, ◌⊎◌, ℕ, suc, ◌^◌, ◌<◌, ◌≤◌, ◌+◌, ◌-◌, ◌*◌, List, [], ◌∷◌, ◌++◌, length, take, drop, get_or, Option, Some, None, refl, sym, ap, subst, ◌∙◌, arith, inl, inr}
+use Rattle.std.proofs.Common.{◌≡◌, ◌≢◌, ℕ, suc, ◌≤◌, ◌+◌, ◌-◌, ◌*◌, List, [], ◌∷◌, ◌++◌, length, take, drop, get_or, Some, None, refl, sym, ap, ◌∙◌, arith, inr}
 use Rattle.std.specs.Int.{w16, to_be_bytes}
 use Rattle.std.proofs.lemmas.List.{take-append-drop, length-drop, length-take}
 use Rattle.std.proofs.lemmas.Nat.{be_bytes_2}
@@ -13,7 +13,6 @@ use Rattle.records.specs.Journals.{length_told, IsNoRecord}
 use Rattle.records.specs.Answers.{IsStep}
 use Rattle.records.specs.Reading.{content_at}
 use Rattle.records.proofs.Spelled.{content_taken, content_again}
-use Rattle.records.proofs.Begins.{content_of}
 
 -- the bytes behind the length
 abbrev pub rest_of : List ℕ → List ℕ
@@ -63,6 +62,6 @@ front_content (a ∷ b ∷ rest) n two = ap (drop 2) (two_more a b rest n) ∙ a
 pub step_none : (bytes : List ℕ) (n : ℕ) → 2 ≤ length bytes → n ≡ length_told bytes → n ≤ length (rest_of bytes) → content_at (take n (rest_of bytes)) ≡ None → IsNoRecord bytes
 step_none bytes n two is long e =
     let none : (r : Record) → IsRecord r → take (2 + length_told bytes) bytes ≢ record_bytes r = λ r h s.
-        let content : take n (rest_of bytes) ≡ content_bytes r = sym (front_content bytes n two) ∙ ap (λ (m : ℕ). drop 2 (take (2 + m) bytes)) is ∙ ap (drop 2) s ∙ spelled_content r in
-        not_some (content_at (take n (rest_of bytes))) r e (ap content_at content ∙ content_again r h) in
+    let content : take n (rest_of bytes) ≡ content_bytes r = sym (front_content bytes n two) ∙ ap (λ (m : ℕ). drop 2 (take (2 + m) bytes)) is ∙ ap (drop 2) s ∙ spelled_content r in
+    not_some (content_at (take n (rest_of bytes))) r e (ap content_at content ∙ content_again r h) in
     (two, inr (omega (arith, long, is, ap length (rest_is bytes), length-drop 2 bytes, two), none))

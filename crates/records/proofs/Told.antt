@@ -1,22 +1,21 @@
 -- What a journal was found to say is what its bytes say.
-use Rattle.std.proofs.Common.{◌≡◌, ◌⊎◌, ℕ, ◌<◌, ◌≤◌, ◌+◌, ◌-◌, List, [], ◌∷◌, ◌++◌, length, take, drop, get_or, Result, Ok, Err, refl, sym, ap, subst, ◌∙◌, arith, inl, inr, append_assoc, length-append}
+use Rattle.std.proofs.Common.{◌≡◌, ℕ, ◌≤◌, List, [], ◌∷◌, ◌++◌, length, take, drop, Result, Ok, Err, refl, sym, ap, ◌∙◌, arith, inl, inr}
 use Rattle.std.specs.Prelude.{IfOk}
 use Rattle.std.specs.Int.{w64, to_be_bytes}
-use Rattle.std.proofs.lemmas.List.{append-nil, take-append-drop, length-drop, length-take, drop-drop, drop_more}
+use Rattle.std.proofs.lemmas.List.{take-append-drop, length-drop, length-take, drop-drop, drop_more}
 use Rattle.records.specs.declared.layout.TheConstants.{MAGIC, HEADER}
 use Rattle.records.specs.declared.fault.OpenFault.{OpenFault}
 use Rattle.records.specs.declared.fault.OpenFault.TheVariants as faults
 use Rattle.records.specs.declared.record.Record.{Record}
 use Rattle.records.specs.declared.journal.Journal.{Journal}
 use Rattle.records.specs.Layout.{header_bytes, records_bytes, cell_text}
-use Rattle.records.specs.Records.{AreRecords}
-use Rattle.records.specs.Journals.{IsNew, Says}
-use Rattle.records.specs.Answers.{Tells, told, IsToldOrMemory, IsText, HeaderSays, Parts, ReadsRecords}
+use Rattle.records.specs.Journals.{Says}
+use Rattle.records.specs.Answers.{Tells, IsToldOrMemory, IsText, HeaderSays, Parts, ReadsRecords}
 use Rattle.records.proofs.Heads.{Said, one_saying}
 use Rattle.records.proofs.Walk.{take_both}
 
 -- the first 13 bytes, by their parts
-header_whole : (federation site : ℕ) (bytes : List ℕ) → HEADER ≤ length bytes → HeaderSays federation site bytes (Ok tt) → take HEADER bytes ≡ header_bytes federation site
+pub header_whole : (federation site : ℕ) (bytes : List ℕ) → HEADER ≤ length bytes → HeaderSays federation site bytes (Ok tt) → take HEADER bytes ≡ header_bytes federation site
 unfolding header_bytes
 header_whole federation site bytes long (m, f, s) =
     let last : take 1 (drop 8 (drop 4 bytes)) ≡ site ∷ [] = ap (take 1) (drop-drop 8 4 bytes ∙ drop_more bytes 12 0 (omega (arith, long))) ∙ ap (λ (n : ℕ). n ∷ []) s in

@@ -1,15 +1,13 @@
 -- The records are read one after another.
-use Rattle.std.proofs.Common.{◌≡◌, ◌⊎◌, ℕ, ◌<◌, ◌≤◌, ◌+◌, ◌-◌, List, [], ◌∷◌, ◌++◌, length, take, drop, refl, sym, ap, subst, ◌∙◌, arith, inl, inr, append_assoc, length-append}
-use Rattle.std.proofs.lemmas.List.{append-nil, take_at, take-append-drop, length-drop, length-take, drop-drop}
+use Rattle.std.proofs.Common.{◌≡◌, ℕ, ◌≤◌, ◌+◌, ◌-◌, List, [], ◌∷◌, ◌++◌, length, take, drop, refl, sym, ap, subst, ◌∙◌, arith, append_assoc, length-append}
+use Rattle.std.proofs.lemmas.List.{append-nil, take_at, take-append-drop, length-drop, length-take}
 use Rattle.std.proofs.Math.Seq.{take-length}
 use Rattle.records.specs.declared.layout.TheConstants.{HEADER}
 use Rattle.records.specs.declared.record.Record.{Record}
-use Rattle.records.specs.declared.journal.Step.{Step}
 use Rattle.records.specs.declared.journal.Step.TheVariants as steps
-use Rattle.records.specs.Layout.{content_bytes, record_bytes, records_bytes}
+use Rattle.records.specs.Layout.{record_bytes, records_bytes}
 use Rattle.records.specs.Records.{IsRecord, AreRecords}
-use Rattle.records.specs.Journals.{IsTornEnd, IsNoRecord}
-use Rattle.records.specs.Answers.{IsStep, Parts, ReadsRecords}
+use Rattle.records.specs.Answers.{IsStep, Parts}
 use Rattle.records.proofs.Begins.{record_size, content_size}
 
 pub records-push : (rs : List Record) (r : Record) → records_bytes (rs ++ r ∷ []) ≡ records_bytes rs ++ record_bytes r

@@ -1,13 +1,11 @@
 -- What one more record makes of each word.
-use Rattle.std.proofs.Common.{◌≡◌, ℕ, max, List, [], ◌∷◌, ◌++◌, Option, Some, None, refl, sym, ap, ◌∙◌}
+use Rattle.std.proofs.Common.{◌≡◌, max, List, [], ◌∷◌, ◌++◌, Option, Some, None, refl, sym, ap, ◌∙◌}
 use Rattle.std.specs.Prelude.{fold, filter_map}
 use Rattle.std.specs.List.{cons_option}
-use Rattle.fed_types.specs.declared.bag_id.BagId.{BagId}
-use Rattle.fed_types.specs.Ballots.{BallotNumber}
 use Rattle.fed_types.specs.Slots.{SlotName}
 use Rattle.records.specs.declared.entry.Entry.{Entry}
 use Rattle.records.specs.declared.record.Record.{Record}
-use Rattle.records.specs.Words.{entry_of, entries, higher, highest, earlier, first, with_one, if_some, said_in, ballot_in, vote_in, round_in, deposit_in, known_in, promised_of, vote_of, used_of, deposit_of, known_of}
+use Rattle.records.specs.Words.{entry_of, entries, higher, earlier, first, with_one, if_some, said_in, ballot_in, vote_in, round_in, deposit_in, known_in, promised_of, vote_of, used_of, deposit_of, known_of}
 
 -- what is said of a slot, of one kind
 abbrev pub all_said : {X : Type 0} → (Entry → Option X) → SlotName → List Record → List X

@@ -1,5 +1,5 @@
 -- What the functions that read a journal answer.
-use Rattle.std.specs.Prelude.{◌≡◌, ◌⊎◌, ◌≤◌, ◌<◌, ◌+◌, ℕ, List, [], ◌++◌, length, take, drop, get_or, Result, Ok, Err}
+use Rattle.std.specs.Prelude.{◌≡◌, ◌⊎◌, ◌≤◌, ◌<◌, ℕ, List, [], ◌++◌, length, take, drop, get_or, Result, Ok, Err}
 use Rattle.std.specs.Int.{w64, to_be_bytes}
 use Rattle.records.specs.declared.layout.TheConstants.{MAGIC, HEADER}
 use Rattle.records.specs.declared.fault.OpenFault.{OpenFault}

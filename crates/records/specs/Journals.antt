@@ -47,7 +47,7 @@ IsNoRecord bytes = (2 ≤ length bytes) × ((IsRecordLength (length_told bytes) 
 -- at this place, behind the header or records, stands what is no record
 abbrev pub IsDamagedAt : ℕ → ℕ → ℕ → List ℕ → Type 0
 IsDamagedAt federation site place bytes = ((place ≡ 0) × HasNoHeader federation site bytes)
-  ⊎ ((records : List Record) × (rest : List ℕ) × AreRecords records × (bytes ≡ cell_text federation site records ++ rest) × (place ≡ length (cell_text federation site records)) × IsNoRecord rest)
+    ⊎ ((records : List Record) × (rest : List ℕ) × AreRecords records × (bytes ≡ cell_text federation site records ++ rest) × (place ≡ length (cell_text federation site records)) × IsNoRecord rest)
 
 -- what bytes say
 abbrev pub Says : ℕ → ℕ → List ℕ → Result (List Record) OpenFault → Type 0

@@ -1,7 +1,8 @@
-ghost use Rattle.std.specs.Prelude.{◌≡◌, ◌≤◌, ◌<◌, ◌↔◌, List, Result, length, IfOk, IsTrue};
+ghost use Rattle.std.specs.Prelude.{◌≡◌, ◌≤◌, ◌<◌, ◌↔◌, List, Result, length, take, IfOk, IsErrOf, IsTrue};
 ghost use Rattle.records.specs.declared.fault.OpenFault.{OpenFault as declared_fault};
 ghost use Rattle.records.specs.declared.record.Record.{Record as declared_record};
 ghost use Rattle.records.specs.Journals.{IsNew, Says};
+ghost use Rattle.records.specs.Layout.{header_bytes};
 ghost use Rattle.records.specs.Answers.{IsStep, HeaderSays, ReadsRecords, Tells, IsToldOrMemory, IsText};
 
 use crate::fault::OpenFault;
@@ -111,6 +112,7 @@ fn read_text(
 ) -> Result<Journal, OpenFault>
     ensures told { Tells (Says federation site bytes.now) result }
     ensures text { IfOk result (IsText federation site bytes.now) }
+    ensures memory { IsErrOf result OpenFault.Memory → take HEADER bytes.now ≡ header_bytes federation site }
 {
     if HEADER <= bytes.len() {
         check_header(federation, site, bytes)?;
@@ -139,6 +141,8 @@ pub fn read_journal(
     // What the bytes say is told, unless memory runs out.
     ensures only { (said : Result (List declared_record) declared_fault) → Says federation site bytes.now said → IsToldOrMemory result said }
     ensures text { IfOk result (IsText federation site bytes.now) }
+    // Memory can run out only where the header is this journal's.
+    ensures memory { IsErrOf result OpenFault.Memory → take HEADER bytes.now ≡ header_bytes federation site }
 {
     read_text(alloc, federation, site, bytes)
 }

@@ -19,3 +19,6 @@ pub use layout::{HEADER, LONGEST, MAGIC, SHORTEST};
 pub use record::Record;
 pub use round::Round;
 pub use writing::header;
+
+#[cfg(test)]
+mod tests;

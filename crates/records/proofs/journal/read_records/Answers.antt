@@ -1,6 +1,5 @@
 use Rattle.std.proofs.Common.{◌≡◌, ◌⊎◌, List, ℕ, length, drop, arith, ap, subst, []}
 use Rattle.std.proofs.lemmas.List.{length-drop}
-use Rattle.records.specs.declared.journal.Step.{Step}
 use Rattle.records.specs.declared.journal.Step.TheVariants as steps
 use Rattle.records.specs.Journals.{IsTornEnd, IsNoRecord}
 use Rattle.records.specs.Answers.{IsStep}

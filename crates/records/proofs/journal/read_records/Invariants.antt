@@ -1,5 +1,4 @@
-use Rattle.std.proofs.Common.{◌≡◌, ◌-◌, ◌≤◌, ◌++◌, length, take, drop}
-use Rattle.records.specs.declared.layout.TheConstants.{HEADER}
+use Rattle.std.proofs.Common.{◌-◌, length, drop}
 use Rattle.records.specs.Answers.{Parts}
 use Rattle.records.proofs.journal.read_records.Given as goal
 

@@ -1,8 +1,8 @@
-use Rattle.std.proofs.Common.{◌≡◌, List, refl, sym, inl, inr, subst, []}
+use Rattle.std.proofs.Common.{List, refl, sym, inl, subst}
 use Rattle.records.specs.declared.record.Record.{Record}
 use Rattle.records.specs.Records.{AreRecords}
 use Rattle.records.specs.Journals.{OpensWith}
-use Rattle.records.proofs.Told.{said_records, ok_text}
+use Rattle.records.proofs.Told.{header_whole, said_records, ok_text}
 use Rattle.records.proofs.journal.read_text.Goals as goal
 
 pub returns-then-bytes-ge-HEADER-clause-told : goal.returns-then-bytes-ge-HEADER-clause-told
@@ -10,6 +10,9 @@ returns-then-bytes-ge-HEADER-clause-told c = said_records c.args.federation c.ar
 
 pub returns-then-bytes-ge-HEADER-clause-text : goal.returns-then-bytes-ge-HEADER-clause-text
 returns-then-bytes-ge-HEADER-clause-text c = ok_text c.args.federation c.args.site c.args.bytes.now c.read_records.result c.if-bytes-ge-HEADER.true c.in_ok-check_header.ensures c.read_records.ensures
+
+pub returns-then-bytes-ge-HEADER-clause-memory : goal.returns-then-bytes-ge-HEADER-clause-memory
+returns-then-bytes-ge-HEADER-clause-memory c = λ ran_out. header_whole c.args.federation c.args.site c.args.bytes.now c.if-bytes-ge-HEADER.true c.in_ok-check_header.ensures
 
 pub returns-then-not-is_new-clause-told : goal.returns-then-not-is_new-clause-told
 returns-then-not-is_new-clause-told c = inl (refl, inl (c.if-bytes-ge-HEADER.false, λ new. let t = c.is_new.ensures.1 new in cc (t, c.if-not-is_new.true)))

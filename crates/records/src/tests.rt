@@ -1,0 +1,674 @@
+use super::*;
+use fed_types::{BagId, Ballot, SiteNo, Slot};
+use std::alloc::{AllocError, Global};
+use std::test::Fail;
+
+const A: BagId = BagId([0xaa; 64]);
+
+const B: BagId = BagId([0xbb; 64]);
+
+const HEADER_7_1: &str = "42504a31000000000000000701";
+
+fn ballot(round: u32, site: u8) -> Result<Ballot, Fail> {
+    Ok(Ballot::new(round, SiteNo::new(site)?)?)
+}
+
+fn round(number: u32) -> Result<Round, Fail> {
+    Ok(Round::new(number).ok_or("a round")?)
+}
+
+fn slot(alloc: Global, object: &str, version: u32) -> Result<Slot, Fail> {
+    Ok(Slot::new(String::from_str(alloc, object)?, version)?)
+}
+
+// What a record of each kind says.
+fn entries() -> Result<[Entry; 5], Fail> {
+    let vote = Entry::Vote {
+        ballot: ballot(9, 2)?,
+        bag: B,
+    };
+    Ok([
+        Entry::Deposit(A),
+        Entry::Round(round(1)?),
+        Entry::Promise(ballot(0x1020304, 15)?),
+        vote,
+        Entry::Known(B),
+    ])
+}
+
+// How it is spelled: the lengths in hex about an object of 1 and of 200 bytes, the kind, and the bytes
+// behind the slot: those in hex, and the byte that is then repeated 64 times.
+type Kind = ([&'static str; 2], u8, &'static str, Option<u8>);
+
+static KINDS: [Kind; 5] = [
+    (["0047", "010e"], 1, "", Some(0xaa)),
+    (["000b", "00d2"], 2, "00000001", None),
+    (["000c", "00d3"], 3, "010203040f", None),
+    (["004c", "0113"], 4, "0000000902", Some(0xbb)),
+    (["0047", "010e"], 5, "", Some(0xbb)),
+];
+
+fn put_hex(alloc: Global, out: &mut Vec<u8>, text: &str) -> Result<(), Fail> {
+    out.extend_from_slice(&hex::decode(alloc, text)?)?;
+    Ok(())
+}
+
+// The bytes of a record of the kind, by its length.
+fn spelled(
+    alloc: Global,
+    length: &str,
+    kind: &Kind,
+    object: &str,
+    version: &str,
+) -> Result<Vec<u8>, Fail> {
+    let mut out = hex::decode(alloc, length)?;
+    out.push(kind.1)?;
+    let [.., size] = object.len().to_be_bytes();
+    out.push(size)?;
+    out.extend_from_slice(object.as_bytes())?;
+    put_hex(alloc, &mut out, version)?;
+    put_hex(alloc, &mut out, kind.2)?;
+    if let Some(byte) = kind.3 {
+        out.extend_from_slice(&[byte; 64])?;
+    }
+    Ok(out)
+}
+
+// Whether a journal tells these records and this end of its text.
+fn tells(journal: &Journal, records: &[Record], end: usize) -> bool {
+    let pairs = journal.records.iter().zip(records.iter());
+    journal.end == end
+        && journal.records.len() == records.len()
+        && pairs
+            .filter(|pair| pair.0.slot != pair.1.slot || pair.0.body != pair.1.body)
+            .count()
+            == 0
+}
+
+// The fault of these bytes, opened as the journal of site 1 of federation 7.
+fn fault(alloc: Global, bytes: &[u8]) -> Result<Option<OpenFault>, Fail> {
+    Ok(read_journal(alloc, 7, SiteNo::new(1)?, bytes).err())
+}
+
+#[test]
+fn headers_are_written(rt: HostRuntime) -> Result<(), Fail> {
+    let alloc = rt.alloc();
+    for (federation, site, text) in [
+        (0, 1, "42504a31000000000000000001"),
+        (7, 1, HEADER_7_1),
+        (0x102030405060708, 15, "42504a3101020304050607080f"),
+        (u64::MAX, 2, "42504a31ffffffffffffffff02"),
+    ] {
+        let bytes = header(federation, SiteNo::new(site)?);
+        assert_eq!(rt; bytes.as_slice(), hex::decode(alloc, text)?.as_slice());
+        let journal = read_journal(alloc, federation, SiteNo::new(site)?, &bytes)?;
+        assert!(rt; tells(&journal, &[], 13), "{text}");
+    }
+    Ok(())
+}
+
+#[test]
+fn records_have_their_bytes(rt: HostRuntime) -> Result<(), Fail> {
+    let alloc = rt.alloc();
+    let site = SiteNo::new(1)?;
+    let long = "\u{e9}".repeat(alloc, 100)?;
+    // Their sizes about an object of 1 and of 200 bytes.
+    let sizes = [[73, 272], [13, 212], [14, 213], [78, 277], [73, 272]];
+    let entries = entries()?;
+    for ((entry, kind), size) in entries.iter().zip(KINDS.iter()).zip(sizes.iter()) {
+        let [short_length, long_length] = kind.0;
+        let [short_size, long_size] = *size;
+        for (object, length, size) in [
+            ("a", short_length, short_size),
+            (long.as_str(), long_length, long_size),
+        ] {
+            for (version, text) in [(1, "00000001"), (u32::MAX, "ffffffff")] {
+                let record = Record {
+                    slot: slot(alloc, object, version)?,
+                    body: *entry,
+                };
+                let bytes = record.to_bytes(alloc)?;
+                let expected = spelled(alloc, length, kind, object, text)?;
+                assert_eq!(rt; bytes.as_slice(), expected.as_slice());
+                assert_eq!(rt; bytes.len(), size);
+                let mut text = hex::decode(alloc, HEADER_7_1)?;
+                text.extend_from_slice(&expected)?;
+                let journal = read_journal(alloc, 7, site, &text)?;
+                let records = Vec::from_array(alloc, [record])?;
+                assert!(rt; tells(&journal, &records, text.len()), "kind {}", kind.1);
+            }
+        }
+    }
+    Ok(())
+}
+
+#[test]
+fn a_journal_cut_anywhere_tells_its_whole_records(rt: HostRuntime) -> Result<(), Fail> {
+    let alloc = rt.alloc();
+    let site = SiteNo::new(1)?;
+    let mut bytes = hex::decode(alloc, HEADER_7_1)?;
+    let mut expected = Vec::new(alloc);
+    let entries = entries()?;
+    for (entry, kind) in entries.iter().zip(KINDS.iter()) {
+        let [length, _] = kind.0;
+        bytes.extend_from_slice(&spelled(alloc, length, kind, "a", "00000001")?)?;
+        expected.push(Record {
+            slot: slot(alloc, "a", 1)?,
+            body: *entry,
+        })?;
+    }
+    assert_eq!(rt; bytes.len(), 264);
+    // Where the header and each record end.
+    let ends = [13, 86, 99, 113, 191, 264];
+    for cut in 0..=bytes.len() {
+        let journal = read_journal(alloc, 7, site, &bytes[..cut])?;
+        let whole = ends.iter().filter(|end| **end <= cut).count();
+        let end = ends.iter().filter(|end| **end <= cut).max();
+        let records = expected.get(..whole.saturating_sub(1)).ok_or("records")?;
+        assert!(rt;
+            tells(&journal, records, end.copied().unwrap_or(0)),
+            "cut at {cut}"
+        );
+    }
+    // No header longer than 4 and a part of the federation, unless it is this one's.
+    for cut in 1..=12 {
+        let mut begun = Vec::new(alloc);
+        begun.extend_from_slice(bytes.get(..cut).ok_or("bytes")?)?;
+        if let Some(last) = begun.last_mut() {
+            *last ^= 1;
+        }
+        assert_eq!(rt;
+            fault(alloc, &begun)?,
+            Some(OpenFault::Damaged(0)),
+            "cut at {cut}"
+        );
+    }
+    Ok(())
+}
+
+// What is no record, in hex, and the byte that is then repeated 64 times.
+type Spoilt = (&'static str, Option<u8>);
+
+static SPOILT: [Spoilt; 31] = [
+    // Lengths of 0, 1, 10, 276 and 65535.
+    ("0000", None),
+    ("000102", None),
+    ("000a03000000000100000001", None),
+    ("01140201610000000100000001", None),
+    ("ffff0201610000000100000001", None),
+    // The kinds 0, 6 and 255.
+    ("000b0001610000000100000001", None),
+    ("000b0601610000000100000001", None),
+    ("000bff01610000000100000001", None),
+    // Version 0.
+    ("000b0201610000000000000001", None),
+    // No text: a byte that begins none, a cut character, a surrogate.
+    ("000b0201ff0000000100000001", None),
+    ("000b0201c30000000100000001", None),
+    ("000d0203eda0800000000100000001", None),
+    // Objects of 0 bytes, and of more bytes than there are.
+    ("000b0300000000010000000101", None),
+    ("000b0208610000000100000001", None),
+    ("000c030261000000010000000101", None),
+    // Rounds of 0.
+    ("000b0201610000000100000000", None),
+    ("000c030161000000010000000001", None),
+    ("004c040161000000010000000001", Some(0xaa)),
+    // The sites 0, 16 and 255.
+    ("000c030161000000010000000100", None),
+    ("000c030161000000010000000110", None),
+    ("000c0301610000000100000001ff", None),
+    ("004c040161000000010000000100", Some(0xaa)),
+    ("004c040161000000010000000110", Some(0xaa)),
+    // Bytes behind the record, within its length.
+    ("000c020161000000010000000100", None),
+    ("000d03016100000001000000010100", None),
+    ("004805016100000001bb", Some(0xbb)),
+    ("004d040161000000010000000101aa", Some(0xaa)),
+    // Lengths that end within the record.
+    ("000b0301610000000100000001", None),
+    ("0046010161000000", Some(0x01)),
+    ("004704016100000001", Some(0x01)),
+    ("004b0401610000000100000001", Some(0x01)),
+];
+
+#[test]
+fn what_is_no_record_is_damaged_at_its_place(rt: HostRuntime) -> Result<(), Fail> {
+    let alloc = rt.alloc();
+    let round = "000b0201610000000100000001";
+    for (text, repeated) in &SPOILT {
+        for (before, place) in [("", 13), (round, 26)] {
+            let mut bytes = hex::decode(alloc, HEADER_7_1)?;
+            put_hex(alloc, &mut bytes, before)?;
+            put_hex(alloc, &mut bytes, text)?;
+            if let Some(byte) = repeated {
+                bytes.extend_from_slice(&[*byte; 64])?;
+            }
+            let damaged = Some(OpenFault::Damaged(place));
+            assert_eq!(rt; fault(alloc, &bytes)?, damaged, "{text}");
+            // Neither a record behind it nor another damage changes that.
+            put_hex(alloc, &mut bytes, round)?;
+            put_hex(alloc, &mut bytes, "0000")?;
+            assert_eq!(rt; fault(alloc, &bytes)?, damaged, "{text} and more");
+        }
+    }
+    // An object of 201 bytes, and one of 200.
+    for (front, size, want) in [
+        ("00d302c9", 201, Some(OpenFault::Damaged(13))),
+        ("00d202c8", 200, None),
+    ] {
+        let mut bytes = hex::decode(alloc, HEADER_7_1)?;
+        put_hex(alloc, &mut bytes, front)?;
+        bytes.extend_from_slice("x".repeat(alloc, size)?.as_bytes())?;
+        put_hex(alloc, &mut bytes, "0000000100000001")?;
+        assert_eq!(rt; fault(alloc, &bytes)?, want, "{size} bytes");
+    }
+    Ok(())
+}
+
+// Bytes that don't begin as the journal of site 1 of federation 7, and their fault.
+static OTHERS: [(&str, OpenFault); 15] = [
+    // Fewer bytes than a header has.
+    ("00", OpenFault::Damaged(0)),
+    ("43", OpenFault::Damaged(0)),
+    ("314a5042", OpenFault::Damaged(0)),
+    ("42504a3101", OpenFault::Damaged(0)),
+    ("42504a320000000000000007", OpenFault::Damaged(0)),
+    ("42504a310000000000000008", OpenFault::Damaged(0)),
+    ("42504a310700000000000000", OpenFault::Damaged(0)),
+    // First the magic, then the federation, then the site, then the records.
+    ("42504a32000000000000000701", OpenFault::Damaged(0)),
+    ("52504a31000000000000000802", OpenFault::Damaged(0)),
+    ("42504a31010000000000000701", OpenFault::OtherFederation),
+    ("42504a31070000000000000001", OpenFault::OtherFederation),
+    ("42504a31000000000000000802", OpenFault::OtherFederation),
+    ("42504a310000000000000008010000", OpenFault::OtherFederation),
+    ("42504a31000000000000000700", OpenFault::OtherSite),
+    ("42504a310000000000000007020000", OpenFault::OtherSite),
+];
+
+#[test]
+fn other_headers_are_refused(rt: HostRuntime) -> Result<(), Fail> {
+    let alloc = rt.alloc();
+    for (text, want) in &OTHERS {
+        let bytes = hex::decode(alloc, *text)?;
+        assert_eq!(rt; fault(alloc, &bytes)?, Some(*want), "{text}");
+    }
+    Ok(())
+}
+
+// A row of the cells: a site, bytes in hex, how many records of three or which fault, and bytes in hex.
+type Cell = (u8, &'static str, Result<usize, OpenFault>, &'static str);
+
+// Cells of federation 7: the site for which each is opened, its bytes, how many of `three_records` it
+// holds or its fault, and what stands in the cell afterwards.
+static CELLS: [Cell; 55] = [
+    (1, "", Ok(0), "42504a31000000000000000701"),
+    (1, "42", Ok(0), "42504a31000000000000000701"),
+    (1, "4250", Ok(0), "42504a31000000000000000701"),
+    (1, "42504a", Ok(0), "42504a31000000000000000701"),
+    (1, "42504a31", Ok(0), "42504a31000000000000000701"),
+    (1, "42504a3100", Ok(0), "42504a31000000000000000701"),
+    (1, "42504a310000", Ok(0), "42504a31000000000000000701"),
+    (1, "42504a31000000", Ok(0), "42504a31000000000000000701"),
+    (1, "42504a3100000000", Ok(0), "42504a31000000000000000701"),
+    (1, "42504a310000000000", Ok(0), "42504a31000000000000000701"),
+    (
+        1,
+        "42504a31000000000000",
+        Ok(0),
+        "42504a31000000000000000701",
+    ),
+    (
+        1,
+        "42504a3100000000000000",
+        Ok(0),
+        "42504a31000000000000000701",
+    ),
+    (
+        1,
+        "42504a310000000000000007",
+        Ok(0),
+        "42504a31000000000000000701",
+    ),
+    (
+        1,
+        "42504a31000000000000000701",
+        Ok(0),
+        "42504a31000000000000000701",
+    ),
+    (
+        1,
+        "42504a3100000000000000070100",
+        Ok(0),
+        "42504a31000000000000000701",
+    ),
+    (
+        1,
+        "42504a31000000000000000701000b",
+        Ok(0),
+        "42504a31000000000000000701",
+    ),
+    (
+        1,
+        "42504a31000000000000000701000b02",
+        Ok(0),
+        "42504a31000000000000000701",
+    ),
+    (
+        1,
+        "42504a31000000000000000701000b0201",
+        Ok(0),
+        "42504a31000000000000000701",
+    ),
+    (
+        1,
+        "42504a31000000000000000701000b020161",
+        Ok(0),
+        "42504a31000000000000000701",
+    ),
+    (
+        1,
+        "42504a31000000000000000701000b02016100",
+        Ok(0),
+        "42504a31000000000000000701",
+    ),
+    (
+        1,
+        "42504a31000000000000000701000b0201610000",
+        Ok(0),
+        "42504a31000000000000000701",
+    ),
+    (
+        1,
+        "42504a31000000000000000701000b020161000000",
+        Ok(0),
+        "42504a31000000000000000701",
+    ),
+    (
+        1,
+        "42504a31000000000000000701000b02016100000001",
+        Ok(0),
+        "42504a31000000000000000701",
+    ),
+    (
+        1,
+        "42504a31000000000000000701000b0201610000000100",
+        Ok(0),
+        "42504a31000000000000000701",
+    ),
+    (
+        1,
+        "42504a31000000000000000701000b020161000000010000",
+        Ok(0),
+        "42504a31000000000000000701",
+    ),
+    (
+        1,
+        "42504a31000000000000000701000b02016100000001000000",
+        Ok(0),
+        "42504a31000000000000000701",
+    ),
+    (
+        1,
+        "42504a31000000000000000701000b0201610000000100000001",
+        Ok(1),
+        "42504a31000000000000000701000b0201610000000100000001",
+    ),
+    (
+        1,
+        "42504a31000000000000000701000b020161000000010000000100",
+        Ok(1),
+        "42504a31000000000000000701000b0201610000000100000001",
+    ),
+    (
+        1,
+        "42504a31000000000000000701000b0201610000000100000001000c",
+        Ok(1),
+        "42504a31000000000000000701000b0201610000000100000001",
+    ),
+    (
+        1,
+        "42504a31000000000000000701000b0201610000000100000001000c03",
+        Ok(1),
+        "42504a31000000000000000701000b0201610000000100000001",
+    ),
+    (
+        1,
+        "42504a31000000000000000701000b0201610000000100000001000c0301",
+        Ok(1),
+        "42504a31000000000000000701000b0201610000000100000001",
+    ),
+    (
+        1,
+        "42504a31000000000000000701000b0201610000000100000001000c030161",
+        Ok(1),
+        "42504a31000000000000000701000b0201610000000100000001",
+    ),
+    (
+        1,
+        "42504a31000000000000000701000b0201610000000100000001000c03016100",
+        Ok(1),
+        "42504a31000000000000000701000b0201610000000100000001",
+    ),
+    (
+        1,
+        "42504a31000000000000000701000b0201610000000100000001000c0301610000",
+        Ok(1),
+        "42504a31000000000000000701000b0201610000000100000001",
+    ),
+    (
+        1,
+        "42504a31000000000000000701000b0201610000000100000001000c030161000000",
+        Ok(1),
+        "42504a31000000000000000701000b0201610000000100000001",
+    ),
+    (
+        1,
+        "42504a31000000000000000701000b0201610000000100000001000c03016100000001",
+        Ok(1),
+        "42504a31000000000000000701000b0201610000000100000001",
+    ),
+    (
+        1,
+        "42504a31000000000000000701000b0201610000000100000001000c0301610000000100",
+        Ok(1),
+        "42504a31000000000000000701000b0201610000000100000001",
+    ),
+    (
+        1,
+        "42504a31000000000000000701000b0201610000000100000001000c030161000000010000",
+        Ok(1),
+        "42504a31000000000000000701000b0201610000000100000001",
+    ),
+    (
+        1,
+        "42504a31000000000000000701000b0201610000000100000001000c03016100000001000000",
+        Ok(1),
+        "42504a31000000000000000701000b0201610000000100000001",
+    ),
+    (
+        1,
+        "42504a31000000000000000701000b0201610000000100000001000c0301610000000100000001",
+        Ok(1),
+        "42504a31000000000000000701000b0201610000000100000001",
+    ),
+    (
+        1,
+        "42504a31000000000000000701000b0201610000000100000001000c030161000000010000000101",
+        Ok(2),
+        "42504a31000000000000000701000b0201610000000100000001000c030161000000010000000101",
+    ),
+    (
+        2,
+        "42504a31000000000000000701000b0201610000000100000001000c030161000000010000000101",
+        Err(OpenFault::OtherSite),
+        "42504a31000000000000000701000b0201610000000100000001000c030161000000010000000101",
+    ),
+    (
+        1,
+        "42504a31000000000000000701000b0201610000000100000001000a030161000000010000000101",
+        Err(OpenFault::Damaged(26)),
+        "42504a31000000000000000701000b0201610000000100000001000a030161000000010000000101",
+    ),
+    (
+        1,
+        "42504a31000000000000000701000b0601610000000100000001000c030161000000010000000101",
+        Err(OpenFault::Damaged(13)),
+        "42504a31000000000000000701000b0601610000000100000001000c030161000000010000000101",
+    ),
+    (
+        1,
+        "42504a31000000000000000701000b0201610000000100000001000c030161000000000000000101",
+        Err(OpenFault::Damaged(26)),
+        "42504a31000000000000000701000b0201610000000100000001000c030161000000000000000101",
+    ),
+    (
+        1,
+        "42504a31000000000000000701000b0201610000000100000001000c030161000000010000000110",
+        Err(OpenFault::Damaged(26)),
+        "42504a31000000000000000701000b0201610000000100000001000c030161000000010000000110",
+    ),
+    (
+        1,
+        "42504a3100000000000000070101140201610000000100000001000c030161000000010000000101",
+        Err(OpenFault::Damaged(13)),
+        "42504a3100000000000000070101140201610000000100000001000c030161000000010000000101",
+    ),
+    (
+        1,
+        "42504a3100000000000000070101130201610000000100000001000c030161000000010000000101",
+        Ok(0),
+        "42504a31000000000000000701",
+    ),
+    (
+        1,
+        "00504a31000000000000000701000b0201610000000100000001000c030161000000010000000101",
+        Err(OpenFault::Damaged(0)),
+        "00504a31000000000000000701000b0201610000000100000001000c030161000000010000000101",
+    ),
+    (
+        1,
+        "42504a31000000000000000801000b0201610000000100000001000c030161000000010000000101",
+        Err(OpenFault::OtherFederation),
+        "42504a31000000000000000801000b0201610000000100000001000c030161000000010000000101",
+    ),
+    (
+        1,
+        "42504a31000000000000000701000b0201610000000100000001000c030161000000010000000101",
+        Ok(2),
+        "42504a31000000000000000701000b0201610000000100000001000c030161000000010000000101",
+    ),
+    (
+        1,
+        "42504a31000000000000000701000b0201610000000100000001000c03016100000001000000010100",
+        Ok(2),
+        "42504a31000000000000000701000b0201610000000100000001000c030161000000010000000101",
+    ),
+    (
+        1,
+        "42504a31000000000000000701000b0201610000000100000001000c030161000000010000000101004c040161000000010000000101aaaaaaaaaaaaaaaaaaaaaaaaaaaaaaaaaaaaaaaaaaaaaaaaaaaa",
+        Ok(2),
+        "42504a31000000000000000701000b0201610000000100000001000c030161000000010000000101",
+    ),
+    (
+        1,
+        "42504a31000000000000000701000b0201610000000100000001000c030161000000010000000101004c040161000000010000000101aaaaaaaaaaaaaaaaaaaaaaaaaaaaaaaaaaaaaaaaaaaaaaaaaaaaaaaaaaaaaaaaaaaaaaaaaaaaaaaaaaaaaaaaaaaaaaaaaaaaaaaaaaaaaaaaaaaaaaaaaaaaaa",
+        Ok(2),
+        "42504a31000000000000000701000b0201610000000100000001000c030161000000010000000101",
+    ),
+    (
+        1,
+        "42504a31000000000000000701000b0201610000000100000001000c030161000000010000000101004c040161000000010000000101aaaaaaaaaaaaaaaaaaaaaaaaaaaaaaaaaaaaaaaaaaaaaaaaaaaaaaaaaaaaaaaaaaaaaaaaaaaaaaaaaaaaaaaaaaaaaaaaaaaaaaaaaaaaaaaaaaaaaaaaaaaaaaaa",
+        Ok(3),
+        "42504a31000000000000000701000b0201610000000100000001000c030161000000010000000101004c040161000000010000000101aaaaaaaaaaaaaaaaaaaaaaaaaaaaaaaaaaaaaaaaaaaaaaaaaaaaaaaaaaaaaaaaaaaaaaaaaaaaaaaaaaaaaaaaaaaaaaaaaaaaaaaaaaaaaaaaaaaaaaaaaaaaaaaa",
+    ),
+];
+
+// The records of the cells.
+fn three_records(alloc: Global) -> Result<Vec<Record>, Fail> {
+    let first = ballot(1, 1)?;
+    let all = [
+        Entry::Round(round(1)?),
+        Entry::Promise(first),
+        Entry::Vote {
+            ballot: first,
+            bag: A,
+        },
+    ];
+    let mut records = Vec::new(alloc);
+    for body in all {
+        records.push(Record {
+            slot: slot(alloc, "a", 1)?,
+            body,
+        })?;
+    }
+    Ok(records)
+}
+
+#[test]
+fn cells_are_read(rt: HostRuntime) -> Result<(), Fail> {
+    let alloc = rt.alloc();
+    let three = three_records(alloc)?;
+    for (site, text, said, after) in &CELLS {
+        let site = SiteNo::new(*site)?;
+        let bytes = hex::decode(alloc, *text)?;
+        let after = hex::decode(alloc, *after)?;
+        match (read_journal(alloc, 7, site, &bytes), said) {
+            (Ok(journal), Ok(count)) => {
+                let records = three.get(..*count).ok_or("records")?;
+                // A journal whose header is not whole has no text, and is begun anew.
+                if bytes.len() < HEADER {
+                    assert!(rt; tells(&journal, records, 0), "{text}");
+                    assert_eq!(rt; header(7, site).as_slice(), after.as_slice());
+                } else {
+                    assert!(rt; tells(&journal, records, after.len()), "{text}");
+                    assert_eq!(rt; bytes.get(..after.len()), Some(after.as_slice()));
+                }
+            }
+            (Err(told), Err(want)) => {
+                assert_eq!(rt; told, *want, "{text}");
+                assert_eq!(rt; bytes.as_slice(), after.as_slice());
+            }
+            (Ok(_), Err(_)) => return Err(Fail::from("a fault is missed")),
+            (Err(_), Ok(_)) => return Err(Fail::from("a fault is told")),
+        }
+    }
+    Ok(())
+}
+
+#[test]
+fn rounds_are_at_least_1(rt: HostRuntime) -> Result<(), Fail> {
+    for (number, want) in [(0, None), (1, Some(1)), (u32::MAX, Some(u32::MAX))] {
+        assert_eq!(rt; Round::new(number).map(|r| r.number()), want);
+    }
+    assert_eq!(rt; Round::of(ballot(9, 2)?), round(9)?);
+    Ok(())
+}
+
+#[test]
+fn faults_have_numbers(rt: HostRuntime) -> Result<(), Fail> {
+    for (fault, number, text) in [
+        (
+            OpenFault::OtherFederation,
+            1,
+            "the journal of another federation",
+        ),
+        (OpenFault::OtherSite, 2, "the journal of another site"),
+        (
+            OpenFault::Damaged(26),
+            3,
+            "the journal is damaged at byte 26",
+        ),
+        (OpenFault::Device, 4, "the journal's device failed"),
+        (OpenFault::Memory, 5, "out of memory"),
+    ] {
+        assert_eq!(rt; fault.number(), number);
+        assert_eq!(rt; fault.to_string(rt.alloc())?.as_str(), text);
+    }
+    assert_eq!(rt; OpenFault::from(AllocError), OpenFault::Memory);
+    one_reading();
+    whole_or_not_at_all();
+    one_more_record();
+    Ok(())
+}
