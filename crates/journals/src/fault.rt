@@ -1,4 +1,4 @@
-use book::CommitFault;
+use book::{CommitFault, OpenFault};
 use cell_device::CellFault;
 use fed_types::TypeFault;
 use hex::FromHexError;
@@ -21,6 +21,9 @@ pub enum Fault {
     /// There is no cell at a path, or its device failed.
     #[error("Device")]
     Device,
+    /// The cell holds no journal of the site.
+    #[error("{0:?}")]
+    Refused(OpenFault),
     /// A growth was refused.
     #[error("memory")]
     Memory,
@@ -65,6 +68,16 @@ impl From<CellFault> for Fault {
         match e {
             CellFault::Device => Fault::Device,
             CellFault::Memory => Fault::Memory,
+        }
+    }
+}
+
+impl From<OpenFault> for Fault {
+    fn from(e: OpenFault) -> Fault {
+        match e {
+            OpenFault::Device => Fault::Device,
+            OpenFault::Memory => Fault::Memory,
+            fault => Fault::Refused(fault),
         }
     }
 }

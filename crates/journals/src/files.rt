@@ -1,7 +1,7 @@
 //! A journal in a file.
 
 use crate::fault::Fault;
-use crate::opening::{fault_text, members, opening_line};
+use crate::opening::{members, opening_line};
 use crate::said::records_text;
 use crate::worked::vote;
 use book::{Book, CommitFault};
@@ -13,16 +13,18 @@ pub fn opened_line(rt: &HostRuntime, path: &str, site: SiteNo) -> Result<String,
     opening_line(rt.alloc(), FileCell::open(rt, path)?, site)
 }
 
+/// The book of the site's journal in this file.
+pub fn open_book(rt: &HostRuntime, path: &str, site: SiteNo) -> Result<Book<FileCell>, Fault> {
+    match Book::open(rt.alloc(), FileCell::open(rt, path)?, members()?, site) {
+        Ok(book) => Ok(book),
+        Err((_cell, fault)) => Err(fault.into()),
+    }
+}
+
 /// Commits the Vote to the site's journal in this file. `ok` or the fault, and the records.
 pub fn commit_line(rt: &HostRuntime, path: &str, site: SiteNo) -> Result<String, Fault> {
     let alloc = rt.alloc();
-    let mut book = match Book::open(alloc, FileCell::open(rt, path)?, members()?, site) {
-        Ok(book) => book,
-        Err((_cell, fault)) => {
-            let fault = fault_text(alloc, fault)?;
-            return Ok(format!(in alloc; "{fault}\n")?);
-        }
-    };
+    let mut book = open_book(rt, path, site)?;
     let said = match book.commit(vote(alloc)?) {
         Ok(()) => "ok",
         Err(CommitFault::Device) => "Device",

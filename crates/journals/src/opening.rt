@@ -16,7 +16,11 @@ pub fn members() -> Result<Members, Fault> {
 pub fn opening_line<C: Cell + Drop>(alloc: Global, cell: C, site: SiteNo) -> Result<String, Fault> {
     match Book::open(alloc, cell, members()?, site) {
         Ok(book) => book_line(alloc, book),
-        Err((cell, fault)) => line(alloc, fault_text(alloc, fault)?.as_str(), cell),
+        Err((_cell, OpenFault::Memory)) => Err(Fault::Memory),
+        Err((cell, fault)) => {
+            let name = format!(in alloc; "{fault:?}")?;
+            line(alloc, name.as_str(), cell)
+        }
     }
 }
 
@@ -24,14 +28,6 @@ pub fn opening_line<C: Cell + Drop>(alloc: Global, cell: C, site: SiteNo) -> Res
 pub fn book_line<C: Cell + Drop>(alloc: Global, book: Book<C>) -> Result<String, Fault> {
     let records = records_text(alloc, book.records())?;
     line(alloc, records.as_str(), book.close())
-}
-
-/// The name of a fault, unless it is want of memory.
-pub fn fault_text(alloc: Global, fault: OpenFault) -> Result<String, Fault> {
-    match fault {
-        OpenFault::Memory => Err(Fault::Memory),
-        fault => Ok(format!(in alloc; "{fault:?}")?),
-    }
 }
 
 fn line<C: Cell + Drop>(alloc: Global, said: &str, cell: C) -> Result<String, Fault> {

@@ -32,11 +32,11 @@ pub fn task_of(words: &mut Args) -> Result<Task, Fault> {
     let task = match name.as_str() {
         "file" => Task::File {
             path: word(words)?,
-            site: site_of(word(words)?.as_str()).ok_or(Fault::Arguments)?,
+            site: site(words)?,
         },
         "commit" => Task::Commit {
             path: word(words)?,
-            site: site_of(word(words)?.as_str()).ok_or(Fault::Arguments)?,
+            site: site(words)?,
         },
         "bench" => Task::Bench {
             path: word(words)?,
@@ -63,6 +63,10 @@ pub fn site_of(digits: &str) -> Option<SiteNo> {
 
 fn word(words: &mut Args) -> Result<String, Fault> {
     words.next().ok_or(Fault::Arguments)
+}
+
+fn site(words: &mut Args) -> Result<SiteNo, Fault> {
+    site_of(word(words)?.as_str()).ok_or(Fault::Arguments)
 }
 
 fn count(words: &mut Args) -> Result<u32, Fault> {

@@ -1,9 +1,10 @@
 //! Calls to be timed, on journals in files. They belong to the site of the worked cell.
 
 use crate::fault::Fault;
+use crate::files::open_book;
 use crate::opening::members;
 use crate::worked::{site, slot, vote};
-use book::{Book, Entry, OpenFault, Record, Round};
+use book::{Entry, Record, Round};
 use cell_device::{Cell, FileCell};
 use records::header;
 use std::alloc::Global;
@@ -12,19 +13,10 @@ use std::time::Instant;
 /// The bytes that a Round record for object `a` has.
 const ROUND_BYTES: usize = 13;
 
-fn open_book(rt: &HostRuntime, path: &str) -> Result<Book<FileCell>, Fault> {
-    match Book::open(rt.alloc(), FileCell::open(rt, path)?, members()?, site()?) {
-        Ok(book) => Ok(book),
-        Err((_cell, OpenFault::Memory)) => Err(Fault::Memory),
-        Err((_cell, OpenFault::Device)) => Err(Fault::Device),
-        Err(_) => Err(Fault::Wrong),
-    }
-}
-
-/// Commits the Vote so often. How many commits a second that were.
+/// Commits the Vote so often, in a new file. How many commits a second that were.
 pub fn commits_line(rt: &HostRuntime, path: &str, count: u32) -> Result<String, Fault> {
     let alloc = rt.alloc();
-    let mut book = open_book(rt, path)?;
+    let mut book = open_book(rt, path, site()?)?;
     let start = Instant::now(rt)?;
     for _ in 0..count {
         book.commit(vote(alloc)?)?;
@@ -33,7 +25,7 @@ pub fn commits_line(rt: &HostRuntime, path: &str, count: u32) -> Result<String, 
     Ok(format!(in alloc; "{rate:.0}\n")?)
 }
 
-/// Writes a journal of Rounds 1 to `count`, in one append. How many bytes those records are.
+/// Writes the header and Rounds 1 to `count` to a new file. How many bytes those records are.
 pub fn filled_line(rt: &HostRuntime, path: &str, count: u32) -> Result<String, Fault> {
     let alloc = rt.alloc();
     let bytes = rounds(alloc, count)?;
@@ -62,7 +54,7 @@ fn rounds(alloc: Global, count: u32) -> Result<Vec<u8>, Fault> {
 /// Opens the journal. How many records it has, and how many seconds that took.
 pub fn opening_time_line(rt: &HostRuntime, path: &str) -> Result<String, Fault> {
     let start = Instant::now(rt)?;
-    let book = open_book(rt, path)?;
+    let book = open_book(rt, path, site()?)?;
     let seconds = start.elapsed(rt)?.as_secs_f64();
     let count = book.records().len();
     Ok(format!(in rt.alloc(); "{count} {seconds:.3}\n")?)

@@ -12,10 +12,8 @@ pub const CELL: &str =
 
 pub const RECORDS: &str = "Round1 Promise(1,1)";
 
-/// The bytes of the Vote in hex, but for its bag of 64 bytes aa.
-pub const VOTE: &str = "004c040161000000010000000101";
-
-pub const BAG_BYTE: &str = "aa";
+/// The bytes of the Vote in hex, but for its bag.
+const VOTE: &str = "004c040161000000010000000101";
 
 /// The site of the worked cell.
 pub fn site() -> Result<SiteNo, Fault> {
@@ -40,6 +38,6 @@ pub fn vote(alloc: Global) -> Result<Record, Fault> {
 
 /// What the cell says once the Vote is committed, and its bytes.
 pub fn whole_line(alloc: Global) -> Result<String, Fault> {
-    let bag = BAG_BYTE.repeat(alloc, 64)?;
+    let bag = "aa".repeat(alloc, 64)?;
     Ok(format!(in alloc; "{RECORDS} Vote(1,1) | {CELL}{VOTE}{bag}\n")?)
 }
