@@ -7,7 +7,7 @@ use Rattle.records.specs.Layout.{content_bytes, record_bytes, header_bytes, reco
 use Rattle.records.specs.Records.{IsRecord, AreRecords}
 use Rattle.records.specs.Journals.{length_told, IsRecordLength, IsTornEnd, IsNew, Says}
 use Rattle.records.specs.Kept.{kept_records}
-use Rattle.records.proofs.Begins.{content_size, told}
+use Rattle.records.proofs.Begins.{content_size, told, record_size}
 use Rattle.records.proofs.Walk.{records-push, whole-push}
 
 -- an end
