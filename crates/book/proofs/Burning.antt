@@ -5,10 +5,12 @@ use Rattle.std.specs.Result.{IsErrAnd}
 use Rattle.std.proofs.lemmas.List.{append-nil}
 use Rattle.cell_device.specs.declared.fault.CellFault.{CellFault}
 use Rattle.cell_device.specs.declared.fault.CellFault.TheVariants.{Device, Memory}
+use Rattle.cell_device.specs.declared.fuse.How.{How}
+use Rattle.cell_device.specs.declared.fuse.How.TheVariants as how
 use Rattle.cell_device.specs.declared.fuse.FuseState.{FuseState}
 use Rattle.cell_device.specs.declared.fuse.FuseState.TheVariants.{Clear, Burning, Stopped}
 use Rattle.cell_device.specs.Images.{Image, keeps, at_rest, appended, made_durable, untouched, failed}
-use Rattle.cell_device.specs.Fuses.{fires, burnt, fused}
+use Rattle.cell_device.specs.Fuses.{fires, burnt, blown, fused}
 use Rattle.cell_device.specs.Calls.{Turns, IsFused, Burns, Follows}
 use Rattle.book.specs.Volumes.{IfTold, RestsAt}
 use Rattle.book.specs.Committed.{bytes_kept, AppendBurns}
@@ -27,6 +29,18 @@ first_fires a b e = rw e refl
 not_both : (b : Bool) → b ≡ true → b ≡ false → ⊥
 not_both true e f = cc
 not_both false e f = cc
+
+-- a fuse that has fired burns no more
+blown_again : (h : How) → burnt (blown h) ≡ blown h
+blown_again how.Fail = refl
+blown_again how.Stop = refl
+
+blown_stays : (f : FuseState) → fires f ≡ true → burnt (burnt f) ≡ burnt f
+blown_stays Clear fires = absurd (cc fires)
+blown_stays (Burning f) fires =
+    let is : burnt (Burning f) ≡ blown f.how = rw fires refl in
+    ap burnt is ∙ blown_again f.how ∙ sym is
+blown_stays Stopped fires = refl
 
 abbrev Seen : List ℕ → Option Image → Type 0
 Seen bytes image = IfTold image (λ i. i.seen ≡ bytes)
@@ -51,8 +65,10 @@ pub append_burns : (e : CellFault) (f : FuseState) (text b : List ℕ) (before a
     → Follows {T = Unit {0}} (Err e) (appended b) (appended b) before after old new → AppendBurns (Err e) f text b after new
 append_burns Device f text b before after old new is rest turns follows =
     let burns : Burns {T = Unit {0}} (Err Device) (appended b) (appended b) f after old new = subst (λ (o : Option FuseState). Follows {T = Unit {0}} (Err Device) (appended b) (appended b) o after old new) is follows in
-    (first_fires (fires f) (fires (burnt f)) burns.0, append_seen f text b old new rest turns burns.0 burns.2)
-append_burns Memory f text b before after old new is rest turns follows = subst (λ (o : Option FuseState). Follows {T = Unit {0}} (Err Memory) (appended b) (appended b) o after old new) is follows
+    (first_fires (fires f) (fires (burnt f)) burns.0, burns.1 ∙ ap (λ (g : FuseState). Some g) (sym (blown_stays f burns.0)), append_seen f text b old new rest turns burns.0 burns.2)
+append_burns Memory f text b before after old new is rest turns follows =
+    let burns : Burns {T = Unit {0}} (Err Memory) (appended b) (appended b) f after old new = subst (λ (o : Option FuseState). Follows {T = Unit {0}} (Err Memory) (appended b) (appended b) o after old new) is follows in
+    burns.1
 
 -- the sync fails
 sync_seen : (f : FuseState) (text b : List ℕ) (old mid new : Option Image) → RestsAt text old → Turns {T = Unit {0}} (Ok tt) (appended b) (appended b) old mid → Turns {T = Unit {0}} (Err Device) untouched made_durable mid new
@@ -80,7 +96,7 @@ sync_burns result f text b before between after old mid new is rest first first_
   where
     by : (result : Result (Unit {0}) CellFault) → fires f ≡ false → Turns result untouched made_durable mid new → Burns result untouched made_durable (burnt f) after mid new → IfErr result (λ fault. fault ≢ Memory) → AppendBurns result f text b after new
     by (Ok x) out turns burns memory = (neither (fires f) (fires (burnt f)) out burns.0, burns.1)
-    by (Err Device) out turns burns memory = (either (fires f) (fires (burnt f)) burns.0, sync_seen f text b old mid new rest first turns out burns.0 burns.2)
+    by (Err Device) out turns burns memory = (either (fires f) (fires (burnt f)) burns.0, burns.1, sync_seen f text b old mid new rest first turns out burns.0 burns.2)
     by (Err Memory) out turns burns memory = absurd (memory refl)
 
 -- a refusal that is handed on

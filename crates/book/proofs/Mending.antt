@@ -1,7 +1,7 @@
 -- What a mended end opens with.
 use Rattle.std.proofs.Common.{◌≡◌, inl, inr, ℕ, ◌+◌, ◌-◌, ◌<◌, ◌≤◌, List, [], ◌++◌, length, take, drop, Ok, refl, sym, ap, subst, ◌∙◌, arith}
 use Rattle.std.proofs.lemmas.List.{append-nil, length-take, take_all, drop_at}
-use Rattle.records.specs.declared.layout.TheConstants.{HEADER}
+use Rattle.records.specs.Numbers.{HEADER}
 use Rattle.records.specs.declared.record.Record.{Record}
 use Rattle.records.specs.declared.journal.Journal.{Journal}
 use Rattle.records.specs.Layout.{header_bytes, records_bytes, cell_text}

@@ -31,7 +31,7 @@ bytes_kept Stopped = 0
 -- what appending bytes to a text, and syncing, makes of the fuse and of what a read gives
 abbrev pub AppendBurns : Result (Unit {0}) CellFault → FuseState → (text bytes : List ℕ) → Option FuseState → Option Image → Type 0
 AppendBurns (Ok _) f text bytes fuse image = (fires_within f ≡ false) × (fuse ≡ Some (burnt (burnt f)))
-AppendBurns (Err cells.Device) f text bytes fuse image = (fires_within f ≡ true) × IfTold image (λ i. i.seen ≡ text ++ take (bytes_kept f) bytes)
+AppendBurns (Err cells.Device) f text bytes fuse image = (fires_within f ≡ true) × (fuse ≡ Some (burnt (burnt f))) × IfTold image (λ i. i.seen ≡ text ++ take (bytes_kept f) bytes)
 AppendBurns (Err cells.Memory) f text bytes fuse image = fuse ≡ Some f
 
 -- what the cell opens with after a fuse has fired: with the new record exactly if as many bytes are kept as it has
@@ -43,7 +43,7 @@ records_kept Stopped records r = records
 -- what a commit makes of the fuse and the bytes
 abbrev pub Burns : ℕ → ℕ → Result (Unit {0}) CommitFault → FuseState → List Record → Record → Option FuseState → Option Image → Type 0
 Burns federation site (Ok _) f records r fuse image = (fires_within f ≡ false) × (fuse ≡ Some (burnt (burnt f)))
-Burns federation site (Err faults.Device) f records r fuse image = (fires_within f ≡ true) × IfTold image (λ i. Says federation site i.seen (Ok (records_kept f records r)))
+Burns federation site (Err faults.Device) f records r fuse image = (fires_within f ≡ true) × (fuse ≡ Some (burnt (burnt f))) × IfTold image (λ i. Says federation site i.seen (Ok (records_kept f records r)))
 Burns federation site (Err faults.Memory) f records r fuse image = fuse ≡ Some f
 Burns federation site (Err faults.NeedsOpen) f records r fuse image = fuse ≡ Some f
 

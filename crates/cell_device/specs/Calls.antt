@@ -1,8 +1,9 @@
 -- What a call answers, and what it does.
-use Rattle.std.specs.Prelude.{◌≡◌, ◌⊎◌, ◌<◌, ◌≤◌, ◌-◌, ◌^◌, ℕ, List, true, false, Option, Some, None, Result, Ok, Err, IsErrOf}
+use Rattle.std.specs.Prelude.{◌≡◌, ◌≢◌, ◌⊎◌, ◌<◌, ◌≤◌, ◌-◌, ◌^◌, ℕ, List, true, false, Option, Some, None, Result, Ok, Err, IsErrOf}
 use Rattle.cell_device.specs.declared.fault.CellFault.{CellFault}
 use Rattle.cell_device.specs.declared.fault.CellFault.TheVariants.{Device, Memory}
 use Rattle.cell_device.specs.declared.fuse.FuseState.{FuseState}
+use Rattle.cell_device.specs.declared.fuse.FuseState.TheVariants.{Stopped}
 use Rattle.cell_device.specs.Images.{Image, failed}
 use Rattle.cell_device.specs.Fuses.{fires, burnt, fused}
 
@@ -22,11 +23,11 @@ abbrev pub IsFused : FuseState → (tried done : Image → Image) → Option Ima
 IsFused f tried done None new = Unit {0}
 IsFused f tried done (Some i) new = new ≡ Some (fused f tried done i)
 
--- a call that wasn't refused for memory answers Device exactly where the fuse fires, and burns it
+-- a call that isn't refused for memory answers Device exactly where the fuse fires, and burns it; a stopped cell refuses none for memory
 abbrev pub Burns : {T : Type 0} → Result T CellFault → (tried done : Image → Image) → FuseState → Option FuseState → Option Image → Option Image → Type 0
 Burns (Ok x) tried done f fuse old new = (fires f ≡ false) × (fuse ≡ Some (burnt f)) × IsFused f tried done old new
 Burns (Err Device) tried done f fuse old new = (fires f ≡ true) × (fuse ≡ Some (burnt f)) × IsFused f tried done old new
-Burns (Err Memory) tried done f fuse old new = fuse ≡ Some f
+Burns (Err Memory) tried done f fuse old new = (f ≢ Stopped) × (fuse ≡ Some f)
 
 -- the same, where the cell tells its fuse
 abbrev pub Follows : {T : Type 0} → Result T CellFault → (tried done : Image → Image) → (before after : Option FuseState) → Option Image → Option Image → Type 0

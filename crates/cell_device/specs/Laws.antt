@@ -1,13 +1,13 @@
 -- What a cell in memory may leave now is one of the things that it may have left since.
-use Rattle.std.specs.Prelude.{◌≡◌, ℕ, ◌+◌, ◌≤◌, ◌<◌, Bool, true, false, List, [], ◌∷◌, length, take, reverse, if◌then◌else◌, Some}
-use Rattle.std.proofs.Common.{zero, suc, inl, inr, sym, ◌∙◌, ap, arith}
-use Rattle.std.proofs.lemmas.List.{length-take-le}
+use Rattle.std.specs.Prelude.{◌≡◌, ℕ, ◌+◌, ◌-◌, ◌≤◌, ◌<◌, Bool, true, false, List, [], ◌∷◌, length, take, reverse, if◌then◌else◌, Some}
+use Rattle.std.proofs.Common.{zero, suc, inl, inr, sym, ◌∙◌, ap, subst, arith}
+use Rattle.std.proofs.lemmas.List.{length-take-le, take-take}
 use Rattle.std.proofs.lemmas.Bool.{cases_eq}
 use Rattle.std.proofs.lemmas.Bool.Decides.{nat_tests}
 use Rattle.cell_device.specs.declared.change.Change.{Change}
 use Rattle.cell_device.specs.declared.medium.Medium.{Medium}
 use Rattle.cell_device.specs.declared.memory_cell.MemoryCell.{MemoryCell}
-use Rattle.cell_device.specs.Images.{keeps, MayLeave}
+use Rattle.cell_device.specs.Images.{Image, keeps, Leaves, MayLeave}
 use Rattle.cell_device.specs.Undone.{State, Left, LeftWithin}
 use Rattle.cell_device.specs.Mediums.{state, held}
 use Rattle.cell_device.specs.Memory.{image_of, moment_of, left_since_of}
@@ -55,6 +55,20 @@ only_here : (s : State) (changes : List Change) (n : ℕ) (c : List ℕ) → n �
 only_here s [] n c none left = left
 only_here s (e ∷ changes) zero c none left = left
 only_here s (e ∷ changes) (suc n) c none left = absurd (omega arith)
+
+-- what a read gives is one of the things that it may leave
+seen_first : (cell : MemoryCell) → Leaves (image_of cell) (image_of cell).seen
+seen_first cell =
+    let m = cell.medium in
+    let k = m.seen - m.least in
+    let is : m.least + k ≡ m.seen = omega arith in
+    (k, sym (keeps_first m.is_cut m.buffer.items m.least m.most k (omega arith) (omega arith) ∙ ap (λ (n : ℕ). take n (take m.most m.buffer.items)) is ∙ take-take m.seen m.most m.buffer.items (omega arith)))
+
+pub seen_now_of : (cell : MemoryCell) (i : Image) → Some (image_of cell) ≡ Some i → Leaves i i.seen
+seen_now_of cell i told = subst (λ (j : Image). Leaves j j.seen) (some_is (image_of cell) i told) (seen_first cell)
+  where
+    some_is : (a b : Image) → Some a ≡ Some b → a ≡ b
+    some_is a b e = cc e
 
 pub counts_now_of : (cell : MemoryCell) (t : ℕ) (c : List ℕ) → t ≤ moment_of cell → MayLeave (Some (image_of cell)) c → left_since_of cell t c
 counts_now_of cell t c le now = here (state cell.medium) (reverse cell.medium.changes.items) _ c (left_first cell.medium c now)

@@ -1,7 +1,7 @@
 ghost use Rattle.std.specs.Prelude.{◌≡◌, ◌≢◌, ◌≤◌, ◌⊎◌, ℕ, List, Option, Some, None, IfOk, IfErr};
 ghost use Rattle.cell_device.specs.declared.fault.CellFault.TheVariants.{Memory};
 ghost use Rattle.cell_device.specs.declared.fuse.FuseState.{FuseState};
-ghost use Rattle.cell_device.specs.Images.{Image, MayLeave, AllowsAppend, AllowsCut, appended, cut_to, made_durable, untouched};
+ghost use Rattle.cell_device.specs.Images.{Image, Leaves, MayLeave, AllowsAppend, AllowsCut, appended, cut_to, made_durable, untouched};
 ghost use Rattle.cell_device.specs.Time.{Elapses};
 ghost use Rattle.cell_device.specs.Calls.{Turns, Follows, HasCause, IsRead};
 
@@ -43,7 +43,7 @@ pub trait Cell {
         ensures cause { HasCause (failures self.old) (failures self.new) result };
 
     /// Cuts the cell to a length. Until a sync succeeds, a crash may leave any number of the bytes
-    /// behind it.
+    /// behind that length.
     fn cut(&mut self, len: usize) -> Result<(), CellFault>
         requires { AllowsCut len (image self.old) }
         ensures bytes { Turns result (cut_to len) (cut_to len) (image self.old) (image self.new) }
@@ -58,6 +58,9 @@ pub trait Cell {
         ensures no_memory { IfErr result (λ fault. fault ≢ Memory) }
         ensures time { Elapses (moment self.old) (moment self.new) (left_since self.old) (left_since self.new) (MayLeave (image self.new)) }
         ensures cause { HasCause (failures self.old) (failures self.new) result };
+
+    // What a read gives is among what a crash now may leave.
+    ghost seen_now: { (cell : Self) (i : Image) → image cell ≡ Some i → Leaves i i.seen };
 
     // This moment is one of those since an earlier one.
     ghost counts_now: { (cell : Self) (t : ℕ) (c : List ℕ) → t ≤ moment cell → MayLeave (image cell) c → left_since cell t c };

@@ -23,3 +23,17 @@ impl From<AllocError> for CellFault {
         Self::Memory
     }
 }
+
+impl CellFault {
+    ghost use Rattle.cell_device.specs.Faults.{fault_number};
+
+    /// The number by which the fault is told, 1 or 2.
+    pub fn number(self) -> u8
+        ensures { result ≡ fault_number self }
+    {
+        match self {
+            CellFault::Device => 1,
+            CellFault::Memory => 2,
+        }
+    }
+}

@@ -53,7 +53,7 @@ impl FileCell {
 
 impl Cell for FileCell {
     ghost use Rattle.std.specs.Prelude.{None};
-    ghost use Rattle.cell_device.specs.FileCells.{failures_of};
+    ghost use Rattle.cell_device.specs.FileCells.{failures_of, nothing_told};
 
     ghost image = { λ cell. None };
 
@@ -64,6 +64,8 @@ impl Cell for FileCell {
     ghost left_since = { λ cell t c. Unit {0} };
 
     ghost failures = { failures_of };
+
+    ghost seen_now = { λ cell i told. nothing_told i told };
 
     ghost counts_now = { λ cell t c le now. tt };
 
@@ -109,6 +111,13 @@ impl Cell for FileCell {
 
 /// The file of this path, which no other cell has open. It outlives a crash.
 fn open_locked<R: Files<File = File>>(rt: &R, path: &str) -> io::Result<File> {
+    // Nothing is made behind a link that leads nowhere.
+    match fs::symlink_metadata(rt, path) {
+        Ok(there) if !there.is_file() => return Err(ErrorKind::InvalidInput.into()),
+        Ok(_) => {}
+        Err(error) if error.kind() == ErrorKind::NotFound => {}
+        Err(error) => return Err(error),
+    }
     // Each write goes to the end.
     let file = OpenOptions::new()
         .read(true)

@@ -131,7 +131,7 @@ impl MemoryCell {
 impl Cell for MemoryCell {
     ghost use Rattle.std.specs.Prelude.{Some};
     ghost use Rattle.cell_device.specs.Memory.{image_of, fuse_of, failures_of, moment_of, left_since_of};
-    ghost use Rattle.cell_device.specs.Laws.{counts_now_of, only_now_of};
+    ghost use Rattle.cell_device.specs.Laws.{seen_now_of, counts_now_of, only_now_of};
 
     ghost image = { λ cell. Some (image_of cell) };
 
@@ -142,6 +142,8 @@ impl Cell for MemoryCell {
     ghost left_since = { left_since_of };
 
     ghost failures = { failures_of };
+
+    ghost seen_now = { seen_now_of };
 
     ghost counts_now = { counts_now_of };
 

@@ -11,7 +11,7 @@ use Rattle.fields.specs.Spelling.{bag_bytes, ballot_bytes, vote_bytes, slot_byte
 use Rattle.fields.specs.Reading.{◌>>=◌, both, meant, byte_at, number_at, ballot_at, bag_at, slot_at}
 use Rattle.fields.proofs.Bytes.{IsBytes, bind_some, some_is, past_test, in_test, Takes, Reads, both_read, meant_taken, meant_again, meant_read}
 use Rattle.fields.proofs.Fields.{byte_read, number32_read, ballot_read, bag_read, slot_read}
-use Rattle.records.specs.declared.layout.TheConstants.{DEPOSIT, ROUND, PROMISE, VOTE, KNOWN}
+use Rattle.records.specs.Numbers.{DEPOSIT, ROUND, PROMISE, VOTE, KNOWN}
 use Rattle.records.specs.declared.entry.Entry.{Entry}
 use Rattle.records.specs.declared.entry.Entry.TheVariants.{Deposit, Round, Promise, Vote, Known}
 use Rattle.records.specs.declared.record.Record.{Record}

@@ -2,7 +2,7 @@
 use Rattle.std.proofs.Common.{◌≡◌, ℕ, ◌≤◌, ◌+◌, ◌-◌, List, [], ◌∷◌, ◌++◌, length, take, drop, refl, sym, ap, subst, ◌∙◌, arith, append_assoc, length-append}
 use Rattle.std.proofs.lemmas.List.{append-nil, take_at, take-append-drop, length-drop, length-take}
 use Rattle.std.proofs.Math.Seq.{take-length}
-use Rattle.records.specs.declared.layout.TheConstants.{HEADER}
+use Rattle.records.specs.Numbers.{HEADER}
 use Rattle.records.specs.declared.record.Record.{Record}
 use Rattle.records.specs.declared.journal.Step.TheVariants as steps
 use Rattle.records.specs.Layout.{record_bytes, records_bytes}

@@ -1,7 +1,7 @@
 -- What the functions that read a journal answer.
 use Rattle.std.specs.Prelude.{◌≡◌, ◌⊎◌, ◌≤◌, ◌<◌, ℕ, List, [], ◌++◌, length, take, drop, get_or, Result, Ok, Err}
 use Rattle.std.specs.Int.{w64, to_be_bytes}
-use Rattle.records.specs.declared.layout.TheConstants.{MAGIC, HEADER}
+use Rattle.records.specs.Numbers.{MAGIC, HEADER}
 use Rattle.records.specs.declared.fault.OpenFault.{OpenFault}
 use Rattle.records.specs.declared.fault.OpenFault.TheVariants as faults
 use Rattle.records.specs.declared.record.Record.{Record}

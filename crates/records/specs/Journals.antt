@@ -1,7 +1,7 @@
 -- What bytes say as the journal of a site of a federation: its records, or why they are none.
 use Rattle.std.specs.Prelude.{◌≡◌, ◌≢◌, ◌⊎◌, ◌≤◌, ◌<◌, ◌+◌, ℕ, List, [], ◌++◌, length, take, drop, get_or, Result, Ok, Err}
 use Rattle.std.specs.Int.{w16, w64, to_be_bytes, from_be_bytes}
-use Rattle.records.specs.declared.layout.TheConstants.{MAGIC, HEADER, SHORTEST, LONGEST}
+use Rattle.records.specs.Numbers.{MAGIC, HEADER, SHORTEST, LONGEST}
 use Rattle.records.specs.declared.fault.OpenFault.{OpenFault}
 use Rattle.records.specs.declared.fault.OpenFault.TheVariants as faults
 use Rattle.records.specs.declared.record.Record.{Record}

@@ -2,7 +2,7 @@
 use Rattle.std.specs.Prelude.{ℕ, List, [], ◌∷◌, ◌++◌, length}
 use Rattle.std.specs.Int.{w16, w32, w64, to_be_bytes}
 use Rattle.fields.specs.Spelling.{bag_bytes, ballot_bytes, vote_bytes, slot_bytes}
-use Rattle.records.specs.declared.layout.TheConstants.{MAGIC, DEPOSIT, ROUND, PROMISE, VOTE, KNOWN}
+use Rattle.records.specs.Numbers.{MAGIC, DEPOSIT, ROUND, PROMISE, VOTE, KNOWN}
 use Rattle.records.specs.declared.entry.Entry.{Entry}
 use Rattle.records.specs.declared.entry.Entry.TheVariants.{Deposit, Round, Promise, Vote, Known}
 use Rattle.records.specs.declared.record.Record.{Record}

@@ -1,4 +1,5 @@
 pub mod Faults
+pub mod Numbers
 pub mod Layout
 pub mod Records
 pub mod Journals

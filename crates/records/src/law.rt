@@ -30,3 +30,8 @@ pub fn one_more_record()
     ensures deposit { (slot : SlotName) (rs : List Record) (r : Record) → deposit_of slot (rs ++ r ∷ []) ≡ with_one earlier (deposit_of slot rs) (said_in deposit_in slot r) }
     ensures known { (slot : SlotName) (rs : List Record) (r : Record) → known_of slot (rs ++ r ∷ []) ≡ with_one earlier (known_of slot rs) (said_in known_in slot r) }
 {}
+
+/// Bytes that begin with a record begin with no other. It does nothing: its contract is the law.
+pub fn no_record_begins_another()
+    ensures { (r s : Record) (x y : List ℕ) → IsRecord r → IsRecord s → record_bytes r ++ x ≡ record_bytes s ++ y → (r ≡ s) × (x ≡ y) }
+{}

@@ -14,7 +14,7 @@ mod writing;
 pub use entry::Entry;
 pub use fault::OpenFault;
 pub use journal::{Journal, read_journal};
-pub use law::{one_more_record, one_reading, whole_or_not_at_all};
+pub use law::{no_record_begins_another, one_more_record, one_reading, whole_or_not_at_all};
 pub use layout::{HEADER, LONGEST, MAGIC, SHORTEST};
 pub use record::Record;
 pub use round::Round;

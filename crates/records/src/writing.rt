@@ -1,5 +1,5 @@
 ghost use Rattle.std.specs.Prelude.{◌≡◌, ◌≤◌, ◌++◌, length, IfOk, OnOk};
-ghost use Rattle.records.specs.declared.layout.TheConstants.{SHORTEST, LONGEST};
+ghost use Rattle.records.specs.Numbers.{SHORTEST, LONGEST};
 ghost use Rattle.records.specs.Records.{IsRecord};
 ghost use Rattle.records.specs.Layout.{entry_bytes, content_bytes, record_bytes, header_bytes};
 

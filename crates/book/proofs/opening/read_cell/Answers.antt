@@ -60,3 +60,8 @@ returns-clause-any_moment g c =
 
 pub returns-clause-durable : goal.returns-clause-durable
 returns-clause-durable g c = rest_only (cell_text c.args.federation c.args.site c.in_ok-journal.journal.records.items) (g.C.Cell.image c.mend.new.cell) c.in_default-mend.ensures.mended
+
+pub returns-clause-records : goal.returns-clause-records
+returns-clause-records g c =
+    let records = c.in_ok-journal.journal.records.items in
+    said_seen c.args.federation c.args.site (g.C.Cell.image c.args.cell.now) c.in-Ok.bytes.items records c.in-Ok.ensures.read (subst (λ (b : List ℕ). Says c.args.federation c.args.site b (Ok records)) c.deref.ensures.value c.in_ok-journal.ensures.told)

@@ -109,4 +109,4 @@ returns-clause-fuse g c = λ f is.
     let new = g.C.Cell.image c.append_synced.new.cell in
     let burns : AppendBurns (Err Device) f text c.deref.result.now after new =
     subst (λ (e : CellFault). AppendBurns (Err e) f text c.deref.result.now after new) c.in-Err-Device.field-0-is (c.in-Err-Device.ensures.fuse f text is (c.requires.kept refl)) in
-    (burns.0, seen_says c.args.federation c.args.site records c.args.entry f c.deref.result.now new c.requires.whole c.to_bytes.ensures.sound (c.deref.ensures.value ∙ c.in_ok-bytes.ensures.bytes) burns.1)
+    (burns.0, burns.1, seen_says c.args.federation c.args.site records c.args.entry f c.deref.result.now new c.requires.whole c.to_bytes.ensures.sound (c.deref.ensures.value ∙ c.in_ok-bytes.ensures.bytes) burns.2)
