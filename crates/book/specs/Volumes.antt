@@ -28,10 +28,10 @@ abbrev pub LeavesBytes : List ℕ → Option Image → Type 0
 LeavesBytes bytes image = IfTold image (λ i. (c : List ℕ) → MayLeave (Some i) c → c ≡ bytes)
 
 -- the cell keeps the text of the records
-abbrev pub Keeps : ℕ → ℕ → List Record → Option Image → Type 0
-Keeps federation site records image = RestsAt (cell_text federation site records) image
+abbrev pub HoldsText : ℕ → ℕ → List Record → Option Image → Type 0
+HoldsText federation site records image = RestsAt (cell_text federation site records) image
 
 -- a book that was opened keeps its records, all of them synced
 pub record IsSound (needs_opening : Bool) (federation site : ℕ) (records : List Record) (image : Option Image) : Type 0 where
   pub whole : AreRecords records
-  pub kept : needs_opening ≡ false → Keeps federation site records image
+  pub kept : needs_opening ≡ false → HoldsText federation site records image

@@ -22,8 +22,8 @@ use records::{OpenFault, Record};
 use std::alloc::Global;
 use std::marker::Model;
 
-/// The records of a site, in a cell: what is committed outlives every crash, whole or not at all. A
-/// clause sees a `Volume`.
+/// The records of a site, in a cell: what is committed outlives every crash, and what failed is there
+/// whole or not at all. A clause sees a `Volume`.
 #[derive(Drop)]
 pub struct Book<C: Cell> {
     cell: C,

@@ -44,12 +44,12 @@ untouched i = i
 abbrev pub failed : ℕ → Image → Image
 failed k i = record { synced = i.synced; newest = i.newest; seen = keeps k i.synced i.newest }
 
--- nothing was cut since the last sync that succeeded
+-- nothing that was cut waits for a sync
 abbrev pub AllowsAppend : Option Image → Type 0
 AllowsAppend None = Unit {0}
 AllowsAppend (Some i) = length i.synced ≤ length i.newest
 
--- nothing was appended or cut since that sync, and the length is at most the present one
+-- nothing that was appended or cut waits for a sync, and the length is at most the present one
 abbrev pub AllowsCut : ℕ → Option Image → Type 0
 AllowsCut len None = Unit {0}
 AllowsCut len (Some i) = (i.synced ≡ i.newest) × (len ≤ length i.seen)

@@ -1,4 +1,4 @@
-use Rattle.std.proofs.Common.{◌≡◌, false, ℕ, List, Some, subst}
+use Rattle.std.proofs.Common.{◌≡◌, false, ℕ, Some, subst}
 use Rattle.cell_device.specs.declared.fuse.FuseState.{FuseState}
 use Rattle.cell_device.specs.Time.{LeavesOnly}
 use Rattle.book.specs.Volumes.{Volume, IfTold}
