@@ -1,7 +1,8 @@
 -- How a run of calls goes on.
-use Rattle.std.proofs.Common.{inl, inr, ⊎_elim, ℕ, List, Option, arith}
-use Rattle.cell_device.specs.Images.{Image, MayLeave}
+use Rattle.std.proofs.Common.{◌≡◌, ◌≤◌, inl, inr, ⊎_elim, ℕ, List, Option, Some, None, refl, sym, subst, arith}
+use Rattle.cell_device.specs.Images.{Image, Leaves, MayLeave}
 use Rattle.cell_device.specs.Time.{Elapses, LeavesOnly}
+use Rattle.book.specs.Volumes.{IfTold}
 
 module _ {C : Type 0} (image : C → Option Image) (moment : C → ℕ) (left_since : C → ℕ → List ℕ → Type 0) (only_now : (cell : C) (c : List ℕ) → left_since cell (moment cell) c → MayLeave (image cell) c) where
   -- before the first call
@@ -32,3 +33,12 @@ module _ {C : Type 0} (image : C → Option Image) (moment : C → ℕ) (left_si
     each = λ c left. so c (run.each c left);
     before = λ t c le left. ⊎_elim (λ past. inl past) (λ now. inr (so c now)) (run.before t c le left);
   }
+
+  -- what a read then gives has it too
+  pub seen_has : ((cell : C) (t : ℕ) (c : List ℕ) → t ≤ moment cell → MayLeave (image cell) c → left_since cell t c) → ((cell : C) (i : Image) → image cell ≡ Some i → Leaves i i.seen) → (old new : C) (P : List ℕ → Type 0)
+      → LeavesOnly moment left_since old new P → IfTold (image new) (λ j. P j.seen)
+  seen_has counts_now seen_now old new P run = go (image new) refl
+    where
+      go : (o : Option Image) → image new ≡ o → IfTold o (λ j. P j.seen)
+      go None is = tt
+      go (Some j) is = run.each j.seen (counts_now new (moment old) j.seen run.later (subst (λ (o : Option Image). MayLeave o j.seen) (sym is) (seen_now new j is)))

@@ -61,6 +61,8 @@ impl<C: Cell> Book<C> {
         // A crash at any moment leaves the same records, or what it might have left before.
         ensures any_moment { IfOk result (λ book. LeavesOnly C.moment C.left_since cell book.cell (LeavesAlike members.federation site (C.image cell))) }
         ensures any_moment_err { IfErr result (λ e. LeavesOnly C.moment C.left_since cell e.0 (LeavesAlike members.federation site (C.image cell))) }
+        // So what a read gives after a refusal is one of these too, and can be opened again.
+        ensures seen_err { IfErr result (λ e. IfTold (C.image e.0) (λ i. LeavesAlike members.federation site (C.image cell) i.seen)) }
         ensures cause { IfOk result (λ book. OpenCause (C.failures cell) (C.failures book.cell) (Ok book.records)) }
         ensures cause_err { IfErr result (λ e. OpenCause (C.failures cell) (C.failures e.0) (Err e.1)) }
         // Where the cell tells that no call fails, none does.
