@@ -8,7 +8,6 @@ ghost use Rattle.records.specs.declared.fault.OpenFault.TheVariants as open_faul
 ghost use Rattle.records.specs.declared.record.Record.{Record as declared_record};
 ghost use Rattle.records.specs.Layout.{cell_text};
 ghost use Rattle.records.specs.Journals.{Says};
-ghost use Rattle.records.specs.Records.{IsRecord};
 ghost use Rattle.book.specs.Volumes.{IfTold, LeavesBytes};
 ghost use Rattle.book.specs.Opened.{LeavesAlike, IsFault, IsAnswered, OpenCause, told_of};
 ghost use Rattle.book.specs.Committed.{OpensWithOrWithout, Burns, CommitCause, IsUnchanged};

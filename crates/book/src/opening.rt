@@ -1,9 +1,8 @@
 //! A cell is read, and its end is mended.
 
-ghost use Rattle.std.specs.Prelude.{◌≡◌, ◌≢◌, false, List, ℕ, Option, Some, Result, Ok, Err, length, IfOk, IfErr, OnOk, IsErrOf};
+ghost use Rattle.std.specs.Prelude.{◌≡◌, ◌≢◌, false, List, Some, Result, Ok, Err, IfOk, IfErr, OnOk};
 ghost use Rattle.cell_device.specs.declared.fault.CellFault.TheVariants.{Device};
 ghost use Rattle.cell_device.specs.declared.fuse.FuseState.TheVariants.{Clear};
-ghost use Rattle.cell_device.specs.Images.{Image};
 ghost use Rattle.cell_device.specs.Time.{LeavesOnly};
 ghost use Rattle.cell_device.specs.Calls.{HasCause};
 ghost use Rattle.records.specs.Layout.{cell_text};

@@ -1,4 +1,4 @@
-ghost use Rattle.std.specs.Prelude.{◌≡◌, ◌≢◌, ◌≤◌, ◌⊎◌, ℕ, List, Option, Some, None, IfOk, IfErr};
+ghost use Rattle.std.specs.Prelude.{◌≡◌, ◌≢◌, ◌≤◌, ℕ, List, Option, Some, IfOk, IfErr};
 ghost use Rattle.cell_device.specs.declared.fault.CellFault.TheVariants.{Memory};
 ghost use Rattle.cell_device.specs.declared.fuse.FuseState.{FuseState};
 ghost use Rattle.cell_device.specs.Images.{Image, Leaves, MayLeave, AllowsAppend, AllowsCut, appended, cut_to, made_durable, untouched};

@@ -25,7 +25,7 @@ pub(crate) struct Medium {
 }
 
 impl Medium {
-    ghost use Rattle.std.specs.Prelude.{◌≡◌, ℕ, OnOk, OnErr};
+    ghost use Rattle.std.specs.Prelude.{◌≡◌, OnOk, OnErr};
     ghost use Rattle.cell_device.specs.Images.{at_rest, appended, cut_to, made_durable, failed};
     ghost use Rattle.cell_device.specs.Undone.{before};
     ghost use Rattle.cell_device.specs.Mediums.{held, state, moment, IsSameTime, GoesOn};

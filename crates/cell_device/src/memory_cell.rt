@@ -14,7 +14,7 @@ pub struct MemoryCell {
 }
 
 impl MemoryCell {
-    ghost use Rattle.std.specs.Prelude.{◌≡◌, ◌≢◌, ℕ, Some, IfErr, IsErr, IsOk, ◌≤◌};
+    ghost use Rattle.std.specs.Prelude.{◌≡◌, ◌≢◌, Some};
     ghost use Rattle.cell_device.specs.declared.fault.CellFault.TheVariants.{Device};
     ghost use Rattle.cell_device.specs.declared.fuse.FuseState.TheVariants.{Clear, Stopped};
     ghost use Rattle.cell_device.specs.Images.{at_rest, made_durable, untouched, MayLeave};

@@ -52,14 +52,6 @@ pub ok_text : (federation site : ℕ) (bytes : List ℕ) (result : Result Journa
 ok_text federation site bytes (Ok journal) long h r = text_told federation site bytes journal long h r
 ok_text federation site bytes (Err fault) long h r = tt
 
--- a fault of the header is what the bytes say
-pub said_header : (federation site : ℕ) (bytes : List ℕ) (f : OpenFault) → HeaderSays federation site bytes (Err f) → Tells (Says federation site bytes) (Err f)
-said_header federation site bytes faults.OtherFederation h = h
-said_header federation site bytes faults.OtherSite h = h
-said_header federation site bytes (faults.Damaged place) h = inl h
-said_header federation site bytes faults.Device h = absurd h
-said_header federation site bytes faults.Memory h = absurd h
-
 -- since bytes say one thing, it is told
 pub only_told : (federation site : ℕ) (bytes : List ℕ) (result : Result Journal OpenFault) → Tells (Says federation site bytes) result → (said : Said) → Says federation site bytes said → IsToldOrMemory result said
 only_told federation site bytes (Ok journal) t said s = inl (one_saying federation site bytes (Ok journal.records.items) said t s)

@@ -1,4 +1,3 @@
-ghost use Rattle.std.specs.Prelude.{◌≡◌};
 ghost use Rattle.fields.specs.Reading.{Gives};
 ghost use Rattle.records.specs.Reading.{round_at, entry_at, content_at};
 
