@@ -4,7 +4,9 @@ use Rattle.cell_device.specs.declared.fault.CellFault.{CellFault}
 use Rattle.cell_device.specs.declared.fault.CellFault.TheVariants.{Device, Memory}
 use Rattle.cell_device.specs.declared.fuse.FuseState.{FuseState}
 use Rattle.cell_device.specs.declared.fuse.FuseState.TheVariants.{Stopped}
-use Rattle.cell_device.specs.Images.{Image, failed}
+use Rattle.cell_device.specs.Images.{Image, MayLeave, failed}
+use Rattle.cell_device.specs.Time.{Elapses}
+use Rattle.cell_device.specs.Devices as devices
 use Rattle.cell_device.specs.Fuses.{fires, burnt, fused}
 
 -- what a call that tries one thing and does another makes of the image: where memory lacks nothing, where the device failed nothing or what it keeps of what was tried
@@ -48,3 +50,10 @@ pub record HasCause {T : Type 0} (before now : ℕ) (result : Result T CellFault
 abbrev pub IsRead : Option Image → List ℕ → Type 0
 IsRead None bytes = Unit {0}
 IsRead (Some i) bytes = bytes ≡ i.seen
+
+-- What a call does that tries one thing and does another: to the bytes, to the fuse, to what crashes may have left, and to the count of failures.
+pub record Calls {T : Type 0} (tried done : Image → Image) (old new : devices.Device) (result : Result T CellFault) : Type 0 where
+  pub bytes : Turns result tried done old.image new.image
+  pub fuse : Follows result tried done old.fuse new.fuse old.image new.image
+  pub time : Elapses old.moment new.moment old.left_since new.left_since (MayLeave new.image)
+  pub cause : HasCause old.failures new.failures result

@@ -123,18 +123,9 @@ impl FileCell {
 }
 
 impl Cell for FileCell {
-    ghost use Rattle.std.specs.Prelude.{None};
-    ghost use Rattle.cell_device.specs.FileCells.{failures_of, nothing_told};
+    ghost use Rattle.cell_device.specs.FileCells.{device_of, nothing_told};
 
-    ghost image = { λ cell. None };
-
-    ghost fuse = { λ cell. None };
-
-    ghost moment = { λ cell. 0 };
-
-    ghost left_since = { λ cell t c. Unit {0} };
-
-    ghost failures = { failures_of };
+    ghost device = { device_of };
 
     ghost seen_now = { λ cell i told. nothing_told i told };
 
