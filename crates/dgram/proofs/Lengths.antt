@@ -1,22 +1,18 @@
 -- How many bytes a datagram has.
 use Rattle.std.proofs.Common.{◌≡◌, ℕ, ◌+◌, ◌≤◌, List, ◌∷◌, ◌++◌, length, Option, Some, None, refl, arith, length-append}
-use Rattle.std.specs.Int.{w16, w32, w64, to_be_bytes}
+use Rattle.std.specs.Int.{w16, w32, to_be_bytes}
 use Rattle.fed_types.specs.declared.bag_id.BagId.{BagId}
 use Rattle.fed_types.specs.Ballots.{BallotNumber}
 use Rattle.fed_types.specs.Slots.{SlotName}
 use Rattle.fields.specs.Values.{IsSlot, IsBag}
 use Rattle.fields.specs.Spelling.{ballot_bytes, bag_bytes, vote_bytes, slot_bytes}
 use Rattle.dgram.specs.Numbers.{LONGEST_DATAGRAM, LONGEST_PATH}
-use Rattle.dgram.specs.declared.answers.DepositAnswer.{DepositAnswer}
-use Rattle.dgram.specs.declared.answers.DepositAnswer.TheVariants as deposit
-use Rattle.dgram.specs.declared.answers.QueryAnswer.{QueryAnswer}
-use Rattle.dgram.specs.declared.answers.QueryAnswer.TheVariants as query
 use Rattle.dgram.specs.declared.body.PriorVote.{PriorVote}
 use Rattle.dgram.specs.declared.body.Body.{Body}
 use Rattle.dgram.specs.declared.body.Body.TheVariants.{Prepare, Promise, Accept, Accepted, Refused, Ask, Known, Deposit, Query, DepositReply, QueryReply}
 use Rattle.dgram.specs.declared.message.Message.{Message}
-use Rattle.dgram.specs.Messages.{IsPrior, IsDepositAnswer, IsQueryAnswer, IsBody, IsMessage}
-use Rattle.dgram.specs.Layout.{kind_code, body_kind, body_from, from_byte, prior_bytes, path_bytes, deposit_code, deposit_bag, query_code, query_bag, body_bytes, front_bytes, datagram_of}
+use Rattle.dgram.specs.Messages.{IsPrior, IsBody, IsMessage}
+use Rattle.dgram.specs.Layout.{kind_code, body_kind, body_from, from_byte, prior_bytes, body_bytes, front_bytes, datagram_of}
 use Rattle.dgram.proofs.Codes.{deposit_again, query_again}
 
 ballot_length : (b : BallotNumber) → length (ballot_bytes b) ≡ 5

@@ -1,6 +1,6 @@
 -- The numbers of the layout, as docs/FORMATS.md has them: code with another is refused.
 use Rattle.std.specs.Prelude.{ℕ, ◌+◌, List, [], ◌∷◌, replicate}
-use Rattle.fields.specs.Numbers.{BAG_BYTES, LONGEST_OBJECT}
+use Rattle.fields.specs.Numbers.{LONGEST_OBJECT}
 
 -- the bytes with which every datagram begins, B P
 abbrev pub MAGIC : List ℕ
