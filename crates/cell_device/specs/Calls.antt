@@ -38,10 +38,11 @@ Follows result tried done (Some f) fuse old new = Burns result tried done f fuse
 abbrev pub HasGrown : ℕ → ℕ → Type 0
 HasGrown before now = (before < now) ⊎ (2 ^ 64 - 1 ≤ before)
 
--- Device is answered only where the device failed
+-- Device is answered exactly where the device failed: a failure is told as Device and as nothing else
 pub record HasCause {T : Type 0} (before now : ℕ) (result : Result T CellFault) : Type 0 where
   pub later : before ≤ now
   pub failed : IsErrOf result Device → HasGrown before now
+  pub same : ¬ IsErrOf result Device → now ≡ before
 
 -- what a read gives, where the cell tells its bytes
 abbrev pub IsRead : Option Image → List ℕ → Type 0
