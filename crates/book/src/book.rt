@@ -1,4 +1,4 @@
-ghost use Rattle.std.specs.Prelude.{◌≡◌, ◌≢◌, ◌↔◌, true, false, List, [], ◌∷◌, ◌++◌, Some, Result, Ok, Err, IfOk, IfErr, OnOk, IsErrOf};
+ghost use Rattle.std.specs.Prelude.{◌≡◌, ◌≢◌, ◌↔◌, true, false, List, [], ◌∷◌, ◌++◌, Some, Result, Ok, Err, IfOk, IfErr, OnOk, IsErrOf, MatchResult};
 ghost use Rattle.cell_device.specs.declared.fuse.FuseState.{FuseState};
 ghost use Rattle.cell_device.specs.declared.fuse.FuseState.TheVariants.{Clear};
 ghost use Rattle.cell_device.specs.Time.{LeavesOnly};
@@ -8,7 +8,7 @@ ghost use Rattle.records.specs.declared.fault.OpenFault.TheVariants as open_faul
 ghost use Rattle.records.specs.declared.record.Record.{Record as declared_record};
 ghost use Rattle.records.specs.Layout.{cell_text};
 ghost use Rattle.records.specs.Journals.{Says};
-ghost use Rattle.book.specs.Volumes.{IfTold, LeavesBytes};
+ghost use Rattle.book.specs.Volumes.{IfTold, LeavesBytes, HoldsText, RecoversTo};
 ghost use Rattle.book.specs.Opened.{LeavesAlike, IsFault, IsAnswered, OpenCause, told_of};
 ghost use Rattle.book.specs.Committed.{OpensWithOrWithout, Burns, CommitCause, IsUnchanged};
 
@@ -57,6 +57,7 @@ impl<C: Cell> Book<C> {
         ensures only { (said : Result (List declared_record) declared_fault) → IfTold (C.image cell) (λ i. Says members.federation site i.seen said → IsAnswered (told_of result) said) }
         ensures faults { IfErr result (λ e. IsFault members.federation site e.1 (C.image cell) (C.image e.0)) }
         ensures durable { IfOk result (λ book. LeavesBytes (cell_text members.federation site book.records) (C.image book.cell)) }
+        ensures recovers { IfOk result (λ book. RecoversTo members.federation site book.records (C.image book.cell)) }
         // A crash at any moment leaves the same records, or what it might have left before.
         ensures any_moment { IfOk result (λ book. LeavesOnly C.moment C.left_since cell book.cell (LeavesAlike members.federation site (C.image cell))) }
         ensures any_moment_err { IfErr result (λ e. LeavesOnly C.moment C.left_since cell e.0 (LeavesAlike members.federation site (C.image cell))) }
@@ -89,6 +90,20 @@ impl<C: Cell> Book<C> {
         &self.records
     }
 
+    /// The members of the federation.
+    pub fn members(&self) -> Members
+        ensures { result ≡ self.now.members }
+    {
+        self.members
+    }
+
+    /// The site whose book it is.
+    pub fn site(&self) -> SiteNo
+        ensures { result ≡ self.now.site }
+    {
+        self.site
+    }
+
     /// Whether the device has failed in a commit since the book was opened.
     pub fn needs_opening(&self) -> bool
         ensures { result ≡ self.now.needs_opening }
@@ -101,6 +116,7 @@ impl<C: Cell> Book<C> {
     pub fn commit(&mut self, entry: Record) -> Result<(), CommitFault>
         ensures committed { OnOk result ((self.new.records ≡ self.old.records ++ entry ∷ []) × (self.new.needs_opening ≡ false)) }
         ensures durable { OnOk result (LeavesBytes (cell_text self.new.members.federation self.new.site self.new.records) (C.image self.new.cell)) }
+        ensures recovers { OnOk result (RecoversTo self.new.members.federation self.new.site self.new.records (C.image self.new.cell)) }
         ensures device { IsErrOf result CommitFault.Device → (self.new.records ≡ self.old.records) × (self.new.needs_opening ≡ true) }
         ensures memory { IsErrOf result CommitFault.Memory → IsUnchanged C.image self.old self.new }
         ensures needs_open { IsErrOf result CommitFault.NeedsOpen ↔ (self.old.needs_opening ≡ true) }
@@ -122,9 +138,13 @@ impl<C: Cell> Book<C> {
         written
     }
 
-    /// Hands the cell back as it is.
+    /// Hands the cell back as it is, with no call on it.
+    #[tactic(auto, using(crate::proofs::Entries::sound_recovers))]
     pub fn close(self) -> C
-        ensures { result ≡ self.cell }
+        ensures cell { result ≡ self.cell }
+        // Where the book needs no opening, the cell keeps the text of the records, all of it synced.
+        ensures text { self.needs_opening ≡ false → HoldsText self.members.federation self.site self.records (C.image result) }
+        ensures recovers { self.needs_opening ≡ false → RecoversTo self.members.federation self.site self.records (C.image result) }
     {
         let Book { cell, .. } = self;
         cell
@@ -141,5 +161,17 @@ impl Book<MemoryCell> {
         ensures whose { (self.new.members ≡ self.old.members) × (self.new.site ≡ self.old.site) }
     {
         self.cell.set_fuse(fuse);
+    }
+
+    /// Stops and starts: closes the book, restarts its cell, and opens it again.
+    pub fn restart(self, alloc: Global) -> Result<Book<MemoryCell>, (MemoryCell, OpenFault)>
+        // A book that needed no opening has the same records again, unless memory runs out.
+        ensures same { self.needs_opening ≡ false → MatchResult result (λ book. book.records ≡ self.records) (λ e. e.1 ≡ open_faults.Memory) }
+        ensures whose { IfOk result (λ book. (book.members ≡ self.members) × (book.site ≡ self.site) × (book.needs_opening ≡ false)) }
+    {
+        let (members, site) = (self.members(), self.site());
+        let mut cell = self.close();
+        cell.restart();
+        Book::open(alloc, cell, members, site)
     }
 }

@@ -11,7 +11,7 @@ ghost use Rattle.records.specs.Answers.{IsText};
 ghost use Rattle.records.specs.declared.fault.OpenFault.{OpenFault as declared_fault};
 ghost use Rattle.records.specs.declared.fault.OpenFault.TheVariants as open_faults;
 ghost use Rattle.records.specs.declared.record.Record.{Record as declared_record};
-ghost use Rattle.book.specs.Volumes.{IfTold, RestsAt, LeavesBytes, IsSound};
+ghost use Rattle.book.specs.Volumes.{IfTold, RestsAt, LeavesBytes, RecoversTo, IsSound};
 ghost use Rattle.book.specs.Opened.{LeavesAlike, IsFault, IsAnswered, OpenCause, told, cell_fault};
 
 use cell_device::{Cell, CellFault};
@@ -57,6 +57,7 @@ fn fault_of(fault: CellFault) -> OpenFault
 }
 
 /// The records of a cell, whose end is mended, all of it synced.
+#[tactic(auto, using(crate::proofs::Entries::sound_recovers))]
 pub(crate) fn read_cell<C: Cell>(
     alloc: Global,
     cell: &mut C,
@@ -68,6 +69,7 @@ pub(crate) fn read_cell<C: Cell>(
     ensures faults { IfErr result (λ fault. IsFault federation site fault (C.image cell.old) (C.image cell.new)) }
     ensures sound { IfOk result (λ records. IsSound false federation site records.items (C.image cell.new)) }
     ensures durable { IfOk result (λ records. LeavesBytes (cell_text federation site records.items) (C.image cell.new)) }
+    ensures recovers { IfOk result (λ records. RecoversTo federation site records.items (C.image cell.new)) }
     ensures any_moment { LeavesOnly C.moment C.left_since cell.old cell.new (LeavesAlike federation site (C.image cell.old)) }
     ensures cause { OpenCause (C.failures cell.old) (C.failures cell.new) (told result) }
     ensures clear { C.fuse cell.old ≡ Some Clear → (C.fuse cell.new ≡ Some Clear) × IfErr result (λ fault. fault ≢ open_faults.Device) }

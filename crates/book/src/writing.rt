@@ -8,7 +8,7 @@ ghost use Rattle.cell_device.specs.Time.{LeavesOnly};
 ghost use Rattle.cell_device.specs.Calls.{HasCause};
 ghost use Rattle.records.specs.Layout.{cell_text};
 ghost use Rattle.book.specs.declared.fault.CommitFault.TheVariants as commit_faults;
-ghost use Rattle.book.specs.Volumes.{IfTold, RestsAt, LeavesBytes, IsSound};
+ghost use Rattle.book.specs.Volumes.{IfTold, RestsAt, LeavesBytes, RecoversTo, IsSound};
 ghost use Rattle.book.specs.Committed.{OpensWithOrWithout, AppendBurns, Burns, CommitCause};
 
 use crate::fault::CommitFault;
@@ -41,6 +41,7 @@ pub(crate) fn write_entry<C: Cell>(
     requires { IsSound false federation site records.old.items (C.image cell.old) }
     ensures sound { OnOk result (IsSound false federation site records.new.items (C.image cell.new)) }
     ensures durable { OnOk result (LeavesBytes (cell_text federation site records.new.items) (C.image cell.new)) }
+    ensures recovers { OnOk result (RecoversTo federation site records.new.items (C.image cell.new)) }
     ensures written { OnOk result (records.new.items ≡ records.old.items ++ entry ∷ []) }
     ensures refused { OnErr result (records.new.items ≡ records.old.items) }
     ensures memory { IsErrOf result commit_faults.Memory → C.image cell.new ≡ C.image cell.old }

@@ -7,7 +7,7 @@ use Rattle.book.specs.Volumes.{IfTold}
 use Rattle.book.specs.Committed.{OpensWithOrWithout, AppendBurns}
 use Rattle.book.proofs.Moments.{started, weaker}
 use Rattle.book.proofs.Told.{at_start}
-use Rattle.book.proofs.Entries.{rest_only, without_it, entry_leaves, sound_after, seen_says}
+use Rattle.book.proofs.Entries.{rest_only, sound_recovers, without_it, entry_leaves, sound_after, seen_says}
 use Rattle.book.proofs.writing.write_entry.Goals as goal
 
 pub returns-in_err-bytes-clause-any_moment : goal.returns-in_err-bytes-clause-any_moment
@@ -90,6 +90,9 @@ returns-in-Ok-clause-sound g c =
 pub returns-in-Ok-clause-durable : goal.returns-in-Ok-clause-durable
 returns-in-Ok-clause-durable g c =
     rest_only (cell_text c.args.federation c.args.site c.push.new.self.items) (g.C.Cell.image c.append_synced.new.cell) ((returns-in-Ok-clause-sound g c).kept refl)
+
+pub returns-in-Ok-clause-recovers : goal.returns-in-Ok-clause-recovers
+returns-in-Ok-clause-recovers g c = sound_recovers c.args.federation c.args.site c.push.new.self.items (g.C.Cell.image c.append_synced.new.cell) (returns-in-Ok-clause-sound g c)
 
 pub returns-in-Ok-clause-fuse : goal.returns-in-Ok-clause-fuse
 returns-in-Ok-clause-fuse g c = λ f is. c.in-Ok.ensures.fuse f (cell_text c.args.federation c.args.site c.args.records.now.items) is (c.requires.kept refl)
