@@ -10,7 +10,7 @@ use Rattle.records.specs.Kept.{kept_records}
 use Rattle.records.specs.Journals.{Says}
 use Rattle.records.proofs.Walk.{whole-push}
 use Rattle.records.proofs.Fronts.{text-push, text_says, record_says, with_or_without, none_kept}
-use Rattle.book.specs.Volumes.{IfTold, RestsAt, LeavesBytes, IsSound}
+use Rattle.book.specs.Volumes.{IfTold, RestsAt, LeavesBytes, RecoversTo, IsSound}
 use Rattle.book.specs.Committed.{OpensWithOrWithout, bytes_kept, records_kept}
 use Rattle.book.proofs.Told.{rest_leaves}
 
@@ -18,6 +18,18 @@ use Rattle.book.proofs.Told.{rest_leaves}
 pub rest_only : (bytes : List ℕ) (image : Option Image) → RestsAt bytes image → LeavesBytes bytes image
 rest_only bytes None rest = tt
 rest_only bytes (Some i) is = λ c left. rest_leaves bytes i c is left
+
+-- a cell at rest recovers to the records of its text
+pub sound_recovers : (federation site : ℕ) (records : List Record) (image : Option Image) → IsSound false federation site records image → RecoversTo federation site records image
+sound_recovers federation site records image sound = by image (sound.kept refl)
+  where
+    by : (o : Option Image) → RestsAt (cell_text federation site records) o → RecoversTo federation site records o
+    by None rest = tt
+    by (Some i) is =
+        let said : Says federation site (cell_text federation site records) (Ok records) = text_says federation site records sound.whole in (
+          subst (λ (j : Image). Says federation site j.seen (Ok records)) (sym is) said,
+          λ c left. subst (λ (b : List ℕ). Says federation site b (Ok records)) (sym (rest_leaves (cell_text federation site records) i c is left)) said,
+        )
 
 module _ (federation site : ℕ) (records : List Record) (r : Record) where
   pub without_it : (image : Option Image) → IsSound false federation site records image → OpensWithOrWithout federation site records r (cell_text federation site records)

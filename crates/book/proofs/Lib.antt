@@ -4,3 +4,5 @@ pub mod Mending
 pub mod Alike
 pub mod Burning
 pub mod Entries
+pub mod Refused
+pub mod Reopened

@@ -5,6 +5,7 @@ use Rattle.cell_device.specs.declared.fault.CellFault.TheVariants as cells
 use Rattle.cell_device.specs.declared.fuse.FuseState.{FuseState}
 use Rattle.cell_device.specs.declared.fuse.FuseState.TheVariants.{Clear, Burning, Stopped}
 use Rattle.cell_device.specs.Images.{Image}
+use Rattle.cell_device.specs.Devices.{Device}
 use Rattle.cell_device.specs.Fuses.{fires, burnt}
 use Rattle.cell_device.specs.Calls.{HasGrown}
 use Rattle.records.specs.declared.record.Record.{Record}
@@ -48,12 +49,13 @@ Burns federation site (Err faults.Memory) f records r fuse image = fuse ≡ Some
 Burns federation site (Err faults.NeedsOpen) f records r fuse image = fuse ≡ Some f
 
 -- a book that was refused a commit and didn't fail: as it was, so far as a read and a crash tell
-pub record IsUnchanged {C : Type 0} (image : C → Option Image) (old new : Volume C) : Type 0 where
+pub record IsUnchanged {C : Type 0} (device : C → Device) (old new : Volume C) : Type 0 where
   pub records : new.records ≡ old.records
   pub opened : new.needs_opening ≡ old.needs_opening
-  pub bytes : image new.cell ≡ image old.cell
+  pub bytes : (device new.cell).image ≡ (device old.cell).image
 
--- Device is answered only where the device failed
+-- Device is answered exactly where the device failed: a failure is told as Device and as nothing else
 pub record CommitCause (before now : ℕ) (result : Result (Unit {0}) CommitFault) : Type 0 where
   pub later : before ≤ now
   pub failed : IsErrOf result faults.Device → HasGrown before now
+  pub same : ¬ IsErrOf result faults.Device → now ≡ before

@@ -1,5 +1,5 @@
 -- What opening answers.
-use Rattle.std.specs.Prelude.{◌≡◌, ◌⊎◌, ◌≤◌, ℕ, List, Option, Some, None, Result, Ok, Err, Vec}
+use Rattle.std.specs.Prelude.{◌≡◌, ◌≢◌, ◌⊎◌, ◌≤◌, ℕ, List, Option, Some, None, Result, Ok, Err, Vec}
 use Rattle.std.specs.declared.alloc.Global.{Global}
 use Rattle.cell_device.specs.declared.fault.CellFault.{CellFault}
 use Rattle.cell_device.specs.declared.fault.CellFault.TheVariants as cells
@@ -37,14 +37,20 @@ abbrev pub told_of : {C : Type 0} → Result (Volume C) (C × OpenFault) → Res
 told_of (Ok book) = Ok book.records
 told_of (Err e) = Err e.1
 
+-- the cell after an opening: the book's, or the one that is handed back
+abbrev pub cell_of : {C : Type 0} → Result (Volume C) (C × OpenFault) → C
+cell_of (Ok book) = book.cell
+cell_of (Err e) = e.0
+
 -- what the bytes say is answered, but for a failure of the device or want of memory
 abbrev pub IsAnswered : Result (List Record) OpenFault → Result (List Record) OpenFault → Type 0
 IsAnswered answer said = (answer ≡ said) ⊎ (answer ≡ Err faults.Device) ⊎ (answer ≡ Err faults.Memory)
 
--- Device is answered only where the device failed
+-- Device is answered exactly where the device failed: a failure is told as Device and as nothing else
 pub record OpenCause (before now : ℕ) (answer : Result (List Record) OpenFault) : Type 0 where
   pub later : before ≤ now
   pub failed : answer ≡ Err faults.Device → HasGrown before now
+  pub same : answer ≢ Err faults.Device → now ≡ before
 
 -- the fault of a cell
 abbrev pub cell_fault : CellFault → OpenFault

@@ -1,8 +1,9 @@
 -- What an open book holds.
-use Rattle.std.specs.Prelude.{◌≡◌, ℕ, List, Bool, false, Option, Some, None}
+use Rattle.std.specs.Prelude.{◌≡◌, ℕ, List, Bool, false, Option, Some, None, Ok}
 use Rattle.fed_types.specs.Sites.{Membership}
-use Rattle.cell_device.specs.Images.{Image, MayLeave, at_rest}
+use Rattle.cell_device.specs.Images.{Image, Leaves, MayLeave, at_rest}
 use Rattle.records.specs.declared.record.Record.{Record}
+use Rattle.records.specs.Journals.{Says}
 use Rattle.records.specs.Layout.{cell_text}
 use Rattle.records.specs.Records.{AreRecords}
 
@@ -30,6 +31,10 @@ LeavesBytes bytes image = IfTold image (λ i. (c : List ℕ) → MayLeave (Some 
 -- the cell keeps the text of the records
 abbrev pub HoldsText : ℕ → ℕ → List Record → Option Image → Type 0
 HoldsText federation site records image = RestsAt (cell_text federation site records) image
+
+-- the cell recovers to the records: a read gives bytes that say them, and so does every crash
+abbrev pub RecoversTo : ℕ → ℕ → List Record → Option Image → Type 0
+RecoversTo federation site records image = IfTold image (λ i. Says federation site i.seen (Ok records) × ((c : List ℕ) → Leaves i c → Says federation site c (Ok records)))
 
 -- a book that was opened keeps its records, all of them synced
 pub record IsSound (needs_opening : Bool) (federation site : ℕ) (records : List Record) (image : Option Image) : Type 0 where

@@ -1,4 +1,4 @@
-ghost use Rattle.std.specs.Prelude.{◌≡◌, ◌≢◌, ◌↔◌, true, false, List, [], ◌∷◌, ◌++◌, Some, Result, Ok, Err, IfOk, IfErr, OnOk, IsErrOf};
+ghost use Rattle.std.specs.Prelude.{◌≡◌, ◌≢◌, ◌↔◌, true, false, List, [], ◌∷◌, ◌++◌, Some, Result, Ok, Err, IfOk, IfErr, OnOk, IsErrOf, MatchResult};
 ghost use Rattle.cell_device.specs.declared.fuse.FuseState.{FuseState};
 ghost use Rattle.cell_device.specs.declared.fuse.FuseState.TheVariants.{Clear};
 ghost use Rattle.cell_device.specs.Time.{LeavesOnly};
@@ -8,8 +8,8 @@ ghost use Rattle.records.specs.declared.fault.OpenFault.TheVariants as open_faul
 ghost use Rattle.records.specs.declared.record.Record.{Record as declared_record};
 ghost use Rattle.records.specs.Layout.{cell_text};
 ghost use Rattle.records.specs.Journals.{Says};
-ghost use Rattle.book.specs.Volumes.{IfTold, LeavesBytes};
-ghost use Rattle.book.specs.Opened.{LeavesAlike, IsFault, IsAnswered, OpenCause, told_of};
+ghost use Rattle.book.specs.Volumes.{IfTold, LeavesBytes, HoldsText, RecoversTo};
+ghost use Rattle.book.specs.Opened.{LeavesAlike, IsFault, IsAnswered, OpenCause, told_of, cell_of};
 ghost use Rattle.book.specs.Committed.{OpensWithOrWithout, Burns, CommitCause, IsUnchanged};
 
 use crate::fault::CommitFault;
@@ -39,7 +39,7 @@ impl<C: Cell> Model for Book<C> {
 
     ghost view = { λ b. record { cell = b.cell; records = b.records.items; needs_opening = b.needs_opening; members = b.members; site = b.site } };
 
-    ghost invariant = { λ b. IsSound b.needs_opening b.members.federation b.site b.records.items (C.image b.cell) };
+    ghost invariant = { λ b. IsSound b.needs_opening b.members.federation b.site b.records.items (C.device b.cell).image };
 }
 
 impl<C: Cell> Book<C> {
@@ -52,21 +52,22 @@ impl<C: Cell> Book<C> {
         members: Members,
         site: SiteNo,
     ) -> Result<Book<C>, (C, OpenFault)>
-        ensures records { IfOk result (λ book. IfTold (C.image cell) (λ i. Says members.federation site i.seen (Ok book.records))) }
+        ensures records { IfOk result (λ book. IfTold (C.device cell).image (λ i. Says members.federation site i.seen (Ok book.records))) }
         // What the bytes say is answered.
-        ensures only { (said : Result (List declared_record) declared_fault) → IfTold (C.image cell) (λ i. Says members.federation site i.seen said → IsAnswered (told_of result) said) }
-        ensures faults { IfErr result (λ e. IsFault members.federation site e.1 (C.image cell) (C.image e.0)) }
-        ensures durable { IfOk result (λ book. LeavesBytes (cell_text members.federation site book.records) (C.image book.cell)) }
+        ensures only { (said : Result (List declared_record) declared_fault) → IfTold (C.device cell).image (λ i. Says members.federation site i.seen said → IsAnswered (told_of result) said) }
+        ensures faults { IfErr result (λ e. IsFault members.federation site e.1 (C.device cell).image (C.device e.0).image) }
+        ensures durable { IfOk result (λ book. LeavesBytes (cell_text members.federation site book.records) (C.device book.cell).image) }
+        ensures recovers { IfOk result (λ book. RecoversTo members.federation site book.records (C.device book.cell).image) }
         // A crash at any moment leaves the same records, or what it might have left before.
-        ensures any_moment { IfOk result (λ book. LeavesOnly C.moment C.left_since cell book.cell (LeavesAlike members.federation site (C.image cell))) }
-        ensures any_moment_err { IfErr result (λ e. LeavesOnly C.moment C.left_since cell e.0 (LeavesAlike members.federation site (C.image cell))) }
+        ensures any_moment { LeavesOnly (C.device cell) (C.device (cell_of result))
+            (LeavesAlike members.federation site (C.device cell).image) }
         // So what a read gives after a refusal is one of these too, and can be opened again.
-        ensures seen_err { IfErr result (λ e. IfTold (C.image e.0) (λ i. LeavesAlike members.federation site (C.image cell) i.seen)) }
-        ensures cause { IfOk result (λ book. OpenCause (C.failures cell) (C.failures book.cell) (Ok book.records)) }
-        ensures cause_err { IfErr result (λ e. OpenCause (C.failures cell) (C.failures e.0) (Err e.1)) }
+        ensures seen_err { IfErr result (λ e. IfTold (C.device e.0).image
+            (λ i. LeavesAlike members.federation site (C.device cell).image i.seen)) }
+        ensures cause { OpenCause (C.device cell).failures (C.device (cell_of result)).failures (told_of result) }
         // Where the cell tells that no call fails, none does.
-        ensures clear { IfOk result (λ book. C.fuse cell ≡ Some Clear → C.fuse book.cell ≡ Some Clear) }
-        ensures clear_err { IfErr result (λ e. C.fuse cell ≡ Some Clear → (C.fuse e.0 ≡ Some Clear) × (e.1 ≢ open_faults.Device)) }
+        ensures clear { (C.device cell).fuse ≡ Some Clear
+            → ((C.device (cell_of result)).fuse ≡ Some Clear) × (told_of result ≢ Err open_faults.Device) }
         ensures whose { IfOk result (λ book. (book.members ≡ members) × (book.site ≡ site) × (book.needs_opening ≡ false)) }
     {
         let mut cell = cell;
@@ -89,6 +90,20 @@ impl<C: Cell> Book<C> {
         &self.records
     }
 
+    /// The members of the federation.
+    pub fn members(&self) -> Members
+        ensures { result ≡ self.now.members }
+    {
+        self.members
+    }
+
+    /// The site whose book it is.
+    pub fn site(&self) -> SiteNo
+        ensures { result ≡ self.now.site }
+    {
+        self.site
+    }
+
     /// Whether the device has failed in a commit since the book was opened.
     pub fn needs_opening(&self) -> bool
         ensures { result ≡ self.now.needs_opening }
@@ -100,15 +115,16 @@ impl<C: Cell> Book<C> {
     /// `Device` with it or without it, and the book needs opening.
     pub fn commit(&mut self, entry: Record) -> Result<(), CommitFault>
         ensures committed { OnOk result ((self.new.records ≡ self.old.records ++ entry ∷ []) × (self.new.needs_opening ≡ false)) }
-        ensures durable { OnOk result (LeavesBytes (cell_text self.new.members.federation self.new.site self.new.records) (C.image self.new.cell)) }
+        ensures durable { OnOk result (LeavesBytes (cell_text self.new.members.federation self.new.site self.new.records) (C.device self.new.cell).image) }
+        ensures recovers { OnOk result (RecoversTo self.new.members.federation self.new.site self.new.records (C.device self.new.cell).image) }
         ensures device { IsErrOf result CommitFault.Device → (self.new.records ≡ self.old.records) × (self.new.needs_opening ≡ true) }
-        ensures memory { IsErrOf result CommitFault.Memory → IsUnchanged C.image self.old self.new }
+        ensures memory { IsErrOf result CommitFault.Memory → IsUnchanged C.device self.old self.new }
         ensures needs_open { IsErrOf result CommitFault.NeedsOpen ↔ (self.old.needs_opening ≡ true) }
         ensures untouched { IsErrOf result CommitFault.NeedsOpen → self.new ≡ self.old }
         // A crash at any moment leaves the records from before the call, with the new one or without.
-        ensures any_moment { self.old.needs_opening ≡ false → LeavesOnly C.moment C.left_since self.old.cell self.new.cell (λ c. IfTold (C.image self.old.cell) (λ i. OpensWithOrWithout self.old.members.federation self.old.site self.old.records entry c)) }
-        ensures cause { CommitCause (C.failures self.old.cell) (C.failures self.new.cell) result }
-        ensures fuse { (f : FuseState) → C.fuse self.old.cell ≡ Some f → Burns self.old.members.federation self.old.site result f self.old.records entry (C.fuse self.new.cell) (C.image self.new.cell) }
+        ensures any_moment { self.old.needs_opening ≡ false → LeavesOnly (C.device self.old.cell) (C.device self.new.cell) (λ c. IfTold (C.device self.old.cell).image (λ i. OpensWithOrWithout self.old.members.federation self.old.site self.old.records entry c)) }
+        ensures cause { CommitCause (C.device self.old.cell).failures (C.device self.new.cell).failures result }
+        ensures fuse { (f : FuseState) → (C.device self.old.cell).fuse ≡ Some f → Burns self.old.members.federation self.old.site result f self.old.records entry (C.device self.new.cell).fuse (C.device self.new.cell).image }
         ensures whose { (self.new.members ≡ self.old.members) × (self.new.site ≡ self.old.site) }
     {
         if self.needs_opening {
@@ -122,9 +138,13 @@ impl<C: Cell> Book<C> {
         written
     }
 
-    /// Hands the cell back as it is.
+    /// Hands the cell back as it is, with no call on it.
+    #[tactic(auto, using(crate::proofs::Entries::sound_recovers))]
     pub fn close(self) -> C
-        ensures { result ≡ self.cell }
+        ensures cell { result ≡ self.cell }
+        // Where the book needs no opening, the cell keeps the text of the records, all of it synced.
+        ensures text { self.needs_opening ≡ false → HoldsText self.members.federation self.site self.records (C.device result).image }
+        ensures recovers { self.needs_opening ≡ false → RecoversTo self.members.federation self.site self.records (C.device result).image }
     {
         let Book { cell, .. } = self;
         cell
@@ -141,5 +161,17 @@ impl Book<MemoryCell> {
         ensures whose { (self.new.members ≡ self.old.members) × (self.new.site ≡ self.old.site) }
     {
         self.cell.set_fuse(fuse);
+    }
+
+    /// Stops and starts: closes the book, restarts its cell, and opens it again.
+    pub fn restart(self, alloc: Global) -> Result<Book<MemoryCell>, (MemoryCell, OpenFault)>
+        // A book that needed no opening has the same records again, unless memory runs out.
+        ensures same { self.needs_opening ≡ false → MatchResult result (λ book. book.records ≡ self.records) (λ e. e.1 ≡ open_faults.Memory) }
+        ensures whose { IfOk result (λ book. (book.members ≡ self.members) × (book.site ≡ self.site) × (book.needs_opening ≡ false)) }
+    {
+        let (members, site) = (self.members(), self.site());
+        let mut cell = self.close();
+        cell.restart();
+        Book::open(alloc, cell, members, site)
     }
 }

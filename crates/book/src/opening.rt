@@ -11,7 +11,7 @@ ghost use Rattle.records.specs.Answers.{IsText};
 ghost use Rattle.records.specs.declared.fault.OpenFault.{OpenFault as declared_fault};
 ghost use Rattle.records.specs.declared.fault.OpenFault.TheVariants as open_faults;
 ghost use Rattle.records.specs.declared.record.Record.{Record as declared_record};
-ghost use Rattle.book.specs.Volumes.{IfTold, RestsAt, LeavesBytes, IsSound};
+ghost use Rattle.book.specs.Volumes.{IfTold, RestsAt, LeavesBytes, RecoversTo, IsSound};
 ghost use Rattle.book.specs.Opened.{LeavesAlike, IsFault, IsAnswered, OpenCause, told, cell_fault};
 
 use cell_device::{Cell, CellFault};
@@ -29,11 +29,11 @@ pub(crate) fn mend<C: Cell>(
 ) -> Result<(), CellFault>
     requires said { Says federation site bytes.now (Ok journal.now.records.items) }
     requires text { IsText federation site bytes.now journal.now }
-    requires rest { RestsAt bytes.now (C.image cell.old) }
-    ensures mended { OnOk result (RestsAt (cell_text federation site journal.now.records.items) (C.image cell.new)) }
-    ensures any_moment { LeavesOnly C.moment C.left_since cell.old cell.new (λ c. IfTold (C.image cell.old) (λ i. Says federation site c (Ok journal.now.records.items))) }
-    ensures cause { HasCause (C.failures cell.old) (C.failures cell.new) result }
-    ensures clear { C.fuse cell.old ≡ Some Clear → (C.fuse cell.new ≡ Some Clear) × IfErr result (λ fault. fault ≢ Device) }
+    requires rest { RestsAt bytes.now (C.device cell.old).image }
+    ensures mended { OnOk result (RestsAt (cell_text federation site journal.now.records.items) (C.device cell.new).image) }
+    ensures any_moment { LeavesOnly (C.device cell.old) (C.device cell.new) (λ c. IfTold (C.device cell.old).image (λ i. Says federation site c (Ok journal.now.records.items))) }
+    ensures cause { HasCause (C.device cell.old).failures (C.device cell.new).failures result }
+    ensures clear { (C.device cell.old).fuse ≡ Some Clear → ((C.device cell.new).fuse ≡ Some Clear) × IfErr result (λ fault. fault ≢ Device) }
 {
     if bytes.len() < HEADER {
         cell.append(&header(federation, site)[bytes.len()..])?;
@@ -57,20 +57,22 @@ fn fault_of(fault: CellFault) -> OpenFault
 }
 
 /// The records of a cell, whose end is mended, all of it synced.
+#[tactic(auto, using(crate::proofs::Entries::sound_recovers))]
 pub(crate) fn read_cell<C: Cell>(
     alloc: Global,
     cell: &mut C,
     federation: u64,
     site: SiteNo,
 ) -> Result<Vec<Record>, OpenFault>
-    ensures records { IfOk result (λ records. IfTold (C.image cell.old) (λ i. Says federation site i.seen (Ok records.items))) }
-    ensures only { (said : Result (List declared_record) declared_fault) → IfTold (C.image cell.old) (λ i. Says federation site i.seen said → IsAnswered (told result) said) }
-    ensures faults { IfErr result (λ fault. IsFault federation site fault (C.image cell.old) (C.image cell.new)) }
-    ensures sound { IfOk result (λ records. IsSound false federation site records.items (C.image cell.new)) }
-    ensures durable { IfOk result (λ records. LeavesBytes (cell_text federation site records.items) (C.image cell.new)) }
-    ensures any_moment { LeavesOnly C.moment C.left_since cell.old cell.new (LeavesAlike federation site (C.image cell.old)) }
-    ensures cause { OpenCause (C.failures cell.old) (C.failures cell.new) (told result) }
-    ensures clear { C.fuse cell.old ≡ Some Clear → (C.fuse cell.new ≡ Some Clear) × IfErr result (λ fault. fault ≢ open_faults.Device) }
+    ensures records { IfOk result (λ records. IfTold (C.device cell.old).image (λ i. Says federation site i.seen (Ok records.items))) }
+    ensures only { (said : Result (List declared_record) declared_fault) → IfTold (C.device cell.old).image (λ i. Says federation site i.seen said → IsAnswered (told result) said) }
+    ensures faults { IfErr result (λ fault. IsFault federation site fault (C.device cell.old).image (C.device cell.new).image) }
+    ensures sound { IfOk result (λ records. IsSound false federation site records.items (C.device cell.new).image) }
+    ensures durable { IfOk result (λ records. LeavesBytes (cell_text federation site records.items) (C.device cell.new).image) }
+    ensures recovers { IfOk result (λ records. RecoversTo federation site records.items (C.device cell.new).image) }
+    ensures any_moment { LeavesOnly (C.device cell.old) (C.device cell.new) (LeavesAlike federation site (C.device cell.old).image) }
+    ensures cause { OpenCause (C.device cell.old).failures (C.device cell.new).failures (told result) }
+    ensures clear { (C.device cell.old).fuse ≡ Some Clear → ((C.device cell.new).fuse ≡ Some Clear) × IfErr result (λ fault. fault ≢ open_faults.Device) }
 {
     let bytes = match cell.load(alloc) {
         Ok(bytes) => bytes,

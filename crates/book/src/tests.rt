@@ -1,3 +1,5 @@
+ghost use Rattle.std.specs.Prelude.{◌≡◌, [], ◌∷◌, ◌++◌, IfOk};
+
 use super::*;
 use cell_device::{Cell, Fuse, How, MemoryCell};
 use fed_types::{BagId, Ballot, Members, SiteNo, Slot};
@@ -17,6 +19,9 @@ const STRANGE: &str =
     "42504a31000000000000000801000b0201610000000100000001000c030161000000010000000101";
 
 const HEADER: &str = "42504a31000000000000000701";
+
+// How many commits one book takes in its test.
+const COMMITS: usize = 5000;
 
 // The bytes of a vote for that version.
 const VOTE_SIZE: usize = 78;
@@ -147,6 +152,65 @@ fn a_record_is_committed(rt: HostRuntime) -> Result<(), Fail> {
     want.extend_from_slice(&[0xaa; 64])?;
     assert_eq!(rt; cell.bytes(), want.as_slice());
     says(alloc, cell, "RPV", 40 + VOTE_SIZE)
+}
+
+// A commit, a stop and a start: the records are those from before, and the new one.
+fn committed_and_restarted(
+    alloc: Global,
+    book: Book<MemoryCell>,
+    entry: Record,
+) -> Result<Book<MemoryCell>, Fail>
+    ensures { IfOk result (λ after. after.records ≡ book.records ++ entry ∷ []) }
+{
+    let mut book = book;
+    book.commit(entry)?;
+    match book.restart(alloc) {
+        Ok(after) => Ok(after),
+        Err((_, fault)) => Err(Fail::from(fault.to_string(alloc)?)),
+    }
+}
+
+#[test]
+fn a_book_outlives_a_restart(rt: HostRuntime) -> Result<(), Fail> {
+    let alloc = rt.alloc();
+    let book = opened(alloc, cell(alloc, WORKED)?)?;
+    let book = committed_and_restarted(alloc, book, vote(alloc)?)?;
+    assert_eq!(rt; told(alloc, book.records())?.as_str(), "RPV");
+    assert_eq!(rt; book.members(), Members::new(7, 3)?);
+    assert_eq!(rt; book.site(), SiteNo::new(1)?);
+    let cell = book.close();
+    assert_eq!(rt; cell.bytes().len(), 40 + VOTE_SIZE);
+    append_is_atomic();
+    wrong_orders_are_refused();
+    Ok(())
+}
+
+// A record at its greatest size, 277 bytes: a vote for an object of 200 bytes. It goes again and
+// again into one book, which then tells all of them, and so does the book that is opened after it.
+#[test]
+fn thousands_of_commits(rt: HostRuntime) -> Result<(), Fail> {
+    let alloc = rt.alloc();
+    let object = "\u{e9}".repeat(alloc, 100)?;
+    let longest = Record {
+        slot: Slot::new(object, 1)?,
+        body: vote(alloc)?.body,
+    };
+    let mut book = opened(alloc, cell(alloc, "")?)?;
+    for _ in 0..COMMITS {
+        book.commit(longest.copy(alloc)?)?;
+    }
+    assert_eq!(rt; book.records().len(), COMMITS);
+    let cell = book.close();
+    assert_eq!(rt; cell.bytes().len(), 13 + 277 * COMMITS);
+    let book = opened(alloc, cell)?;
+    assert_eq!(rt; book.records().len(), COMMITS);
+    let others = book
+        .records()
+        .iter()
+        .filter(|r| r.slot != longest.slot || r.body != longest.body)
+        .count();
+    assert_eq!(rt; others, 0);
+    Ok(())
 }
 
 // Of each call of a commit that fails, with each number of bytes kept: the record is there whole or

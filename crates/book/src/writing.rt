@@ -8,7 +8,7 @@ ghost use Rattle.cell_device.specs.Time.{LeavesOnly};
 ghost use Rattle.cell_device.specs.Calls.{HasCause};
 ghost use Rattle.records.specs.Layout.{cell_text};
 ghost use Rattle.book.specs.declared.fault.CommitFault.TheVariants as commit_faults;
-ghost use Rattle.book.specs.Volumes.{IfTold, RestsAt, LeavesBytes, IsSound};
+ghost use Rattle.book.specs.Volumes.{IfTold, RestsAt, LeavesBytes, RecoversTo, IsSound};
 ghost use Rattle.book.specs.Committed.{OpensWithOrWithout, AppendBurns, Burns, CommitCause};
 
 use crate::fault::CommitFault;
@@ -18,12 +18,12 @@ use records::Record;
 
 /// Appends the bytes, and syncs. Each clause speaks of the text at which the cell rests.
 pub(crate) fn append_synced<C: Cell>(cell: &mut C, bytes: &[u8]) -> Result<(), CellFault>
-    requires { AllowsAppend (C.image cell.old) }
-    ensures kept { (text : List ℕ) → RestsAt text (C.image cell.old) → OnOk result (RestsAt (text ++ bytes.now) (C.image cell.new)) }
-    ensures memory { IsErrOf result Memory → C.image cell.new ≡ C.image cell.old }
-    ensures any_moment { (text : List ℕ) → RestsAt text (C.image cell.old) → LeavesOnly C.moment C.left_since cell.old cell.new (λ c. IfTold (C.image cell.old) (λ i. (k : ℕ) × (c ≡ text ++ take k bytes.now))) }
-    ensures cause { HasCause (C.failures cell.old) (C.failures cell.new) result }
-    ensures fuse { (f : FuseState) (text : List ℕ) → C.fuse cell.old ≡ Some f → RestsAt text (C.image cell.old) → AppendBurns result f text bytes.now (C.fuse cell.new) (C.image cell.new) }
+    requires { AllowsAppend (C.device cell.old).image }
+    ensures kept { (text : List ℕ) → RestsAt text (C.device cell.old).image → OnOk result (RestsAt (text ++ bytes.now) (C.device cell.new).image) }
+    ensures memory { IsErrOf result Memory → (C.device cell.new).image ≡ (C.device cell.old).image }
+    ensures any_moment { (text : List ℕ) → RestsAt text (C.device cell.old).image → LeavesOnly (C.device cell.old) (C.device cell.new) (λ c. IfTold (C.device cell.old).image (λ i. (k : ℕ) × (c ≡ text ++ take k bytes.now))) }
+    ensures cause { HasCause (C.device cell.old).failures (C.device cell.new).failures result }
+    ensures fuse { (f : FuseState) (text : List ℕ) → (C.device cell.old).fuse ≡ Some f → RestsAt text (C.device cell.old).image → AppendBurns result f text bytes.now (C.device cell.new).fuse (C.device cell.new).image }
 {
     cell.append(bytes)?;
     cell.sync()
@@ -38,16 +38,17 @@ pub(crate) fn write_entry<C: Cell>(
     site: SiteNo,
     entry: Record,
 ) -> Result<(), CommitFault>
-    requires { IsSound false federation site records.old.items (C.image cell.old) }
-    ensures sound { OnOk result (IsSound false federation site records.new.items (C.image cell.new)) }
-    ensures durable { OnOk result (LeavesBytes (cell_text federation site records.new.items) (C.image cell.new)) }
+    requires { IsSound false federation site records.old.items (C.device cell.old).image }
+    ensures sound { OnOk result (IsSound false federation site records.new.items (C.device cell.new).image) }
+    ensures durable { OnOk result (LeavesBytes (cell_text federation site records.new.items) (C.device cell.new).image) }
+    ensures recovers { OnOk result (RecoversTo federation site records.new.items (C.device cell.new).image) }
     ensures written { OnOk result (records.new.items ≡ records.old.items ++ entry ∷ []) }
     ensures refused { OnErr result (records.new.items ≡ records.old.items) }
-    ensures memory { IsErrOf result commit_faults.Memory → C.image cell.new ≡ C.image cell.old }
+    ensures memory { IsErrOf result commit_faults.Memory → (C.device cell.new).image ≡ (C.device cell.old).image }
     ensures faults { IfErr result (λ fault. fault ≢ commit_faults.NeedsOpen) }
-    ensures any_moment { LeavesOnly C.moment C.left_since cell.old cell.new (λ c. IfTold (C.image cell.old) (λ i. OpensWithOrWithout federation site records.old.items entry c)) }
-    ensures cause { CommitCause (C.failures cell.old) (C.failures cell.new) result }
-    ensures fuse { (f : FuseState) → C.fuse cell.old ≡ Some f → Burns federation site result f records.old.items entry (C.fuse cell.new) (C.image cell.new) }
+    ensures any_moment { LeavesOnly (C.device cell.old) (C.device cell.new) (λ c. IfTold (C.device cell.old).image (λ i. OpensWithOrWithout federation site records.old.items entry c)) }
+    ensures cause { CommitCause (C.device cell.old).failures (C.device cell.new).failures result }
+    ensures fuse { (f : FuseState) → (C.device cell.old).fuse ≡ Some f → Burns federation site result f records.old.items entry (C.device cell.new).fuse (C.device cell.new).image }
 {
     let bytes = entry.to_bytes(*records.allocator())?;
     records.reserve(1)?;

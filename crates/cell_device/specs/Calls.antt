@@ -4,7 +4,9 @@ use Rattle.cell_device.specs.declared.fault.CellFault.{CellFault}
 use Rattle.cell_device.specs.declared.fault.CellFault.TheVariants.{Device, Memory}
 use Rattle.cell_device.specs.declared.fuse.FuseState.{FuseState}
 use Rattle.cell_device.specs.declared.fuse.FuseState.TheVariants.{Stopped}
-use Rattle.cell_device.specs.Images.{Image, failed}
+use Rattle.cell_device.specs.Images.{Image, MayLeave, failed}
+use Rattle.cell_device.specs.Time.{Elapses}
+use Rattle.cell_device.specs.Devices as devices
 use Rattle.cell_device.specs.Fuses.{fires, burnt, fused}
 
 -- what a call that tries one thing and does another makes of the image: where memory lacks nothing, where the device failed nothing or what it keeps of what was tried
@@ -38,12 +40,20 @@ Follows result tried done (Some f) fuse old new = Burns result tried done f fuse
 abbrev pub HasGrown : ℕ → ℕ → Type 0
 HasGrown before now = (before < now) ⊎ (2 ^ 64 - 1 ≤ before)
 
--- Device is answered only where the device failed
+-- Device is answered exactly where the device failed: a failure is told as Device and as nothing else
 pub record HasCause {T : Type 0} (before now : ℕ) (result : Result T CellFault) : Type 0 where
   pub later : before ≤ now
   pub failed : IsErrOf result Device → HasGrown before now
+  pub same : ¬ IsErrOf result Device → now ≡ before
 
 -- what a read gives, where the cell tells its bytes
 abbrev pub IsRead : Option Image → List ℕ → Type 0
 IsRead None bytes = Unit {0}
 IsRead (Some i) bytes = bytes ≡ i.seen
+
+-- What a call does that tries one thing and does another: to the bytes, to the fuse, to what crashes may have left, and to the count of failures.
+pub record Calls {T : Type 0} (tried done : Image → Image) (old new : devices.Device) (result : Result T CellFault) : Type 0 where
+  pub bytes : Turns result tried done old.image new.image
+  pub fuse : Follows result tried done old.fuse new.fuse old.image new.image
+  pub time : Elapses old.moment new.moment old.left_since new.left_since (MayLeave new.image)
+  pub cause : HasCause old.failures new.failures result

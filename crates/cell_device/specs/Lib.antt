@@ -1,6 +1,7 @@
 pub mod Faults
 pub mod Images
 pub mod Fuses
+pub mod Devices
 pub mod Time
 pub mod Calls
 pub mod Undone

@@ -1,12 +1,13 @@
 -- What a cell in memory tells.
 use Rattle.std.specs.Prelude.{◌≡◌, ℕ, List, true, false, Option, Some, None, Result, Ok, Err}
 use Rattle.cell_device.specs.declared.fault.CellFault.{CellFault}
-use Rattle.cell_device.specs.declared.fault.CellFault.TheVariants.{Device, Memory}
+use Rattle.cell_device.specs.declared.fault.CellFault.TheVariants as faults
 use Rattle.cell_device.specs.declared.fuse.Fuse.{Fuse}
 use Rattle.cell_device.specs.declared.fuse.FuseState.{FuseState}
 use Rattle.cell_device.specs.declared.fuse.FuseState.TheVariants.{Clear, Burning, Stopped}
 use Rattle.cell_device.specs.declared.memory_cell.MemoryCell.{MemoryCell}
 use Rattle.cell_device.specs.Images.{Image}
+use Rattle.cell_device.specs.Devices.{Device}
 use Rattle.cell_device.specs.Fuses.{fires}
 use Rattle.cell_device.specs.Mediums.{held, moment, left_since, IsSameTime}
 
@@ -47,11 +48,21 @@ fuse_set (Some fuse) f = Burning fuse
 -- a call that was tried answers Device where the fuse fires
 abbrev pub Fires : {T : Type 0} → FuseState → Result T CellFault → Type 0
 Fires f (Ok x) = fires f ≡ false
-Fires f (Err Device) = fires f ≡ true
-Fires f (Err Memory) = ⊥
+Fires f (Err faults.Device) = fires f ≡ true
+Fires f (Err faults.Memory) = ⊥
 
 -- a call of a stopped cell answers Device
 abbrev pub StopsAt : {T : Type 0} → FuseState → Result T CellFault → Type 0
 StopsAt f (Ok x) = f ≡ Stopped → ⊥
-StopsAt f (Err Device) = f ≡ Stopped
-StopsAt f (Err Memory) = ⊥
+StopsAt f (Err faults.Device) = f ≡ Stopped
+StopsAt f (Err faults.Memory) = ⊥
+
+-- all that a cell in memory tells of its device
+abbrev pub device_of : MemoryCell → Device
+device_of cell = record {
+  image = Some (image_of cell);
+  fuse = Some (fuse_of cell);
+  moment = moment_of cell;
+  left_since = left_since_of cell;
+  failures = failures_of cell;
+}

@@ -1,43 +1,114 @@
 use crate::cell::Cell;
 use crate::fault::CellFault;
+use crate::place::Place;
 use std::alloc::Global;
 use std::fs;
-use std::fs::{File, Files, OpenOptions};
+use std::fs::{File, OpenOptions};
 use std::io::{self, ErrorKind, Read, Seek, SeekFrom, Write};
 use std::os::fd::AsRawFd;
 use std::path::Path;
 
-/// A cell in a file. No contract tells what a file holds. Where a sync has failed, each later one
-/// fails, until the file is opened again.
+/// A cell in a file. No contract tells what a file holds.
+///
+/// A call that failed may have left bytes that nobody wrote: the system tells once that it couldn't
+/// write some, and may then give zeros or old bytes in their place. So where an append, a cut or a
+/// sync has failed, the file is cut back to the bytes that an earlier sync has made sure of.
+///
+/// A file that was renamed, deleted or replaced while it is open isn't the one that its path leads to,
+/// which another cell may have by now: the next sync fails, and every call after it.
 #[derive(Drop)]
 pub struct FileCell {
     file: File,
-    /// A sync has failed. The system may have dropped what it was to write, and would not tell at
-    /// the next sync.
-    has_lost: bool,
+    place: Place,
+    /// So many of the first bytes are on the disk: the length at the last sync that succeeded, or
+    /// the least one to which the file was cut since.
+    sure: u64,
+    state: State,
     failures: u64,
 }
 
+/// What can be done with the file.
+#[derive(Clone, Copy)]
+enum State {
+    /// It holds what the calls made of it.
+    Sound,
+    /// A change failed, and so did the cutting back: that is done first.
+    CutOwed,
+    /// That failed again, or the path no longer leads to the file: nothing, until it is opened anew.
+    Lost,
+}
+
 impl FileCell {
-    ghost use Rattle.std.specs.Prelude.{◌≡◌, ◌≤◌, IfOk};
+    ghost use Rattle.std.specs.Prelude.{◌≡◌, ◌≤◌, IfOk, IfErr};
     ghost use Rattle.cell_device.specs.declared.fault.CellFault.TheVariants.{Device};
-    ghost use Rattle.cell_device.specs.Calls.{HasGrown};
+    ghost use Rattle.cell_device.specs.Calls.{HasGrown, HasCause};
     ghost use Rattle.cell_device.specs.FileCells.{failures_of};
 
     /// The cell in the file of this path, which is made where it is missing; a path without a folder
     /// leads to the present one. It is refused with `Device` where it isn't a file, where another cell
     /// has it open, or where the system refuses it; or with `Memory`.
-    pub fn open<R: Files<File = File>>(rt: &R, path: &str) -> Result<FileCell, CellFault>
+    pub fn open(rt: &HostRuntime, path: &str) -> Result<FileCell, CellFault>
         ensures { IfOk result (λ cell. failures_of cell ≡ 0) }
     {
-        match open_locked(rt, path) {
-            Ok(file) => Ok(FileCell {
-                file,
-                has_lost: false,
-                failures: 0,
-            }),
+        match FileCell::open_settled(rt, path) {
+            Ok(cell) => Ok(cell),
             Err(error) => Err(fault_of(&error)),
         }
+    }
+
+    /// The cell in this file, which outlives a crash, with all that a read of it gives.
+    fn open_settled(rt: &HostRuntime, path: &str) -> io::Result<FileCell>
+        ensures { IfOk result (λ cell. failures_of cell ≡ 0) }
+    {
+        let file = open_locked(rt, path)?;
+        let place = Place::new(rt, path, &file)?;
+        settle(&file)?;
+        let folder = fs::open(rt, folder_of(path))?;
+        folder.sync_all()?;
+        // Before the lock the path may have been led elsewhere: to a file that has replaced this one,
+        // or over a link, behind which this one lies in another folder than the one that is synced.
+        let sure = place.length()?;
+        Ok(FileCell {
+            file,
+            place,
+            sure,
+            state: State::Sound,
+            failures: 0,
+        })
+    }
+
+    /// Cuts the file back, where that is still to be done.
+    fn begin(&mut self) -> Result<(), CellFault>
+        ensures device { IfErr result (λ fault. fault ≡ Device) }
+        ensures cause { HasCause (failures_of self.old) (failures_of self.new) result }
+    {
+        match self.state {
+            State::Sound => Ok(()),
+            State::Lost => Err(self.fail()),
+            State::CutOwed => match cut_back(&self.file, self.sure) {
+                Ok(()) => {
+                    self.state = State::Sound;
+                    Ok(())
+                }
+                Err(_) => {
+                    self.state = State::Lost;
+                    Err(self.fail())
+                }
+            },
+        }
+    }
+
+    /// A change of the file failed: it is cut back at once, since there may be no next call.
+    fn fail_change(&mut self) -> CellFault
+        ensures fault { result ≡ Device }
+        ensures later { failures_of self.old ≤ failures_of self.new }
+        ensures count { HasGrown (failures_of self.old) (failures_of self.new) }
+    {
+        self.state = match cut_back(&self.file, self.sure) {
+            Ok(()) => State::Sound,
+            Err(_) => State::CutOwed,
+        };
+        self.fail()
     }
 
     /// Counts a failure.
@@ -52,18 +123,9 @@ impl FileCell {
 }
 
 impl Cell for FileCell {
-    ghost use Rattle.std.specs.Prelude.{None};
-    ghost use Rattle.cell_device.specs.FileCells.{failures_of, nothing_told};
+    ghost use Rattle.cell_device.specs.FileCells.{device_of, nothing_told};
 
-    ghost image = { λ cell. None };
-
-    ghost fuse = { λ cell. None };
-
-    ghost moment = { λ cell. 0 };
-
-    ghost left_since = { λ cell t c. Unit {0} };
-
-    ghost failures = { failures_of };
+    ghost device = { device_of };
 
     ghost seen_now = { λ cell i told. nothing_told i told };
 
@@ -72,6 +134,7 @@ impl Cell for FileCell {
     ghost only_now = { λ cell c left. tt };
 
     fn load(&mut self, alloc: Global) -> Result<Vec<u8>, CellFault> {
+        self.begin()?;
         match read_whole(&mut self.file, alloc) {
             Ok(bytes) => Ok(bytes),
             Err(error) => match fault_of(&error) {
@@ -82,35 +145,43 @@ impl Cell for FileCell {
     }
 
     fn append(&mut self, bytes: &[u8]) -> Result<(), CellFault> {
+        self.begin()?;
         match self.file.write_all(bytes) {
             Ok(()) => Ok(()),
-            Err(_) => Err(self.fail()),
+            Err(_) => Err(self.fail_change()),
         }
     }
 
     fn cut(&mut self, len: usize) -> Result<(), CellFault> {
-        match shorten(&self.file, len) {
+        self.begin()?;
+        self.sure = self.sure.min(len as u64);
+        match shorten(&self.file, len as u64) {
             Ok(()) => Ok(()),
-            Err(_) => Err(self.fail()),
+            Err(_) => Err(self.fail_change()),
         }
     }
 
     fn sync(&mut self) -> Result<(), CellFault> {
-        if self.has_lost {
-            return Err(self.fail());
+        self.begin()?;
+        if self.file.sync_all().is_err() {
+            return Err(self.fail_change());
         }
-        match self.file.sync_all() {
-            Ok(()) => Ok(()),
+        // Behind the sync, so that the answer speaks of the file that the path leads to now.
+        match self.place.length() {
+            Ok(length) => {
+                self.sure = length;
+                Ok(())
+            }
             Err(_) => {
-                self.has_lost = true;
+                self.state = State::Lost;
                 Err(self.fail())
             }
         }
     }
 }
 
-/// The file of this path, which no other cell has open. It outlives a crash.
-fn open_locked<R: Files<File = File>>(rt: &R, path: &str) -> io::Result<File> {
+/// The file of this path, which no other cell has open.
+fn open_locked(rt: &HostRuntime, path: &str) -> io::Result<File> {
     // Nothing is made behind a link that leads nowhere.
     match fs::symlink_metadata(rt, path) {
         Ok(there) if !there.is_file() => return Err(ErrorKind::InvalidInput.into()),
@@ -124,14 +195,7 @@ fn open_locked<R: Files<File = File>>(rt: &R, path: &str) -> io::Result<File> {
         .append(true)
         .create(true)
         .open(rt, path)?;
-    // Behind a link the file would stand in another folder than the one that is synced.
-    if !fs::symlink_metadata(rt, path)?.is_file() {
-        return Err(ErrorKind::InvalidInput.into());
-    }
     file.try_lock()?;
-    settle(&file)?;
-    let folder = fs::open(rt, folder_of(path))?;
-    folder.sync_all()?;
     Ok(file)
 }
 
@@ -166,9 +230,14 @@ fn read_whole(file: &mut File, alloc: Global) -> io::Result<Vec<u8>> {
     Ok(bytes)
 }
 
+/// Cuts the file to a length, also on the disk.
+fn cut_back(file: &File, len: u64) -> io::Result<()> {
+    shorten(file, len)?;
+    file.sync_all()
+}
+
 /// Cuts the file to a length. It makes nothing longer.
-fn shorten(file: &File, len: usize) -> io::Result<()> {
-    let len = len as u64;
+fn shorten(file: &File, len: u64) -> io::Result<()> {
     if len < file.metadata()?.len() {
         file.set_len(len)?;
     }

@@ -9,6 +9,7 @@ mod file_cell;
 mod fuse;
 mod medium;
 mod memory_cell;
+mod place;
 #[cfg(test)]
 mod tests;
 

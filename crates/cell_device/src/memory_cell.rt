@@ -129,19 +129,10 @@ impl MemoryCell {
 }
 
 impl Cell for MemoryCell {
-    ghost use Rattle.std.specs.Prelude.{Some};
-    ghost use Rattle.cell_device.specs.Memory.{image_of, fuse_of, failures_of, moment_of, left_since_of};
+    ghost use Rattle.cell_device.specs.Memory.{device_of};
     ghost use Rattle.cell_device.specs.Laws.{seen_now_of, counts_now_of, only_now_of};
 
-    ghost image = { λ cell. Some (image_of cell) };
-
-    ghost fuse = { λ cell. Some (fuse_of cell) };
-
-    ghost moment = { moment_of };
-
-    ghost left_since = { left_since_of };
-
-    ghost failures = { failures_of };
+    ghost device = { device_of };
 
     ghost seen_now = { seen_now_of };
 

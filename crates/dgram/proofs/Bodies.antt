@@ -9,7 +9,7 @@ use Rattle.fields.specs.Spelling.{ballot_bytes, bag_bytes, vote_bytes}
 use Rattle.fields.specs.Reading.{◌>>=◌, both, nothing_at, byte_at, site_of, ballot_at, bag_at}
 use Rattle.fields.proofs.Bytes.{IsBytes, bind_some, some_is, in_test, Takes, Reads, both_read, meant_taken, meant_again}
 use Rattle.fields.proofs.Fields.{byte_read, nothing_read, site_is, site_again, ballot_read, bag_read}
-use Rattle.dgram.specs.declared.layout.TheConstants.{NO_SITE}
+use Rattle.dgram.specs.Numbers.{NO_SITE}
 use Rattle.dgram.specs.declared.kind.Kind.{Kind}
 use Rattle.dgram.specs.declared.kind.Kind.TheVariants as kinds
 use Rattle.dgram.specs.declared.body.PriorVote.{PriorVote}

@@ -7,7 +7,7 @@ use Rattle.std.proofs.lemmas.Slice.Eq.{bytes_eq-Decides}
 use Rattle.fed_types.specs.declared.bag_id.BagId.{BagId}
 use Rattle.fields.specs.Values.{IsBag}
 use Rattle.fields.proofs.Bytes.{some_is, in_test}
-use Rattle.dgram.specs.declared.layout.TheConstants.{NO_BAG, REGISTERED, OTHER_DEPOSIT, OTHER_KNOWN, DEVICE, MEMORY, NEEDS_OPEN, BEFORE_TREE_FAULTS, GREATEST_TREE_FAULT, BEFORE_BAG_FAULTS, GREATEST_BAG_FAULT, IS_KNOWN, IS_PENDING, IS_NOTHING}
+use Rattle.dgram.specs.Numbers.{NO_BAG, REGISTERED, OTHER_DEPOSIT, OTHER_KNOWN, DEVICE, MEMORY, NEEDS_OPEN, BEFORE_TREE_FAULTS, GREATEST_TREE_FAULT, BEFORE_BAG_FAULTS, GREATEST_BAG_FAULT, IS_KNOWN, IS_PENDING, IS_NOTHING}
 use Rattle.dgram.specs.declared.kind.Kind.{Kind}
 use Rattle.dgram.specs.declared.kind.Kind.TheVariants as kinds
 use Rattle.dgram.specs.declared.answers.DepositAnswer.{DepositAnswer}

@@ -2,3 +2,4 @@ pub mod Parts
 pub mod Codes
 pub mod Bodies
 pub mod Whole
+pub mod Lengths

@@ -7,7 +7,7 @@ use Rattle.fields.specs.Spelling.{ballot_bytes, bag_bytes, vote_bytes}
 use Rattle.fields.specs.Reading.{both, meant, number_at, ballot_at, bag_at}
 use Rattle.fields.proofs.Bytes.{IsBytes, some_is, not_some, Takes, takes, Reads, both_read, meant_taken, meant_again, meant_read}
 use Rattle.fields.proofs.Fields.{number16_read, ballot_read, bag_read, IsText, sized_read}
-use Rattle.dgram.specs.declared.layout.TheConstants.{NO_PRIOR, PRIOR, LONGEST_PATH}
+use Rattle.dgram.specs.Numbers.{NO_PRIOR, PRIOR, LONGEST_PATH}
 use Rattle.dgram.specs.declared.body.PriorVote.{PriorVote}
 use Rattle.dgram.specs.Messages.{IsPrior, IsPath}
 use Rattle.dgram.specs.Layout.{prior_bytes, path_bytes}

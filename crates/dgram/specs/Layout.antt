@@ -3,7 +3,7 @@ use Rattle.std.specs.Prelude.{ℕ, ◌+◌, List, [], ◌∷◌, ◌++◌, lengt
 use Rattle.std.specs.Int.{w16, w64, to_be_bytes}
 use Rattle.fed_types.specs.declared.bag_id.BagId.{BagId}
 use Rattle.fields.specs.Spelling.{ballot_bytes, bag_bytes, vote_bytes, slot_bytes}
-use Rattle.dgram.specs.declared.layout.TheConstants.{MAGIC, LAYOUT, NO_SITE, NO_BAG, NO_PRIOR, PRIOR, PREPARE, PROMISE, ACCEPT, ACCEPTED, REFUSED, ASK, KNOWN, DEPOSIT, QUERY, DEPOSIT_REPLY, QUERY_REPLY, REGISTERED, OTHER_DEPOSIT, OTHER_KNOWN, DEVICE, MEMORY, NEEDS_OPEN, BEFORE_TREE_FAULTS, BEFORE_BAG_FAULTS, IS_KNOWN, IS_PENDING, IS_NOTHING}
+use Rattle.dgram.specs.Numbers.{MAGIC, LAYOUT, NO_SITE, NO_BAG, NO_PRIOR, PRIOR, PREPARE, PROMISE, ACCEPT, ACCEPTED, REFUSED, ASK, KNOWN, DEPOSIT, QUERY, DEPOSIT_REPLY, QUERY_REPLY, REGISTERED, OTHER_DEPOSIT, OTHER_KNOWN, DEVICE, MEMORY, NEEDS_OPEN, BEFORE_TREE_FAULTS, BEFORE_BAG_FAULTS, IS_KNOWN, IS_PENDING, IS_NOTHING}
 use Rattle.dgram.specs.declared.kind.Kind.{Kind}
 use Rattle.dgram.specs.declared.kind.Kind.TheVariants as kinds
 use Rattle.dgram.specs.declared.answers.DepositAnswer.{DepositAnswer}

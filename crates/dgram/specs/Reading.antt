@@ -4,7 +4,7 @@ use Rattle.std.specs.Int.{w16}
 use Rattle.fed_types.specs.declared.bag_id.BagId.{BagId}
 use Rattle.fed_types.specs.Ballots.{BallotNumber}
 use Rattle.fields.specs.Reading.{◌>>=◌, both, meant, nothing_at, byte_at, number_at, site_of, ballot_at, bag_at, text_at, slot_at}
-use Rattle.dgram.specs.declared.layout.TheConstants.{NO_SITE, NO_PRIOR, PRIOR, LONGEST_PATH, NO_BAG, REGISTERED, OTHER_DEPOSIT, OTHER_KNOWN, DEVICE, MEMORY, NEEDS_OPEN, BEFORE_TREE_FAULTS, GREATEST_TREE_FAULT, BEFORE_BAG_FAULTS, GREATEST_BAG_FAULT, IS_KNOWN, IS_PENDING, IS_NOTHING}
+use Rattle.dgram.specs.Numbers.{NO_SITE, NO_PRIOR, PRIOR, LONGEST_PATH, NO_BAG, REGISTERED, OTHER_DEPOSIT, OTHER_KNOWN, DEVICE, MEMORY, NEEDS_OPEN, BEFORE_TREE_FAULTS, GREATEST_TREE_FAULT, BEFORE_BAG_FAULTS, GREATEST_BAG_FAULT, IS_KNOWN, IS_PENDING, IS_NOTHING}
 use Rattle.dgram.specs.declared.kind.Kind.{Kind}
 use Rattle.dgram.specs.declared.kind.Kind.TheVariants as kinds
 use Rattle.dgram.specs.declared.answers.DepositAnswer.{DepositAnswer}
@@ -88,9 +88,13 @@ body_at kinds.Query from bytes = meant nothing_at (λ _. from_none from Query) b
 body_at kinds.DepositReply from bytes = meant (both byte_at bag_at) (λ p. site_of from >>= λ s. deposit_answer p.0 p.1 >>= λ a. Some (DepositReply s a)) bytes
 body_at kinds.QueryReply from bytes = meant (both byte_at bag_at) (λ p. site_of from >>= λ s. query_answer p.0 p.1 >>= λ a. Some (QueryReply s a)) bytes
 
--- nothing stands behind the body
+-- nothing follows
 abbrev pub ended : {A : Type 0} → A × List ℕ → Option A
 ended p = if length p.1 == 0 then Some p.0 else None
+
+-- the body of a kind, and nothing after it
+abbrev pub last_body_at : Kind → ℕ → List ℕ → Option Body
+last_body_at kind from bytes = body_at kind from bytes >>= ended
 
 -- the message of this kind, from its sender's byte on
 unfoldable pub message_at : ℕ → List ℕ → Option Message
@@ -98,5 +102,5 @@ message_at code bytes = do
   kind ← kind_of code
   from ← byte_at bytes
   slot ← slot_at from.1
-  body ← body_at kind from.0 slot.1
-  ended (record { slot = slot.0; body = body.0 }, body.1)
+  body ← last_body_at kind from.0 slot.1
+  Some (record { slot = slot.0; body = body })

@@ -1,10 +1,14 @@
-ghost use Rattle.std.specs.Prelude.{◌≡◌, ◌+◌, ◌<◌, ◌≤◌, ◌++◌, length, take, vec_len, vec_capacity, OnOk, OnErr};
+ghost use Rattle.std.specs.Prelude.{◌≡◌, ◌+◌, ◌<◌, ◌≤◌, ◌++◌, length, take};
+ghost use Rattle.std.specs.Prelude.{vec_len, vec_capacity, IsOk, OnOk, OnErr};
+ghost use Rattle.dgram.specs.Numbers.{LONGEST_DATAGRAM};
+ghost use Rattle.dgram.specs.Messages.{IsMessage};
 ghost use Rattle.dgram.specs.Layout.{prior_bytes, path_bytes, reply_bytes, body_bytes, front_bytes, from_byte, datagram_of};
 
 use crate::body::{Body, PriorVote};
 use crate::layout::{LAYOUT, MAGIC, NO_PRIOR, NO_SITE, PRIOR};
 use crate::message::Message;
 use crate::path::FolderPath;
+use crate::values::messages_are_well_formed;
 use fed_types::{BagId, SiteNo};
 use fields::{put_bag, put_ballot, put_slot, put_vote};
 use std::alloc::AllocError;
@@ -111,14 +115,19 @@ fn put_message(federation: u64, message: &Message, out: &mut Vec<u8>) -> Result<
     put_body(out, &message.body)
 }
 
-/// Appends the message's datagram in the federation. Where `out` has no room for it and no memory is
-/// found, `out` has the items that it had.
+/// Appends the message's datagram in the federation. Where `out` has no room for it and no memory
+/// is found, `out` has the items that it had. With room for `LONGEST_DATAGRAM` bytes more it never
+/// fails.
 pub fn encode(federation: u64, message: &Message, out: &mut Vec<u8>) -> Result<(), AllocError>
+    ensures message { IsMessage message.now }
     ensures appended { OnOk result (out.new.items ≡ out.old.items ++ datagram_of federation message.now) }
     ensures unchanged { OnErr result (out.new.items ≡ out.old.items) }
     // It fails only where room is missing.
-    ensures full { OnErr result (vec_capacity out.old < vec_len out.old + length (datagram_of federation message.now)) }
+    ensures full { OnErr result
+        (vec_capacity out.old < vec_len out.old + length (datagram_of federation message.now)) }
+    ensures room { vec_len out.old + LONGEST_DATAGRAM ≤ vec_capacity out.old → IsOk result }
 {
+    messages_are_well_formed(message);
     let before = out.len();
     let put = put_message(federation, message, out);
     if put.is_err() {

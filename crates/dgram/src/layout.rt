@@ -18,6 +18,9 @@ pub(crate) const NO_BAG: [u8; 64] = [0; 64];
 /// The most bytes that a folder's path can have; the fewest is 1.
 pub const LONGEST_PATH: usize = 400;
 
+/// The most bytes of a datagram: that of a deposit with the longest object and the longest path.
+pub const LONGEST_DATAGRAM: usize = 620;
+
 /// The greatest number of a fault in reading a folder; the least is 1.
 pub const GREATEST_TREE_FAULT: u8 = 6;
 

@@ -375,6 +375,117 @@ fn paths_and_fault_numbers_have_ranges(rt: HostRuntime) -> Result<(), Fail> {
     assert_eq!(rt; TreeFaultNo::new(6).map(|f| f.number()), Some(6));
     assert!(rt; BagFaultNo::new(0).is_none() && BagFaultNo::new(15).is_none());
     assert_eq!(rt; BagFaultNo::new(14).map(|f| f.number()), Some(14));
+    Ok(())
+}
+
+// The datagram of a deposit for federation 7: an object of so many bytes `a`, version 1, and a path
+// of so many bytes `x`. `lengths` are the object's and the path's.
+fn deposit(alloc: Global, lengths: (u8, u16)) -> Result<Vec<u8>, Fail> {
+    let mut bytes = hex::decode(alloc, "425001100000000000000007")?;
+    bytes.extend_from_slice(&[0, lengths.0])?;
+    for _ in 0..lengths.0 {
+        bytes.push(b'a')?;
+    }
+    bytes.extend_from_slice(&[0, 0, 0, 1])?;
+    bytes.extend_from_slice(&lengths.1.to_be_bytes())?;
+    for _ in 0..lengths.1 {
+        bytes.push(b'x')?;
+    }
+    Ok(bytes)
+}
+
+#[test]
+fn the_longest_datagram_is_read_and_written(rt: HostRuntime) -> Result<(), Fail> {
+    let alloc = rt.alloc();
+    let mut bytes = deposit(alloc, (200, 400))?;
+    assert_eq!(rt; bytes.len(), 620);
+    assert_eq!(rt; bytes.len(), LONGEST_DATAGRAM);
+    let message = decode(alloc, 7, &bytes)?;
+    assert_eq!(rt; message.slot.object().len(), 200);
+    let Body::Deposit { path } = &message.body else {
+        return Err(Fail::from("not a deposit"));
+    };
+    assert_eq!(rt; path.as_str().len(), 400);
+    assert!(rt; path.as_str().as_bytes().iter().all(|byte| *byte == b'x'));
+    let mut out = Vec::with_capacity(alloc, LONGEST_DATAGRAM)?;
+    encode(7, &message, &mut out)?;
+    assert_eq!(rt; out.as_slice(), bytes.as_slice());
+    let again = what_was_encoded_is_decoded(alloc, 7, &message)?;
+    assert_eq!(rt; again.slot, message.slot);
+    bytes.push(b'x')?;
+    assert!(rt; matches!(decode(alloc, 7, &bytes), Err(DgramFault::Malformed)));
+    let longer_path = deposit(alloc, (200, 401))?;
+    assert!(rt; matches!(decode(alloc, 7, &longer_path), Err(DgramFault::Malformed)));
+    let longer_object = deposit(alloc, (201, 400))?;
+    assert!(rt; matches!(decode(alloc, 7, &longer_object), Err(DgramFault::Malformed)));
+    Ok(())
+}
+
+#[test]
+fn a_promise_with_a_prior_vote_and_the_longest_object(rt: HostRuntime) -> Result<(), Fail> {
+    let alloc = rt.alloc();
+    let mut bytes = hex::decode(alloc, "425001020000000000000007")?;
+    bytes.extend_from_slice(&[15, 200])?;
+    bytes.extend_from_slice(&[b'a'; 200])?;
+    bytes.extend_from_slice(&hex::decode(alloc, "ffffffff00000009030100000008")?)?;
+    bytes.push(2)?;
+    bytes.extend_from_slice(&[0xaa; 64])?;
+    assert_eq!(rt; bytes.len(), 12 + 1 + 205 + 5 + 1 + 69);
+    let message = decode(alloc, 7, &bytes)?;
+    assert_eq!(rt; message.slot.object().len(), 200);
+    assert_eq!(rt; message.slot.version(), u32::MAX);
+    assert_eq!(rt; message.from(), Some(SiteNo::new(15)?));
+    let Body::Promise {
+        ballot: own,
+        prior,
+        ..
+    } = &message.body
+    else {
+        return Err(Fail::from("not a promise"));
+    };
+    assert!(rt; *own == ballot(9, 3)?);
+    let vote = PriorVote {
+        ballot: ballot(8, 2)?,
+        bag: A,
+    };
+    assert!(rt; *prior == Some(vote));
+    let mut out = Vec::with_capacity(alloc, LONGEST_DATAGRAM)?;
+    encode(7, &message, &mut out)?;
+    assert_eq!(rt; out.as_slice(), bytes.as_slice());
+    Ok(())
+}
+
+#[test]
+fn each_fault_has_its_number(rt: HostRuntime) {
+    let alloc = rt.alloc();
+    let not_ours = [0; 12];
+    let malformed = [0; 11];
+    assert_eq!(rt;
+        decode(alloc, 7, &not_ours).err().map(|e| e.number()),
+        Some(1)
+    );
+    assert_eq!(rt;
+        decode(alloc, 7, &malformed).err().map(|e| e.number()),
+        Some(2)
+    );
+    assert_eq!(rt; DgramFault::from(fields::FieldFault::Memory).number(), 3);
+}
+
+#[test]
+fn laws_are_called(rt: HostRuntime) -> Result<(), Fail> {
+    let alloc = rt.alloc();
     one_message_a_datagram();
+    no_datagram_is_longer();
+    for (body, row) in bodies(alloc)? {
+        let message = Message {
+            slot: slot(alloc)?,
+            body,
+        };
+        messages_are_well_formed(&message);
+        let again = what_was_encoded_is_decoded(alloc, 7, &message)?;
+        let mut out = Vec::new(alloc);
+        encode(7, &again, &mut out)?;
+        assert_eq!(rt; out.as_slice(), datagram(alloc, 7, &row)?.as_slice());
+    }
     Ok(())
 }

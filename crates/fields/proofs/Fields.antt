@@ -8,11 +8,10 @@ use Rattle.std.proofs.lemmas.List.{take_at, drop_at, take-append-drop, length-ap
 use Rattle.std.proofs.lemmas.Nat.{be_bytes_2, be_bytes_4, from_be_bytes-to_be_bytes_2, from_be_bytes-to_be_bytes_4}
 use Rattle.std.proofs.lemmas.Str.{IsUtf8-from_is_utf8, is_utf8-from_IsUtf8}
 use Rattle.fed_types.specs.declared.bag_id.BagId.{BagId}
-use Rattle.fed_types.specs.declared.limits.TheConstants.{GREATEST_SITE, LONGEST_OBJECT}
 use Rattle.fed_types.specs.Ballots.{BallotNumber}
 use Rattle.fed_types.specs.Sites.{IsSiteNumber}
 use Rattle.fed_types.specs.Slots.{SlotName}
-use Rattle.fields.specs.declared.limits.TheConstants.{BAG_BYTES}
+use Rattle.fields.specs.Numbers.{BAG_BYTES, LONGEST_OBJECT, GREATEST_SITE}
 use Rattle.fields.specs.Values.{IsSlot, IsBallot, IsBag}
 use Rattle.fields.specs.Spelling.{ballot_bytes, bag_bytes, slot_bytes}
 use Rattle.fields.specs.Reading.{◌>>=◌, both, meant, nothing_at, byte_at, bytes_at, number_at, site_of, ballot_of, ballot_at, bag_at, text_at, object_at, slot_of, slot_at}

@@ -2,11 +2,10 @@
 use Rattle.std.specs.Prelude.{◌≡◌, ℕ, List, [], ◌∷◌, length, take, drop, Option, Some, None, Result, Ok, Err, nat_lt, nat_le, ◌==◌, ◌&&◌, if◌then◌else◌}
 use Rattle.std.specs.Int.{Width, w32, byte_len, from_be_bytes}
 use Rattle.std.specs.Str.{is_utf8}
-use Rattle.fed_types.specs.declared.limits.TheConstants.{GREATEST_SITE, LONGEST_OBJECT}
 use Rattle.fed_types.specs.declared.bag_id.BagId.{BagId}
 use Rattle.fed_types.specs.Ballots.{BallotNumber}
 use Rattle.fed_types.specs.Slots.{SlotName}
-use Rattle.fields.specs.declared.limits.TheConstants.{BAG_BYTES}
+use Rattle.fields.specs.Numbers.{BAG_BYTES, LONGEST_OBJECT, GREATEST_SITE}
 use Rattle.fields.specs.declared.fault.FieldFault.{FieldFault}
 use Rattle.fields.specs.declared.fault.FieldFault.TheVariants as faults
 

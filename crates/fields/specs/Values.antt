@@ -5,7 +5,7 @@ use Rattle.fed_types.specs.declared.bag_id.BagId.{BagId}
 use Rattle.fed_types.specs.Ballots.{BallotNumber}
 use Rattle.fed_types.specs.Sites.{IsSiteNumber}
 use Rattle.fed_types.specs.Slots.{SlotName, IsSlotName}
-use Rattle.fields.specs.declared.limits.TheConstants.{BAG_BYTES}
+use Rattle.fields.specs.Numbers.{BAG_BYTES}
 
 -- a slot's object is a text, and its version has 32 bits
 abbrev pub IsSlot : SlotName → Type 0

@@ -1,10 +1,11 @@
-ghost use Rattle.std.specs.Prelude.{◌≡◌, ◌≤◌, ◌↔◌, IsTrue, IfOk, length, string_bytes};
+ghost use Rattle.std.specs.Prelude.{◌≡◌, ◌≤◌, ◌↔◌, IsTrue, IsSome, IfOk, IsOkUnless, IsErrOf, length, string_bytes};
 ghost use Rattle.std.specs.Int.{w16, w32};
 ghost use Rattle.fed_types.specs.Slots.{IsObjectName};
 ghost use Rattle.fields.specs.Reading.{Gives, byte_at, bytes_at, number_at, ballot_at, bag_at, text_at, object_at, slot_at};
 
 use crate::fault::FieldFault;
 use crate::limits::BAG_BYTES;
+use crate::slot_ref::SlotRef;
 use fed_types::{BagId, Ballot, LONGEST_OBJECT, SiteNo, Slot};
 use std::alloc::Global;
 use std::marker::Model;
@@ -41,7 +42,8 @@ impl<'a> Reader<'a> {
 
     /// A byte.
     pub fn byte(&mut self) -> Result<u8, FieldFault>
-        ensures { Gives (λ x. (x, self.new)) result (byte_at self.old) }
+        ensures gives { Gives (λ x. (x, self.new)) result (byte_at self.old) }
+        ensures no_memory { IsOkUnless result FieldFault.Malformed }
     {
         match self.rest {
             [] => Err(FieldFault::Malformed),
@@ -57,6 +59,7 @@ impl<'a> Reader<'a> {
     pub fn bytes(&mut self, len: usize) -> Result<&'a [u8], FieldFault>
         ensures gives { Gives (λ x. (x.now, self.new)) result (bytes_at len self.old) }
         ensures len { IfOk result (λ x. length x.now ≡ len) }
+        ensures no_memory { IsOkUnless result FieldFault.Malformed }
     {
         if self.rest.len() < len {
             return Err(FieldFault::Malformed);
@@ -68,7 +71,8 @@ impl<'a> Reader<'a> {
 
     /// A number of two bytes.
     pub fn u16(&mut self) -> Result<u16, FieldFault>
-        ensures { Gives (λ x. (x, self.new)) result (number_at w16 self.old) }
+        ensures gives { Gives (λ x. (x, self.new)) result (number_at w16 self.old) }
+        ensures no_memory { IsOkUnless result FieldFault.Malformed }
     {
         let front = self.bytes(2)?;
         Ok(u16::from_be_bytes([front[0], front[1]]))
@@ -76,7 +80,8 @@ impl<'a> Reader<'a> {
 
     /// A number of four bytes.
     pub fn u32(&mut self) -> Result<u32, FieldFault>
-        ensures { Gives (λ x. (x, self.new)) result (number_at w32 self.old) }
+        ensures gives { Gives (λ x. (x, self.new)) result (number_at w32 self.old) }
+        ensures no_memory { IsOkUnless result FieldFault.Malformed }
     {
         let front = self.bytes(4)?;
         Ok(u32::from_be_bytes([front[0], front[1], front[2], front[3]]))
@@ -85,7 +90,8 @@ impl<'a> Reader<'a> {
     /// A ballot: its round, and its site.
     #[tactic(auto, unfolding(crate::specs::Reading::ballot_at))]
     pub fn ballot(&mut self) -> Result<Ballot, FieldFault>
-        ensures { Gives (λ x. (x, self.new)) result (ballot_at self.old) }
+        ensures gives { Gives (λ x. (x, self.new)) result (ballot_at self.old) }
+        ensures no_memory { IsOkUnless result FieldFault.Malformed }
     {
         let round = self.u32()?;
         let site = self.byte()?;
@@ -101,7 +107,8 @@ impl<'a> Reader<'a> {
     /// A bag's identity.
     #[tactic(auto, unfolding(crate::specs::Reading::bag_at, crate::specs::Reading::bytes_at))]
     pub fn bag(&mut self) -> Result<BagId, FieldFault>
-        ensures { Gives (λ x. (x, self.new)) result (bag_at self.old) }
+        ensures gives { Gives (λ x. (x, self.new)) result (bag_at self.old) }
+        ensures no_memory { IsOkUnless result FieldFault.Malformed }
     {
         match self.rest.split_first_chunk::<BAG_BYTES>() {
             None => Err(FieldFault::Malformed),
@@ -117,6 +124,7 @@ impl<'a> Reader<'a> {
     pub fn text(&mut self, most: usize, len: usize) -> Result<&'a str, FieldFault>
         ensures gives { Gives (λ x. (x.now, self.new)) result (text_at most len self.old) }
         ensures in_range { IfOk result (λ x. (1 ≤ length x.now) × (length x.now ≤ most)) }
+        ensures no_memory { IsOkUnless result FieldFault.Malformed }
     {
         if len == 0 || most < len {
             return Err(FieldFault::Malformed);
@@ -128,27 +136,48 @@ impl<'a> Reader<'a> {
         }
     }
 
-    /// The name of an object: its length in one byte, and the text.
+    /// The name of an object, among the bytes that are read: its length in one byte, and the text.
     #[tactic(auto, unfolding(crate::specs::Reading::object_at))]
+    pub fn object_ref(&mut self) -> Result<&'a str, FieldFault>
+        ensures gives { Gives (λ x. (x.now, self.new)) result (object_at self.old) }
+        ensures in_range { IfOk result (λ x. IsObjectName x.now) }
+        ensures no_memory { IsOkUnless result FieldFault.Malformed }
+    {
+        let len = self.byte()?;
+        self.text(LONGEST_OBJECT, usize::from(len))
+    }
+
+    /// The name of an object. Memory is taken last, so it is asked for only where the bytes begin
+    /// with such a name.
     pub fn object(&mut self, alloc: Global) -> Result<String, FieldFault>
         ensures gives { Gives (λ x. (string_bytes x, self.new)) result (object_at self.old) }
         ensures in_range { IfOk result (λ x. IsObjectName (string_bytes x)) }
+        ensures memory { IsErrOf result FieldFault.Memory → IsSome (object_at self.old) }
     {
-        let len = self.byte()?;
-        let text = self.text(LONGEST_OBJECT, usize::from(len))?;
-        Ok(String::from_str(alloc, text)?)
+        let object = self.object_ref()?;
+        Ok(String::from_str(alloc, object)?)
     }
 
-    /// A slot: its object, and its version.
+    /// A slot, its object among the bytes that are read: its object, and its version.
     #[tactic(auto, unfolding(crate::specs::Reading::slot_at))]
-    pub fn slot(&mut self, alloc: Global) -> Result<Slot, FieldFault>
-        ensures { Gives (λ x. (x, self.new)) result (slot_at self.old) }
+    pub fn slot_ref(&mut self) -> Result<SlotRef<'a>, FieldFault>
+        ensures gives { Gives (λ x. (x, self.new)) result (slot_at self.old) }
+        ensures no_memory { IsOkUnless result FieldFault.Malformed }
     {
-        let object = self.object(alloc)?;
+        let object = self.object_ref()?;
         let version = self.u32()?;
-        match Slot::new(object, version) {
-            Ok(slot) => Ok(slot),
-            Err(_) => Err(FieldFault::Malformed),
+        match SlotRef::new(object, version) {
+            Some(slot) => Ok(slot),
+            None => Err(FieldFault::Malformed),
         }
+    }
+
+    /// A slot. Memory is taken last, so it is asked for only where the bytes begin with a slot.
+    pub fn slot(&mut self, alloc: Global) -> Result<Slot, FieldFault>
+        ensures gives { Gives (λ x. (x, self.new)) result (slot_at self.old) }
+        ensures memory { IsErrOf result FieldFault.Memory → IsSome (slot_at self.old) }
+    {
+        let slot = self.slot_ref()?;
+        Ok(slot.to_slot(alloc)?)
     }
 }

@@ -48,13 +48,17 @@ fn fields_are_read(rt: HostRuntime) -> Result<(), Fail> {
     assert_eq!(rt; reader.text(2, 2)?, "\u{e9}");
     assert_eq!(rt; reader.object(alloc)?.as_str(), "a");
     let slot = reader.slot(alloc)?;
+    slots_are_well_formed(&slot);
     assert_eq!(rt; slot.object(), "bc");
     assert_eq!(rt; slot.version(), 256);
     let ballot = reader.ballot()?;
+    ballots_are_well_formed(ballot);
     assert_eq!(rt; ballot.round(), 3);
     assert_eq!(rt; ballot.site().number(), 2);
     assert!(rt; !reader.is_empty());
-    assert!(rt; reader.bag()? == BagId([0xbb; BAG_BYTES]));
+    let bag = reader.bag()?;
+    bags_are_well_formed(&bag);
+    assert!(rt; bag == BagId([0xbb; BAG_BYTES]));
     assert!(rt; reader.is_empty());
     Ok(())
 }
@@ -100,5 +104,22 @@ fn fields_out_of_range_are_refused(rt: HostRuntime) -> Result<(), Fail> {
         malformed
     );
     assert_eq!(rt; FieldFault::from(AllocError), FieldFault::Memory);
+    Ok(())
+}
+
+#[test]
+fn borrowed_slots_are_read(rt: HostRuntime) -> Result<(), Fail> {
+    let alloc = rt.alloc();
+    let bytes = [2, 0x62, 0x63, 0, 0, 1, 0, 9];
+    let mut reader = Reader::new(&bytes);
+    assert_eq!(rt; reader.object_ref()?, "bc");
+    assert_eq!(rt; reader.u32()?, 256);
+    let mut reader = Reader::new(&bytes);
+    let slot = reader.slot_ref()?.to_slot(alloc)?;
+    assert_eq!(rt; slot.object(), "bc");
+    assert_eq!(rt; slot.version(), 256);
+    assert_eq!(rt; reader.byte()?, 9);
+    assert!(rt; SlotRef::new("", 1).is_none() && SlotRef::new("a", 0).is_none());
+    assert!(rt; SlotRef::new("a", 1).is_some());
     Ok(())
 }

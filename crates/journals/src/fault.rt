@@ -10,12 +10,15 @@ use thiserror::Error;
 #[derive(Clone, Copy, Debug, PartialEq, Eq, Error)]
 pub enum Fault {
     /// The arguments are not those of a task.
-    #[error("arguments: none, `file PATH SITE`, `commit PATH SITE`, `bench PATH N`, `fill PATH N`, `open PATH` or `growths`")]
+    #[error("arguments: none, `file PATH SITE`, `commit PATH SITE`, `turns PATH SITE`, `bench PATH N`, `fill PATH N`, `open PATH` or `growths`")]
     Arguments,
     /// A line is no comment, and not a site and the hex digits of a cell.
     #[error("a line that isn't SITE | HEX")]
     Line,
-    /// Standard input, the arguments or the clock couldn't be read.
+    /// A line asks for no turn.
+    #[error("a line that is neither commit nor open")]
+    Turn,
+    /// Standard input, the arguments or the clock couldn't be read, or standard output not written.
     #[error("input unread")]
     Input,
     /// There is no cell at a path, or its device failed.

@@ -7,6 +7,7 @@ use crate::worked::vote;
 use book::{Book, CommitFault};
 use cell_device::FileCell;
 use fed_types::SiteNo;
+use std::alloc::Global;
 
 /// The records of the site's journal in this file, or the fault, and the file's bytes afterwards.
 pub fn opened_line(rt: &HostRuntime, path: &str, site: SiteNo) -> Result<String, Fault> {
@@ -21,16 +22,21 @@ pub fn open_book(rt: &HostRuntime, path: &str, site: SiteNo) -> Result<Book<File
     }
 }
 
+/// Commits the Vote. `ok` or the fault.
+pub fn commit_word(alloc: Global, book: &mut Book<FileCell>) -> Result<&'static str, Fault> {
+    match book.commit(vote(alloc)?) {
+        Ok(()) => Ok("ok"),
+        Err(CommitFault::Device) => Ok("Device"),
+        Err(CommitFault::NeedsOpen) => Ok("NeedsOpen"),
+        Err(CommitFault::Memory) => Err(Fault::Memory),
+    }
+}
+
 /// Commits the Vote to the site's journal in this file. `ok` or the fault, and the records.
 pub fn commit_line(rt: &HostRuntime, path: &str, site: SiteNo) -> Result<String, Fault> {
     let alloc = rt.alloc();
     let mut book = open_book(rt, path, site)?;
-    let said = match book.commit(vote(alloc)?) {
-        Ok(()) => "ok",
-        Err(CommitFault::Device) => "Device",
-        Err(CommitFault::NeedsOpen) => "NeedsOpen",
-        Err(CommitFault::Memory) => return Err(Fault::Memory),
-    };
+    let said = commit_word(alloc, &mut book)?;
     let records = records_text(alloc, book.records())?;
     Ok(format!(in alloc; "{said} | {records}\n")?)
 }

@@ -1,5 +1,5 @@
 //! A tool beside the crate `book`. With no arguments it reads cells from standard input, one a line, and
-//! prints what opening each gives. With `file` or `commit` it does so with a file, with `bench`, `fill` or
+//! prints what opening each gives. With `file`, `commit` or `turns` it does so with a file, with `bench`, `fill` or
 //! `open` it writes and opens long journals, to be timed, and with `growths` it has growths refused.
 #![tactic(auto)]
 
@@ -11,6 +11,7 @@ mod rows;
 mod said;
 mod task;
 mod timed;
+mod turns;
 mod worked;
 
 use fault::Fault;
@@ -21,6 +22,7 @@ use std::process::ExitCode;
 use std::{env, io};
 use task::{Task, task_of};
 use timed::{commits_line, filled_line, opening_time_line};
+use turns::answer_turns;
 
 fn main(rt: HostRuntime) -> ExitCode {
     match text(&rt) {
@@ -42,6 +44,10 @@ fn text(rt: &HostRuntime) -> Result<String, Fault> {
         Task::Rows => answers(alloc, io::read_to_string(alloc, rt.reader())?.as_str()),
         Task::File { path, site } => opened_line(rt, path.as_str(), site),
         Task::Commit { path, site } => commit_line(rt, path.as_str(), site),
+        Task::Turns { path, site } => {
+            answer_turns(rt, path.as_str(), site)?;
+            Ok(String::new(alloc))
+        }
         Task::Bench { path, count } => commits_line(rt, path.as_str(), count),
         Task::Fill { path, count } => filled_line(rt, path.as_str(), count),
         Task::Open { path } => opening_time_line(rt, path.as_str()),

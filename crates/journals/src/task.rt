@@ -13,6 +13,8 @@ pub enum Task {
     File { path: String, site: SiteNo },
     /// Open the cell in a file, and commit a record.
     Commit { path: String, site: SiteNo },
+    /// Open the cell in a file, and do what the lines of standard input ask for.
+    Turns { path: String, site: SiteNo },
     /// Commit so many records, and take the time.
     Bench { path: String, count: u32 },
     /// Write a journal of so many records.
@@ -35,6 +37,10 @@ pub fn task_of(words: &mut Args) -> Result<Task, Fault> {
             site: site(words)?,
         },
         "commit" => Task::Commit {
+            path: word(words)?,
+            site: site(words)?,
+        },
+        "turns" => Task::Turns {
             path: word(words)?,
             site: site(words)?,
         },

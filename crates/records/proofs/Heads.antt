@@ -67,7 +67,7 @@ new_short federation site bytes (rest, some, e) =
     length_cases [] = inl refl
     length_cases (x ∷ xs) = inr (omega arith)
 
-new_front : (federation site : ℕ) (bytes : List ℕ) → IsNew federation site bytes → bytes ≡ take (length bytes) (header_bytes federation site)
+pub new_front : (federation site : ℕ) (bytes : List ℕ) → IsNew federation site bytes → bytes ≡ take (length bytes) (header_bytes federation site)
 new_front federation site bytes (rest, some, e) = sym (take_at bytes rest (length bytes) refl) ∙ ap (take (length bytes)) e
 
 pub new_from : (federation site : ℕ) (bytes : List ℕ) → length bytes < HEADER → bytes ≡ take (length bytes) (header_bytes federation site) → IsNew federation site bytes

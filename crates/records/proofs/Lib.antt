@@ -6,4 +6,5 @@ pub mod Walk
 pub mod Told
 pub mod Words
 pub mod Fronts
+pub mod Total
 mod Examples

@@ -6,7 +6,6 @@ use Rattle.std.proofs.lemmas.Bool.Decides.{eqb_tells}
 use Rattle.std.proofs.lemmas.List.{append-nil, nil_from_length}
 use Rattle.fed_types.specs.declared.bag_id.BagId.{BagId}
 use Rattle.fed_types.specs.Ballots.{BallotNumber}
-use Rattle.fields.specs.Values.{IsBallot, IsBag}
 use Rattle.fields.specs.Spelling.{bag_bytes, ballot_bytes, vote_bytes, slot_bytes}
 use Rattle.fields.specs.Reading.{◌>>=◌, both, meant, byte_at, number_at, ballot_at, bag_at, slot_at}
 use Rattle.fields.proofs.Bytes.{IsBytes, bind_some, some_is, past_test, in_test, Takes, Reads, both_read, meant_taken, meant_again, meant_read}
@@ -16,7 +15,7 @@ use Rattle.records.specs.declared.entry.Entry.{Entry}
 use Rattle.records.specs.declared.entry.Entry.TheVariants.{Deposit, Round, Promise, Vote, Known}
 use Rattle.records.specs.declared.record.Record.{Record}
 use Rattle.records.specs.Layout.{kind_code, entry_bytes, content_bytes}
-use Rattle.records.specs.Records.{IsRound, IsEntry, IsRecord}
+use Rattle.records.specs.Records.{IsRound, IsBallot, IsBag, IsEntry, IsRecord}
 use Rattle.records.specs.Reading.{round_of, round_at, entry_at, ended, content_at}
 
 round_read : Reads round_at (to_be_bytes w32) IsRound

@@ -18,7 +18,7 @@ use Rattle.records.proofs.Spelled.{content_taken, content_again}
 abbrev pub rest_of : List ℕ → List ℕ
 rest_of bytes = take (length bytes - 2) (drop 2 bytes)
 
-rest_is : (bytes : List ℕ) → rest_of bytes ≡ drop 2 bytes
+pub rest_is : (bytes : List ℕ) → rest_of bytes ≡ drop 2 bytes
 rest_is bytes = ap (λ (n : ℕ). take n (drop 2 bytes)) (sym (length-drop 2 bytes)) ∙ take-length (drop 2 bytes)
 
 -- the first two and n more

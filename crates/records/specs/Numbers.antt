@@ -16,6 +16,18 @@ SHORTEST = 11
 abbrev pub LONGEST : ℕ
 LONGEST = 275
 
+-- the most bytes of an object's name
+abbrev pub LONGEST_OBJECT : ℕ
+LONGEST_OBJECT = 200
+
+-- the bytes of a bag's identity
+abbrev pub BAG_BYTES : ℕ
+BAG_BYTES = 64
+
+-- the greatest number of a site
+abbrev pub GREATEST_SITE : ℕ
+GREATEST_SITE = 15
+
 -- the kinds
 abbrev pub DEPOSIT : ℕ
 DEPOSIT = 1

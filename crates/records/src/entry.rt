@@ -1,8 +1,7 @@
 ghost use Rattle.std.specs.Prelude.{◌≡◌, ◌≤◌, length};
 ghost use Rattle.fields.specs.Spelling.{ballot_bytes};
-ghost use Rattle.fields.specs.Values.{IsBallot};
 ghost use Rattle.records.specs.Layout.{kind_code, entry_bytes};
-ghost use Rattle.records.specs.Records.{IsEntry};
+ghost use Rattle.records.specs.Records.{IsBallot, IsEntry};
 
 use crate::layout::*;
 use crate::round::Round;

@@ -1,23 +1,34 @@
-ghost use Rattle.std.specs.Prelude.{◌≡◌, ℕ, max, List, [], ◌∷◌, ◌++◌, take, Result, Ok};
+ghost use Rattle.std.specs.Prelude.{◌≡◌, ℕ, max, List, [], ◌∷◌, ◌++◌, None, Result};
+ghost use Rattle.std.specs.List.{AllByRecursion};
 ghost use Rattle.fed_types.specs.Slots.{SlotName};
 ghost use Rattle.records.specs.declared.fault.OpenFault.{OpenFault};
 ghost use Rattle.records.specs.declared.record.Record.{Record};
 ghost use Rattle.records.specs.Journals.{Says};
-ghost use Rattle.records.specs.Layout.{record_bytes, cell_text};
-ghost use Rattle.records.specs.Records.{IsRecord, AreRecords};
-ghost use Rattle.records.specs.Kept.{kept_records};
+ghost use Rattle.records.specs.Layout.{record_bytes};
+ghost use Rattle.records.specs.Records.{IsByte, IsRecord};
 ghost use Rattle.records.specs.Words.{higher, earlier, with_one, said_in, ballot_in, vote_in, round_in, deposit_in, known_in, promised_of, vote_of, used_of, deposit_of, known_of};
+
+use crate::layout::{HEADER, LONGEST, MAGIC, SHORTEST};
 
 /// Bytes say one thing at most: these records, or this fault. It does nothing: its contract is the law.
 pub fn one_reading()
     ensures { (federation site : ℕ) (bytes : List ℕ) (a b : Result (List Record) OpenFault) → Says federation site bytes a → Says federation site bytes b → a ≡ b }
 {}
 
-/// A journal to which a record was appended and of which a crash has kept `k` bytes of it opens with the
-/// record exactly if these are all its bytes, and else with those before it. It does nothing: its
+/// All bytes say something as the journal of a site: records, or a fault. It does nothing: its
 /// contract is the law.
-pub fn whole_or_not_at_all()
-    ensures { (federation site : ℕ) (records : List Record) (r : Record) (k : ℕ) → AreRecords records → IsRecord r → Says federation site (cell_text federation site records ++ take k (record_bytes r)) (Ok (kept_records k records r)) }
+pub fn all_bytes_say_something()
+    ensures { (federation site : ℕ) (bytes : List ℕ) → AllByRecursion IsByte bytes → (said : Result (List Record) OpenFault) × Says federation site bytes said }
+{}
+
+/// Of no records each word says none, or 0. It does nothing: its contract is the law.
+#[tactic(auto, unfolding(crate::specs::Words::promised_of, crate::specs::Words::vote_of, crate::specs::Words::used_of, crate::specs::Words::deposit_of, crate::specs::Words::known_of))]
+pub fn no_records()
+    ensures promised { (slot : SlotName) → promised_of slot [] ≡ None }
+    ensures vote { (slot : SlotName) → vote_of slot [] ≡ None }
+    ensures used { (slot : SlotName) → used_of slot [] ≡ 0 }
+    ensures deposit { (slot : SlotName) → deposit_of slot [] ≡ None }
+    ensures known { (slot : SlotName) → known_of slot [] ≡ None }
 {}
 
 /// What one more record makes of what the records say of a slot: the greater ballot, the vote of the
@@ -34,4 +45,12 @@ pub fn one_more_record()
 /// Bytes that begin with a record begin with no other. It does nothing: its contract is the law.
 pub fn no_record_begins_another()
     ensures { (r s : Record) (x y : List ℕ) → IsRecord r → IsRecord s → record_bytes r ++ x ≡ record_bytes s ++ y → (r ≡ s) × (x ≡ y) }
+{}
+
+/// The numbers of the layout, as docs/FORMATS.md has them. It does nothing: its contract is the law.
+pub fn layout_numbers()
+    ensures magic { MAGIC ≡ 66 ∷ 80 ∷ 74 ∷ 49 ∷ [] }
+    ensures header { HEADER ≡ 13 }
+    ensures shortest { SHORTEST ≡ 11 }
+    ensures longest { LONGEST ≡ 275 }
 {}

@@ -14,7 +14,10 @@ mod writing;
 pub use entry::Entry;
 pub use fault::OpenFault;
 pub use journal::{Journal, read_journal};
-pub use law::{no_record_begins_another, one_more_record, one_reading, whole_or_not_at_all};
+pub use law::{
+    all_bytes_say_something, layout_numbers, no_record_begins_another, no_records, one_more_record,
+    one_reading,
+};
 pub use layout::{HEADER, LONGEST, MAGIC, SHORTEST};
 pub use record::Record;
 pub use round::Round;

@@ -136,7 +136,7 @@ fn records_have_their_bytes(rt: HostRuntime) -> Result<(), Fail> {
                 let mut text = hex::decode(alloc, HEADER_7_1)?;
                 text.extend_from_slice(&expected)?;
                 let journal = read_journal(alloc, 7, site, &text)?;
-                let records = Vec::from_array(alloc, [record])?;
+                let records = Vec::from_array(alloc, [record.copy(alloc)?])?;
                 assert!(rt; tells(&journal, &records, text.len()), "kind {}", kind.1);
             }
         }
@@ -331,7 +331,9 @@ fn faults_have_numbers(rt: HostRuntime) -> Result<(), Fail> {
     assert_eq!(rt; OpenFault::from(AllocError), OpenFault::Memory);
     one_reading();
     no_record_begins_another();
-    whole_or_not_at_all();
+    all_bytes_say_something();
+    no_records();
     one_more_record();
+    layout_numbers();
     Ok(())
 }

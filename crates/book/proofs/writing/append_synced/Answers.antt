@@ -1,4 +1,6 @@
-use Rattle.std.proofs.Common.{◌≡◌, ◌++◌, List, ℕ, take, refl, sym}
+use Rattle.std.proofs.Common.{Option, ◌≡◌, ◌++◌, List, ℕ, take, refl, sym}
+use Rattle.cell_device.specs.Images.{Image}
+use Rattle.cell_device.specs.declared.fuse.FuseState.{FuseState}
 use Rattle.std.proofs.lemmas.List.{append-nil}
 use Rattle.book.specs.Volumes.{IfTold}
 use Rattle.book.proofs.Moments.{started, goes_on}
@@ -8,44 +10,42 @@ use Rattle.book.proofs.writing.append_synced.Goals as goal
 
 pub returns-in_err-append-clause-any_moment : goal.returns-in_err-append-clause-any_moment
 returns-in_err-append-clause-any_moment g c = λ text rest.
-    let image = g.C.Cell.image in
-    let moment = g.C.Cell.moment in
-    let since = g.C.Cell.left_since in
+    let device = g.C.Cell.device in
+    let image : g.row.C.Denot → Option Image = λ cell. (device cell).image in
     let only = g.met.C.Cell.only_now in
     let old = c.args.cell.now in
     let b = c.args.bytes.now in
     let Q : List ℕ → Type 0 = λ l. (k : ℕ) × (l ≡ text ++ take k b) in
     let P : List ℕ → Type 0 = λ l. IfTold (image old) (λ i. Q l) in
-    let first = started image moment since only old P (at_start text (image old) Q rest (0, sym (append-nil text))) in
-    goes_on image moment since only old old c.append.new.self P first c.append.ensures.time
-    (append_leaves c.append.result text b (image old) (image c.append.new.self) Q rest c.append.ensures.bytes (λ k. (k, refl)))
+    let first = started device only old P (at_start text (image old) Q rest (0, sym (append-nil text))) in
+    goes_on device only old old c.append.new.self P first c.append.ensures.does.time
+    (append_leaves c.append.result text b (image old) (image c.append.new.self) Q rest c.append.ensures.does.bytes (λ k. (k, refl)))
 
 pub returns-clause-any_moment : goal.returns-clause-any_moment
 returns-clause-any_moment g c = λ text rest.
-    let image = g.C.Cell.image in
-    let moment = g.C.Cell.moment in
-    let since = g.C.Cell.left_since in
+    let device = g.C.Cell.device in
+    let image : g.row.C.Denot → Option Image = λ cell. (device cell).image in
     let only = g.met.C.Cell.only_now in
     let old = c.args.cell.now in
     let b = c.args.bytes.now in
     let Q : List ℕ → Type 0 = λ l. (k : ℕ) × (l ≡ text ++ take k b) in
     let P : List ℕ → Type 0 = λ l. IfTold (image old) (λ i. Q l) in
-    let first = started image moment since only old P (at_start text (image old) Q rest (0, sym (append-nil text))) in
-    let second = goes_on image moment since only old old c.append.new.self P first c.append.ensures.time
-    (append_leaves c.append.result text b (image old) (image c.append.new.self) Q rest c.append.ensures.bytes (λ k. (k, refl))) in
-    goes_on image moment since only old c.append.new.self c.sync.new.self P second c.sync.ensures.time
-    (append_sync_leaves c.in_ok-append.field-0 c.sync.result text b (image old) (image c.append.new.self) (image c.sync.new.self) Q rest c.in_ok-append.ensures.bytes c.sync.ensures.bytes (λ k. (k, refl)))
+    let first = started device only old P (at_start text (image old) Q rest (0, sym (append-nil text))) in
+    let second = goes_on device only old old c.append.new.self P first c.append.ensures.does.time
+    (append_leaves c.append.result text b (image old) (image c.append.new.self) Q rest c.append.ensures.does.bytes (λ k. (k, refl))) in
+    goes_on device only old c.append.new.self c.sync.new.self P second c.sync.ensures.does.time
+    (append_sync_leaves c.in_ok-append.field-0 c.sync.result text b (image old) (image c.append.new.self) (image c.sync.new.self) Q rest c.in_ok-append.ensures.does.bytes c.sync.ensures.does.bytes (λ k. (k, refl)))
 
 pub returns-in_err-append-clause-fuse : goal.returns-in_err-append-clause-fuse
 returns-in_err-append-clause-fuse g c = λ f text is rest.
-    let image = g.C.Cell.image in
-    let fuse = g.C.Cell.fuse in
+    let image : g.row.C.Denot → Option Image = λ cell. (g.C.Cell.device cell).image in
+    let fuse : g.row.C.Denot → Option FuseState = λ cell. (g.C.Cell.device cell).fuse in
     handed_on c.from_residual.result c.in_err-append.field-0.0 f text c.args.bytes.now (fuse c.append.new.self) (image c.append.new.self) c.from_residual.ensures.1
-    (append_burns c.in_err-append.field-0.0 f text c.args.bytes.now (fuse c.args.cell.now) (fuse c.append.new.self) (image c.args.cell.now) (image c.append.new.self) is rest c.in_err-append.ensures.bytes c.in_err-append.ensures.fuse)
+    (append_burns c.in_err-append.field-0.0 f text c.args.bytes.now (fuse c.args.cell.now) (fuse c.append.new.self) (image c.args.cell.now) (image c.append.new.self) is rest c.in_err-append.ensures.does.bytes c.in_err-append.ensures.does.fuse)
 
 pub returns-clause-fuse : goal.returns-clause-fuse
 returns-clause-fuse g c = λ f text is rest.
-    let image = g.C.Cell.image in
-    let fuse = g.C.Cell.fuse in
+    let image : g.row.C.Denot → Option Image = λ cell. (g.C.Cell.device cell).image in
+    let fuse : g.row.C.Denot → Option FuseState = λ cell. (g.C.Cell.device cell).fuse in
     sync_burns c.sync.result f text c.args.bytes.now (fuse c.args.cell.now) (fuse c.append.new.self) (fuse c.sync.new.self) (image c.args.cell.now) (image c.append.new.self) (image c.sync.new.self) is rest
-    c.in_ok-append.ensures.bytes c.in_ok-append.ensures.fuse c.sync.ensures.bytes c.sync.ensures.fuse c.sync.ensures.no_memory
+    c.in_ok-append.ensures.does.bytes c.in_ok-append.ensures.does.fuse c.sync.ensures.does.bytes c.sync.ensures.does.fuse c.sync.ensures.no_memory

@@ -1,15 +1,48 @@
-use Rattle.std.proofs.Common.{refl, arith, inr, Ok, Err}
-use Rattle.dgram.proofs.Whole.{given_rest, is_found, ok_is, err_is, err_is_none}
+use Rattle.std.proofs.Common.{refl, arith}
+use Rattle.dgram.proofs.Whole.{is_found, ok_only, ok_malformed}
+use Rattle.dgram.proofs.Whole.{faulted, err_only, err_memory, err_malformed}
 use Rattle.dgram.proofs.decoding.decode.Goals as goal
 
 pub returns-in_err-read_message-clause-only : goal.returns-in_err-read_message-clause-only
-returns-in_err-read_message-clause-only c = λ m h e. inr (err_is c.args.federation c.args.bytes.now c.in_err-read_message.field-0.0 c.from_residual.result (given_rest c.args.bytes.now (Err c.in_err-read_message.field-0.0) c.in_err-read_message.ensures) c.from_residual.ensures.1 m h e)
+returns-in_err-read_message-clause-only c =
+    let fault = c.in_err-read_message.field-0.0 in
+    let known = c.in_err-read_message.ensures in
+    err_only c.args.federation c.args.bytes.now fault c.from_residual.result
+    (faulted c.args.bytes.now fault c.from_residual.result known.gives known.memory
+    c.from_residual.ensures.1)
 
 pub returns-in_err-read_message-clause-malformed : goal.returns-in_err-read_message-clause-malformed
-returns-in_err-read_message-clause-malformed c = err_is_none c.args.federation c.args.bytes.now c.in_err-read_message.field-0.0 c.from_residual.result (given_rest c.args.bytes.now (Err c.in_err-read_message.field-0.0) c.in_err-read_message.ensures) c.from_residual.ensures.1
+returns-in_err-read_message-clause-malformed c =
+    let fault = c.in_err-read_message.field-0.0 in
+    let known = c.in_err-read_message.ensures in
+    err_malformed c.args.federation c.args.bytes.now fault c.from_residual.result
+    (λ i. omega (arith, c.type_inv.bytes i)) c.if-bytes-lt-FRONT.false
+    (c.if-not-is_ours.ensures.0 refl)
+    (faulted c.args.bytes.now fault c.from_residual.result known.gives known.memory
+    c.from_residual.ensures.1)
+
+pub returns-in_err-read_message-clause-memory : goal.returns-in_err-read_message-clause-memory
+returns-in_err-read_message-clause-memory c =
+    let fault = c.in_err-read_message.field-0.0 in
+    let known = c.in_err-read_message.ensures in
+    err_memory c.args.federation c.args.bytes.now fault c.from_residual.result
+    (λ i. omega (arith, c.type_inv.bytes i)) c.if-bytes-lt-FRONT.false
+    (c.if-not-is_ours.ensures.0 refl)
+    (faulted c.args.bytes.now fault c.from_residual.result known.gives known.memory
+    c.from_residual.ensures.1)
 
 pub returns-clause-found : goal.returns-clause-found
-returns-clause-found c = is_found c.args.federation c.args.bytes.now c.in_ok-read_message.field-0 (λ i. omega (arith, c.type_inv.bytes i)) c.if-bytes-lt-FRONT.false (c.if-not-is_ours.ensures.0 refl) (given_rest c.args.bytes.now (Ok c.in_ok-read_message.field-0) c.in_ok-read_message.ensures)
+returns-clause-found c =
+    is_found c.args.federation c.args.bytes.now c.in_ok-read_message.field-0
+    (λ i. omega (arith, c.type_inv.bytes i)) c.if-bytes-lt-FRONT.false
+    (c.if-not-is_ours.ensures.0 refl) c.in_ok-read_message.ensures.gives
 
 pub returns-clause-only : goal.returns-clause-only
-returns-clause-only c = ok_is c.args.federation c.args.bytes.now c.in_ok-read_message.field-0 (given_rest c.args.bytes.now (Ok c.in_ok-read_message.field-0) c.in_ok-read_message.ensures)
+returns-clause-only c =
+    ok_only c.args.federation c.args.bytes.now c.in_ok-read_message.field-0
+    c.in_ok-read_message.ensures.gives
+
+pub returns-clause-malformed : goal.returns-clause-malformed
+returns-clause-malformed c =
+    ok_malformed c.args.federation c.args.bytes.now c.in_ok-read_message.field-0
+    c.if-bytes-lt-FRONT.false (returns-clause-found c)

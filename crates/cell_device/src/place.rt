@@ -1,0 +1,39 @@
+//! Where a file lies.
+
+use std::fs;
+use std::fs::File;
+use std::io::{self, ErrorKind};
+use std::os::unix::fs::MetadataExt;
+
+/// A path, and the file to which it led. A file that is renamed, deleted or replaced while it is
+/// open goes on, but another that is opened by its path is not the same.
+#[derive(Drop)]
+pub(crate) struct Place {
+    rt: HostRuntime,
+    path: String,
+    device: u64,
+    inode: u64,
+}
+
+impl Place {
+    /// This path, and the file that is open.
+    pub fn new(rt: &HostRuntime, path: &str, file: &File) -> io::Result<Place> {
+        let about = file.metadata()?;
+        Ok(Place {
+            rt: *rt,
+            path: String::from_str(rt.alloc(), path)?,
+            device: about.dev(),
+            inode: about.ino(),
+        })
+    }
+
+    /// The file's length. `NotFound` where the path doesn't lead to it, without a link at its end.
+    pub fn length(&self) -> io::Result<u64> {
+        let about = fs::symlink_metadata(&self.rt, self.path.as_str())?;
+        if about.dev() == self.device && about.ino() == self.inode {
+            Ok(about.len())
+        } else {
+            Err(ErrorKind::NotFound.into())
+        }
+    }
+}
