@@ -14,8 +14,8 @@ use std::path::Path;
 /// write some, and may then give zeros or old bytes in their place. So where an append, a cut or a
 /// sync has failed, the file is cut back to the bytes that an earlier sync has made sure of.
 ///
-/// A file that was renamed, deleted or replaced while it is open isn't the one that its path leads to,
-/// which another cell may have by now: the next sync fails, and every call after it.
+/// A file that was renamed, deleted or replaced while it is open isn't the one that its path leads
+/// to, which another cell may have by now: the next sync fails, and every call after it.
 #[derive(Drop)]
 pub struct FileCell {
     file: File,
@@ -34,7 +34,8 @@ enum State {
     Sound,
     /// A change failed, and so did the cutting back: that is done first.
     CutOwed,
-    /// That failed again, or the path no longer leads to the file: nothing, until it is opened anew.
+    /// That failed again, or the path no longer leads to the file: nothing, until it is opened
+    /// anew.
     Lost,
 }
 
@@ -44,9 +45,9 @@ impl FileCell {
     ghost use Rattle.cell_device.specs.Calls.{HasGrown, HasCause};
     ghost use Rattle.cell_device.specs.FileCells.{failures_of};
 
-    /// The cell in the file of this path, which is made where it is missing; a path without a folder
-    /// leads to the present one. It is refused with `Device` where it isn't a file, where another cell
-    /// has it open, or where the system refuses it; or with `Memory`.
+    /// The cell in the file of this path, which is made where it is missing; a path without a
+    /// folder leads to the present one. It is refused with `Device` where it isn't a file, where
+    /// another cell has it open, or where the system refuses it; or with `Memory`.
     pub fn open(rt: &HostRuntime, path: &str) -> Result<FileCell, CellFault>
         ensures { IfOk result (λ cell. failures_of cell ≡ 0) }
     {
@@ -65,8 +66,9 @@ impl FileCell {
         settle(&file)?;
         let folder = fs::open(rt, folder_of(path))?;
         folder.sync_all()?;
-        // Before the lock the path may have been led elsewhere: to a file that has replaced this one,
-        // or over a link, behind which this one lies in another folder than the one that is synced.
+        // Before the lock the path may have been led elsewhere: to a file that has replaced this
+        // one, or over a link, behind which this one lies in another folder than the one that is
+        // synced.
         let sure = place.length()?;
         Ok(FileCell {
             file,

@@ -1,6 +1,7 @@
-//! A tool beside the crate `book`. With no arguments it reads cells from standard input, one a line, and
-//! prints what opening each gives. With `file`, `commit` or `turns` it does so with a file, with `bench`, `fill` or
-//! `open` it writes and opens long journals, to be timed, and with `growths` it has growths refused.
+//! A tool beside the crate `book`. With no arguments it reads cells from standard input, one a
+//! line, and prints what opening each gives. With `file`, `commit` or `turns` it does so with a
+//! file, with `bench`, `fill` or `open` it writes and opens long journals, to be timed, and with
+//! `growths` it has allocations fail.
 #![tactic(auto)]
 
 mod fault;

@@ -1,5 +1,5 @@
-//! Several calls on a journal in a file: each line of standard input asks for one, `commit` or `open`, and is
-//! answered in a line before the next one is read.
+//! Several calls on a journal in a file: each line of standard input asks for one, `commit` or
+//! `open`, and is answered in a line before the next one is read.
 
 use crate::fault::Fault;
 use crate::files::commit_word;
@@ -17,8 +17,8 @@ enum Journal {
     Refused(FileCell),
 }
 
-/// Opens the site's journal in this file, and says its records; then it does what the lines ask. `open` opens
-/// the journal again over the same cell.
+/// Opens the site's journal in this file, and says its records; then it does what the lines ask.
+/// `open` opens the journal again over the same cell.
 pub fn answer_turns(rt: &HostRuntime, path: &str, site: SiteNo) -> Result<(), Fault> {
     let alloc = rt.alloc();
     let (opened, said) = open(alloc, FileCell::open(rt, path)?, site)?;
