@@ -2,14 +2,11 @@
 //! made is added up, so that none of them is left out.
 
 use crate::fault::Fault;
-use dgram::{Body, Message, decode, encode};
+use dgram::{Body, LONGEST_DATAGRAM, Message, decode, encode};
 use fed_types::{Ballot, SiteNo, Slot};
 use std::alloc::Global;
 
 const FEDERATION: u64 = 7;
-
-/// More room than any datagram takes.
-const ROOM: usize = 1024;
 
 fn prepare(alloc: Global) -> Result<Message, Fault> {
     Ok(Message {
@@ -23,7 +20,7 @@ fn prepare(alloc: Global) -> Result<Message, Fault> {
 /// Encodes a Prepare so often, each time into the same vector, which has room.
 pub fn encode_often(alloc: Global, count: u32) -> Result<u64, Fault> {
     let message = prepare(alloc)?;
-    let mut out = Vec::with_capacity(alloc, ROOM)?;
+    let mut out = Vec::with_capacity(alloc, LONGEST_DATAGRAM)?;
     let mut total = 0u64;
     for _ in 0..count {
         out.clear();
@@ -35,7 +32,7 @@ pub fn encode_often(alloc: Global, count: u32) -> Result<u64, Fault> {
 
 /// Decodes the datagram of a Prepare so often.
 pub fn decode_often(alloc: Global, count: u32) -> Result<u64, Fault> {
-    let mut bytes = Vec::with_capacity(alloc, ROOM)?;
+    let mut bytes = Vec::with_capacity(alloc, LONGEST_DATAGRAM)?;
     encode(FEDERATION, &prepare(alloc)?, &mut bytes)?;
     let mut total = 0u64;
     for _ in 0..count {

@@ -139,7 +139,8 @@ fn read_query(from: u8, reader: &mut Reader) -> Result<Body, FieldFault>
 
 #[tactic(auto, unfolding(crate::specs::Reading::body_at))]
 fn read_deposit_reply(from: u8, reader: &mut Reader) -> Result<Body, FieldFault>
-    ensures gives { Gives (λ x. (x, reader.new)) result (body_at kinds.DepositReply from reader.old) }
+    ensures gives { Gives (λ x. (x, reader.new)) result
+        (body_at kinds.DepositReply from reader.old) }
     ensures no_memory { IsOkUnless result FieldFault.Malformed }
 {
     let code = reader.byte()?;
@@ -181,7 +182,8 @@ fn read_end(reader: &Reader, body: Body) -> Result<Body, FieldFault>
 #[tactic(auto, unfolding(crate::specs::Reading::body_at))]
 fn read_deposit(alloc: Global, from: u8, reader: &mut Reader) -> Result<Body, FieldFault>
     ensures gives { Gives (λ x. x) result (last_body_at kinds.Deposit from reader.old) }
-    ensures memory { IsErrOf result FieldFault.Memory → IsSome (last_body_at kinds.Deposit from reader.old) }
+    ensures memory { IsErrOf result FieldFault.Memory
+        → IsSome (last_body_at kinds.Deposit from reader.old) }
 {
     let path = read_path(reader)?;
     read_no_site(from)?;

@@ -47,7 +47,8 @@ pub fn decode(alloc: Global, federation: u64, bytes: &[u8]) -> Result<Message, D
     // What is read has these bytes.
     ensures found { IfOk result (λ m. IsDatagramOf federation bytes.now m) }
     // What has these bytes is read, unless memory runs out.
-    ensures only { (m : declared.Message) → IsDatagramOf federation bytes.now m → IsOkOrMemory result m }
+    ensures only { (m : declared.Message) → IsDatagramOf federation bytes.now m
+        → IsOkOrMemory result m }
     ensures not_ours { IsErrOf result DgramFault.NotOurs ↔ IsAnothers federation bytes.now }
     ensures malformed { IsErrOf result DgramFault.Malformed ↔ IsMalformed federation bytes.now }
     ensures memory { IsErrOf result DgramFault.Memory → IsDatagram federation bytes.now }

@@ -120,7 +120,8 @@ fn put_message(federation: u64, message: &Message, out: &mut Vec<u8>) -> Result<
 /// fails.
 pub fn encode(federation: u64, message: &Message, out: &mut Vec<u8>) -> Result<(), AllocError>
     ensures message { IsMessage message.now }
-    ensures appended { OnOk result (out.new.items ≡ out.old.items ++ datagram_of federation message.now) }
+    ensures appended { OnOk result
+        (out.new.items ≡ out.old.items ++ datagram_of federation message.now) }
     ensures unchanged { OnErr result (out.new.items ≡ out.old.items) }
     // It fails only where room is missing.
     ensures full { OnErr result
