@@ -59,6 +59,13 @@ fn find_fault(alloc: Global, facts: &Facts) -> Result<(), BagFault>
 fn identity(files: &[FileFacts]) -> BagId
     ensures { result ≡ record { 0 = sha512 (unwrap_or (text_at sha512_manifest files.now) []) } }
 {
+    BagId(Sha512::digest(sha512_manifest(files)))
+}
+
+/// The bytes of `manifest-sha512.txt`, or none where it isn't there.
+fn sha512_manifest(files: &[FileFacts]) -> &[u8]
+    ensures { result.now ≡ unwrap_or (text_at sha512_manifest files.now) [] }
+{
     let text = text_at(files, Kind::Payload.manifest_name(Algorithm::Sha512));
-    BagId(Sha512::digest(text.unwrap_or(&[])))
+    text.unwrap_or(&[])
 }
