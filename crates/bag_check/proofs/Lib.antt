@@ -3,3 +3,7 @@ pub mod Keyed
 pub mod Repeats
 pub mod Readings
 pub mod Steps
+pub mod Sets
+pub mod ValidLaws
+pub mod ValidManifests
+pub mod ValidNames

@@ -3,7 +3,6 @@ use Rattle.std.proofs.Common.{◌≡◌, ℕ, Bool, true, false, ◌||◌, ◌&&
 use Rattle.std.specs.Prelude.{codes, is_some, is_err, unwrap_or}
 use Rattle.std.specs.List.{list_any, flat_map}
 use Rattle.std.specs.Result.{IsErrAnd}
-use Rattle.sha2.specs.Sha512.{sha512}
 use Rattle.std.specs.Option.{option_or, option_map}
 use Rattle.std.proofs.lemmas.List.Folds.{list_any-append}
 use Rattle.std.proofs.Math.Bool.{or-false}
@@ -14,7 +13,7 @@ use Rattle.fed_types.specs.declared.bag_id.BagId.{BagId}
 use Rattle.bag_check.specs.declared.fault.BagFault.{BagFault}
 use Rattle.bag_check.specs.declared.fault.BagFault.TheVariants.{NoDeclaration, BadDeclaration, UnsupportedVersion, UnsupportedEncoding, HasFetch, NoPayloadFolder, NoSha512Manifest, UnknownAlgorithm, MalformedLine, UnsafePath, DuplicateEntry, MissingFile, UnlistedFile, WrongDigest, Memory}
 use Rattle.bag_check.specs.Manifests.{is_unknown, Manifest, file_at, has_file, text_at, sha512_manifest, is_manifest, is_known_manifest, manifests_of, passes, is_malformed, entries}
-use Rattle.bag_check.specs.Check.{is_bad_declaration, declares_other, fails, is_supported_version, is_supported_encoding, is_astray, repeats, is_unlisted, is_wrong, if_payload, some_manifest, holds, first_fault, answer, identity_of, check_of, Checks}
+use Rattle.bag_check.specs.Check.{is_bad_declaration, declares_other, fails, is_supported_version, is_supported_encoding, is_astray, repeats, is_unlisted, is_wrong, if_payload, some_manifest, holds, first_fault, answer, identity_of, check_of, Checks, Finds}
 use Rattle.bag_check.specs.Order.{fault_of_declared, fault_of_declaration, fault_of_names, fault_of_tag_files, Listed, listed_in, listings, some_malformed, Reads, FailsToRead, has_astray, has_repeat, has_missing, has_unlisted, has_wrong, fault_of_listings}
 
 -- ---- what `bagit.txt` declares
@@ -114,12 +113,12 @@ first_fault-steps facts =
     (list_any (λ file. is_manifest file.path && not (is_known_manifest file.path)) facts.files) _ ∙ ap (option_or (fault_of_names facts.files facts.payload)) (later facts))
     ∙ or_assoc (fault_of_declaration (text_at (codes "bagit.txt") facts.files)) (fault_of_names facts.files facts.payload) (later_steps facts))
 
--- ---- what checking answers where each test is known
+-- ---- which fault is found where each test is known
 
--- an answer of a fault is what a check answers that finds it
-Checks-err : (found : Result BagId BagFault) (fault : BagFault) → found ≡ Err fault → Checks found (Err fault)
-Checks-err found Memory h = tt
-Checks-err found fault h = h
+-- an answer of a fault is what a search answers that finds it
+Finds-err : (found : Option BagFault) (fault : BagFault) → found ≡ Some fault → Finds found (Err fault)
+Finds-err found Memory h = tt
+Finds-err found fault h = h
 
 pub tag_files_are : (facts : TreeFacts) (files : List FileFact) (payload : Bool) (fault : Option BagFault) → files ≡ facts.files → payload ≡ facts.payload → fault ≡ fault_of_tag_files files payload
     → fault_of_tag_files facts.files facts.payload ≡ fault
@@ -129,41 +128,49 @@ pub listings_are : (facts : TreeFacts) (files by_path : List FileFact) (found sl
     → fault ≡ fault_of_listings by_path slice → fault_of_listings facts.files found ≡ fault
 listings_are facts files by_path found slice fault same indexed sliced h = cc
 
-pub identified : (facts : TreeFacts) (files : List FileFact) (bag : BagId) → files ≡ facts.files → bag ≡ record { 0 = sha512 (unwrap_or (text_at sha512_manifest files) []) } → bag ≡ identity_of facts
-identified facts files bag same h =
-    let P : List FileFact → Type 0 = λ fs. bag ≡ record { 0 = sha512 (unwrap_or (text_at sha512_manifest fs) []) } in
-    subst P same h
-
 -- an error that a `?` hands on
-pub checks_handed_on : (found answer : Result BagId BagFault) (fault : BagFault) → IsErrAnd answer (λ other. other ≡ fault) → Checks found (Err fault) → Checks found answer
-checks_handed_on found (Ok bag) fault is h = absurd is
-checks_handed_on found (Err other) fault is h =
-    let P : BagFault → Type 0 = λ f. Checks found (Err f) in
+pub finds_handed_on : (found : Option BagFault) (answer : Result (Unit {0}) BagFault) (fault : BagFault) → IsErrAnd answer (λ other. other ≡ fault) → Finds found (Err fault) → Finds found answer
+finds_handed_on found (Ok done) fault is h = absurd is
+finds_handed_on found (Err other) fault is h =
+    let P : BagFault → Type 0 = λ f. Finds found (Err f) in
     subst P (sym is) h
 
 module _ (facts : TreeFacts) where
-  check_of-is : (fault : Option BagFault) → option_or (fault_of_tag_files facts.files facts.payload) (later_steps facts) ≡ fault → check_of facts ≡ answer facts fault
-  unfolding check_of
-  check_of-is fault h = ap (answer facts) (first_fault-steps facts ∙ h)
-
-  pub faulty_tag_files : (fault : BagFault) → fault_of_tag_files facts.files facts.payload ≡ Some fault → Checks (check_of facts) (Err fault)
-  faulty_tag_files fault h = Checks-err (check_of facts) fault (check_of-is (Some fault) (ap (λ o. option_or o (later_steps facts)) h))
+  pub faulty_tag_files : (fault : BagFault) → fault_of_tag_files facts.files facts.payload ≡ Some fault → Finds (first_fault facts) (Err fault)
+  faulty_tag_files fault h = Finds-err (first_fault facts) fault (first_fault-steps facts ∙ ap (λ o. option_or o (later_steps facts)) h)
 
   module _ (sound : fault_of_tag_files facts.files facts.payload ≡ None) where
-    past : (fault : Option BagFault) → later_steps facts ≡ fault → check_of facts ≡ answer facts fault
-    past fault h = check_of-is fault (ap (λ o. option_or o (later_steps facts)) sound ∙ h)
+    past : (fault : Option BagFault) → later_steps facts ≡ fault → first_fault facts ≡ fault
+    past fault h = first_fault-steps facts ∙ (ap (λ o. option_or o (later_steps facts)) sound ∙ h)
 
-    pub not_read : (fault : BagFault) → FailsToRead (manifests_of facts) fault → Checks (check_of facts) (Err fault)
+    pub not_read : (fault : BagFault) → FailsToRead (manifests_of facts) fault → Finds (first_fault facts) (Err fault)
     not_read Memory h = tt
     not_read MalformedLine h = past (Some MalformedLine) (rw h refl)
     not_read fault h = absurd h
 
-    listed : (found : List Listed) (fault : Option BagFault) → Reads (manifests_of facts) [] found → fault_of_listings facts.files found ≡ fault → check_of facts ≡ answer facts fault
+    -- the fault of what the manifests list, or that there is none
+    pub listed : (found : List Listed) (fault : Option BagFault) → Reads (manifests_of facts) [] found → fault_of_listings facts.files found ≡ fault → first_fault facts ≡ fault
     listed found fault (wellformed, read) h =
         past fault (ap (λ t. cond t (Some MalformedLine) (fault_of_listings facts.files (listings (manifests_of facts)))) wellformed ∙ (ap (fault_of_listings facts.files) (sym read) ∙ h))
 
-    pub faulty_listing : (found : List Listed) (fault : BagFault) → Reads (manifests_of facts) [] found → fault_of_listings facts.files found ≡ Some fault → Checks (check_of facts) (Err fault)
-    faulty_listing found fault read h = Checks-err (check_of facts) fault (listed found (Some fault) read h)
+    pub faulty_listing : (found : List Listed) (fault : BagFault) → Reads (manifests_of facts) [] found → fault_of_listings facts.files found ≡ Some fault → Finds (first_fault facts) (Err fault)
+    faulty_listing found fault read h = Finds-err (first_fault facts) fault (listed found (Some fault) read h)
 
-    pub valid : (found : List Listed) → Reads (manifests_of facts) [] found → fault_of_listings facts.files found ≡ None → check_of facts ≡ Ok (identity_of facts)
-    valid found read h = listed found None read h
+-- ---- what checking answers
+
+-- the identity where no fault is found
+pub sound_checks : (facts : TreeFacts) → first_fault facts ≡ None → check_of facts ≡ Ok (identity_of facts)
+unfolding check_of
+sound_checks facts h = ap (answer facts) h
+
+-- the fault that is found
+found_checks : (facts : TreeFacts) (fault : BagFault) → Finds (first_fault facts) (Err fault) → Checks (check_of facts) (Err fault)
+unfolding check_of
+found_checks facts Memory h = tt
+found_checks facts fault h = ap (answer facts) h
+
+pub faulty_checks : (facts : TreeFacts) (result : Result BagId BagFault) (fault : BagFault) → IsErrAnd result (λ other. other ≡ fault) → Finds (first_fault facts) (Err fault) → Checks (check_of facts) result
+faulty_checks facts (Ok bag) fault is h = absurd is
+faulty_checks facts (Err other) fault is h =
+    let P : BagFault → Type 0 = λ f. Checks (check_of facts) (Err f) in
+    subst P (sym is) (found_checks facts fault h)

@@ -113,10 +113,6 @@ first_fault facts = find (λ fault. holds fault facts) all_faults
 abbrev pub identity_of : TreeFacts → BagId
 identity_of facts = record { 0 = sha512 (unwrap_or (text_at sha512_manifest facts.files) []) }
 
--- a tree is valid where no fault holds
-abbrev pub IsValid : TreeFacts → Type 0
-IsValid facts = first_fault facts ≡ None
-
 abbrev pub answer : TreeFacts → Option BagFault → Result BagId BagFault
 answer facts None = Ok (identity_of facts)
 answer facts (Some fault) = Err fault
@@ -124,6 +120,12 @@ answer facts (Some fault) = Err fault
 -- the identity of a valid bag, or the first fault that holds
 unfoldable pub check_of : TreeFacts → Result BagId BagFault
 check_of facts = answer facts (first_fault facts)
+
+-- a search for the first fault succeeds where there is none, and answers it where there is one, or that no memory was found
+abbrev pub Finds : Option BagFault → Result (Unit {0}) BagFault → Type 0
+Finds found (Ok done) = found ≡ None
+Finds found (Err Memory) = Unit {0}
+Finds found (Err fault) = found ≡ Some fault
 
 -- a check answers what is found, or that no memory was found
 abbrev pub Checks : Result BagId BagFault → Result BagId BagFault → Type 0

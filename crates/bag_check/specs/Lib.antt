@@ -1,4 +1,5 @@
 pub mod Fault
 pub mod Manifests
 pub mod Check
+pub mod Valid
 pub mod Order

@@ -1,7 +1,8 @@
-ghost use Rattle.std.specs.Prelude.{◌≡◌, [], unwrap_or};
+ghost use Rattle.std.specs.Prelude.{◌≡◌, [], unwrap_or, IfOk, MatchResult};
 ghost use Rattle.sha2.specs.Sha512.{sha512};
 ghost use Rattle.bag_check.specs.Manifests.{text_at, sha512_manifest};
-ghost use Rattle.bag_check.specs.Check.{check_of, Checks};
+ghost use Rattle.bag_check.specs.Check.{check_of, first_fault, identity_of, Checks, Finds};
+ghost use Rattle.bag_check.specs.Valid.{IsValid};
 
 use crate::by_path::FilesByPath;
 use crate::declared::fault_of_tag_files;
@@ -19,7 +20,28 @@ use std::alloc::Global;
 /// The identity of the bag that these are the facts of, or the first fault that holds, in the order
 /// of their numbers (RFC 8493, 3). `Memory` is answered only where a growth was refused.
 pub fn check(alloc: Global, facts: &Facts) -> Result<BagId, BagFault>
+    // What has an identity is a valid bag, as the standard says it.
+    ensures valid { IfOk result (λ bag. IsValid facts.now × (bag ≡ identity_of facts.now)) }
+    // A valid bag has its identity, unless memory runs out.
+    ensures only { IsValid facts.now → MatchResult result (λ bag. bag ≡ identity_of facts.now)
+        (λ fault. fault ≡ BagFault.Memory) }
+    // The same as a function, with the fault where there is one.
+    ensures exact { Checks (check_of facts.now) result }
+{
+    checked(alloc, facts)
+}
+
+#[tactic(auto, using(crate::proofs::Steps::sound_checks))]
+fn checked(alloc: Global, facts: &Facts) -> Result<BagId, BagFault>
     ensures { Checks (check_of facts.now) result }
+{
+    find_fault(alloc, facts)?;
+    Ok(identity(facts.files()))
+}
+
+/// Answers the first fault that holds, where one does.
+fn find_fault(alloc: Global, facts: &Facts) -> Result<(), BagFault>
+    ensures { Finds (first_fault facts.now) result }
 {
     let files = facts.files();
     if let Some(fault) = fault_of_tag_files(files, facts.payload_stands()) {
@@ -30,13 +52,20 @@ pub fn check(alloc: Global, facts: &Facts) -> Result<BagId, BagFault>
     if let Some(fault) = fault_of_listings(alloc, listings.as_slice(), &by_path)? {
         return Err(fault);
     }
-    Ok(identity(files))
+    Ok(())
 }
 
 /// The SHA-512 of the bytes of `manifest-sha512.txt`, as they stand.
 fn identity(files: &[FileFacts]) -> BagId
     ensures { result ≡ record { 0 = sha512 (unwrap_or (text_at sha512_manifest files.now) []) } }
 {
+    BagId(Sha512::digest(sha512_manifest(files)))
+}
+
+/// The bytes of `manifest-sha512.txt`, or none where it isn't there.
+fn sha512_manifest(files: &[FileFacts]) -> &[u8]
+    ensures { result.now ≡ unwrap_or (text_at sha512_manifest files.now) [] }
+{
     let text = text_at(files, Kind::Payload.manifest_name(Algorithm::Sha512));
-    BagId(Sha512::digest(text.unwrap_or(&[])))
+    text.unwrap_or(&[])
 }

@@ -6,12 +6,14 @@ mod checking;
 mod declared;
 mod entries;
 mod fault;
+mod law;
 mod lookups;
 mod manifests;
 mod reading;
 
 pub use checking::check;
 pub use fault::BagFault;
+pub use law::valid_law;
 
 #[cfg(test)]
 mod tests;

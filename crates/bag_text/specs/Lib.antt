@@ -1,4 +1,6 @@
 pub mod Algorithms
+pub mod Fault
+pub mod Examples
 pub mod Lines
 pub mod Blanks
 pub mod Declarations

@@ -1,5 +1,6 @@
 ghost use Rattle.std.specs.Prelude.{◌≡◌};
 ghost use Rattle.bag_text.specs.declared.fault.TextFault.TheVariants.{Memory};
+ghost use Rattle.bag_text.specs.Fault.{number_of};
 
 use std::alloc::{AllocError, AllocFailed};
 use thiserror::Error;
@@ -13,6 +14,18 @@ pub enum TextFault {
     /// There was no memory for what was read.
     #[error("out of memory")]
     Memory,
+}
+
+impl TextFault {
+    /// The fault's number, 1 or 2.
+    pub fn number(&self) -> u8
+        ensures { result ≡ number_of self.now }
+    {
+        match self {
+            TextFault::Malformed(_) => 1,
+            TextFault::Memory => 2,
+        }
+    }
 }
 
 impl From<AllocError> for TextFault {

@@ -1,6 +1,7 @@
 pub mod Ballots
 pub mod Faults
 pub mod Laws
+pub mod Limits
 pub mod Lists
 pub mod Quorums
 pub mod Sites

@@ -1,10 +1,10 @@
 -- Site numbers, and the members of a federation.
 use Rattle.std.specs.Prelude.{ℕ, zero, suc, ◌≤◌, List, [], ◌∷◌, ◌++◌}
-use Rattle.fed_types.specs.declared.limits.TheConstants.{GREATEST_SITE, MOST_MEMBERS}
+use Rattle.fed_types.specs.Limits.{greatest_site, most_members}
 
 -- a site's number is 1 to the greatest
 abbrev pub IsSiteNumber : ℕ → Type 0
-IsSiteNumber n = (1 ≤ n) × (n ≤ GREATEST_SITE)
+IsSiteNumber n = (1 ≤ n) × (n ≤ greatest_site)
 
 -- a federation by its number, and how many sites it has
 pub record Membership : Type 0 where
@@ -13,7 +13,7 @@ pub record Membership : Type 0 where
 
 -- a federation has at least one member, and no more than the most
 abbrev pub IsMemberCount : ℕ → Type 0
-IsMemberCount n = (1 ≤ n) × (n ≤ MOST_MEMBERS)
+IsMemberCount n = (1 ≤ n) × (n ≤ most_members)
 
 -- the sites 1 to n, ascending: the members of a federation of n
 unfoldable pub sites_to : ℕ → List ℕ

@@ -1,6 +1,6 @@
 -- Slots: an object's name and a version.
 use Rattle.std.specs.Prelude.{ℕ, ◌≤◌, List, length, Bool, ◌==◌, ◌&&◌, bytes_eq}
-use Rattle.fed_types.specs.declared.limits.TheConstants.{LONGEST_OBJECT}
+use Rattle.fed_types.specs.Limits.{longest_object}
 
 -- a slot by the bytes of its object's name, and its version
 pub record SlotName : Type 0 where
@@ -9,7 +9,7 @@ pub record SlotName : Type 0 where
 
 -- a name has at least one byte, and no more than the most
 abbrev pub IsObjectName : List ℕ → Type 0
-IsObjectName bytes = (1 ≤ length bytes) × (length bytes ≤ LONGEST_OBJECT)
+IsObjectName bytes = (1 ≤ length bytes) × (length bytes ≤ longest_object)
 
 -- what is true of every slot
 abbrev pub IsSlotName : SlotName → Type 0

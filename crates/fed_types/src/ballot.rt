@@ -2,6 +2,7 @@ ghost use Rattle.std.specs.Prelude.{◌≡◌, ◌≤◌, ◌↔◌, IsOk, IfOk,
 ghost use Rattle.std.specs.Ordering.{as_partial_cmp};
 ghost use Rattle.std.specs.Prelude.{refl};
 ghost use Rattle.fed_types.specs.Ballots.{ballot_cmp};
+ghost use Rattle.fed_types.specs.Limits.{greatest_round};
 ghost use Rattle.fed_types.specs.Laws.Ballots.{ballot_cmp_total, ballot_cmp_partial, ballot_eq_ties};
 
 use crate::site_no::SiteNo;
@@ -35,6 +36,7 @@ impl Ballot {
     pub fn new(round: u32, site: SiteNo) -> Result<Ballot, TypeFault>
         ensures ok { IsOk result ↔ (1 ≤ round) }
         ensures value { IfOk result (λ b. b ≡ record { round = round; site = site }) }
+        ensures greatest { IfOk result (λ b. b.round ≤ greatest_round) }
         ensures zero_round { IsErrOf result TypeFault.ZeroRound ↔ (round ≡ 0) }
     {
         if round == 0 {
@@ -47,6 +49,7 @@ impl Ballot {
     pub fn round(self) -> u32
         ensures value { result ≡ self.round }
         ensures in_range { 1 ≤ result }
+        ensures greatest { result ≤ greatest_round }
     {
         self.round
     }

@@ -4,6 +4,7 @@
 
 mod bag_id;
 mod ballot;
+mod law;
 mod limits;
 mod members;
 mod quorums;
@@ -14,6 +15,7 @@ mod voters;
 
 pub use bag_id::BagId;
 pub use ballot::Ballot;
+pub use law::limits_law;
 pub use limits::{GREATEST_SITE, LONGEST_OBJECT, MOST_MEMBERS};
 pub use members::Members;
 pub use quorums::Quorums;

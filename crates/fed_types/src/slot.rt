@@ -1,5 +1,6 @@
 ghost use Rattle.std.specs.Prelude.{◌≡◌, ◌≤◌, ◌↔◌, ◌++◌, length, string_bytes, IsOk, IfOk, IsErrOf};
 ghost use Rattle.std.specs.Hash as fed;
+ghost use Rattle.fed_types.specs.Limits.{greatest_version};
 ghost use Rattle.fed_types.specs.Slots.{IsObjectName, same_slot};
 ghost use Rattle.fed_types.specs.Laws.Slots.{same_slot_laws, same_slot_equivalence, same_slot_hash};
 
@@ -34,6 +35,7 @@ impl Slot {
     pub fn new(object: String, version: u32) -> Result<Slot, TypeFault>
         ensures ok { IsOk result ↔ (IsObjectName (string_bytes object) × (1 ≤ version)) }
         ensures value { IfOk result (λ s. s ≡ record { object = string_bytes object; version = version }) }
+        ensures greatest { IfOk result (λ s. s.version ≤ greatest_version) }
         ensures bad_object { IsErrOf result TypeFault.BadObject ↔ ¬ IsObjectName (string_bytes object) }
         ensures zero_version { IsErrOf result TypeFault.ZeroVersion ↔ (IsObjectName (string_bytes object) × (version ≡ 0)) }
     {
@@ -58,6 +60,7 @@ impl Slot {
     pub fn version(&self) -> u32
         ensures value { result ≡ self.now.version }
         ensures in_range { 1 ≤ result }
+        ensures greatest { result ≤ greatest_version }
     {
         self.version
     }

@@ -91,6 +91,12 @@ fn sites(rt: HostRuntime) {
     for (number, want) in numbers.iter().zip(wants.iter()) {
         let got = SiteNo::new(*number).ok().map(|site| site.number());
         assert_eq!(rt; got, *want, "site {number}");
+        let fault = SiteNo::new(*number).err();
+        assert_eq!(rt; fault.is_some(), want.is_none(), "site {number}");
+        assert!(rt;
+            matches!(fault, None | Some(TypeFault::BadSite)),
+            "site {number}"
+        );
     }
 }
 
@@ -181,6 +187,7 @@ fn slots(rt: HostRuntime) -> Result<(), Fail> {
 #[test]
 fn bags(rt: HostRuntime) {
     let bag = BagId([7; 64]);
+    limits_law(&bag);
     let mut bytes = [7; 64];
     assert!(rt; same_bag(bag, BagId(bytes)));
     bytes[63] = 8;
