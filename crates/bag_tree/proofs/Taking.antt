@@ -4,52 +4,57 @@ use Rattle.std.proofs.lemmas.Bool.{ltb-true, lt-ltb}
 use Rattle.std.proofs.lemmas.List.{length-append}
 use Rattle.std.specs.Prelude.{IfErr, IsErrAnd, IsErrOf}
 use Rattle.std.specs.Io.KnownBytes.{Consumes, Keeps, IsAtEnd}
-use Rattle.std.proofs.KnownBytes.{Consumes-nil, Consumes-trans, Consumes-kept}
+use Rattle.std.proofs.KnownBytes.{Consumes-trans, Consumes-kept}
 use Rattle.bag_tree.specs.declared.fault.TreeFault.{TreeFault}
 use Rattle.bag_tree.specs.declared.fault.TreeFault.TheVariants.{Listing, NotAFile, TooDeep, TooMany, TextTooLong, Device, Memory, BadPath}
-use Rattle.bag_tree.specs.declared.hashing.Hashing.{Hashing}
+use Rattle.bag_tree.specs.Facts.{FileFact, fact_of_file}
 use Rattle.bag_tree.specs.Fault.{RefusesFor}
 use Rattle.bag_tree.specs.Path.{is_read_text}
-use Rattle.bag_tree.specs.Tree.{longest_text, fault_of_text}
-use Rattle.bag_tree.specs.Pieces.{HasTaken}
+use Rattle.bag_tree.specs.Tree.{File, longest_text, fault_of_text}
+use Rattle.bag_tree.specs.Pieces.{with_piece}
 use Rattle.bag_tree.specs.Reads.{IsReadFault}
 
--- the hashing of the file of this path has taken what the reader gave since it had these bytes, and it fits
-abbrev pub Taken : Hashing → List ℕ → Option (List ℕ) → Option (List ℕ) → Type 0
-Taken hashing path had has = (bytes : List ℕ) × HasTaken hashing path bytes × Consumes had has bytes × (fault_of_text path bytes ≡ None)
+-- the file that is hashed has this path, its bytes are what the reader gave since it had these, and it fits
+pub record Taken (file : File) (path : List ℕ) (had has : Option (List ℕ)) : Type 0 where
+  pub named : file.path ≡ path
+  pub gave : Consumes had has file.bytes
+  pub fits : fault_of_text path file.bytes ≡ None
 
-nothing_fits : (path : List ℕ) → fault_of_text path [] ≡ None
-nothing_fits path = go (is_read_text path)
-  where
-    go : (reads : Bool) → cond (reads && false) (Some TextTooLong) None ≡ None
-    go true = refl
-    go false = refl
-
-pub taken_none : (hashing : Hashing) (path : List ℕ) (has : Option (List ℕ)) → HasTaken hashing path [] → Taken hashing path has has
-taken_none hashing path has h = ([], h, Consumes-nil has, nothing_fits path)
-
-pub taken_all : (hashing : Hashing) (path : List ℕ) (had has now : Option (List ℕ)) → Taken hashing path had has → Consumes has now [] → IsAtEnd now
-    → IfSome had (λ all. HasTaken hashing path all × (fault_of_text path all ≡ None))
-taken_all hashing path None has now t c e = tt
-taken_all hashing path (Some all) None now t c e = absurd t.2
-taken_all hashing path (Some all) (Some rest) None t c e = absurd c
-taken_all hashing path (Some all) (Some rest) (Some left) t c e =
-    let whole : all ≡ t.0 = t.2 ∙ (ap (λ r. t.0 ++ r) (c ∙ e) ∙ append-nil t.0) in
-    rw whole (t.1, t.3)
+-- what the reader had at first is all that the file has
+whole : (file : File) (had has now : Option (List ℕ)) → Consumes had has file.bytes → Consumes has now [] → IsAtEnd now → IfSome had (λ all. all ≡ file.bytes)
+whole file None has now t c e = tt
+whole file (Some all) None now t c e = absurd t
+whole file (Some all) (Some rest) None t c e = absurd c
+whole file (Some all) (Some rest) (Some left) t c e = t ∙ (ap (λ r. file.bytes ++ r) (c ∙ e) ∙ append-nil file.bytes)
 
 -- the reader gave nothing more, and there was room for it
-pub taken_end : (hashing : Hashing) (path : List ℕ) (had has now : Option (List ℕ)) (count : ℕ) (room : List ℕ) → Taken hashing path had has → count ≡ 0 → 0 < length room
-    → Consumes has now (take count room) × (count ≡ 0 → 0 < length room → IsAtEnd now) → IfSome had (λ all. HasTaken hashing path all × (fault_of_text path all ≡ None))
-taken_end hashing path had has now count room t e l p = taken_all hashing path had has now t (subst (λ n. Consumes has now (take n room)) e p.0) (p.1 e l)
+pub taken_end : (file : File) (path : List ℕ) (had has now : Option (List ℕ)) (count : ℕ) (room : List ℕ) → Taken file path had has → count ≡ 0 → 0 < length room
+    → Consumes has now (take count room) × (count ≡ 0 → 0 < length room → IsAtEnd now) → IfSome had (λ all. all ≡ file.bytes)
+taken_end file path had has now count room t e l p = whole file had has now t.gave (subst (λ n. Consumes has now (take n room)) e p.0) (p.1 e l)
+
+-- so the facts of that file are those of all that the reader had, which fits
+pub taken_facts : (file : File) (path : List ℕ) (had has : Option (List ℕ)) (facts : FileFact) → Taken file path had has → facts ≡ fact_of_file file
+    → IfSome had (λ all. all ≡ file.bytes) → IfSome had (λ all. facts ≡ fact_of_file record { path = path; bytes = all })
+taken_facts file path None has facts t e w = tt
+taken_facts file path (Some all) has facts t e w = rw (w, ← t.named) e
+
+pub taken_fits : (file : File) (path : List ℕ) (had has : Option (List ℕ)) → Taken file path had has → IfSome had (λ all. all ≡ file.bytes)
+    → IfSome had (λ all. fault_of_text path all ≡ None)
+taken_fits file path None has t w = tt
+taken_fits file path (Some all) has t w = rw w t.fits
 
 -- a piece more was fed
-pub taken_more : (hashing fed : Hashing) (path : List ℕ) (had has now : Option (List ℕ)) (piece : List ℕ) → (t : Taken hashing path had has) → Consumes has now piece
-    → HasTaken fed path (t.0 ++ piece) → fault_of_text path (t.0 ++ piece) ≡ None → Taken fed path had now
-taken_more hashing fed path had has now piece t c h fits = (t.0 ++ piece, h, Consumes-trans had has now t.0 piece t.2 c, fits)
+pub taken_more : (file fed : File) (path : List ℕ) (had has now : Option (List ℕ)) (piece : List ℕ) → Taken file path had has → Consumes has now piece
+    → fed ≡ with_piece file piece → fault_of_text file.path (file.bytes ++ piece) ≡ None → Taken fed path had now
+taken_more file fed path had has now piece t c e fits = subst (λ f. Taken f path had now) (sym e) (record {
+  named = t.named;
+  gave = Consumes-trans had has now file.bytes piece t.gave c;
+  fits = subst (λ p. fault_of_text p (file.bytes ++ piece) ≡ None) t.named fits;
+})
 
 -- a read failed, and none of the bytes was lost
-pub taken_kept : (hashing : Hashing) (path : List ℕ) (had has now : Option (List ℕ)) → Taken hashing path had has → Keeps has now → Taken hashing path had now
-taken_kept hashing path had has now t k = (t.0, t.1, Consumes-kept had has now t.0 t.2 k, t.3)
+pub taken_kept : (file : File) (path : List ℕ) (had has now : Option (List ℕ)) → Taken file path had has → Keeps has now → Taken file path had now
+taken_kept file path had has now t k = record { named = t.named; gave = Consumes-kept had has now file.bytes t.gave k; fits = t.fits }
 
 -- ---- what a refused piece means
 
@@ -65,14 +70,17 @@ too_long-longer path bytes more h = go (is_read_text path) (nat_lt longest_text 
     go false short long stays h = absurd (cc h)
 
 -- where a beginning of a text is too long, the whole is
-pub refused_too_long : (path bytes piece : List ℕ) (had has now : Option (List ℕ)) → Consumes had has bytes → Consumes has now piece
-    → RefusesFor {T = Unit {0}} (fault_of_text path (bytes ++ piece)) (Err TextTooLong) → IfSome had (λ all. fault_of_text path all ≡ Some TextTooLong)
-refused_too_long path bytes piece had has now c d h = go had now (Consumes-trans had has now bytes piece c d)
+pub refused_too_long : (file : File) (path piece : List ℕ) (had has now : Option (List ℕ)) (fault : TreeFault) → Taken file path had has → Consumes has now piece
+    → RefusesFor {T = Unit {0}} (fault_of_text file.path (file.bytes ++ piece)) (Err fault) → fault ≡ TextTooLong → IfSome had (λ all. fault_of_text path all ≡ Some TextTooLong)
+refused_too_long file path piece had has now fault t d h e =
+    go had now (Consumes-trans had has now file.bytes piece t.gave d)
+    (subst (λ p. RefusesFor {T = Unit {0}} (fault_of_text p (file.bytes ++ piece)) (Err TextTooLong)) t.named
+    (subst (λ f. RefusesFor {T = Unit {0}} (fault_of_text file.path (file.bytes ++ piece)) (Err f)) e h))
   where
-    go : (had now : Option (List ℕ)) → Consumes had now (bytes ++ piece) → IfSome had (λ all. fault_of_text path all ≡ Some TextTooLong)
-    go None now c = tt
-    go (Some all) None c = absurd c
-    go (Some all) (Some left) c = rw c (too_long-longer path (bytes ++ piece) left h)
+    go : (had now : Option (List ℕ)) → Consumes had now (file.bytes ++ piece) → fault_of_text path (file.bytes ++ piece) ≡ Some TextTooLong → IfSome had (λ all. fault_of_text path all ≡ Some TextTooLong)
+    go None now c h = tt
+    go (Some all) None c h = absurd c
+    go (Some all) (Some left) c h = rw c (too_long-longer path (file.bytes ++ piece) left h)
 
 -- feeding a piece is refused for these faults alone
 pub refused_as : (path bytes : List ℕ) (fault : TreeFault) → RefusesFor {T = Unit {0}} (fault_of_text path bytes) (Err fault) → IsReadFault fault
@@ -93,11 +101,6 @@ refused_as path bytes fault h = go (is_read_text path && nat_lt longest_text (le
     go false TextTooLong h = absurd (cc h)
     go true BadPath h = absurd (cc h)
     go false BadPath h = absurd (cc h)
-
--- what holds of known bytes, seen otherwise
-pub known_so : (P Q : List ℕ → Type 0) (known : Option (List ℕ)) → ((bytes : List ℕ) → P bytes → Q bytes) → IfSome known P → IfSome known Q
-known_so P Q None f h = tt
-known_so P Q (Some bytes) f h = f bytes h
 
 -- ---- a fault that is passed on
 

@@ -32,8 +32,12 @@ digest_by Sha1 digests = digests.sha1
 digest_by Sha256 digests = digests.sha256
 digest_by Sha512 digests = digests.sha512
 
+-- a file's bytes, where it is a text that is read
+abbrev pub text_of : File → Option (List ℕ)
+text_of file = if is_read_text file.path then Some file.bytes else None
+
 abbrev pub fact_of_file : File → FileFact
-fact_of_file file = record { path = file.path; digests = digests_of file.bytes; text = if is_read_text file.path then Some file.bytes else None }
+fact_of_file file = record { path = file.path; digests = digests_of file.bytes; text = text_of file }
 
 abbrev pub facts_of_tree : Files → TreeFacts
 facts_of_tree tree = record { files = map fact_of_file tree.files; payload = payload_stands tree }

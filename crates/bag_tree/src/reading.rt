@@ -18,17 +18,20 @@ const PIECE: usize = 8192;
 
 /// The facts of the file of this path whose bytes the reader has left, which are never held whole
 /// unless they are a text that describes a bag. Reads that were interrupted are tried again.
-/// It is refused with `TextTooLong`, where such a text has over `LONGEST_TEXT` bytes; with `Device`, where a
-/// read failed or the reader didn't end within `MOST_READS`; or with `Memory`.
+/// It is refused with `TextTooLong`, where such a text has over `LONGEST_TEXT` bytes; with `Device`,
+/// where a read failed or the reader didn't end within `MOST_READS`; or with `Memory`.
 pub fn hash_reader<R: Read>(
     alloc: Global,
     path: &str,
     input: &mut R,
 ) -> Result<FileFacts, TreeFault>
-    ensures facts { IfOk result (λ facts. IfSome (R.remaining input.old) (λ bytes. facts ≡ fact_of_file (record { path = path.now; bytes = bytes }))) }
+    ensures facts { IfOk result (λ facts. IfSome (R.remaining input.old) (λ bytes.
+        facts ≡ fact_of_file (record { path = path.now; bytes = bytes }))) }
     ensures end { OnOk result (IsAtEnd (R.remaining input.new)) }
-    ensures fits { IfOk result (λ facts. IfSome (R.remaining input.old) (λ bytes. fault_of_text path.now bytes ≡ None)) }
-    ensures too_long { IsErrOf result TreeFault.TextTooLong → IfSome (R.remaining input.old) (λ bytes. fault_of_text path.now bytes ≡ Some TreeFault.TextTooLong) }
+    ensures fits { IfOk result (λ facts. IfSome (R.remaining input.old) (λ bytes.
+        fault_of_text path.now bytes ≡ None)) }
+    ensures too_long { IsErrOf result TreeFault.TextTooLong → IfSome (R.remaining input.old) (λ bytes.
+        fault_of_text path.now bytes ≡ Some TreeFault.TextTooLong) }
     ensures faults { IfErr result IsReadFault }
 {
     let mut hashing = Hashing::new(alloc, path)?;

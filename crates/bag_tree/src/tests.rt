@@ -180,23 +180,58 @@ fn numbers_of_faults(rt: HostRuntime) {
     }
 }
 
-/// A reader that gives these pieces one by one, then fails or ends.
-#[derive(Drop)]
-struct Pieces<'a> {
-    pieces: &'a [&'a [u8]],
-    fails: bool,
+/// What a reader does when it is read: it gives these bytes, or fails.
+#[derive(Clone, Copy)]
+enum Turn<'a> {
+    Gives(&'a [u8]),
+    Fails(ErrorKind),
 }
 
-impl Read for Pieces<'_> {
+/// A reader that takes these turns one by one, and then ends.
+#[derive(Drop)]
+struct Turns<'a> {
+    turns: &'a [Turn<'a>],
+}
+
+impl Read for Turns<'_> {
     fn read(&mut self, buf: &mut [u8]) -> io::Result<usize> {
-        match self.pieces {
-            [] if self.fails => Err(io::Error::from(ErrorKind::Other)),
+        match self.turns {
             [] => Ok(0),
-            [piece, rest @ ..] => {
-                let mut bytes: &[u8] = piece;
-                self.pieces = rest;
-                bytes.read(buf)
+            [turn, rest @ ..] => {
+                self.turns = rest;
+                match turn {
+                    Turn::Gives(piece) => {
+                        let mut bytes: &[u8] = piece;
+                        bytes.read(buf)
+                    }
+                    Turn::Fails(kind) => Err(io::Error::from(*kind)),
+                }
             }
+        }
+    }
+}
+
+/// A reader of these bytes that gives one at a time, and is interrupted before each of them and
+/// before its end.
+#[derive(Drop)]
+struct OneByOne<'a> {
+    bytes: &'a [u8],
+    interrupted: bool,
+}
+
+impl Read for OneByOne<'_> {
+    fn read(&mut self, buf: &mut [u8]) -> io::Result<usize> {
+        self.interrupted = !self.interrupted;
+        if self.interrupted {
+            return Err(io::Error::from(ErrorKind::Interrupted));
+        }
+        match (self.bytes, buf) {
+            ([byte, rest @ ..], [first, ..]) => {
+                *first = *byte;
+                self.bytes = rest;
+                Ok(1)
+            }
+            _ => Ok(0),
         }
     }
 }
@@ -218,27 +253,71 @@ fn bytes_in_pieces(rt: HostRuntime) -> Result<(), Fail> {
 }
 
 #[test]
-fn readers_that_end_and_that_fail(rt: HostRuntime) -> Result<(), Fail> {
-    let pieces = [b"ab".as_slice(), b"c"];
-    for fails in [false, true] {
-        let mut reader = Pieces {
-            pieces: &pieces,
-            fails,
+fn a_reader_that_fails(rt: HostRuntime) -> Result<(), Fail> {
+    let turns = [
+        Turn::Gives(b"ab"),
+        Turn::Gives(b"c"),
+        Turn::Fails(ErrorKind::Other),
+    ];
+    // The third read fails: never the facts of the two pieces before it.
+    for (count, wanted) in [(2, None), (3, Some(TreeFault::Device))] {
+        let mut reader = Turns {
+            turns: &turns[..count],
         };
         match hash_reader(rt.alloc(), "data/a", &mut reader) {
             Ok(file) => {
-                assert!(rt; !fails);
+                assert_eq!(rt; wanted, None);
                 assert_eq!(rt; file.digests().sha512, ABC_SHA512);
                 assert!(rt; file.text().is_none());
             }
-            // The third read fails: never the facts of the two pieces before it.
-            Err(fault) => {
-                assert!(rt; fails);
-                assert_eq!(rt; fault, TreeFault::Device);
-            }
+            Err(fault) => assert_eq!(rt; wanted, Some(fault)),
         }
     }
     Ok(())
+}
+
+// An interrupted read is no failed one, and no end: the facts are those of all bytes.
+#[test]
+fn a_reader_that_is_interrupted(rt: HostRuntime) -> Result<(), Fail> {
+    let interrupted = Turn::Fails(ErrorKind::Interrupted);
+    let turns = [
+        interrupted,
+        Turn::Gives(b"ab"),
+        interrupted,
+        interrupted,
+        Turn::Gives(b"c"),
+        interrupted,
+    ];
+    let mut reader = Turns { turns: &turns };
+    let file = hash_reader(rt.alloc(), "bagit.txt", &mut reader)?;
+    assert_eq!(rt; file.digests().sha512, ABC_SHA512);
+    assert_eq!(rt; file.text(), Some(b"abc".as_slice()));
+    Ok(())
+}
+
+#[test]
+fn a_reader_that_gives_a_byte_at_a_time(rt: HostRuntime) -> Result<(), Fail> {
+    // As many reads as a file of 2.4 GB takes: fewer are no fault.
+    let bytes = vec![in rt.alloc(); b'x'; 300_000]?;
+    let mut reader = OneByOne {
+        bytes: bytes.as_slice(),
+        interrupted: false,
+    };
+    let file = hash_reader(rt.alloc(), "manifest-x.txt", &mut reader)?;
+    assert_eq!(rt; file.text(), Some(bytes.as_slice()));
+    let whole = Digests::of(bytes.as_slice());
+    assert_eq!(rt; file.digests().md5, whole.md5);
+    assert_eq!(rt; file.digests().sha512, whole.sha512);
+    Ok(())
+}
+
+#[test]
+fn limits_of_the_code(rt: HostRuntime) {
+    limits_hold();
+    assert_eq!(rt; DEEPEST_PATH, 32);
+    assert_eq!(rt; MOST_FILES, 100_000);
+    assert_eq!(rt; LONGEST_TEXT, 67_108_864);
+    assert_eq!(rt; MOST_READS, 4_294_967_295);
 }
 
 #[test]
