@@ -1,5 +1,7 @@
-"""Refuses each growth of one call of the program in turn, the first, the second and so on until none is left to refuse. Each answer
-has to be the whole one, or one of want of memory with status 1. gdb runs this: see the script `growths` beside it."""
+"""Refuses each growth of one run of the program in turn: the first call for memory fails, then the second,
+and so on up to a run in which none is left to fail. Each answer has to be the whole one, or one of out of
+memory with status 1, and that last run has to be reached. gdb runs this: see the script `growths` beside
+it."""
 import os
 import gdb
 
@@ -7,7 +9,10 @@ ARGUMENTS = os.environ["ARGUMENTS"]
 INPUT = os.environ["INPUT"]
 WANTED = open(os.environ["WANTED"], "rb").read()
 WITHOUT_MEMORY = [line.encode() + b"\n" for line in os.environ["WITHOUT_MEMORY"].split(",")]
+STATUS = int(os.environ["STATUS"])
 SAID = os.environ["SAID"]
+# No run makes as many calls for memory.
+TOO_MANY = 5000
 # the program and the first of its arguments
 WHAT = " ".join([os.path.basename(gdb.current_progspace().filename), *ARGUMENTS.split()[:1]])
 
@@ -45,11 +50,12 @@ Growth("*rattle_alloc")
 Growth("*rattle_realloc")
 passed, failed, whole, without_memory = 0, 0, 0, 0
 refused = 0
-while True:
+was_refused = True
+while was_refused and refused < TOO_MANY:
     refused += 1
     gdb.execute("set $_exitcode = (void)0")
     was_refused, status, said = run(refused)
-    if (status, said) == (0, WANTED):
+    if (status, said) == (STATUS, WANTED):
         whole += 1
         passed += 1
     elif was_refused and status == 1 and said in WITHOUT_MEMORY:
@@ -58,10 +64,12 @@ while True:
     else:
         failed += 1
         print(f"FAILED {ARGUMENTS} with growth {refused} refused: status {status}, and it printed {said!r}")
-    if not was_refused or refused > 5000:
-        break
 print(f"growths of {WHAT} refused: {refused - 1}; answers without memory: {without_memory}, whole ones: {whole}")
+if was_refused:
+    failed += 1
+    print(f"FAILED {ARGUMENTS}: after {refused} refused growths there was no run in which none is refused")
 if without_memory == 0 or whole == 0:
     failed += 1
+    print(f"FAILED {ARGUMENTS}: no answer without memory, or none that is whole")
 print(f"{passed} passed, {failed} failed")
 gdb.execute(f"quit {1 if failed else 0}")

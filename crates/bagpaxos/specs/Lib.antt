@@ -1,2 +1,4 @@
+pub mod Limits
+pub mod Faults
 pub mod Outcomes
 pub mod Verdicts

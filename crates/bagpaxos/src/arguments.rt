@@ -21,8 +21,9 @@ const RUN_EXAMPLE: &str = "A schedule is a text of commands, one a line:
   query S OBJ V         asks site S which bag is version V of OBJ
 Lines that are blank, or begin with `#`, are skipped.
 
-The exit status is 0, or 1 where the text is no schedule (`schedule line N`), memory runs
-out (`memory`) or standard input can't be read (`input unread`), and 2 for a mistake in the arguments.
+The exit status is 0; 1 where the text is no schedule (`schedule line N`), memory runs out (`memory`),
+standard input can't be read (`input unread`) or standard output can't be written; and 2 for a mistake
+in the arguments.
 
 Example:
   printf 'federation 7 3\\nquery 1 a 1\\n' | bagpaxos run";
@@ -45,6 +46,7 @@ const CHECK_EXAMPLE: &str = "It prints one line:
                   2 neither file nor folder      5 a manifest over 64 MiB
                   3 a path of over 32 parts      6 a file can't be read
                                                  7 out of memory
+  memory        out of memory, before or after the folder was read
 
 The exit status is 0 for a valid bag, 1 for all else, and 2 for a mistake in the arguments.
 

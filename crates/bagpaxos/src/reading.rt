@@ -2,6 +2,7 @@
 
 ghost use Rattle.std.specs.Prelude.{◌≡◌, IfOk, IfSome};
 ghost use Rattle.bagpaxos.specs.declared.reading.ReadFault.TheVariants.{Memory};
+ghost use Rattle.bagpaxos.specs.Limits.{most_reads};
 
 use std::alloc::{AllocError, Global};
 use std::io::{ErrorKind, Read};
@@ -29,13 +30,26 @@ impl From<AllocError> for ReadFault {
     }
 }
 
-/// All the bytes that a reader has left. Reads that were interrupted are tried again.
+/// All the bytes that a reader has left. Reads that were interrupted are tried again. A reader that
+/// hasn't ended after `MOST_READS` reads counts as one that failed.
 pub fn read_whole<R: Read>(alloc: Global, input: &mut R) -> Result<Vec<u8>, ReadFault>
+    ensures whole { IfOk result (λ bytes. IfSome (R.remaining input.old) (λ all. bytes.items ≡ all)) }
+    ensures limit { MOST_READS ≡ most_reads }
+{
+    read_within(alloc, input, MOST_READS)
+}
+
+/// The same, of a reader that hasn't ended after `limit` reads.
+pub(crate) fn read_within<R: Read>(
+    alloc: Global,
+    input: &mut R,
+    limit: u32,
+) -> Result<Vec<u8>, ReadFault>
     ensures { IfOk result (λ bytes. IfSome (R.remaining input.old) (λ all. bytes.items ≡ all)) }
 {
     let mut bytes = Vec::new(alloc);
     let mut piece = [0u8; PIECE];
-    'reads: for _ in 0..MOST_READS {
+    'reads: for _ in 0..limit {
         match input.read(&mut piece) {
             Ok(0) => return Ok(bytes),
             Ok(count) => bytes.extend_from_slice(&piece[..count])?,

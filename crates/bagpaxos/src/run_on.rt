@@ -7,7 +7,7 @@ ghost use Rattle.bagpaxos.specs.Outcomes.{outcome_of, no_memory, Tells, BeginsTo
 use crate::reading::{ReadFault, read_whole};
 use crate::telling::{Answer, ProgramFault, tell};
 use schedule::{ParseFault, parse};
-use simulator::{Options, run, text};
+use simulator::{Options, RunFault, run, text};
 use std::alloc::{AllocError, Global};
 use std::io::{Read, Write};
 
@@ -47,7 +47,10 @@ fn answer_to(alloc: Global, bytes: &[u8], options: Options) -> Result<Answer, Al
 {
     match parse(alloc, bytes) {
         Ok(schedule) => {
-            let trace = run(alloc, &schedule)?;
+            let trace = match run(alloc, &schedule) {
+                Ok(trace) => trace,
+                Err(RunFault::Memory) => return Err(AllocError),
+            };
             Ok(Answer {
                 status: 0,
                 text: text(alloc, &trace, options)?,

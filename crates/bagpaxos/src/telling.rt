@@ -2,6 +2,7 @@
 
 ghost use Rattle.std.specs.Prelude.{◌≡◌, ℕ, take, IfOk, OnErr};
 ghost use Rattle.std.specs.Io.KnownBytes.{Appends};
+ghost use Rattle.bagpaxos.specs.Faults.{number_of};
 
 use crate::writing::write_whole;
 use std::io::Write;
@@ -16,6 +17,18 @@ pub enum ProgramFault {
     /// A write failed, and a beginning of the text was written.
     #[error("output unwritten")]
     Output,
+}
+
+impl ProgramFault {
+    /// The number that stands for the fault: 1 or 2.
+    pub fn number(self) -> u8
+        ensures { result ≡ number_of self }
+    {
+        match self {
+            ProgramFault::Input => 1,
+            ProgramFault::Output => 2,
+        }
+    }
 }
 
 /// An exit status, and the text to write.

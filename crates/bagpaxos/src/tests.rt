@@ -1,4 +1,5 @@
 use crate::check_on::check_on;
+use crate::reading::{ReadFault, read_within};
 use crate::run_on::run_on;
 use crate::telling::ProgramFault;
 use bag_tree::{MemoryFolders, Tree};
@@ -164,6 +165,29 @@ fn a_write_that_fails(rt: HostRuntime) -> Result<(), Fail> {
         );
     }
     Ok(())
+}
+
+/// Each piece is a read, and so are the interruption before it and the read that finds the end.
+#[test]
+fn a_reader_without_an_end(rt: HostRuntime) -> Result<(), Fail> {
+    let text = "12345";
+    for limit in 0..8 {
+        let mut input = in_pieces(text, 2, usize::MAX);
+        assert_eq!(rt;
+            read_within(rt.alloc(), &mut input, limit).err(),
+            Some(ReadFault::Input)
+        );
+    }
+    let mut input = in_pieces(text, 2, usize::MAX);
+    let bytes = read_within(rt.alloc(), &mut input, 8)?;
+    assert_eq!(rt; bytes.as_slice(), text.as_bytes());
+    Ok(())
+}
+
+#[test]
+fn numbers_of_faults(rt: HostRuntime) {
+    assert_eq!(rt; ProgramFault::Input.number(), 1);
+    assert_eq!(rt; ProgramFault::Output.number(), 2);
 }
 
 const DECLARATION: &[u8] = b"BagIt-Version: 1.0\nTag-File-Character-Encoding: UTF-8\n";

@@ -3,6 +3,7 @@ pub mod NumberLemmas
 pub mod TextLemmas
 pub mod PlanLemmas
 pub mod Utf8Lemmas
+pub mod EscapeLemmas
 pub mod WordLemmas
 pub mod SpelledWords
 pub mod SpelledCommands

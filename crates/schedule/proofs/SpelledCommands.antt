@@ -6,7 +6,8 @@ use Rattle.fed_types.specs.Sites.{Membership, IsMemberCount}
 use Rattle.fed_types.specs.Slots.{SlotName, IsObjectName}
 use Rattle.hex.specs.Hex.{IsBytes}
 use Rattle.schedule.specs.declared.command.Command.TheVariants.{Tree, Folder, File, Deposit, Query}
-use Rattle.schedule.specs.Commands.{federation_of, command_of, tree_command, folder_command, file_command, deposit_command, query_command, greatest_u8, greatest_u32, greatest_u64}
+use Rattle.schedule.specs.Commands.{federation_of, command_of, tree_command, folder_command, file_command, deposit_command, query_command}
+use Rattle.schedule.specs.Limits.{greatest_federation, most_members, greatest_site, greatest_number}
 use Rattle.schedule.specs.Spelled.{IsSpelled, IsSpelledFederation}
 use Rattle.schedule.proofs.WordLemmas.{IsWord-computed, IsWord-decimal, IsWord-escaped, IsWord-hex_word}
 use Rattle.schedule.proofs.SpelledWords.{number_in-decimal, text_of-escaped, slot_of-printed, content_of-hex_word}
@@ -15,28 +16,28 @@ pub IsSpelledFederation-members : (m : Membership) → m.federation < 2 ^ 64 →
 unfolding federation_of
 IsSpelledFederation-members m fits count = record {
   words = (IsWord-computed (codes "federation") refl, (IsWord-decimal m.federation fits, (IsWord-decimal m.count (omega arith), tt)));
-  read = rw (number_in-decimal 0 greatest_u64 m.federation (omega arith) (omega arith) (omega arith), number_in-decimal 1 15 m.count (omega arith) (omega arith) (omega arith)) refl;
+  read = rw (number_in-decimal 0 greatest_federation m.federation (omega arith) (omega arith) (omega arith), number_in-decimal 1 most_members m.count (omega arith) (omega arith) (omega arith)) refl;
 }
 
 pub IsSpelled-tree : (t : ℕ) → 1 ≤ t → t < 2 ^ 32 → IsSpelled (Tree t)
 unfolding command_of tree_command
 IsSpelled-tree t least fits = record {
   words = (IsWord-computed (codes "tree") refl, (IsWord-decimal t (omega arith), tt));
-  read = rw (number_in-decimal 1 greatest_u32 t least (omega arith) (omega arith)) refl;
+  read = rw (number_in-decimal 1 greatest_number t least (omega arith) (omega arith)) refl;
 }
 
 pub IsSpelled-folder : (t : ℕ) → 1 ≤ t → t < 2 ^ 32 → IsSpelled (Folder t)
 unfolding command_of folder_command
 IsSpelled-folder t least fits = record {
   words = (IsWord-computed (codes "folder") refl, (IsWord-decimal t (omega arith), tt));
-  read = rw (number_in-decimal 1 greatest_u32 t least (omega arith) (omega arith)) refl;
+  read = rw (number_in-decimal 1 greatest_number t least (omega arith) (omega arith)) refl;
 }
 
 pub IsSpelled-file : (t : ℕ) (path content : List ℕ) → 1 ≤ t → t < 2 ^ 32 → 0 < length path → IsUtf8 path → IsBytes content → IsSpelled (File t path content)
 unfolding command_of file_command
 IsSpelled-file t path content least fits some utf8 bytes = record {
   words = (IsWord-computed (codes "file") refl, (IsWord-decimal t (omega arith), (IsWord-escaped path some, (IsWord-hex_word content bytes, tt))));
-  read = rw (number_in-decimal 1 greatest_u32 t least (omega arith) (omega arith), text_of-escaped path utf8, content_of-hex_word content bytes) refl;
+  read = rw (number_in-decimal 1 greatest_number t least (omega arith) (omega arith), text_of-escaped path utf8, content_of-hex_word content bytes) refl;
 }
 
 pub IsSpelled-deposit : (s t : ℕ) (slot : SlotName) → s < 2 ^ 8 → 1 ≤ t → t < 2 ^ 32 → IsObjectName slot.object → IsUtf8 slot.object → 1 ≤ slot.version → slot.version < 2 ^ 32
@@ -44,12 +45,12 @@ pub IsSpelled-deposit : (s t : ℕ) (slot : SlotName) → s < 2 ^ 8 → 1 ≤ t 
 unfolding command_of deposit_command
 IsSpelled-deposit s t slot site least fits range utf8 least_version version_fits = record {
   words = (IsWord-computed (codes "deposit") refl, (IsWord-decimal s (omega arith), (IsWord-decimal t (omega arith), (IsWord-escaped slot.object (omega arith), (IsWord-decimal slot.version (omega arith), tt)))));
-  read = rw (number_in-decimal 0 greatest_u8 s (omega arith) (omega arith) (omega arith), number_in-decimal 1 greatest_u32 t least (omega arith) (omega arith), slot_of-printed slot range utf8 least_version version_fits) refl;
+  read = rw (number_in-decimal 0 greatest_site s (omega arith) (omega arith) (omega arith), number_in-decimal 1 greatest_number t least (omega arith) (omega arith), slot_of-printed slot range utf8 least_version version_fits) refl;
 }
 
 pub IsSpelled-query : (s : ℕ) (slot : SlotName) → s < 2 ^ 8 → IsObjectName slot.object → IsUtf8 slot.object → 1 ≤ slot.version → slot.version < 2 ^ 32 → IsSpelled (Query s slot)
 unfolding command_of query_command
 IsSpelled-query s slot site range utf8 least_version version_fits = record {
   words = (IsWord-computed (codes "query") refl, (IsWord-decimal s (omega arith), (IsWord-escaped slot.object (omega arith), (IsWord-decimal slot.version (omega arith), tt))));
-  read = rw (number_in-decimal 0 greatest_u8 s (omega arith) (omega arith) (omega arith), slot_of-printed slot range utf8 least_version version_fits) refl;
+  read = rw (number_in-decimal 0 greatest_site s (omega arith) (omega arith) (omega arith), slot_of-printed slot range utf8 least_version version_fits) refl;
 }

@@ -17,7 +17,7 @@ use Rattle.schedule.specs.Texts.{words_for, federation_words, federation_line, p
 use Rattle.schedule.specs.Spelled.{IsWord, IsSpelled, IsSpelledFederation}
 use Rattle.schedule.proofs.LineLemmas.{ends_line, lines_of_more_parts}
 use Rattle.schedule.proofs.PlanLemmas.{plan_after-skipped, plan_after-federation}
-use Rattle.schedule.proofs.WordLemmas.{IsAbove}
+use Rattle.schedule.proofs.EscapeLemmas.{IsAbove}
 
 -- no CR and no LF
 abbrev pub IsInLine : ℕ → Type 0

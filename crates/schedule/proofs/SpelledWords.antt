@@ -14,9 +14,12 @@ use Rattle.percent_encoding.specs.Percent.{percent_decode}
 use Rattle.percent_encoding.proofs.PercentLemmas.{round_trip}
 use Rattle.schedule.specs.declared.word.TheConstants.{ESCAPED}
 use Rattle.schedule.specs.Words.{value_after, number_in, text_of, object_of, content_of, decoded}
-use Rattle.schedule.specs.Commands.{slot_of, greatest_u32}
-use Rattle.schedule.specs.Texts.{escaped, hex_word}
+use Rattle.schedule.specs.Commands.{slot_of}
+use Rattle.schedule.specs.Limits.{longest_object, greatest_number}
+use Rattle.schedule.specs.Escapes.{escaped}
+use Rattle.schedule.specs.Texts.{hex_word}
 use Rattle.schedule.proofs.NumberLemmas.{number_in-digits}
+use Rattle.schedule.proofs.EscapeLemmas.{escaped-is}
 use Rattle.schedule.proofs.TextLemmas.{text_of-utf8}
 use Rattle.schedule.proofs.Utf8Lemmas.{IsByte-from_utf8}
 use Rattle.schedule.proofs.WordLemmas.{hex_word-some}
@@ -35,20 +38,21 @@ number_in-decimal low high n least most fits =
 -- a path
 pub text_of-escaped : (text : List ℕ) → IsUtf8 text → text_of (escaped text) ≡ Some text
 text_of-escaped text utf8 =
-    let again : percent_decode (escaped text) ≡ text = round_trip ESCAPED text refl (IsByte-from_utf8 text utf8) in
+    let bytes = IsByte-from_utf8 text utf8 in
+    let again : percent_decode (escaped text) ≡ text = rw (escaped-is text bytes) (round_trip ESCAPED text refl bytes) in
     text_of-utf8 (escaped text) (ap is_utf8 again ∙ is_utf8-from_IsUtf8 text utf8) ∙ ap (λ (t : List ℕ). Some t) again
 
 -- a name
 pub object_of-escaped : (name : List ℕ) → IsObjectName name → IsUtf8 name → object_of (escaped name) ≡ Some name
 unfolding object_of
 object_of-escaped name range utf8 =
-    rw (text_of-escaped name utf8, le-leb 1 (length name) range.0, le-leb (length name) 200 range.1) refl
+    rw (text_of-escaped name utf8, le-leb 1 (length name) range.0, le-leb (length name) longest_object range.1) refl
 
 -- an object's name and a version
 pub slot_of-printed : (slot : SlotName) → IsObjectName slot.object → IsUtf8 slot.object → 1 ≤ slot.version → slot.version < 2 ^ 32 → slot_of (escaped slot.object) (decimal slot.version) ≡ Some slot
 unfolding slot_of
 slot_of-printed slot range utf8 least fits =
-    rw (object_of-escaped slot.object range utf8, number_in-decimal 1 greatest_u32 slot.version least (omega arith) (omega arith)) refl
+    rw (object_of-escaped slot.object range utf8, number_in-decimal 1 greatest_number slot.version least (omega arith) (omega arith)) refl
 
 -- hex digits are no `-`
 not_dash : (bytes : List ℕ) → 0 < length bytes → bytes_eq (encode_lower bytes) (codes "-") ≡ false

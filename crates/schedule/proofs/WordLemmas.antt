@@ -1,22 +1,15 @@
 -- The words that are printed: each has a byte, and none has a space or a control.
-use Rattle.std.proofs.Common.{◌≡◌, ℕ, suc, ◌+◌, ◌/◌, ◌%◌, ◌^◌, ◌<◌, Bool, true, false, ◌&&◌, ◌||◌, ltb, eqb, List, [], ◌∷◌, length, get_or, All, refl, sym, ◌∙◌, arith}
+use Rattle.std.proofs.Common.{◌≡◌, ℕ, suc, ◌+◌, ◌/◌, ◌%◌, ◌^◌, ◌<◌, Bool, true, false, ◌&&◌, ltb, eqb, List, [], ◌∷◌, length, get_or, All, refl, arith}
 use Rattle.std.specs.Prelude.{codes}
 use Rattle.std.specs.Fmt.{decimal}
-use Rattle.std.proofs.lemmas.Bool.{and_parts, ltb-true, ne_eqb, agree_below, agree_below_at}
-use Rattle.std.proofs.lemmas.Bool.Decides.{nat_tests}
+use Rattle.std.proofs.lemmas.Bool.{and_parts, ltb-true, ne_eqb, agree_below_at}
 use Rattle.std.proofs.lemmas.Fmt.{decimal_nonempty, decimal_by_steps}
 use Rattle.std.proofs.lemmas.List.Elements.{All-nil, All-cons, All-push}
 use Rattle.hex.specs.Hex.{lower_digits, encode_with, encode_lower, IsBytes}
-use Rattle.percent_encoding.specs.AsciiSet.{contains, should_percent_encode}
-use Rattle.percent_encoding.proofs.AsciiSetLemmas.{ascii_from_kept, outside_from_kept}
-use Rattle.percent_encoding.proofs.PercentLemmas.{IsEscapeByte, All-percent_encode, percent_encode_nonempty}
-use Rattle.schedule.specs.declared.word.TheConstants.{ESCAPED}
-use Rattle.schedule.specs.Texts.{escaped, hex_word}
+use Rattle.schedule.specs.Escapes.{escaped}
+use Rattle.schedule.specs.Texts.{hex_word}
 use Rattle.schedule.specs.Spelled.{IsWord}
-
--- above the space
-abbrev pub IsAbove : ℕ → Type 0
-IsAbove b = 32 < b
+use Rattle.schedule.proofs.EscapeLemmas.{IsAbove, All-escaped, length-escaped}
 
 -- the same as a test, which computes on a word that is written out
 abbrev all_above : List ℕ → Bool
@@ -45,22 +38,9 @@ IsWord-decimal n fits = (
       n fits,
 )
 
--- which ASCII bytes are escaped
-escaped_bytes : agree_below (contains ESCAPED) (λ b. ltb b 33 || eqb b 37 || eqb b 127) 128 ≡ true
-escaped_bytes = refl
-
-above_from_kept : (b : ℕ) → should_percent_encode ESCAPED b ≡ false → IsAbove b
-above_from_kept b kept =
-    let ascii = ascii_from_kept ESCAPED b kept in
-    let outside : (ltb b 33 || eqb b 37 || eqb b 127) ≡ false = sym (agree_below_at (contains ESCAPED) (λ b. ltb b 33 || eqb b 37 || eqb b 127) 128 b escaped_bytes ascii) ∙ outside_from_kept ESCAPED b kept in
-    grind (arith, nat_tests)
-
-above_from_escape : (b : ℕ) → IsEscapeByte b → IsAbove b
-above_from_escape b h = grind arith
-
 -- a name or a path
 pub IsWord-escaped : (text : List ℕ) → 0 < length text → IsWord (escaped text)
-IsWord-escaped text some = (percent_encode_nonempty ESCAPED text some, All-percent_encode IsAbove ESCAPED text above_from_kept above_from_escape)
+IsWord-escaped text some = (length-escaped text some, All-escaped text)
 
 -- each hex digit
 above_from_digit : (d : ℕ) → d < 16 → IsAbove (get_or lower_digits d 0)

@@ -1,36 +1,26 @@
 -- The commands, each by the words that spell it.
 use Rattle.std.specs.Prelude.{ℕ, List, [], ◌∷◌, Option, Some, None, codes, if◌then◌else◌}
 use Rattle.std.specs.Str.{bytes_eq}
-use Rattle.fed_types.specs.declared.limits.TheConstants.{MOST_MEMBERS}
 use Rattle.fed_types.specs.Sites.{Membership}
 use Rattle.fed_types.specs.Slots.{SlotName}
 use Rattle.schedule.specs.declared.command.Command.{Command}
 use Rattle.schedule.specs.declared.command.Command.TheVariants.{Tree, Folder, File, Deposit, Query}
+use Rattle.schedule.specs.Limits.{greatest_federation, most_members, greatest_site, greatest_number}
 use Rattle.schedule.specs.Words.{◌>>=◌, number_in, text_of, object_of, content_of}
 
--- the greatest numbers of one byte, four and eight: those of a site that a word may spell, of a tree or a version, and of a federation
-abbrev pub greatest_u8 : ℕ
-greatest_u8 = 255
-
-abbrev pub greatest_u32 : ℕ
-greatest_u32 = 4294967295
-
-abbrev pub greatest_u64 : ℕ
-greatest_u64 = 18446744073709551615
-
--- S is any number of a byte: whether it is a member is asked when the schedule runs
+-- S
 abbrev pub site_of : List ℕ → Option ℕ
-site_of word = number_in 0 greatest_u8 word
+site_of word = number_in 0 greatest_site word
 
 -- T
 abbrev pub tree_of : List ℕ → Option ℕ
-tree_of word = number_in 1 greatest_u32 word
+tree_of word = number_in 1 greatest_number word
 
 -- OBJ V
 unfoldable pub slot_of : List ℕ → List ℕ → Option SlotName
 slot_of object version = do
   o ← object_of object
-  v ← number_in 1 greatest_u32 version
+  v ← number_in 1 greatest_number version
   Some (record { object = o; version = v })
 
 -- `federation F N`
@@ -38,8 +28,8 @@ unfoldable pub federation_of : List (List ℕ) → Option Membership
 federation_of (name ∷ federation ∷ count ∷ []) =
     if bytes_eq name (codes "federation")
     then (do
-      f ← number_in 0 greatest_u64 federation
-      n ← number_in 1 MOST_MEMBERS count
+      f ← number_in 0 greatest_federation federation
+      n ← number_in 1 most_members count
       Some (record { federation = f; count = n }))
     else None
 federation_of words = None

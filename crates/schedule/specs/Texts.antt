@@ -3,16 +3,11 @@ use Rattle.std.specs.Prelude.{ℕ, ◌==◌, if◌then◌else◌, List, [], ◌�
 use Rattle.std.specs.List.{flat_map, join_with_byte}
 use Rattle.std.specs.Fmt.{decimal}
 use Rattle.hex.specs.Hex.{encode_lower}
-use Rattle.percent_encoding.specs.Percent.{percent_encode}
 use Rattle.fed_types.specs.Sites.{Membership}
 use Rattle.schedule.specs.declared.command.Command.{Command}
 use Rattle.schedule.specs.declared.command.Command.TheVariants.{Tree, Folder, File, Deposit, Query}
-use Rattle.schedule.specs.declared.word.TheConstants.{ESCAPED}
+use Rattle.schedule.specs.Escapes.{escaped}
 use Rattle.schedule.specs.Plans.{Plan}
-
--- a name or a path as a word: bytes 00 to 20, 25, and all from 7F on, escaped with capital letters
-abbrev pub escaped : List ℕ → List ℕ
-escaped text = percent_encode ESCAPED text
 
 -- bytes as a word: in lower case, and `-` for none
 abbrev pub hex_word : List ℕ → List ℕ

@@ -5,7 +5,7 @@ use Rattle.std.specs.Str.{bytes_eq, all_ascii_digits, is_utf8}
 use Rattle.hex.specs.declared.error.FromHexError.{FromHexError}
 use Rattle.hex.specs.Hex.{decode_of}
 use Rattle.percent_encoding.specs.Percent.{percent_decode}
-use Rattle.fed_types.specs.declared.limits.TheConstants.{LONGEST_OBJECT}
+use Rattle.schedule.specs.Limits.{longest_object}
 
 infixl 10 ◌>>=◌
 -- the second step, if the first found something
@@ -33,11 +33,11 @@ number_in low high word =
 unfoldable pub text_of : List ℕ → Option (List ℕ)
 text_of word = if is_utf8 (percent_decode word) then Some (percent_decode word) else None
 
--- an object's name: such a text of 1 to `LONGEST_OBJECT` bytes
+-- an object's name: such a text that isn't empty, and not too long
 unfoldable pub object_of : List ℕ → Option (List ℕ)
 object_of word = do
   name ← text_of word
-  if nat_le 1 (length name) && nat_le (length name) LONGEST_OBJECT then Some name else None
+  if nat_le 1 (length name) && nat_le (length name) longest_object then Some name else None
 
 -- the bytes that were decoded
 abbrev pub decoded : Result (List ℕ) FromHexError → Option (List ℕ)

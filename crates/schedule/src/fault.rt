@@ -1,5 +1,6 @@
 ghost use Rattle.std.specs.Prelude.{◌≡◌};
 ghost use Rattle.schedule.specs.declared.fault.ParseFault.TheVariants.{Memory};
+ghost use Rattle.schedule.specs.Faults.{number_of};
 
 use std::alloc::{AllocError, AllocFailed};
 use thiserror::Error;
@@ -14,6 +15,18 @@ pub enum ParseFault {
     /// A growth was refused.
     #[error("out of memory")]
     Memory,
+}
+
+impl ParseFault {
+    /// The number that stands for the fault: 1 or 2.
+    pub fn number(self) -> u8
+        ensures { result ≡ number_of self }
+    {
+        match self {
+            ParseFault::Line(_) => 1,
+            ParseFault::Memory => 2,
+        }
+    }
 }
 
 impl From<AllocError> for ParseFault {

@@ -17,7 +17,7 @@ pub use fault::ParseFault;
 pub use parsing::parse;
 pub use plan::Schedule;
 pub use printing::print;
-pub use word::{ESCAPED, push_escaped};
+pub use word::push_escaped;
 
 #[cfg(test)]
 mod tests;

@@ -55,7 +55,7 @@ fn prints(rt: HostRuntime) -> Result<(), Fail> {
 }
 
 // Texts, and the numbers of their first lines at fault.
-const FAULTS: [(&[u8], usize); 33] = [
+const FAULTS: [(&[u8], usize); 67] = [
     (b"", 1),
     (b"\n\n# tree 1\n", 1),
     (b"tree 1\nfederation 0 1\n", 1),
@@ -89,6 +89,46 @@ const FAULTS: [(&[u8], usize); 33] = [
     (b"federation 0 1\n\r", 2),
     (b"federation 0 1\ntree 1\r", 2),
     (b"federation 0 1\ntree 1\r\r\n", 2),
+    // Words too few, or too many.
+    (b"federation\n", 1),
+    (b"federation 0 1 1\n", 1),
+    (b"federation 0 1\nfolder\n", 2),
+    (b"federation 0 1\nfolder 1 1\n", 2),
+    (b"federation 0 1\nfile 1 a\n", 2),
+    (b"federation 0 1\nfile 1 a -  -\n", 2),
+    (b"federation 0 1\ndeposit 1 1 a\n", 2),
+    (b"federation 0 1\ndeposit 1 1 a 1 1\n", 2),
+    (b"federation 0 1\nquery 1 a\n", 2),
+    (b"federation 0 1\nquery 1 a 1 1\n", 2),
+    // Numbers that aren't digits alone.
+    (b"federation -0 1\n", 1),
+    (b"federation 0 1\ntree -1\n", 2),
+    (b"federation 0 1\ntree 1.\n", 2),
+    (b"federation 0 1\ntree 0x1\n", 2),
+    (b"federation 0 1\ntree 1_0\n", 2),
+    (b"federation 0 1\ntree \xef\xbc\x91\n", 2),
+    (b"federation 0 1\ntree %31\n", 2),
+    // Numbers out of their ranges.
+    (b"federation 0 1\nfolder 0\n", 2),
+    (b"federation 0 1\nfolder 4294967296\n", 2),
+    (b"federation 0 1\nfile 0 a -\n", 2),
+    (b"federation 0 1\nfile 4294967296 a -\n", 2),
+    (b"federation 0 1\ndeposit 1 0 a 1\n", 2),
+    (b"federation 0 1\ndeposit 1 4294967296 a 1\n", 2),
+    (b"federation 0 1\ndeposit 1 1 a 4294967296\n", 2),
+    (b"federation 0 1\nquery 1 a 0\n", 2),
+    // Names and paths that aren't UTF-8: a surrogate, a byte too long, a byte alone.
+    (b"federation 0 1\nquery 1 %ed%a0%80 1\n", 2),
+    (b"federation 0 1\ndeposit 1 1 %c0%80 1\n", 2),
+    (b"federation 0 1\nfile 1 a\x80 -\n", 2),
+    // Bytes that aren't hex digits, two for each.
+    (b"federation 0 1\nfile 1 a -0\n", 2),
+    (b"federation 0 1\nfile 1 a 0x00\n", 2),
+    (b"federation 0 1\nfile 1 a 00g\n", 2),
+    // Words that name no command, and commands of the whole language that aren't run yet.
+    (b"federation 0 1\nTree 1\n", 2),
+    (b"federation 0 1\ntree: 1\n", 2),
+    (b"federation 0 1\nstart 1\n", 2),
 ];
 
 #[test]
@@ -167,4 +207,33 @@ fn makes_values(rt: HostRuntime) -> Result<(), Fail> {
         "schedule line 12"
     );
     Ok(())
+}
+
+// Texts, and the words that they are printed as: 00 to 20, 25, and 7F and all above are escaped.
+const WORDS: [(&str, &str); 9] = [
+    ("\u{0}\u{1f}\u{20}\u{21}", "%00%1F%20!"),
+    ("\t\n\r", "%09%0A%0D"),
+    ("$%&", "$%25&"),
+    ("~\u{7f}\u{80}", "~%7F%C2%80"),
+    ("/:?#[]@!$&'()*+,;=", "/:?#[]@!$&'()*+,;="),
+    ("-._~\"<>\\^`{|}", "-._~\"<>\\^`{|}"),
+    ("09AZaz", "09AZaz"),
+    ("\u{e9}\u{65e5}\u{1f600}", "%C3%A9%E6%97%A5%F0%9F%98%80"),
+    ("", ""),
+];
+
+#[test]
+fn escapes(rt: HostRuntime) -> Result<(), Fail> {
+    for (name, word) in WORDS {
+        let mut text = String::from_str(rt.alloc(), "x ")?;
+        push_escaped(&mut text, name)?;
+        assert_eq!(rt; text.as_str().strip_prefix("x "), Some(word));
+    }
+    Ok(())
+}
+
+#[test]
+fn numbers_of_faults(rt: HostRuntime) {
+    assert_eq!(rt; ParseFault::Line(7).number(), 1);
+    assert_eq!(rt; ParseFault::Memory.number(), 2);
 }

@@ -1,10 +1,11 @@
 ghost use Rattle.std.specs.Prelude.{◌≡◌, IfOk};
 ghost use Rattle.simulator.specs.Runs.{run_of};
 
+use crate::fault::RunFault;
 use crate::line::Line;
 use crate::world::Federation;
 use schedule::Schedule;
-use std::alloc::{AllocError, Global};
+use std::alloc::Global;
 use std::marker::Model;
 
 /// What a run says, line by line.
@@ -31,10 +32,10 @@ impl Trace {
     }
 }
 
-/// Runs a schedule: the lines are those of the written run. The one refusal is want of memory, and
-/// then there is no trace.
+/// Runs a schedule: the lines are those of the reference run. The one fault is out of memory, and then
+/// there is no trace.
 #[tactic(auto, unfolding(crate::specs::Runs::run_of))]
-pub fn run(alloc: Global, schedule: &Schedule) -> Result<Trace, AllocError>
+pub fn run(alloc: Global, schedule: &Schedule) -> Result<Trace, RunFault>
     ensures { IfOk result (λ trace. trace ≡ (run_of schedule.now).lines) }
 {
     let mut federation = Federation::new(alloc, schedule.members())?;

@@ -106,3 +106,13 @@ fn lines_of_a_trace(rt: HostRuntime) -> Result<(), Fail> {
     );
     Ok(())
 }
+
+#[test]
+fn the_fault_of_runs(rt: HostRuntime) -> Result<(), Fail> {
+    assert_eq!(rt; RunFault::Memory.number(), 1);
+    assert_eq!(rt;
+        format!(in rt.alloc(); "{}", RunFault::Memory)?.as_str(),
+        "out of memory"
+    );
+    Ok(())
+}

@@ -1,5 +1,5 @@
 use Rattle.std.specs.Io.KnownBytes.{Consumes}
-use Rattle.bagpaxos.proofs.reading.read_whole.Given as goal
+use Rattle.bagpaxos.proofs.reading.read_within.Given as goal
 
 -- the bytes so far are what the reader gave
 abbrev pub invariant-reads : goal.invariant-reads
