@@ -3,7 +3,6 @@
 use Rattle.std.specs.Prelude.{◌≡◌, ◌≢◌, ◌⊎◌, ◌↔◌, ℕ, List, ◌++◌, map, codes, IsTrue, Contains, All, AllPairs, Some}
 use Rattle.std.specs.Str.{str_to_ascii_lowercase}
 use Rattle.bag_text.specs.declared.algorithm.Algorithm.{Algorithm}
-use Rattle.bag_text.specs.Algorithms.{algorithm_name}
 use Rattle.bag_text.specs.Declarations.{IsDeclaration}
 use Rattle.bag_text.specs.ListedFile.{ListedFile}
 use Rattle.bag_text.specs.Manifests.{IsManifest}
