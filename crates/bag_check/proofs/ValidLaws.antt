@@ -1,10 +1,10 @@
 -- A tree is a valid bag exactly where no fault holds.
-use Rattle.std.proofs.Common.{◌≡◌, ◌≢◌, ℕ, Bool, true, false, ◌||◌, ◌&&◌, not, List, [], ◌∷◌, ◌++◌, map, get_or, Option, Some, None, Result, Ok, Err, refl, sym, ap, subst, ◌∙◌, inl, inr}
-use Rattle.std.specs.Prelude.{All, Contains, Decides, IsTrue, is_some, is_err, unwrap_or, codes, ◌⊎◌, IfOk, MatchResult}
+use Rattle.std.proofs.Common.{◌≡◌, ℕ, Bool, true, false, ◌&&◌, not, List, [], map, get_or, Option, Some, None, Result, Ok, Err, refl, sym, ap, ◌∙◌, inl, inr}
+use Rattle.std.specs.Prelude.{Decides, is_some, is_err, unwrap_or, codes, IfOk, MatchResult}
 use Rattle.std.specs.List.{list_any, AllByRecursion}
 use Rattle.std.specs.Option.{option_map}
 use Rattle.std.specs.Str.{bytes_eq, str_to_ascii_lowercase}
-use Rattle.std.proofs.lemmas.Bool.{or_cases, or_left, or_right, true≢false, false_from_ne_true, true_from_ne_false, not_from_true}
+use Rattle.std.proofs.lemmas.Bool.{or_cases, or_left, or_right, true≢false, false_from_ne_true, not_from_true}
 use Rattle.std.proofs.lemmas.List.Elements.{All-map, All-contains, recursion_from_All}
 use Rattle.std.proofs.lemmas.List.Folds.{list_any_none}
 use Rattle.std.proofs.lemmas.Slice.Eq.{bytes_eq-Decides}
@@ -54,9 +54,13 @@ declared_in : (text : List ℕ) (read : Result (List ℕ × List ℕ) ℕ) → d
     → fails (λ version encoding. is_supported_version version) read ≡ false → fails (λ version encoding. is_supported_encoding encoding) read ≡ false
     → (version : List ℕ) × (encoding : List ℕ) × IsDeclaration text version encoding × IsReadVersion version × IsReadEncoding encoding
 declared_in text (Err line) is whole v e = absurd (true≢false whole)
-declared_in text (Ok (version, encoding)) is whole v e =
-    (version, encoding, declares-read (lines_of text) (version, encoding) is,
-    (version_decides version).0 (not_false (is_supported_version version) v), (encoding_decides encoding).0 (not_false (is_supported_encoding encoding) e))
+declared_in text (Ok (version, encoding)) is whole v e = (
+  version,
+  encoding,
+  declares-read (lines_of text) (version, encoding) is,
+  (version_decides version).0 (not_false (is_supported_version version) v),
+  (encoding_decides encoding).0 (not_false (is_supported_encoding encoding) e),
+)
 
 abbrev bytes_of : FileFact → List ℕ
 bytes_of file = unwrap_or file.text []
@@ -80,7 +84,7 @@ known : (facts : TreeFacts) → holds UnknownAlgorithm facts ≡ false → (path
 unfolding holds is_unknown
 known facts h path there named =
     let at : (is_manifest path && not (is_known_manifest path)) ≡ false = All-contains (λ q. (is_manifest q && not (is_known_manifest q)) ≡ false) (map (λ (file : FileFact). file.path) facts.files) path
-          (All-map (λ q. (is_manifest q && not (is_known_manifest q)) ≡ false) (λ (file : FileFact). file.path) facts.files (all_fail is_unknown facts.files h)) there in
+    (All-map (λ q. (is_manifest q && not (is_known_manifest q)) ≡ false) (λ (file : FileFact). file.path) facts.files (all_fail is_unknown facts.files h)) there in
     (known_decides path).0 (not_false (is_known_manifest path) (ap (λ t. t && not (is_known_manifest path)) (sym ((manifest_decides path).1 named)) ∙ at))
 
 none_unknown : (facts : TreeFacts) → ((path : List ℕ) → IsFile facts path → IsManifestName path → IsReadManifestName path) → holds UnknownAlgorithm facts ≡ false
@@ -88,8 +92,8 @@ unfolding holds is_unknown
 none_unknown facts h =
     list_any_none is_unknown facts.files
     (λ k d within.
-      let path : List ℕ = (get_or facts.files k d).path in
-      at path (λ is. (known_decides path).1 (h path (path_at (λ (file : FileFact). file.path) facts.files k d within) ((manifest_decides path).0 is))))
+    let path : List ℕ = (get_or facts.files k d).path in
+    at path (λ is. (known_decides path).1 (h path (path_at (λ (file : FileFact). file.path) facts.files k d within) ((manifest_decides path).0 is))))
   where
     test : (manifest read : Bool) → (manifest ≡ true → read ≡ true) → (manifest && not read) ≡ false
     test true read h = rw (h refl) refl
@@ -158,9 +162,9 @@ module _ (facts : TreeFacts) (valid : IsValid facts) where
   none_listed test fault =
       none_passes (λ m. passes (test m) (entries m)) facts
       (λ kind algorithm bytes there.
-        let found = valid.listed kind algorithm bytes there in
-        let read : entries_of algorithm bytes ≡ Ok found.0 = files_from-listed algorithm 1 (lines_of bytes) found.0 found.1 in
-        rw read (fault kind algorithm bytes found.0 (faultless facts kind algorithm found.0 found.2)))
+      let found = valid.listed kind algorithm bytes there in
+      let read : entries_of algorithm bytes ≡ Ok found.0 = files_from-listed algorithm 1 (lines_of bytes) found.0 found.1 in
+      rw read (fault kind algorithm bytes found.0 (faultless facts kind algorithm found.0 found.2)))
 
   pub valid_faultless : (fault : BagFault) → holds fault facts ≡ false
   unfolding holds
@@ -175,8 +179,8 @@ module _ (facts : TreeFacts) (valid : IsValid facts) where
   valid_faultless MalformedLine =
       none_passes (λ m. is_malformed (entries m)) facts
       (λ kind algorithm bytes there.
-        let found = valid.listed kind algorithm bytes there in
-        ap is_malformed (files_from-listed algorithm 1 (lines_of bytes) found.0 found.1))
+      let found = valid.listed kind algorithm bytes there in
+      ap is_malformed (files_from-listed algorithm 1 (lines_of bytes) found.0 found.1))
   valid_faultless UnsafePath = none_listed (λ m es. list_any (is_astray m.kind) es) (λ kind algorithm bytes es h. h.astray)
   valid_faultless DuplicateEntry = none_listed (λ m es. if_payload m.kind (repeats es)) (λ kind algorithm bytes es h. h.repeat)
   valid_faultless MissingFile = none_listed (λ m es. list_any (λ (entry : ListedFile). not (has_file entry.path facts.files)) es) (λ kind algorithm bytes es h. h.missing)

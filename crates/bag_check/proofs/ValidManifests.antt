@@ -1,10 +1,10 @@
 -- The manifests of a valid bag, by the faults.
-use Rattle.std.proofs.Common.{◌≡◌, ◌≢◌, ℕ, Bool, true, false, ◌||◌, ◌&&◌, not, List, [], ◌∷◌, ◌++◌, map, get_or, length, Option, Some, None, Result, Ok, Err, refl, sym, ap, subst, ◌∙◌, inl, inr, arith}
-use Rattle.std.specs.Prelude.{All, Contains, Decides, IsTrue, is_some, ◌⊎◌, ◌<◌}
-use Rattle.std.specs.List.{list_any, find}
+use Rattle.std.proofs.Common.{◌≡◌, ℕ, Bool, true, false, ◌||◌, ◌&&◌, not, List, map, get_or, Option, Some, None, refl, sym, ap, subst, ◌∙◌, arith}
+use Rattle.std.specs.Prelude.{All, Decides, is_some}
+use Rattle.std.specs.List.{list_any}
 use Rattle.std.specs.Str.{bytes_eq}
-use Rattle.std.proofs.lemmas.Bool.{or_parts, or_from, and_parts, true≢false, false_from_ne_true, true_from_ne_false, not_from_true}
-use Rattle.std.proofs.lemmas.List.Elements.{All-map, All-weaker, All-contains}
+use Rattle.std.proofs.lemmas.Bool.{or_parts, or_from, and_parts, true≢false, false_from_ne_true, not_from_true}
+use Rattle.std.proofs.lemmas.List.Elements.{All-map, All-contains}
 use Rattle.std.proofs.lemmas.List.Folds.{list_any_none, list_any-append}
 use Rattle.std.proofs.lemmas.Slice.Eq.{bytes_eq-Decides}
 use Rattle.bag_text.specs.declared.algorithm.Algorithm.{Algorithm}
@@ -59,8 +59,8 @@ module _ (p : Manifest → Bool) (facts : TreeFacts) where
   pub none_passes : ((kind : Kind) (algorithm : Algorithm) (text : List ℕ) → HasText facts (manifest_name kind algorithm) text → p (manifest kind algorithm text) ≡ false) → list_any p (manifests_of facts) ≡ false
   none_passes h =
       let of_one : (kind : Kind) → list_any p (manifests_of_kind kind facts.files) ≡ false = λ kind.
-            any_of_kind kind ∙ list_any_none (λ a. list_any p (manifest_at kind a facts.files)) algorithms
-            (λ k d within. here kind (get_or algorithms k d) (text_at (manifest_name kind (get_or algorithms k d)) facts.files) refl (λ bytes there. h kind (get_or algorithms k d) bytes there)) in
+      any_of_kind kind ∙ list_any_none (λ a. list_any p (manifest_at kind a facts.files)) algorithms
+      (λ k d within. here kind (get_or algorithms k d) (text_at (manifest_name kind (get_or algorithms k d)) facts.files) refl (λ bytes there. h kind (get_or algorithms k d) bytes there)) in
       any_of_both ∙ or_from (list_any p (manifests_of_kind Payload facts.files)) (list_any p (manifests_of_kind Tag facts.files)) (of_one Payload) (of_one Tag)
 
 -- ---- what one manifest lists
@@ -141,12 +141,12 @@ module _ (facts : TreeFacts) (entries : List ListedFile) where
   none_unlisted_from Payload files =
       list_any_none (is_unlisted entries) facts.files
       (λ k d within.
-        let path : List ℕ = (get_or facts.files k d).path in
-        false_from_ne_true (is_payload path && not (is_listed path entries))
-        (λ both.
-          let parts = and_parts (is_payload path) (not (is_listed path entries)) both in
-          let listed : is_listed path entries ≡ true = (any_path path_of entries path).1 ((files.1 path).1 (path_at (λ (file : FileFact). file.path) facts.files k d within, parts.0)) in
-          true≢false (sym parts.1 ∙ not_from_true (is_listed path entries) listed)))
+      let path : List ℕ = (get_or facts.files k d).path in
+      false_from_ne_true (is_payload path && not (is_listed path entries))
+      (λ both.
+      let parts = and_parts (is_payload path) (not (is_listed path entries)) both in
+      let listed : is_listed path entries ≡ true = (any_path path_of entries path).1 ((files.1 path).1 (path_at (λ (file : FileFact). file.path) facts.files k d within, parts.0)) in
+      true≢false (sym parts.1 ∙ not_from_true (is_listed path entries) listed)))
   none_unlisted_from Tag files = refl
 
 module _ (facts : TreeFacts) (kind : Kind) (algorithm : Algorithm) (entries : List ListedFile) where
@@ -174,16 +174,16 @@ module _ (facts : TreeFacts) (kind : Kind) (algorithm : Algorithm) (entries : Li
   faultless h = record {
     astray = list_any_none (is_astray kind) entries
         (λ k d within.
-          let entry : ListedFile = get_or entries k d in
-          or_from (is_unsafe entry.path) (is_on_wrong_side kind entry.path) (false_from_ne_true (is_unsafe entry.path) (h.safe k d within)) (on_side_from facts entries kind h.files k d within));
+        let entry : ListedFile = get_or entries k d in
+        or_from (is_unsafe entry.path) (is_on_wrong_side kind entry.path) (false_from_ne_true (is_unsafe entry.path) (h.safe k d within)) (on_side_from facts entries kind h.files k d within));
     repeat = no_repeat_from facts entries kind h.files;
     missing = list_any_none (λ (entry : ListedFile). not (has_file entry.path facts.files)) entries
         (λ k d within. not_from_true (has_file (get_or entries k d).path facts.files) (ap is_some (h.digests k d within).1));
     unlisted = none_unlisted_from facts entries kind h.files;
     wrong = list_any_none (is_wrong algorithm facts.files) entries
         (λ k d within.
-          let entry : ListedFile = get_or entries k d in
-          let is = h.digests k d within in
-          ap (has_other_digest algorithm entry.digest) is.1
-          ∙ not_from_true (bytes_eq (digest_by algorithm (is.0).digests) entry.digest) ((bytes_eq-Decides (digest_by algorithm (is.0).digests) entry.digest).1 (sym is.2)));
+        let entry : ListedFile = get_or entries k d in
+        let is = h.digests k d within in
+        ap (has_other_digest algorithm entry.digest) is.1
+        ∙ not_from_true (bytes_eq (digest_by algorithm (is.0).digests) entry.digest) ((bytes_eq-Decides (digest_by algorithm (is.0).digests) entry.digest).1 (sym is.2)));
   }

@@ -1,7 +1,7 @@
 -- The names of manifests, by their tests.
-use Rattle.std.proofs.Common.{◌≡◌, ◌≢◌, ℕ, suc, ◌+◌, ◌<◌, Bool, true, false, ◌||◌, ◌&&◌, ◌==◌, cond, not, List, [], ◌∷◌, ◌++◌, map, get_or, take, drop, length, refl, sym, ap, subst, ◌∙◌, inl, inr, arith, append_assoc}
-use Rattle.std.specs.Prelude.{Contains, Decides, IsTrue, codes, ◌⊎◌}
-use Rattle.std.specs.List.{list_any, slice_split, onto_first, starts_with, ends_with}
+use Rattle.std.proofs.Common.{◌≡◌, ℕ, ◌<◌, Bool, true, false, ◌||◌, ◌==◌, cond, not, List, [], ◌∷◌, ◌++◌, get_or, drop, length, refl, sym, ap, ◌∙◌, arith, append_assoc}
+use Rattle.std.specs.Prelude.{Decides, codes}
+use Rattle.std.specs.List.{list_any, onto_first, starts_with, ends_with}
 use Rattle.std.specs.Str.{bytes_eq}
 use Rattle.std.proofs.lemmas.Bool.{or_parts, and_parts, and_from, true≢false, false_from_ne_true, eqb-true, eq-eqb}
 use Rattle.std.proofs.lemmas.List.Folds.{Any-from_list_any, list_any_at}
@@ -9,7 +9,6 @@ use Rattle.std.proofs.lemmas.Slice.Eq.{bytes_eq-Decides, starts_is, ends_is}
 use Rattle.bag_text.specs.declared.algorithm.Algorithm.{Algorithm}
 use Rattle.bag_text.specs.declared.algorithm.Algorithm.TheVariants.{Md5, Sha1, Sha256, Sha512}
 use Rattle.bag_tree.specs.Path.{slash, parts_of, is_text_named}
-use Rattle.bag_tree.specs.Facts.{FileFact, TreeFacts}
 use Rattle.bag_check.specs.declared.manifests.Kind.{Kind}
 use Rattle.bag_check.specs.declared.manifests.Kind.TheVariants.{Payload, Tag}
 use Rattle.bag_check.specs.Manifests.{algorithms, kinds, front_of, manifest_name, is_manifest, is_known_of_kind, is_known_manifest}
@@ -85,16 +84,16 @@ pub manifest_decides : (path : List ℕ) → Decides (is_manifest path) (IsManif
 unfolding is_manifest
 manifest_decides path = (
   λ h.
-    let both = and_parts (length (parts_of path) == 1) (list_any (λ kind. is_text_named (front_of kind) path) kinds) h in
-    let found = Any-from_list_any (λ kind. is_text_named (front_of kind) path) kinds both.1 in
-    let text = named found.1 path found.4 in
-    let flat : list_any (λ b. b == slash) path ≡ false = not_true (list_any (λ b. b == slash) path) (sym (one_part path) ∙ both.0) in
-    (found.1, text.0, text.1, λ inside. true≢false (sym ((any_contains (λ a b. a == b) same_byte path slash).1 inside) ∙ flat)),
+      let both = and_parts (length (parts_of path) == 1) (list_any (λ kind. is_text_named (front_of kind) path) kinds) h in
+      let found = Any-from_list_any (λ kind. is_text_named (front_of kind) path) kinds both.1 in
+      let text = named found.1 path found.4 in
+      let flat : list_any (λ b. b == slash) path ≡ false = not_true (list_any (λ b. b == slash) path) (sym (one_part path) ∙ both.0) in
+      (found.1, text.0, text.1, λ inside. true≢false (sym ((any_contains (λ a b. a == b) same_byte path slash).1 inside) ∙ flat)),
   λ is.
-    let flat : list_any (λ b. b == slash) path ≡ false = false_from_ne_true (list_any (λ b. b == slash) path) (λ inside. is.3 ((any_contains (λ a b. a == b) same_byte path slash).0 inside)) in
-    and_from (length (parts_of path) == 1) (list_any (λ kind. is_text_named (front_of kind) path) kinds)
-    (one_part path ∙ not_from (list_any (λ b. b == slash) path) flat)
-    (of_kind is.0 (named_from is.0 path is.1 is.2)),
+      let flat : list_any (λ b. b == slash) path ≡ false = false_from_ne_true (list_any (λ b. b == slash) path) (λ inside. is.3 ((any_contains (λ a b. a == b) same_byte path slash).0 inside)) in
+      and_from (length (parts_of path) == 1) (list_any (λ kind. is_text_named (front_of kind) path) kinds)
+      (one_part path ∙ not_from (list_any (λ b. b == slash) path) flat)
+      (of_kind is.0 (named_from is.0 path is.1 is.2)),
 )
   where
     of_kind : (kind : Kind) → is_text_named (front_of kind) path ≡ true → list_any (λ k. is_text_named (front_of k) path) kinds ≡ true
@@ -106,9 +105,9 @@ pub known_decides : (path : List ℕ) → Decides (is_known_manifest path) (IsRe
 unfolding is_known_manifest is_known_of_kind
 known_decides path = (
   λ h.
-    let kind = Any-from_list_any (λ k. is_known_of_kind k path) kinds h in
-    let algorithm = Any-from_list_any (λ a. bytes_eq path (manifest_name kind.1 a)) algorithms kind.4 in
-    (kind.1, algorithm.1, (bytes_eq-Decides path (manifest_name kind.1 algorithm.1)).0 algorithm.4),
+      let kind = Any-from_list_any (λ k. is_known_of_kind k path) kinds h in
+      let algorithm = Any-from_list_any (λ a. bytes_eq path (manifest_name kind.1 a)) algorithms kind.4 in
+      (kind.1, algorithm.1, (bytes_eq-Decides path (manifest_name kind.1 algorithm.1)).0 algorithm.4),
   λ is. of_kind is.0 (of_algorithm is.0 is.1 ((bytes_eq-Decides path (manifest_name is.0 is.1)).1 is.2)),
 )
   where

@@ -1,9 +1,8 @@
--- When a tree of files is a valid bag (RFC 8493, 2 and 3), within the limits of this project, in sets and relations: no fault stands
--- here. `valid_law` says that the bags which are valid so are those in which no fault holds.
+-- When a tree of files is a valid bag (RFC 8493, 2 and 3), within the limits of this project, in sets and relations; no fault is
+-- named here. `valid_law` says that the trees which are valid so are those in which no fault holds.
 use Rattle.std.specs.Prelude.{◌≡◌, ◌≢◌, ◌⊎◌, ◌↔◌, ℕ, List, ◌++◌, map, codes, IsTrue, Contains, All, AllPairs, Some}
 use Rattle.std.specs.Str.{str_to_ascii_lowercase}
 use Rattle.bag_text.specs.declared.algorithm.Algorithm.{Algorithm}
-use Rattle.bag_text.specs.Algorithms.{algorithm_name}
 use Rattle.bag_text.specs.Declarations.{IsDeclaration}
 use Rattle.bag_text.specs.ListedFile.{ListedFile}
 use Rattle.bag_text.specs.Manifests.{IsManifest}

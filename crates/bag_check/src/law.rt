@@ -1,4 +1,4 @@
-//! Laws of bags, over every tree. Each stands as the contract of a function that does nothing.
+//! Laws of bags, over every tree, each as the contract of a function that does nothing.
 
 ghost use Rattle.std.specs.Prelude.{◌≡◌, ◌↔◌, Ok, None, false};
 ghost use Rattle.bag_tree.specs.Facts.{TreeFacts};

@@ -1,7 +1,10 @@
+ghost use Rattle.std.specs.Prelude.{◌↔◌, IfOk, IsTrue};
+ghost use Rattle.bag_check.specs.Valid.{IsValid};
+
 use super::*;
-use bag_tree::{Tree, facts_of};
+use bag_tree::{Facts, Tree, facts_of};
 use fed_types::BagId;
-use std::alloc::Global;
+use std::alloc::{AllocError, Global};
 use std::test::Fail;
 
 /// A declaration as RFC 8493, 2.1.1, has it.
@@ -78,6 +81,18 @@ fn empty_with(alloc: Global, path: &str, text: &str) -> Result<u8, Fail> {
     number(alloc, &tree)
 }
 
+/// What a check tells a caller of the standard's own words.
+fn is_valid(alloc: Global, facts: &Facts) -> Result<bool, AllocError>
+    ensures { IfOk result (λ valid. IsTrue valid ↔ IsValid facts.now) }
+{
+    valid_law();
+    match check(alloc, facts) {
+        Ok(_) => Ok(true),
+        Err(BagFault::Memory) => Err(AllocError),
+        Err(_) => Ok(false),
+    }
+}
+
 #[test]
 fn the_empty_bag(rt: HostRuntime) -> Result<(), Fail> {
     let alloc = rt.alloc();
@@ -87,6 +102,9 @@ fn the_empty_bag(rt: HostRuntime) -> Result<(), Fail> {
     ];
     let facts = facts_of(alloc, &tree_of(alloc, &files)?)?;
     assert_eq!(rt; check(alloc, &facts), Ok(BagId(NOTHING)));
+    assert!(rt; is_valid(alloc, &facts)?);
+    let undeclared = facts_of(alloc, &tree_of(alloc, &files[1..])?)?;
+    assert!(rt; !is_valid(alloc, &undeclared)?);
     assert_eq!(rt; number(alloc, &tree_of(alloc, &files[1..])?)?, 1);
     assert_eq!(rt; number(alloc, &tree_of(alloc, &files[..1])?)?, 7);
     let mut tree = Tree::new(alloc);

@@ -12,6 +12,4 @@ pub fn limits_law(bag: &BagId)
     ensures members { MOST_MEMBERS ≡ most_members }
     ensures object { LONGEST_OBJECT ≡ longest_object }
     ensures bag { length bag.now.0 ≡ bag_len }
-{
-    let _bytes = &bag.0;
-}
+{}
