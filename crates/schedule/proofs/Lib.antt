@@ -1,4 +1,5 @@
 pub mod LineLemmas
+pub mod GrammarLemmas
 pub mod NumberLemmas
 pub mod TextLemmas
 pub mod PlanLemmas

@@ -1,5 +1,6 @@
 pub mod Limits
 pub mod Words
+pub mod Grammar
 pub mod Commands
 pub mod Plans
 pub mod Escapes

@@ -5,6 +5,7 @@ mod command;
 mod command_printing;
 mod command_reading;
 mod fault;
+mod law;
 mod line;
 mod parsing;
 mod plan;
@@ -14,6 +15,7 @@ mod word;
 
 pub use command::{Command, Content, FilePath, TreeNo};
 pub use fault::ParseFault;
+pub use law::{numbers_law, words_law};
 pub use parsing::parse;
 pub use plan::Schedule;
 pub use printing::print;

@@ -237,3 +237,9 @@ fn numbers_of_faults(rt: HostRuntime) {
     assert_eq!(rt; ParseFault::Line(7).number(), 1);
     assert_eq!(rt; ParseFault::Memory.number(), 2);
 }
+
+#[test]
+fn laws_of_the_grammar() {
+    words_law();
+    numbers_law();
+}
