@@ -1,5 +1,6 @@
 -- What stands next, by the length that is told.
-use Rattle.std.proofs.Common.{◌≡◌, ◌≢◌, ℕ, suc, ◌≤◌, ◌+◌, ◌-◌, ◌*◌, List, [], ◌∷◌, ◌++◌, length, take, drop, get_or, Some, None, refl, sym, ap, ◌∙◌, arith, inr}
+use Rattle.std.proofs.Common.{◌≡◌, ◌≢◌, ℕ, suc, ◌≤◌, ◌+◌, ◌-◌, ◌*◌, List, [], ◌∷◌, ◌++◌, length, take, drop, get_or, Option, Some, None, refl, sym, ap, subst, ◌∙◌, arith, inr}
+use Rattle.std.specs.Prelude.{IsSome}
 use Rattle.std.specs.Int.{w16, to_be_bytes}
 use Rattle.std.proofs.lemmas.List.{take-append-drop, length-drop, length-take}
 use Rattle.std.proofs.lemmas.Nat.{be_bytes_2}
@@ -7,10 +8,11 @@ use Rattle.std.proofs.Math.Seq.{take-length}
 use Rattle.fields.proofs.Bytes.{IsBytes, not_some, takes}
 use Rattle.records.specs.declared.record.Record.{Record}
 use Rattle.records.specs.declared.journal.Step.TheVariants as steps
+use Rattle.records.specs.declared.journal.Find.TheVariants as finds
 use Rattle.records.specs.Layout.{content_bytes, record_bytes}
 use Rattle.records.specs.Records.{IsRecord}
 use Rattle.records.specs.Journals.{length_told, IsNoRecord}
-use Rattle.records.specs.Answers.{IsStep}
+use Rattle.records.specs.Answers.{IsStep, IsSized}
 use Rattle.records.specs.Reading.{content_at}
 use Rattle.records.proofs.Spelled.{content_taken, content_again}
 
@@ -65,3 +67,29 @@ step_none bytes n two is long e =
     let content : take n (rest_of bytes) ≡ content_bytes r = sym (front_content bytes n two) ∙ ap (λ (m : ℕ). drop 2 (take (2 + m) bytes)) is ∙ ap (drop 2) s ∙ spelled_content r in
     not_some (content_at (take n (rest_of bytes))) r e (ap content_at content ∙ content_again r h) in
     (two, inr (omega (arith, long, is, ap length (rest_is bytes), length-drop 2 bytes, two), none))
+
+-- the bytes behind the length, as the code takes them
+module _ (bytes : List ℕ) (size : ℕ) (sized : IsSized bytes (finds.Whole size)) where
+  content_is : take (size - 2) (drop 2 bytes) ≡ take (length_told bytes) (rest_of bytes)
+  content_is =
+      let n : size - 2 ≡ length_told bytes = omega (arith, sized.1) in
+      ap (λ (m : ℕ). take m (drop 2 bytes)) n ∙ ap (take (length_told bytes)) (sym (rest_is bytes))
+
+  enough : length_told bytes ≤ length (rest_of bytes)
+  enough = omega (arith, sized.0, sized.1, sized.2, ap length (rest_is bytes), length-drop 2 bytes)
+
+  pub sized_whole : (r : Record) → IsBytes bytes → content_at (take (size - 2) (drop 2 bytes)) ≡ Some r → IsStep bytes (steps.Whole r size)
+  sized_whole r fits e =
+      subst (λ (n : ℕ). IsStep bytes (steps.Whole r n)) (sym sized.1) (step_whole bytes (length_told bytes) r fits sized.0 refl enough (ap content_at (sym content_is) ∙ e))
+
+  pub sized_none : content_at (take (size - 2) (drop 2 bytes)) ≡ None → IsNoRecord bytes
+  sized_none e = step_none bytes (length_told bytes) sized.0 refl enough (ap content_at (sym content_is) ∙ e)
+
+-- a record, or none
+pub some_of : (o : Option Record) → IsSome o → (r : Record) × (o ≡ Some r)
+some_of (Some r) some = (r, refl)
+some_of None some = absurd (cc some)
+
+pub none_of : (o : Option Record) → (IsSome o → ⊥) → o ≡ None
+none_of (Some r) none = absurd (none refl)
+none_of None none = refl

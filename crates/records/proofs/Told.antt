@@ -1,5 +1,5 @@
 -- What a journal was found to say is what its bytes say.
-use Rattle.std.proofs.Common.{◌≡◌, ℕ, ◌≤◌, List, [], ◌∷◌, ◌++◌, length, take, drop, Result, Ok, Err, refl, sym, ap, ◌∙◌, arith, inl, inr}
+use Rattle.std.proofs.Common.{◌≡◌, ℕ, ◌≤◌, List, [], ◌∷◌, ◌++◌, length, take, drop, Result, Ok, Err, refl, sym, ap, subst, ◌∙◌, arith, inl, inr}
 use Rattle.std.specs.Prelude.{IfOk}
 use Rattle.std.specs.Int.{w64, to_be_bytes}
 use Rattle.std.proofs.lemmas.List.{take-append-drop, length-drop, length-take, drop-drop, drop_more}
@@ -10,7 +10,7 @@ use Rattle.records.specs.declared.record.Record.{Record}
 use Rattle.records.specs.declared.journal.Journal.{Journal}
 use Rattle.records.specs.Layout.{header_bytes, records_bytes, cell_text}
 use Rattle.records.specs.Journals.{Says}
-use Rattle.records.specs.Answers.{Tells, IsToldOrMemory, IsText, HeaderSays, Parts, ReadsRecords}
+use Rattle.records.specs.Answers.{Tells, IsToldOrMemory, IsText, HeaderSays, Parts, HasRecords, ReadsRecords, SaysRecords}
 use Rattle.records.proofs.Heads.{Said, one_saying}
 use Rattle.records.proofs.Walk.{take_both}
 
@@ -43,6 +43,23 @@ said_records federation site bytes (Err (faults.Damaged place)) long h (records,
     inr (records, rest, p.records_whole, bytes_are federation site bytes records place rest header p, place_is federation site bytes records place rest header p, bad)
 said_records federation site bytes (Err faults.Device) long h never = absurd never
 said_records federation site bytes (Err faults.Memory) long h u = tt
+
+-- what is found with no memory
+pub says_records : (federation site : ℕ) (bytes : List ℕ) → HEADER ≤ length bytes → HeaderSays federation site bytes (Ok tt) → HasRecords bytes (Ok tt) → SaysRecords federation site bytes
+says_records federation site bytes long h (records, place, rest, p, ends) =
+    (records, (p.records_whole, inr (rest, bytes_are federation site bytes records place rest (header_whole federation site bytes long h) p, ends)))
+
+pub says_fault : (federation site : ℕ) (bytes : List ℕ) (fault : OpenFault) → HEADER ≤ length bytes → HeaderSays federation site bytes (Ok tt) → HasRecords bytes (Err fault) → Tells (Says federation site bytes) (Err fault)
+says_fault federation site bytes faults.OtherFederation long h never = absurd never
+says_fault federation site bytes faults.OtherSite long h never = absurd never
+says_fault federation site bytes (faults.Damaged place) long h (records, rest, p, bad) =
+    let header = header_whole federation site bytes long h in
+    inr (records, rest, p.records_whole, bytes_are federation site bytes records place rest header p, place_is federation site bytes records place rest header p, bad)
+says_fault federation site bytes faults.Device long h never = absurd never
+says_fault federation site bytes faults.Memory long h never = absurd never
+
+pub finds_no_memory : (bytes : List ℕ) (fault : OpenFault) → HasRecords bytes (Err fault) → fault ≡ faults.Memory → ⊥
+finds_no_memory bytes fault found is = subst (λ (f : OpenFault). HasRecords bytes (Err f)) is found
 
 text_told : (federation site : ℕ) (bytes : List ℕ) (journal : Journal) → HEADER ≤ length bytes → HeaderSays federation site bytes (Ok tt) → ReadsRecords bytes (Ok journal) → IsText federation site bytes journal
 text_told federation site bytes journal long h (rest, p, ends) =

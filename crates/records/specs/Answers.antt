@@ -1,5 +1,5 @@
 -- What the functions that read a journal answer.
-use Rattle.std.specs.Prelude.{◌≡◌, ◌⊎◌, ◌≤◌, ◌<◌, ℕ, List, [], ◌++◌, length, take, drop, get_or, Result, Ok, Err}
+use Rattle.std.specs.Prelude.{◌≡◌, ◌⊎◌, ◌≤◌, ◌<◌, ◌+◌, ℕ, List, [], ◌++◌, length, take, drop, get_or, Result, Ok, Err}
 use Rattle.std.specs.Int.{w64, to_be_bytes}
 use Rattle.records.specs.Numbers.{MAGIC, HEADER}
 use Rattle.records.specs.declared.fault.OpenFault.{OpenFault}
@@ -8,9 +8,11 @@ use Rattle.records.specs.declared.record.Record.{Record}
 use Rattle.records.specs.declared.journal.Journal.{Journal}
 use Rattle.records.specs.declared.journal.Step.{Step}
 use Rattle.records.specs.declared.journal.Step.TheVariants as steps
+use Rattle.records.specs.declared.journal.Find.{Find}
+use Rattle.records.specs.declared.journal.Find.TheVariants as finds
 use Rattle.records.specs.Layout.{record_bytes, records_bytes, cell_text}
 use Rattle.records.specs.Records.{IsRecord, AreRecords}
-use Rattle.records.specs.Journals.{IsTornEnd, IsNoRecord, IsNew, IsOfOtherFederation, IsOfOtherSite, HasNoHeader}
+use Rattle.records.specs.Journals.{length_told, IsTornEnd, IsNoRecord, IsNew, IsOfOtherFederation, IsOfOtherSite, HasNoHeader, Says}
 
 -- what a result says, where it is no want of memory
 abbrev pub Tells : (Result (List Record) OpenFault → Type 0) → Result Journal OpenFault → Type 0
@@ -42,6 +44,22 @@ IsStep bytes steps.End = (bytes ≡ []) ⊎ IsTornEnd bytes
 IsStep bytes (steps.Whole r size) = IsRecord r × (size ≤ length bytes) × (take size bytes ≡ record_bytes r)
 IsStep bytes steps.Damaged = IsNoRecord bytes
 
+-- so many bytes, by the length in front of them
+abbrev pub IsSized : List ℕ → Find → Type 0
+IsSized bytes finds.End = (bytes ≡ []) ⊎ IsTornEnd bytes
+IsSized bytes (finds.Whole size) = (2 ≤ length bytes) × (size ≡ 2 + length_told bytes) × (size ≤ length bytes)
+IsSized bytes finds.Damaged = IsNoRecord bytes
+
+-- what stands next, where a record is found by its size
+abbrev pub IsFound : List ℕ → Find → Type 0
+IsFound bytes finds.End = (bytes ≡ []) ⊎ IsTornEnd bytes
+IsFound bytes (finds.Whole size) = (r : Record) × IsStep bytes (steps.Whole r size)
+IsFound bytes finds.Damaged = IsNoRecord bytes
+
+-- the bytes say records, and no fault
+abbrev pub SaysRecords : ℕ → ℕ → List ℕ → Type 0
+SaysRecords federation site bytes = (records : List Record) × Says federation site bytes (Ok records)
+
 -- what the header says
 abbrev pub HeaderSays : ℕ → ℕ → List ℕ → Result (Unit {0}) OpenFault → Type 0
 HeaderSays federation site bytes (Ok _) = (take 4 bytes ≡ MAGIC) × (take 8 (drop 4 bytes) ≡ to_be_bytes w64 federation) × (get_or bytes 12 0 ≡ site)
@@ -58,6 +76,15 @@ pub record Parts (bytes : List ℕ) (records : List Record) (place : ℕ) (rest 
   pub behind : HEADER ≤ place
   pub front : take place bytes ≡ take HEADER bytes ++ records_bytes records
   pub rest_is : drop place bytes ≡ rest
+
+-- records stand up to an end, or up to what is none
+abbrev pub HasRecords : List ℕ → Result (Unit {0}) OpenFault → Type 0
+HasRecords bytes (Ok _) = (records : List Record) × (place : ℕ) × (rest : List ℕ) × Parts bytes records place rest × ((rest ≡ []) ⊎ IsTornEnd rest)
+HasRecords bytes (Err faults.OtherFederation) = ⊥
+HasRecords bytes (Err faults.OtherSite) = ⊥
+HasRecords bytes (Err (faults.Damaged place)) = (records : List Record) × (rest : List ℕ) × Parts bytes records place rest × IsNoRecord rest
+HasRecords bytes (Err faults.Device) = ⊥
+HasRecords bytes (Err faults.Memory) = ⊥
 
 -- the records are read up to an end, or up to what is none
 abbrev pub ReadsRecords : List ℕ → Result Journal OpenFault → Type 0

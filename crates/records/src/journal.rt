@@ -1,13 +1,12 @@
-ghost use Rattle.std.specs.Prelude.{◌≡◌, ◌≤◌, ◌<◌, ◌↔◌, List, Result, length, take, IfOk, IsErrOf, IsTrue};
+ghost use Rattle.std.specs.Prelude.{◌≡◌, ◌≤◌, ◌<◌, ◌↔◌, List, Result, length, IfOk, IsErrOf, IsTrue};
 ghost use Rattle.records.specs.declared.fault.OpenFault.{OpenFault as declared_fault};
 ghost use Rattle.records.specs.declared.record.Record.{Record as declared_record};
 ghost use Rattle.records.specs.Journals.{IsNew, Says};
-ghost use Rattle.records.specs.Layout.{header_bytes};
-ghost use Rattle.records.specs.Answers.{IsStep, HeaderSays, ReadsRecords, Tells, IsToldOrMemory, IsText};
+ghost use Rattle.records.specs.Answers.{IsStep, IsSized, IsFound, HeaderSays, HasRecords, ReadsRecords, SaysRecords, Tells, IsToldOrMemory, IsText};
 
 use crate::fault::OpenFault;
 use crate::layout::{HEADER, LONGEST, MAGIC, SHORTEST};
-use crate::reading::read_record;
+use crate::reading::{is_record, read_record};
 use crate::record::Record;
 use crate::writing::header;
 use fed_types::SiteNo;
@@ -34,23 +33,76 @@ pub(crate) enum Step {
     Damaged,
 }
 
-fn next_record(alloc: Global, bytes: &[u8]) -> Result<Step, AllocError>
-    ensures { IfOk result (IsStep bytes.now) }
+/// What stands next, by its size alone.
+#[derive(Clone, Copy, Debug)]
+pub(crate) enum Find {
+    /// Nothing, or a torn tail.
+    End,
+    /// So many bytes, a length of two and as many as it says.
+    Whole(usize),
+    /// What is no record.
+    Damaged,
+}
+
+// Finds how many bytes stand next, by the length in front of them.
+fn find_size(bytes: &[u8]) -> Find
+    ensures { IsSized bytes.now result }
 {
     let [high, low, rest @ ..] = bytes else {
-        return Ok(Step::End);
+        return Find::End;
     };
     let size = usize::from(u16::from_be_bytes([*high, *low]));
     if size < SHORTEST || LONGEST < size {
-        return Ok(Step::Damaged);
+        return Find::Damaged;
     }
     if rest.len() < size {
-        return Ok(Step::End);
+        return Find::End;
     }
-    match read_record(alloc, &rest[..size]) {
-        Ok(record) => Ok(Step::Whole(record, 2 + size)),
-        Err(FieldFault::Malformed) => Ok(Step::Damaged),
-        Err(FieldFault::Memory) => Err(AllocError),
+    Find::Whole(2 + size)
+}
+
+// Finds what stands next. It takes no memory.
+fn find_next(bytes: &[u8]) -> Find
+    ensures { IsFound bytes.now result }
+{
+    match find_size(bytes) {
+        Find::End => Find::End,
+        Find::Damaged => Find::Damaged,
+        Find::Whole(size) => {
+            if !is_record(&bytes[2..size]) {
+                return Find::Damaged;
+            }
+            Find::Whole(size)
+        }
+    }
+}
+
+// Whether records stand behind the header, up to the end or a torn tail. It takes no memory.
+fn check_records(bytes: &[u8]) -> Result<(), OpenFault>
+    requires { HEADER ≤ length bytes.now }
+    ensures { HasRecords bytes.now result }
+{
+    let mut place = HEADER;
+    loop {
+        match find_next(&bytes[place..]) {
+            Find::End => return Ok(()),
+            Find::Damaged => return Err(OpenFault::Damaged(place)),
+            Find::Whole(size) => place += size,
+        }
+    }
+}
+
+fn next_record(alloc: Global, bytes: &[u8]) -> Result<Step, AllocError>
+    ensures { IfOk result (IsStep bytes.now) }
+{
+    match find_size(bytes) {
+        Find::End => Ok(Step::End),
+        Find::Damaged => Ok(Step::Damaged),
+        Find::Whole(size) => match read_record(alloc, &bytes[2..size]) {
+            Ok(record) => Ok(Step::Whole(record, size)),
+            Err(FieldFault::Malformed) => Ok(Step::Damaged),
+            Err(FieldFault::Memory) => Err(AllocError),
+        },
     }
 }
 
@@ -112,10 +164,14 @@ fn read_text(
 ) -> Result<Journal, OpenFault>
     ensures told { Tells (Says federation site bytes.now) result }
     ensures text { IfOk result (IsText federation site bytes.now) }
-    ensures memory { IsErrOf result OpenFault.Memory → take HEADER bytes.now ≡ header_bytes federation site }
+    ensures memory { IsErrOf result OpenFault.Memory → SaysRecords federation site bytes.now }
 {
     if HEADER <= bytes.len() {
         check_header(federation, site, bytes)?;
+        // Memory is taken only where the bytes say records, so it hides no fault.
+        if let Err(fault) = check_records(bytes) {
+            return Err(fault);
+        }
         return read_records(alloc, bytes);
     }
     if !is_new(federation, site, bytes) {
@@ -141,8 +197,8 @@ pub fn read_journal(
     // What the bytes say is told, unless memory runs out.
     ensures only { (said : Result (List declared_record) declared_fault) → Says federation site bytes.now said → IsToldOrMemory result said }
     ensures text { IfOk result (IsText federation site bytes.now) }
-    // Memory can run out only where the header is this journal's.
-    ensures memory { IsErrOf result OpenFault.Memory → take HEADER bytes.now ≡ header_bytes federation site }
+    // Memory can run out only where the bytes say records: each fault of theirs is told.
+    ensures memory { IsErrOf result OpenFault.Memory → SaysRecords federation site bytes.now }
 {
     read_text(alloc, federation, site, bytes)
 }
