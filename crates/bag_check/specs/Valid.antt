@@ -1,6 +1,8 @@
--- When a tree of files is a valid bag (RFC 8493, 2 and 3), within the limits of this project, in sets and relations; no fault is
--- named here. `valid_law` says that the trees which are valid so are those in which no fault holds.
-use Rattle.std.specs.Prelude.{◌≡◌, ◌≢◌, ◌⊎◌, ◌↔◌, ℕ, List, ◌++◌, map, codes, IsTrue, Contains, All, AllPairs, Some}
+-- When a tree of files is a valid bag (RFC 8493, 2 and 3), within the limits of this project, in
+-- sets and relations; no fault is named here. `valid_law` says that the trees which are valid so are
+-- those in which no fault holds.
+use Rattle.std.specs.Prelude.{◌≡◌, ◌≢◌, ◌⊎◌, ◌↔◌, ℕ, List, ◌++◌, map, codes, Some}
+use Rattle.std.specs.Prelude.{IsTrue, Contains, All, AllPairs}
 use Rattle.std.specs.Str.{str_to_ascii_lowercase}
 use Rattle.bag_text.specs.declared.algorithm.Algorithm.{Algorithm}
 use Rattle.bag_text.specs.Declarations.{IsDeclaration}
@@ -12,7 +14,7 @@ use Rattle.bag_check.specs.declared.manifests.Kind.{Kind}
 use Rattle.bag_check.specs.declared.manifests.Kind.TheVariants.{Payload, Tag}
 use Rattle.bag_check.specs.Manifests.{file_at, text_at, front_of, manifest_name, sha512_manifest}
 
--- ---- the files of a tree. The tree is a map from paths to files; of two with one path, the first is meant.
+-- ---- the files of a tree: a map from paths to files. Of two with one path, the first is meant.
 
 -- there is a file of this path
 abbrev pub IsFile : TreeFacts → List ℕ → Type 0
@@ -43,43 +45,54 @@ IsReadEncoding encoding = str_to_ascii_lowercase encoding ≡ codes "utf-8"
 abbrev pub IsDeclared : TreeFacts → Type 0
 IsDeclared facts =
     (text : List ℕ) × (version : List ℕ) × (encoding : List ℕ)
-    × HasText facts (codes "bagit.txt") text × IsDeclaration text version encoding × IsReadVersion version × IsReadEncoding encoding
+    × HasText facts (codes "bagit.txt") text × IsDeclaration text version encoding
+    × IsReadVersion version × IsReadEncoding encoding
 
 -- ---- the manifests
 
 -- `manifest-`, or `tagmanifest-`, and then any text or none and `.txt`, at the tree's own level
 abbrev pub IsManifestName : List ℕ → Type 0
-IsManifestName path = (kind : Kind) × (name : List ℕ) × (path ≡ front_of kind ++ (name ++ codes ".txt")) × ¬ (Contains path slash)
+IsManifestName path =
+    (kind : Kind) × (name : List ℕ) × (path ≡ front_of kind ++ (name ++ codes ".txt"))
+    × ¬ (Contains path slash)
 
 -- the name of a manifest of one of the four algorithms
 abbrev pub IsReadManifestName : List ℕ → Type 0
 IsReadManifestName path = (kind : Kind) × (algorithm : Algorithm) × (path ≡ manifest_name kind algorithm)
 
--- The paths that a payload manifest lists are those of the payload's files, each once. Those that a tag manifest lists are of tag files.
+-- The paths that a payload manifest lists are those of the payload's files, each once. Those that
+-- a tag manifest lists are paths of tag files.
 abbrev pub ListsFiles : Kind → TreeFacts → List (List ℕ) → Type 0
-ListsFiles Payload facts paths = AllPairs (λ a b. a ≢ b) paths × ((path : List ℕ) → Contains paths path ↔ IsPayloadFile facts path)
+ListsFiles Payload facts paths =
+    AllPairs (λ a b. a ≢ b) paths
+    × ((path : List ℕ) → Contains paths path ↔ IsPayloadFile facts path)
 ListsFiles Tag facts paths = All (IsTagFile facts) paths
 
 -- the entry's digest is that of the file of its path
 abbrev pub IsDigested : TreeFacts → Algorithm → ListedFile → Type 0
 IsDigested facts algorithm entry =
-    (file : FileFact) × (file_at entry.path facts.files ≡ Some file) × (entry.digest ≡ digest_by algorithm file.digests)
+    (file : FileFact) × (file_at entry.path facts.files ≡ Some file)
+    × (entry.digest ≡ digest_by algorithm file.digests)
 
 -- what a manifest of this kind and algorithm lists is as it has to be
-pub record IsListing (facts : TreeFacts) (kind : Kind) (algorithm : Algorithm) (entries : List ListedFile) : Type 0 where
+pub record IsListing (facts : TreeFacts) (kind : Kind) (algorithm : Algorithm)
+    (entries : List ListedFile) : Type 0 where
   pub safe : All (λ entry. ¬ (IsTrue (is_unsafe entry.path))) entries
   pub files : ListsFiles kind facts (map (λ entry. entry.path) entries)
   pub digests : All (IsDigested facts algorithm) entries
 
 -- ---- the bag
 
--- The tree is a valid bag: what it declares is read; there is no `fetch.txt`; `data` exists; there is a `manifest-sha512.txt`; each manifest
--- is of one of the four algorithms, its text lists files, and what it lists is as it has to be.
+-- The tree is a valid bag: what it declares is read; there is no `fetch.txt`; `data` exists; there
+-- is a `manifest-sha512.txt`; each manifest is of one of the four algorithms, its text lists files,
+-- and what it lists is as it has to be.
 pub record IsValid (facts : TreeFacts) : Type 0 where
   pub declared : IsDeclared facts
   pub no_fetch : ¬ (IsFile facts (codes "fetch.txt"))
   pub payload : IsTrue facts.payload
   pub sha512 : IsFile facts sha512_manifest
   pub known : (path : List ℕ) → IsFile facts path → IsManifestName path → IsReadManifestName path
-  pub listed : (kind : Kind) (algorithm : Algorithm) (text : List ℕ) → HasText facts (manifest_name kind algorithm) text
-      → (entries : List ListedFile) × IsManifest algorithm text entries × IsListing facts kind algorithm entries
+  pub listed : (kind : Kind) (algorithm : Algorithm) (text : List ℕ)
+      → HasText facts (manifest_name kind algorithm) text
+      → (entries : List ListedFile)
+      × IsManifest algorithm text entries × IsListing facts kind algorithm entries

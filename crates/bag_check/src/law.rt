@@ -11,5 +11,6 @@ ghost use Rattle.bag_check.specs.Valid.{IsValid};
 pub fn valid_law()
     ensures faultless { (facts : TreeFacts)
         → IsValid facts ↔ ((fault : BagFault) → holds fault facts ≡ false) }
-    ensures checked { (facts : TreeFacts) → IsValid facts ↔ (check_of facts ≡ Ok (identity_of facts)) }
+    ensures checked { (facts : TreeFacts)
+        → IsValid facts ↔ (check_of facts ≡ Ok (identity_of facts)) }
 {}

@@ -5,7 +5,8 @@ ghost use Rattle.bag_text.specs.Declarations.{IsDeclaration, IsDeclarationFault}
 ghost use Rattle.bag_text.specs.ListedFile.{ListedFile};
 ghost use Rattle.bag_text.specs.Manifests.{IsManifest, IsFirstMalformed};
 ghost use Rattle.bag_text.specs.Paths.{escaped, unescaped};
-ghost use Rattle.bag_text.specs.Examples.{digest_of_abc, manifest_of_abc, malformed_manifest, declaration_1_0, declaration_of_one_line};
+ghost use Rattle.bag_text.specs.Examples.{digest_of_abc, manifest_of_abc, malformed_manifest};
+ghost use Rattle.bag_text.specs.Examples.{declaration_1_0, declaration_of_one_line};
 
 use super::*;
 use std::alloc::Global;

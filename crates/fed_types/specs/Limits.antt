@@ -1,4 +1,5 @@
--- The limits, as numbers. The code has constants and types of its own, and `limits_law` holds them to these.
+-- The limits, as numbers. The code has constants and types of its own, which `limits_law` and the
+-- contracts of the types hold to these.
 use Rattle.std.specs.Prelude.{ℕ}
 
 -- the greatest number of a site; the least is 1
