@@ -59,6 +59,7 @@ struct Narrow {
     taken: Vec<u8>,
     room: usize,
     is_interrupted: bool,
+    flush_fails: bool,
 }
 
 impl Write for Narrow {
@@ -80,6 +81,9 @@ impl Write for Narrow {
     }
 
     fn flush(&mut self) -> io::Result<()> {
+        if self.flush_fails {
+            return Err(io::Error::from(ErrorKind::Other));
+        }
         Ok(())
     }
 }
@@ -98,6 +102,7 @@ fn with_room(alloc: Global, room: usize) -> Narrow {
         taken: Vec::new(alloc),
         room,
         is_interrupted: false,
+        flush_fails: false,
     }
 }
 
@@ -107,6 +112,28 @@ fn the_empty_bag(rt: HostRuntime) -> Result<(), Fail> {
     let mut output = Vec::new(rt.alloc());
     assert_eq!(rt; run_on(rt.alloc(), &mut input, &mut output, BY_TREE), Ok(0));
     assert_eq!(rt; output.as_slice(), SAID.as_bytes());
+    Ok(())
+}
+
+// What a writer takes and then can't flush isn't written.
+#[test]
+fn a_flush_that_fails(rt: HostRuntime) -> Result<(), Fail> {
+    let alloc = rt.alloc();
+    let mut input = EMPTY_BAG.as_bytes();
+    let mut output = with_room(alloc, 1000);
+    output.flush_fails = true;
+    assert_eq!(rt;
+        run_on(alloc, &mut input, &mut output, BY_TREE),
+        Err(ProgramFault::Output)
+    );
+    let mut folders = MemoryFolders::new(alloc);
+    let mut output = with_room(alloc, 1000);
+    output.flush_fails = true;
+    assert_eq!(rt;
+        check_on(alloc, &mut folders, "gone", &mut output),
+        Err(ProgramFault::Output)
+    );
+    assert_eq!(rt; output.taken.as_slice(), b"unread 1\n".as_slice());
     Ok(())
 }
 
