@@ -53,7 +53,7 @@ pub record IsUnchanged {C : Type 0} (image : C → Option Image) (old new : Volu
   pub opened : new.needs_opening ≡ old.needs_opening
   pub bytes : image new.cell ≡ image old.cell
 
--- Device is answered exactly where the device failed: a failure is told as Device and as nothing else
+-- Device is answered exactly where the device failed: a failure is Device and nothing else
 pub record CommitCause (before now : ℕ) (result : Result (Unit {0}) CommitFault) : Type 0 where
   pub later : before ≤ now
   pub failed : IsErrOf result faults.Device → HasGrown before now

@@ -57,7 +57,8 @@ impl<C: Cell> Book<C> {
         ensures only { (said : Result (List declared_record) declared_fault) → IfTold (C.image cell) (λ i. Says members.federation site i.seen said → IsAnswered (told_of result) said) }
         ensures faults { IfErr result (λ e. IsFault members.federation site e.1 (C.image cell) (C.image e.0)) }
         ensures durable { IfOk result (λ book. LeavesBytes (cell_text members.federation site book.records) (C.image book.cell)) }
-        ensures recovers { IfOk result (λ book. RecoversTo members.federation site book.records (C.image book.cell)) }
+        ensures recovers { IfOk result (λ book.
+            RecoversTo members.federation site book.records (C.image book.cell)) }
         // A crash at any moment leaves the same records, or what it might have left before.
         ensures any_moment { IfOk result (λ book. LeavesOnly C.moment C.left_since cell book.cell (LeavesAlike members.federation site (C.image cell))) }
         ensures any_moment_err { IfErr result (λ e. LeavesOnly C.moment C.left_since cell e.0 (LeavesAlike members.federation site (C.image cell))) }
@@ -116,7 +117,8 @@ impl<C: Cell> Book<C> {
     pub fn commit(&mut self, entry: Record) -> Result<(), CommitFault>
         ensures committed { OnOk result ((self.new.records ≡ self.old.records ++ entry ∷ []) × (self.new.needs_opening ≡ false)) }
         ensures durable { OnOk result (LeavesBytes (cell_text self.new.members.federation self.new.site self.new.records) (C.image self.new.cell)) }
-        ensures recovers { OnOk result (RecoversTo self.new.members.federation self.new.site self.new.records (C.image self.new.cell)) }
+        ensures recovers { OnOk result (RecoversTo self.new.members.federation self.new.site
+            self.new.records (C.image self.new.cell)) }
         ensures device { IsErrOf result CommitFault.Device → (self.new.records ≡ self.old.records) × (self.new.needs_opening ≡ true) }
         ensures memory { IsErrOf result CommitFault.Memory → IsUnchanged C.image self.old self.new }
         ensures needs_open { IsErrOf result CommitFault.NeedsOpen ↔ (self.old.needs_opening ≡ true) }
@@ -142,9 +144,11 @@ impl<C: Cell> Book<C> {
     #[tactic(auto, using(crate::proofs::Entries::sound_recovers))]
     pub fn close(self) -> C
         ensures cell { result ≡ self.cell }
-        // Where the book needs no opening, the cell keeps the text of the records, all of it synced.
-        ensures text { self.needs_opening ≡ false → HoldsText self.members.federation self.site self.records (C.image result) }
-        ensures recovers { self.needs_opening ≡ false → RecoversTo self.members.federation self.site self.records (C.image result) }
+        // Where the book needs no opening, the cell keeps the text of the records, all synced.
+        ensures text { self.needs_opening ≡ false →
+            HoldsText self.members.federation self.site self.records (C.image result) }
+        ensures recovers { self.needs_opening ≡ false →
+            RecoversTo self.members.federation self.site self.records (C.image result) }
     {
         let Book { cell, .. } = self;
         cell
@@ -166,8 +170,10 @@ impl Book<MemoryCell> {
     /// Stops and starts: closes the book, restarts its cell, and opens it again.
     pub fn restart(self, alloc: Global) -> Result<Book<MemoryCell>, (MemoryCell, OpenFault)>
         // A book that needed no opening has the same records again, unless memory runs out.
-        ensures same { self.needs_opening ≡ false → MatchResult result (λ book. book.records ≡ self.records) (λ e. e.1 ≡ open_faults.Memory) }
-        ensures whose { IfOk result (λ book. (book.members ≡ self.members) × (book.site ≡ self.site) × (book.needs_opening ≡ false)) }
+        ensures same { self.needs_opening ≡ false → MatchResult result
+            (λ book. book.records ≡ self.records) (λ e. e.1 ≡ open_faults.Memory) }
+        ensures whose { IfOk result (λ book. (book.members ≡ self.members)
+            × (book.site ≡ self.site) × (book.needs_opening ≡ false)) }
     {
         let (members, site) = (self.members(), self.site());
         let mut cell = self.close();

@@ -69,7 +69,8 @@ pub(crate) fn read_cell<C: Cell>(
     ensures faults { IfErr result (λ fault. IsFault federation site fault (C.image cell.old) (C.image cell.new)) }
     ensures sound { IfOk result (λ records. IsSound false federation site records.items (C.image cell.new)) }
     ensures durable { IfOk result (λ records. LeavesBytes (cell_text federation site records.items) (C.image cell.new)) }
-    ensures recovers { IfOk result (λ records. RecoversTo federation site records.items (C.image cell.new)) }
+    ensures recovers { IfOk result (λ records.
+        RecoversTo federation site records.items (C.image cell.new)) }
     ensures any_moment { LeavesOnly C.moment C.left_since cell.old cell.new (LeavesAlike federation site (C.image cell.old)) }
     ensures cause { OpenCause (C.failures cell.old) (C.failures cell.new) (told result) }
     ensures clear { C.fuse cell.old ≡ Some Clear → (C.fuse cell.new ≡ Some Clear) × IfErr result (λ fault. fault ≢ open_faults.Device) }
