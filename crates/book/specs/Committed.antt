@@ -54,7 +54,7 @@ pub record IsUnchanged {C : Type 0} (device : C → Device) (old new : Volume C)
   pub opened : new.needs_opening ≡ old.needs_opening
   pub bytes : (device new.cell).image ≡ (device old.cell).image
 
--- Device is answered exactly where the device failed: a failure is told as Device and as nothing else
+-- Device is answered exactly where the device failed: a failure is Device and nothing else
 pub record CommitCause (before now : ℕ) (result : Result (Unit {0}) CommitFault) : Type 0 where
   pub later : before ≤ now
   pub failed : IsErrOf result faults.Device → HasGrown before now

@@ -46,7 +46,7 @@ cell_of (Err e) = e.0
 abbrev pub IsAnswered : Result (List Record) OpenFault → Result (List Record) OpenFault → Type 0
 IsAnswered answer said = (answer ≡ said) ⊎ (answer ≡ Err faults.Device) ⊎ (answer ≡ Err faults.Memory)
 
--- Device is answered exactly where the device failed: a failure is told as Device and as nothing else
+-- Device is answered exactly where the device failed: a failure is Device and nothing else
 pub record OpenCause (before now : ℕ) (answer : Result (List Record) OpenFault) : Type 0 where
   pub later : before ≤ now
   pub failed : answer ≡ Err faults.Device → HasGrown before now

@@ -34,7 +34,9 @@ HoldsText federation site records image = RestsAt (cell_text federation site rec
 
 -- the cell recovers to the records: a read gives bytes that say them, and so does every crash
 abbrev pub RecoversTo : ℕ → ℕ → List Record → Option Image → Type 0
-RecoversTo federation site records image = IfTold image (λ i. Says federation site i.seen (Ok records) × ((c : List ℕ) → Leaves i c → Says federation site c (Ok records)))
+RecoversTo federation site records image =
+    IfTold image (λ i. Says federation site i.seen (Ok records)
+    × ((c : List ℕ) → Leaves i c → Says federation site c (Ok records)))
 
 -- a book that was opened keeps its records, all of them synced
 pub record IsSound (needs_opening : Bool) (federation site : ℕ) (records : List Record) (image : Option Image) : Type 0 where

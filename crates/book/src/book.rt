@@ -52,23 +52,32 @@ impl<C: Cell> Book<C> {
         members: Members,
         site: SiteNo,
     ) -> Result<Book<C>, (C, OpenFault)>
-        ensures records { IfOk result (λ book. IfTold (C.device cell).image (λ i. Says members.federation site i.seen (Ok book.records))) }
+        ensures records { IfOk result (λ book. IfTold (C.device cell).image
+            (λ i. Says members.federation site i.seen (Ok book.records))) }
         // What the bytes say is answered.
-        ensures only { (said : Result (List declared_record) declared_fault) → IfTold (C.device cell).image (λ i. Says members.federation site i.seen said → IsAnswered (told_of result) said) }
-        ensures faults { IfErr result (λ e. IsFault members.federation site e.1 (C.device cell).image (C.device e.0).image) }
-        ensures durable { IfOk result (λ book. LeavesBytes (cell_text members.federation site book.records) (C.device book.cell).image) }
-        ensures recovers { IfOk result (λ book. RecoversTo members.federation site book.records (C.device book.cell).image) }
+        ensures only { (said : Result (List declared_record) declared_fault)
+            → IfTold (C.device cell).image
+            (λ i. Says members.federation site i.seen said → IsAnswered (told_of result) said) }
+        ensures faults { IfErr result (λ e.
+            IsFault members.federation site e.1 (C.device cell).image (C.device e.0).image) }
+        ensures durable { IfOk result (λ book.
+            LeavesBytes (cell_text members.federation site book.records) (C.device book.cell).image) }
+        ensures recovers { IfOk result (λ book.
+            RecoversTo members.federation site book.records (C.device book.cell).image) }
         // A crash at any moment leaves the same records, or what it might have left before.
         ensures any_moment { LeavesOnly (C.device cell) (C.device (cell_of result))
             (LeavesAlike members.federation site (C.device cell).image) }
         // So what a read gives after a refusal is one of these too, and can be opened again.
         ensures seen_err { IfErr result (λ e. IfTold (C.device e.0).image
             (λ i. LeavesAlike members.federation site (C.device cell).image i.seen)) }
-        ensures cause { OpenCause (C.device cell).failures (C.device (cell_of result)).failures (told_of result) }
+        ensures cause { OpenCause (C.device cell).failures (C.device (cell_of result)).failures
+            (told_of result) }
         // Where the cell tells that no call fails, none does.
         ensures clear { (C.device cell).fuse ≡ Some Clear
-            → ((C.device (cell_of result)).fuse ≡ Some Clear) × (told_of result ≢ Err open_faults.Device) }
-        ensures whose { IfOk result (λ book. (book.members ≡ members) × (book.site ≡ site) × (book.needs_opening ≡ false)) }
+            → ((C.device (cell_of result)).fuse ≡ Some Clear)
+            × (told_of result ≢ Err open_faults.Device) }
+        ensures whose { IfOk result (λ book. (book.members ≡ members)
+            × (book.site ≡ site) × (book.needs_opening ≡ false)) }
     {
         let mut cell = cell;
         match read_cell(alloc, &mut cell, members.federation(), site) {
@@ -114,17 +123,30 @@ impl<C: Cell> Book<C> {
     /// Commits a record: appends it, and syncs. After Ok every crash leaves the cell with it, after
     /// `Device` with it or without it, and the book needs opening.
     pub fn commit(&mut self, entry: Record) -> Result<(), CommitFault>
-        ensures committed { OnOk result ((self.new.records ≡ self.old.records ++ entry ∷ []) × (self.new.needs_opening ≡ false)) }
-        ensures durable { OnOk result (LeavesBytes (cell_text self.new.members.federation self.new.site self.new.records) (C.device self.new.cell).image) }
-        ensures recovers { OnOk result (RecoversTo self.new.members.federation self.new.site self.new.records (C.device self.new.cell).image) }
-        ensures device { IsErrOf result CommitFault.Device → (self.new.records ≡ self.old.records) × (self.new.needs_opening ≡ true) }
-        ensures memory { IsErrOf result CommitFault.Memory → IsUnchanged C.device self.old self.new }
-        ensures needs_open { IsErrOf result CommitFault.NeedsOpen ↔ (self.old.needs_opening ≡ true) }
+        ensures committed { OnOk result ((self.new.records ≡ self.old.records ++ entry ∷ [])
+            × (self.new.needs_opening ≡ false)) }
+        ensures durable { OnOk result (LeavesBytes
+            (cell_text self.new.members.federation self.new.site self.new.records)
+            (C.device self.new.cell).image) }
+        ensures recovers { OnOk result (RecoversTo self.new.members.federation self.new.site
+            self.new.records (C.device self.new.cell).image) }
+        ensures device { IsErrOf result CommitFault.Device
+            → (self.new.records ≡ self.old.records) × (self.new.needs_opening ≡ true) }
+        ensures memory { IsErrOf result CommitFault.Memory
+            → IsUnchanged C.device self.old self.new }
+        ensures needs_open { IsErrOf result CommitFault.NeedsOpen
+            ↔ (self.old.needs_opening ≡ true) }
         ensures untouched { IsErrOf result CommitFault.NeedsOpen → self.new ≡ self.old }
-        // A crash at any moment leaves the records from before the call, with the new one or without.
-        ensures any_moment { self.old.needs_opening ≡ false → LeavesOnly (C.device self.old.cell) (C.device self.new.cell) (λ c. IfTold (C.device self.old.cell).image (λ i. OpensWithOrWithout self.old.members.federation self.old.site self.old.records entry c)) }
-        ensures cause { CommitCause (C.device self.old.cell).failures (C.device self.new.cell).failures result }
-        ensures fuse { (f : FuseState) → (C.device self.old.cell).fuse ≡ Some f → Burns self.old.members.federation self.old.site result f self.old.records entry (C.device self.new.cell).fuse (C.device self.new.cell).image }
+        // A crash at any moment leaves the records from before, with the new one or without.
+        ensures any_moment { self.old.needs_opening ≡ false
+            → LeavesOnly (C.device self.old.cell) (C.device self.new.cell)
+            (λ c. IfTold (C.device self.old.cell).image (λ i. OpensWithOrWithout
+            self.old.members.federation self.old.site self.old.records entry c)) }
+        ensures cause { CommitCause (C.device self.old.cell).failures
+            (C.device self.new.cell).failures result }
+        ensures fuse { (f : FuseState) → (C.device self.old.cell).fuse ≡ Some f
+            → Burns self.old.members.federation self.old.site result f self.old.records entry
+            (C.device self.new.cell).fuse (C.device self.new.cell).image }
         ensures whose { (self.new.members ≡ self.old.members) × (self.new.site ≡ self.old.site) }
     {
         if self.needs_opening {
@@ -142,9 +164,11 @@ impl<C: Cell> Book<C> {
     #[tactic(auto, using(crate::proofs::Entries::sound_recovers))]
     pub fn close(self) -> C
         ensures cell { result ≡ self.cell }
-        // Where the book needs no opening, the cell keeps the text of the records, all of it synced.
-        ensures text { self.needs_opening ≡ false → HoldsText self.members.federation self.site self.records (C.device result).image }
-        ensures recovers { self.needs_opening ≡ false → RecoversTo self.members.federation self.site self.records (C.device result).image }
+        // Where the book needs no opening, the cell keeps the text of the records, all synced.
+        ensures text { self.needs_opening ≡ false →
+            HoldsText self.members.federation self.site self.records (C.device result).image }
+        ensures recovers { self.needs_opening ≡ false →
+            RecoversTo self.members.federation self.site self.records (C.device result).image }
     {
         let Book { cell, .. } = self;
         cell
@@ -166,8 +190,10 @@ impl Book<MemoryCell> {
     /// Stops and starts: closes the book, restarts its cell, and opens it again.
     pub fn restart(self, alloc: Global) -> Result<Book<MemoryCell>, (MemoryCell, OpenFault)>
         // A book that needed no opening has the same records again, unless memory runs out.
-        ensures same { self.needs_opening ≡ false → MatchResult result (λ book. book.records ≡ self.records) (λ e. e.1 ≡ open_faults.Memory) }
-        ensures whose { IfOk result (λ book. (book.members ≡ self.members) × (book.site ≡ self.site) × (book.needs_opening ≡ false)) }
+        ensures same { self.needs_opening ≡ false → MatchResult result
+            (λ book. book.records ≡ self.records) (λ e. e.1 ≡ open_faults.Memory) }
+        ensures whose { IfOk result (λ book. (book.members ≡ self.members)
+            × (book.site ≡ self.site) × (book.needs_opening ≡ false)) }
     {
         let (members, site) = (self.members(), self.site());
         let mut cell = self.close();

@@ -69,7 +69,8 @@ pub(crate) fn read_cell<C: Cell>(
     ensures faults { IfErr result (λ fault. IsFault federation site fault (C.device cell.old).image (C.device cell.new).image) }
     ensures sound { IfOk result (λ records. IsSound false federation site records.items (C.device cell.new).image) }
     ensures durable { IfOk result (λ records. LeavesBytes (cell_text federation site records.items) (C.device cell.new).image) }
-    ensures recovers { IfOk result (λ records. RecoversTo federation site records.items (C.device cell.new).image) }
+    ensures recovers { IfOk result (λ records.
+        RecoversTo federation site records.items (C.device cell.new).image) }
     ensures any_moment { LeavesOnly (C.device cell.old) (C.device cell.new) (LeavesAlike federation site (C.device cell.old).image) }
     ensures cause { OpenCause (C.device cell.old).failures (C.device cell.new).failures (told result) }
     ensures clear { (C.device cell.old).fuse ≡ Some Clear → ((C.device cell.new).fuse ≡ Some Clear) × IfErr result (λ fault. fault ≢ open_faults.Device) }

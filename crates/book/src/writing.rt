@@ -41,7 +41,8 @@ pub(crate) fn write_entry<C: Cell>(
     requires { IsSound false federation site records.old.items (C.device cell.old).image }
     ensures sound { OnOk result (IsSound false federation site records.new.items (C.device cell.new).image) }
     ensures durable { OnOk result (LeavesBytes (cell_text federation site records.new.items) (C.device cell.new).image) }
-    ensures recovers { OnOk result (RecoversTo federation site records.new.items (C.device cell.new).image) }
+    ensures recovers { OnOk result
+        (RecoversTo federation site records.new.items (C.device cell.new).image) }
     ensures written { OnOk result (records.new.items ≡ records.old.items ++ entry ∷ []) }
     ensures refused { OnErr result (records.new.items ≡ records.old.items) }
     ensures memory { IsErrOf result commit_faults.Memory → (C.device cell.new).image ≡ (C.device cell.old).image }

@@ -47,7 +47,8 @@ IsStep bytes steps.Damaged = IsNoRecord bytes
 -- so many bytes, by the length in front of them
 abbrev pub IsSized : List ℕ → Find → Type 0
 IsSized bytes finds.End = (bytes ≡ []) ⊎ IsTornEnd bytes
-IsSized bytes (finds.Whole size) = (2 ≤ length bytes) × (size ≡ 2 + length_told bytes) × (size ≤ length bytes)
+IsSized bytes (finds.Whole size) =
+    (2 ≤ length bytes) × (size ≡ 2 + length_told bytes) × (size ≤ length bytes)
 IsSized bytes finds.Damaged = IsNoRecord bytes
 
 -- what stands next, where a record is found by its size
@@ -58,7 +59,8 @@ IsFound bytes finds.Damaged = IsNoRecord bytes
 
 -- the bytes say records, and no fault
 abbrev pub SaysRecords : ℕ → ℕ → List ℕ → Type 0
-SaysRecords federation site bytes = (records : List Record) × Says federation site bytes (Ok records)
+SaysRecords federation site bytes =
+    (records : List Record) × Says federation site bytes (Ok records)
 
 -- what the header says
 abbrev pub HeaderSays : ℕ → ℕ → List ℕ → Result (Unit {0}) OpenFault → Type 0
@@ -79,10 +81,13 @@ pub record Parts (bytes : List ℕ) (records : List Record) (place : ℕ) (rest 
 
 -- records stand up to an end, or up to what is none
 abbrev pub HasRecords : List ℕ → Result (Unit {0}) OpenFault → Type 0
-HasRecords bytes (Ok _) = (records : List Record) × (place : ℕ) × (rest : List ℕ) × Parts bytes records place rest × ((rest ≡ []) ⊎ IsTornEnd rest)
+HasRecords bytes (Ok _) =
+    (records : List Record) × (place : ℕ) × (rest : List ℕ)
+    × Parts bytes records place rest × ((rest ≡ []) ⊎ IsTornEnd rest)
 HasRecords bytes (Err faults.OtherFederation) = ⊥
 HasRecords bytes (Err faults.OtherSite) = ⊥
-HasRecords bytes (Err (faults.Damaged place)) = (records : List Record) × (rest : List ℕ) × Parts bytes records place rest × IsNoRecord rest
+HasRecords bytes (Err (faults.Damaged place)) =
+    (records : List Record) × (rest : List ℕ) × Parts bytes records place rest × IsNoRecord rest
 HasRecords bytes (Err faults.Device) = ⊥
 HasRecords bytes (Err faults.Memory) = ⊥
 

@@ -18,7 +18,8 @@ pub fn one_reading()
 /// All bytes say something as the journal of a site: records, or a fault. It does nothing: its
 /// contract is the law.
 pub fn all_bytes_say_something()
-    ensures { (federation site : ℕ) (bytes : List ℕ) → AllByRecursion IsByte bytes → (said : Result (List Record) OpenFault) × Says federation site bytes said }
+    ensures { (federation site : ℕ) (bytes : List ℕ) → AllByRecursion IsByte bytes →
+        (said : Result (List Record) OpenFault) × Says federation site bytes said }
 {}
 
 /// Of no records each word says none, or 0. It does nothing: its contract is the law.
@@ -47,7 +48,8 @@ pub fn no_record_begins_another()
     ensures { (r s : Record) (x y : List ℕ) → IsRecord r → IsRecord s → record_bytes r ++ x ≡ record_bytes s ++ y → (r ≡ s) × (x ≡ y) }
 {}
 
-/// The numbers of the layout, as docs/FORMATS.md has them. It does nothing: its contract is the law.
+/// The numbers of the layout, as docs/FORMATS.md has them. It does nothing: its contract is the
+/// law.
 pub fn layout_numbers()
     ensures magic { MAGIC ≡ 66 ∷ 80 ∷ 74 ∷ 49 ∷ [] }
     ensures header { HEADER ≡ 13 }

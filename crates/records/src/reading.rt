@@ -39,7 +39,8 @@ fn read_entry(kind: u8, reader: &mut Reader) -> Result<Entry, FieldFault>
     }
 }
 
-// What the bytes behind its length say as a record's, its object still among them. It takes no memory.
+// What the bytes behind its length say as a record's, its object still among them. It takes no
+// memory.
 #[tactic(auto, unfolding(crate::specs::Reading::content_at))]
 fn read_parts<'a>(bytes: &'a [u8]) -> Result<(SlotRef<'a>, Entry), FieldFault>
     ensures gives { Gives (λ x. record { slot = x.0; body = x.1 }) result (content_at bytes.now) }
