@@ -1,5 +1,5 @@
 -- What checking a folder answers.
-use Rattle.std.specs.Prelude.{◌≡◌, [], ◌∷◌, ◌++◌, Result, Ok, Err, codes}
+use Rattle.std.specs.Prelude.{◌≡◌, ◌⊎◌, ℕ, List, [], ◌∷◌, ◌++◌, Option, Result, Ok, Err, codes}
 use Rattle.std.specs.Fmt.{decimal}
 use Rattle.hex.specs.Hex.{encode_lower}
 use Rattle.fed_types.specs.declared.bag_id.BagId.{BagId}
@@ -13,7 +13,7 @@ use Rattle.bag_check.specs.Fault as bag_numbers
 use Rattle.bag_check.specs.Check.{check_of}
 use Rattle.bagpaxos.specs.declared.check_on.Verdict.{Verdict}
 use Rattle.bagpaxos.specs.declared.check_on.Verdict.TheVariants.{Valid, Invalid, Unread}
-use Rattle.bagpaxos.specs.Outcomes.{Outcome}
+use Rattle.bagpaxos.specs.Outcomes.{Outcome, Tells}
 
 abbrev pub verdict_of_check : Result BagId BagFault → Verdict
 verdict_of_check (Ok bag) = Valid bag
