@@ -1,6 +1,9 @@
--- When a tree of files is a valid bag (RFC 8493, 3), within the limits of this project, and what checking it answers. Those limits are
--- the faults UnsupportedVersion, UnsupportedEncoding, HasFetch, NoSha512Manifest and UnknownAlgorithm: RFC 8493 knows bags that have them.
--- Of a tag manifest is asked that what it lists is there and has its digests, and not that it lists every manifest.
+-- When a tree of files is a valid bag (RFC 8493, 3), in this project's profile of it, and what
+-- checking it answers. RFC 8493 knows bags that have the faults UnsupportedVersion,
+-- UnsupportedEncoding, HasFetch, NoSha512Manifest and UnknownAlgorithm; bags of version 0.97 whose
+-- payload manifests each list a part (UnlistedFile); and tag files whose names begin with a star
+-- (MissingFile). Of a tag manifest is asked that what it lists is there and has its digests, and not
+-- that it lists every manifest.
 use Rattle.std.specs.Prelude.{◌≡◌, ℕ, Bool, false, not, ◌&&◌, ◌||◌, List, [], ◌∷◌, Option, Some, None, unwrap_or, Result, Ok, Err, is_err, codes}
 use Rattle.std.specs.List.{list_any, find}
 use Rattle.std.specs.Str.{bytes_eq, str_eq_ignore_ascii_case}

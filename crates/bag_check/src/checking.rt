@@ -20,7 +20,7 @@ use std::alloc::Global;
 /// The identity of the bag that these are the facts of, or the first fault that holds, in the order
 /// of their numbers (RFC 8493, 3). `Memory` is answered only where a growth was refused.
 pub fn check(alloc: Global, facts: &Facts) -> Result<BagId, BagFault>
-    // What has an identity is a valid bag, as the standard says it.
+    // What has an identity is a valid bag, as the standard says it, in this project's profile.
     ensures valid { IfOk result (λ bag. IsValid facts.now × (bag ≡ identity_of facts.now)) }
     // A valid bag has its identity, unless memory runs out.
     ensures only { IsValid facts.now → MatchResult result (λ bag. bag ≡ identity_of facts.now)

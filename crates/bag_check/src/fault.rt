@@ -5,9 +5,9 @@ ghost use Rattle.bag_check.specs.Fault.{number_of};
 use std::alloc::{AllocError, AllocFailed};
 use thiserror::Error;
 
-/// Why a tree of files is no valid bag (RFC 8493, 3) within the limits of this project: the first of these that holds.
-/// `UnsupportedVersion`, `UnsupportedEncoding`, `HasFetch`, `NoSha512Manifest` and `UnknownAlgorithm` are such limits.
-/// `Memory` says nothing of the bag.
+/// Why a tree of files is no valid bag (RFC 8493, 3) in this project's profile: the first of these
+/// that holds. RFC 8493 knows bags with `UnsupportedVersion`, `UnsupportedEncoding`, `HasFetch`,
+/// `NoSha512Manifest` and `UnknownAlgorithm`. `Memory` says nothing of the bag.
 #[derive(Clone, Copy, Debug, PartialEq, Eq, Error)]
 pub enum BagFault {
     /// There is no `bagit.txt`.

@@ -6,7 +6,7 @@ ghost use Rattle.bag_check.specs.declared.fault.BagFault.{BagFault};
 ghost use Rattle.bag_check.specs.Check.{holds, check_of, identity_of};
 ghost use Rattle.bag_check.specs.Valid.{IsValid};
 
-/// A tree is a valid bag, as the standard says it, exactly where no fault holds: checking it then
+/// A tree is a valid bag in this project's profile, exactly where no fault holds: checking it then
 /// answers the bag's identity, and only then.
 pub fn valid_law()
     ensures faultless { (facts : TreeFacts)

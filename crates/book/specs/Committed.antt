@@ -35,7 +35,8 @@ AppendBurns (Ok _) f text bytes fuse image = (fires_within f ≡ false) × (fuse
 AppendBurns (Err cells.Device) f text bytes fuse image = (fires_within f ≡ true) × (fuse ≡ Some (burnt (burnt f))) × IfTold image (λ i. i.seen ≡ text ++ take (bytes_kept f) bytes)
 AppendBurns (Err cells.Memory) f text bytes fuse image = fuse ≡ Some f
 
--- what the cell opens with after a fuse has fired: with the new record exactly if as many bytes are kept as it has
+-- what the cell recovers to after a fuse has fired: with the new record exactly if at least as many
+-- bytes are kept as it has
 abbrev pub records_kept : FuseState → List Record → Record → List Record
 records_kept Clear records r = records
 records_kept (Burning f) records r = kept_records f.kept records r

@@ -2,7 +2,8 @@ ghost use Rattle.std.specs.Prelude.{◌≡◌, ◌≢◌, ◌↔◌, true, false
 ghost use Rattle.cell_device.specs.declared.fuse.FuseState.{FuseState};
 ghost use Rattle.cell_device.specs.declared.fuse.FuseState.TheVariants.{Clear};
 ghost use Rattle.cell_device.specs.Time.{LeavesOnly};
-ghost use Rattle.cell_device.specs.Memory.{fuse_of, failures_of, fuse_set, IsSameMedium};
+ghost use Rattle.cell_device.specs.Images.{made_durable};
+ghost use Rattle.cell_device.specs.Memory.{image_of, fuse_of, failures_of, fuse_set, IsSameMedium};
 ghost use Rattle.records.specs.declared.fault.OpenFault.{OpenFault as declared_fault};
 ghost use Rattle.records.specs.declared.fault.OpenFault.TheVariants as open_faults;
 ghost use Rattle.records.specs.declared.record.Record.{Record as declared_record};
@@ -189,6 +190,17 @@ impl Book<MemoryCell> {
 
     /// Stops and starts: closes the book, restarts its cell, and opens it again.
     pub fn restart(self, alloc: Global) -> Result<Book<MemoryCell>, (MemoryCell, OpenFault)>
+        // The records are those that a read of the cell says.
+        ensures records { IfOk result (λ book. Says self.members.federation self.site
+            (image_of self.cell).seen (Ok book.records)) }
+        // Where a read says records, they are there again, unless memory runs out.
+        ensures again { (records : List declared_record)
+            → Says self.members.federation self.site (image_of self.cell).seen (Ok records)
+            → MatchResult result (λ book. book.records ≡ records)
+            (λ e. e.1 ≡ open_faults.Memory) }
+        // The cell that is handed back can be opened again.
+        ensures kept { IfErr result (λ e. LeavesAlike self.members.federation self.site
+            (Some (made_durable (image_of self.cell))) (image_of e.0).seen) }
         // A book that needed no opening has the same records again, unless memory runs out.
         ensures same { self.needs_opening ≡ false → MatchResult result
             (λ book. book.records ≡ self.records) (λ e. e.1 ≡ open_faults.Memory) }

@@ -276,6 +276,23 @@ fn a_later_fuse_leaves_a_commit_alone(rt: HostRuntime) -> Result<(), Fail> {
     says(alloc, cell, "RPV", 40 + VOTE_SIZE)
 }
 
+// A stop within a commit, and a start: the record is there whole, or it isn't.
+#[test]
+fn a_restart_after_a_failed_commit(rt: HostRuntime) -> Result<(), Fail> {
+    let alloc = rt.alloc();
+    for (kept, want) in [(0, "RP"), (VOTE_SIZE - 1, "RP"), (VOTE_SIZE, "RPV")] {
+        let mut book = opened(alloc, cell(alloc, WORKED)?)?;
+        let how = How::Stop;
+        book.set_fuse(Some(Fuse { call: 1, how, kept }));
+        assert_eq!(rt; book.commit(vote(alloc)?), Err(CommitFault::Device));
+        match book.restart(alloc) {
+            Ok(book) => assert_eq!(rt; told(alloc, book.records())?.as_str(), want),
+            Err((_, fault)) => return Err(Fail::from(fault.to_string(alloc)?)),
+        }
+    }
+    Ok(())
+}
+
 // Each call of an opening fails, with each number of bytes kept: opened again, the records are the
 // same. A torn end is cut and a header completed, each between two syncs.
 #[test]

@@ -12,7 +12,8 @@ use std::path::Path;
 ///
 /// A call that failed may have left bytes that nobody wrote: the system tells once that it couldn't
 /// write some, and may then give zeros or old bytes in their place. So where an append, a cut or a
-/// sync has failed, the file is cut back to the bytes that an earlier sync has made sure of.
+/// sync has failed, the file is cut back to the bytes that an earlier sync has made sure of. Where
+/// that fails, or where only the path no longer leads to the file, more of them may stay.
 ///
 /// A file that was renamed, deleted or replaced while it is open isn't the one that its path leads
 /// to, which another cell may have by now: the next sync fails, and every call after it.
