@@ -1,7 +1,9 @@
-ghost use Rattle.std.specs.Prelude.{◌≡◌, ◌≤◌, ◌↔◌, IsTrue, IsSome, IfOk, IsOkUnless, IsErrOf, length, string_bytes};
+ghost use Rattle.std.specs.Prelude.{◌≡◌, ◌≤◌, ◌↔◌, IsTrue, IsSome, IfOk, IsOkUnless, IsErrOf};
+ghost use Rattle.std.specs.Prelude.{length, string_bytes};
 ghost use Rattle.std.specs.Int.{w16, w32};
 ghost use Rattle.fed_types.specs.Slots.{IsObjectName};
-ghost use Rattle.fields.specs.Reading.{Gives, byte_at, bytes_at, number_at, ballot_at, bag_at, text_at, object_at, slot_at};
+ghost use Rattle.fields.specs.Decoding.{Gives, byte_at, bytes_at, number_at, ballot_at, bag_at};
+ghost use Rattle.fields.specs.Decoding.{text_at, object_at, slot_at};
 
 use crate::fault::FieldFault;
 use crate::limits::BAG_BYTES;
@@ -10,8 +12,8 @@ use fed_types::{BagId, Ballot, LONGEST_OBJECT, SiteNo, Slot};
 use std::alloc::Global;
 use std::marker::Model;
 
-/// The bytes that are still to be read. Each method takes one field from their front. After a
-/// fault nothing is said of what is left.
+/// The bytes that are still to be read. Each method reads the field with which they begin, and
+/// leaves the bytes after it. After a fault nothing is said of what is left.
 #[derive(Drop)]
 pub struct Reader<'a> {
     rest: &'a [u8],
@@ -55,7 +57,7 @@ impl<'a> Reader<'a> {
     }
 
     /// The next `len` bytes.
-    #[tactic(auto, unfolding(crate::specs::Reading::bytes_at))]
+    #[tactic(auto, unfolding(crate::specs::Decoding::bytes_at))]
     pub fn bytes(&mut self, len: usize) -> Result<&'a [u8], FieldFault>
         ensures gives { Gives (λ x. (x.now, self.new)) result (bytes_at len self.old) }
         ensures len { IfOk result (λ x. length x.now ≡ len) }
@@ -88,7 +90,7 @@ impl<'a> Reader<'a> {
     }
 
     /// A ballot: its round, and its site.
-    #[tactic(auto, unfolding(crate::specs::Reading::ballot_at))]
+    #[tactic(auto, unfolding(crate::specs::Decoding::ballot_at))]
     pub fn ballot(&mut self) -> Result<Ballot, FieldFault>
         ensures gives { Gives (λ x. (x, self.new)) result (ballot_at self.old) }
         ensures no_memory { IsOkUnless result FieldFault.Malformed }
@@ -105,7 +107,7 @@ impl<'a> Reader<'a> {
     }
 
     /// A bag's identity.
-    #[tactic(auto, unfolding(crate::specs::Reading::bag_at, crate::specs::Reading::bytes_at))]
+    #[tactic(auto, unfolding(crate::specs::Decoding::bag_at, crate::specs::Decoding::bytes_at))]
     pub fn bag(&mut self) -> Result<BagId, FieldFault>
         ensures gives { Gives (λ x. (x, self.new)) result (bag_at self.old) }
         ensures no_memory { IsOkUnless result FieldFault.Malformed }
@@ -120,7 +122,7 @@ impl<'a> Reader<'a> {
     }
 
     /// A text of `len` bytes, which are 1 to `most`.
-    #[tactic(auto, using(crate::proofs::Texts::utf8_tells), unfolding(crate::specs::Reading::text_at))]
+    #[tactic(auto, using(crate::proofs::Texts::utf8_tells), unfolding(crate::specs::Decoding::text_at))]
     pub fn text(&mut self, most: usize, len: usize) -> Result<&'a str, FieldFault>
         ensures gives { Gives (λ x. (x.now, self.new)) result (text_at most len self.old) }
         ensures in_range { IfOk result (λ x. (1 ≤ length x.now) × (length x.now ≤ most)) }
@@ -137,7 +139,7 @@ impl<'a> Reader<'a> {
     }
 
     /// The name of an object, among the bytes that are read: its length in one byte, and the text.
-    #[tactic(auto, unfolding(crate::specs::Reading::object_at))]
+    #[tactic(auto, unfolding(crate::specs::Decoding::object_at))]
     pub fn object_ref(&mut self) -> Result<&'a str, FieldFault>
         ensures gives { Gives (λ x. (x.now, self.new)) result (object_at self.old) }
         ensures in_range { IfOk result (λ x. IsObjectName x.now) }
@@ -159,7 +161,7 @@ impl<'a> Reader<'a> {
     }
 
     /// A slot, its object among the bytes that are read: its object, and its version.
-    #[tactic(auto, unfolding(crate::specs::Reading::slot_at))]
+    #[tactic(auto, unfolding(crate::specs::Decoding::slot_at))]
     pub fn slot_ref(&mut self) -> Result<SlotRef<'a>, FieldFault>
         ensures gives { Gives (λ x. (x, self.new)) result (slot_at self.old) }
         ensures no_memory { IsOkUnless result FieldFault.Malformed }

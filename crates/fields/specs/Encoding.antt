@@ -1,4 +1,4 @@
--- The one spelling of each field. Numbers are big-endian.
+-- The canonical encoding of each field. Numbers are big-endian.
 use Rattle.std.specs.Prelude.{ℕ, List, [], ◌∷◌, ◌++◌, length}
 use Rattle.std.specs.Int.{w32, to_be_bytes}
 use Rattle.fed_types.specs.declared.bag_id.BagId.{BagId}
