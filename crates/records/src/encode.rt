@@ -5,8 +5,8 @@ ghost use Rattle.records.specs.Layout.{entry_bytes, content_bytes, record_bytes,
 
 use crate::entry::Entry;
 use crate::layout::{HEADER, MAGIC};
+use crate::owner::Owner;
 use crate::record::Record;
-use fed_types::SiteNo;
 use fields::{put_bag, put_ballot, put_slot, put_vote};
 use std::alloc::{AllocError, Global};
 
@@ -21,7 +21,7 @@ fn put_entry(out: &mut Vec<u8>, entry: &Entry) -> Result<(), AllocError>
     }
 }
 
-// What stands behind the length.
+// What follows the length.
 fn put_content(out: &mut Vec<u8>, entry: &Record) -> Result<(), AllocError>
     ensures { OnOk result (out.new.items ≡ out.old.items ++ content_bytes entry.now) }
 {
@@ -60,12 +60,12 @@ impl Record {
     }
 }
 
-/// The bytes with which the journal of this site of this federation begins.
+/// The bytes with which the journal of this owner begins.
 #[tactic(auto, unfolding(crate::specs::Layout::header_bytes))]
-pub fn header(federation: u64, site: SiteNo) -> [u8; HEADER]
-    ensures { result ≡ header_bytes federation site }
+pub fn header(owner: Owner) -> [u8; HEADER]
+    ensures { result ≡ header_bytes owner }
 {
     let [a, b, c, d] = MAGIC;
-    let [e, f, g, h, i, j, k, l] = federation.to_be_bytes();
-    [a, b, c, d, e, f, g, h, i, j, k, l, site.number()]
+    let [e, f, g, h, i, j, k, l] = owner.members.federation().to_be_bytes();
+    [a, b, c, d, e, f, g, h, i, j, k, l, owner.site.number()]
 }

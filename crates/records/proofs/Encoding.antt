@@ -1,4 +1,4 @@
--- A record is read as it is written.
+-- A record is decoded as it is encoded.
 use Rattle.std.proofs.Common.{◌≡◌, ℕ, ◌^◌, ◌<◌, ◌≤◌, false, eqb, List, [], ◌∷◌, ◌++◌, length, Option, Some, None, refl, sym, ap, subst, ◌∙◌, arith, inl, inr}
 use Rattle.std.specs.Int.{w32, to_be_bytes}
 use Rattle.std.proofs.lemmas.Bool.{eqb-true}
@@ -16,7 +16,7 @@ use Rattle.records.specs.declared.entry.Entry.TheVariants.{Deposit, Round, Promi
 use Rattle.records.specs.declared.record.Record.{Record}
 use Rattle.records.specs.Layout.{kind_code, entry_bytes, content_bytes}
 use Rattle.records.specs.Records.{IsRound, IsBallot, IsBag, IsEntry, IsRecord}
-use Rattle.records.specs.Reading.{round_of, round_at, entry_at, ended, content_at}
+use Rattle.records.specs.inner.Decoding.{round_of, round_at, entry_at, at_end, content_at}
 
 round_read : Reads round_at (to_be_bytes w32) IsRound
 unfolding round_at
@@ -34,10 +34,10 @@ round_read = meant_read (number_at w32) (to_be_bytes w32) (λ n. n < 2 ^ 32) rou
 abbrev IsVote : BallotNumber × BagId → Type 0
 IsVote p = IsBallot p.0 × IsBag p.1
 
-abbrev spell_vote : BallotNumber × BagId → List ℕ
-spell_vote p = vote_bytes p.0 p.1
+abbrev encode_vote : BallotNumber × BagId → List ℕ
+encode_vote p = vote_bytes p.0 p.1
 
-vote_read : Reads (both ballot_at bag_at) spell_vote IsVote
+vote_read : Reads (both ballot_at bag_at) encode_vote IsVote
 vote_read = both_read ballot_at ballot_bytes IsBallot bag_at bag_bytes IsBag ballot_read bag_read
 
 -- what was read as the entry of a kind
@@ -54,10 +54,10 @@ made {A = A} r s F kind con reads is bytes e rest fits h =
     let i = is m.0 in
     subst (IsRead kind bytes rest) same (subst (λ (t : List ℕ). Takes bytes t rest) i.1 m.2, i.0, i.2 m.3)
 
-abbrev Tells : ℕ → List ℕ → List ℕ → Entry → Type 0
-Tells kind bytes rest e = entry_at kind bytes ≡ Some (e, rest)
+abbrev Decodes : ℕ → List ℕ → List ℕ → Entry → Type 0
+Decodes kind bytes rest e = entry_at kind bytes ≡ Some (e, rest)
 
-entry_taken : (kind : ℕ) (bytes : List ℕ) (e : Entry) (rest : List ℕ) → IsBytes bytes → Tells kind bytes rest e → IsRead kind bytes rest e
+entry_taken : (kind : ℕ) (bytes : List ℕ) (e : Entry) (rest : List ℕ) → IsBytes bytes → Decodes kind bytes rest e → IsRead kind bytes rest e
 unfolding entry_at
 entry_taken kind bytes e rest fits h =
     elim (eqb_tells kind DEPOSIT) [
@@ -75,7 +75,7 @@ entry_taken kind bytes e rest fits h =
           | inr i ↦ elim (eqb_tells kind VOTE) [
             | inl t ↦
                 let is : entry_at kind bytes ≡ meant (both ballot_at bag_at) (λ p. Some (Vote p.0 p.1)) bytes = rw (f.0, g.0, i.0, t.0) refl in
-                subst (λ (k : ℕ). IsRead k bytes rest e) (sym t.1) (made (both ballot_at bag_at) spell_vote IsVote VOTE (λ p. Vote p.0 p.1) vote_read (λ a. (refl, refl, λ f. f)) bytes e rest fits (sym is ∙ h))
+                subst (λ (k : ℕ). IsRead k bytes rest e) (sym t.1) (made (both ballot_at bag_at) encode_vote IsVote VOTE (λ p. Vote p.0 p.1) vote_read (λ a. (refl, refl, λ f. f)) bytes e rest fits (sym is ∙ h))
             | inr j ↦ elim (eqb_tells kind KNOWN) [
               | inl t ↦
                   let is : entry_at kind bytes ≡ meant bag_at (λ b. Some (Known b)) bytes = rw (f.0, g.0, i.0, j.0, t.0) refl in
@@ -89,20 +89,20 @@ entry_taken kind bytes e rest fits h =
       ]
     ]
 
-entry_again : (e : Entry) (rest : List ℕ) → IsEntry e → Tells (kind_code e) (entry_bytes e ++ rest) rest e
+entry_again : (e : Entry) (rest : List ℕ) → IsEntry e → Decodes (kind_code e) (entry_bytes e ++ rest) rest e
 unfolding entry_at
 entry_again (Deposit bag) rest h = meant_again bag_at bag_bytes IsBag (λ b. Some (Deposit b)) bag_read bag (Deposit bag) rest h refl
 entry_again (Round round) rest h = meant_again round_at (to_be_bytes w32) IsRound (λ n. Some (Round n)) round_read round (Round round) rest h refl
 entry_again (Promise ballot) rest h = meant_again ballot_at ballot_bytes IsBallot (λ b. Some (Promise b)) ballot_read ballot (Promise ballot) rest h refl
-entry_again (Vote ballot bag) rest h = meant_again (both ballot_at bag_at) spell_vote IsVote (λ p. Some (Vote p.0 p.1)) vote_read (ballot, bag) (Vote ballot bag) rest h refl
+entry_again (Vote ballot bag) rest h = meant_again (both ballot_at bag_at) encode_vote IsVote (λ p. Some (Vote p.0 p.1)) vote_read (ballot, bag) (Vote ballot bag) rest h refl
 entry_again (Known bag) rest h = meant_again bag_at bag_bytes IsBag (λ b. Some (Known b)) bag_read bag (Known bag) rest h refl
 
 pub content_taken : (bytes : List ℕ) (r : Record) → IsBytes bytes → content_at bytes ≡ Some r → (bytes ≡ content_bytes r) × IsRecord r
 unfolding content_at
 content_taken bytes r fits e =
-    let k = bind_some (byte_at bytes) (λ kind. slot_at kind.1 >>= λ slot. entry_at kind.0 slot.1 >>= λ body. ended (record { slot = slot.0; body = body.0 }, body.1)) r e in
-    let s = bind_some (slot_at k.0.1) (λ slot. entry_at k.0.0 slot.1 >>= λ body. ended (record { slot = slot.0; body = body.0 }, body.1)) r k.2 in
-    let b = bind_some (entry_at k.0.0 s.0.1) (λ body. ended (record { slot = s.0.0; body = body.0 }, body.1)) r s.2 in
+    let k = bind_some (byte_at bytes) (λ kind. slot_at kind.1 >>= λ slot. entry_at kind.0 slot.1 >>= λ body. at_end (record { slot = slot.0; body = body.0 }, body.1)) r e in
+    let s = bind_some (slot_at k.0.1) (λ slot. entry_at k.0.0 slot.1 >>= λ body. at_end (record { slot = slot.0; body = body.0 }, body.1)) r k.2 in
+    let b = bind_some (entry_at k.0.0 s.0.1) (λ body. at_end (record { slot = s.0.0; body = body.0 }, body.1)) r s.2 in
     let made : Record = record { slot = s.0.0; body = b.0.0 } in
     let g = in_test (eqb (length b.0.1) 0) (Some made) r b.2 in
     let none : b.0.1 ≡ [] = nil_from_length b.0.1 (eqb-true _ _ g.0) in

@@ -1,6 +1,6 @@
 ghost use Rattle.std.specs.Prelude.{◌↔◌, IsTrue, IsSome, IsOkUnless};
 ghost use Rattle.fields.specs.Reading.{Gives};
-ghost use Rattle.records.specs.Reading.{round_at, entry_at, content_at};
+ghost use Rattle.records.specs.inner.Decoding.{round_at, entry_at, content_at};
 
 use crate::entry::Entry;
 use crate::layout::*;
@@ -9,7 +9,7 @@ use crate::round::Round;
 use fields::{FieldFault, Reader, SlotRef};
 use std::alloc::Global;
 
-#[tactic(auto, unfolding(crate::specs::Reading::round_at))]
+#[tactic(auto, unfolding(crate::specs::inner::Decoding::round_at))]
 fn read_round(reader: &mut Reader) -> Result<Round, FieldFault>
     ensures gives { Gives (λ x. (x, reader.new)) result (round_at reader.old) }
     ensures no_memory { IsOkUnless result FieldFault.Malformed }
@@ -20,7 +20,7 @@ fn read_round(reader: &mut Reader) -> Result<Round, FieldFault>
     }
 }
 
-#[tactic(auto, unfolding(crate::specs::Reading::entry_at))]
+#[tactic(auto, unfolding(crate::specs::inner::Decoding::entry_at))]
 fn read_entry(kind: u8, reader: &mut Reader) -> Result<Entry, FieldFault>
     ensures gives { Gives (λ x. (x, reader.new)) result (entry_at kind reader.old) }
     ensures no_memory { IsOkUnless result FieldFault.Malformed }
@@ -39,9 +39,9 @@ fn read_entry(kind: u8, reader: &mut Reader) -> Result<Entry, FieldFault>
     }
 }
 
-// What the bytes behind its length say as a record's, its object still among them. It takes no
+// What the bytes after its length say as a record's, its object still among them. It takes no
 // memory.
-#[tactic(auto, unfolding(crate::specs::Reading::content_at))]
+#[tactic(auto, unfolding(crate::specs::inner::Decoding::content_at))]
 fn read_parts<'a>(bytes: &'a [u8]) -> Result<(SlotRef<'a>, Entry), FieldFault>
     ensures gives { Gives (λ x. record { slot = x.0; body = x.1 }) result (content_at bytes.now) }
     ensures no_memory { IsOkUnless result FieldFault.Malformed }
@@ -66,7 +66,7 @@ pub(crate) fn is_record(bytes: &[u8]) -> bool
     }
 }
 
-/// The record whose bytes behind its length these are. Memory is taken last.
+/// The record whose bytes after its length these are. Memory is taken last.
 pub(crate) fn read_record(alloc: Global, bytes: &[u8]) -> Result<Record, FieldFault>
     ensures { Gives (λ x. x) result (content_at bytes.now) }
 {

@@ -1,4 +1,4 @@
--- Reading a record from left to right. No public clause speaks of it.
+-- Decoding a record from left to right.
 use Rattle.std.specs.Prelude.{ℕ, List, length, Option, Some, None, ◌==◌, if◌then◌else◌}
 use Rattle.std.specs.Int.{w32}
 use Rattle.fields.specs.Reading.{◌>>=◌, both, meant, byte_at, number_at, ballot_at, bag_at, slot_at}
@@ -22,14 +22,14 @@ entry_at kind bytes =
     (if kind == VOTE then meant (both ballot_at bag_at) (λ p. Some (Vote p.0 p.1)) bytes else
     (if kind == KNOWN then meant bag_at (λ b. Some (Known b)) bytes else None))))
 
--- nothing stands behind it
-abbrev pub ended : {A : Type 0} → A × List ℕ → Option A
-ended p = if length p.1 == 0 then Some p.0 else None
+-- nothing follows it
+abbrev pub at_end : {A : Type 0} → A × List ℕ → Option A
+at_end p = if length p.1 == 0 then Some p.0 else None
 
--- the record of all the bytes behind its length
+-- the record of all the bytes after its length
 unfoldable pub content_at : List ℕ → Option Record
 content_at bytes = do
   kind ← byte_at bytes
   slot ← slot_at kind.1
   body ← entry_at kind.0 slot.1
-  ended (record { slot = slot.0; body = body.0 }, body.1)
+  at_end (record { slot = slot.0; body = body.0 }, body.1)
