@@ -3,15 +3,15 @@ use Rattle.std.specs.Prelude.{◌≡◌, ℕ, List, length, take, if◌then◌el
 use Rattle.cell_device.specs.declared.medium.Medium.{Medium}
 use Rattle.cell_device.specs.Images.{Image, MayLeave}
 use Rattle.cell_device.specs.Time.{Elapses}
-use Rattle.cell_device.specs.Undone.{State, LeftSince}
+use Rattle.cell_device.specs.inner.Undone.{State, LeftSince}
 
 -- the buffer, and how much of it a crash leaves
 abbrev pub state : Medium → State
 state m = record { buffer = m.buffer.items; least = m.least; most = m.most }
 
 -- what it holds; after a cut the longer bytes are the synced ones
-abbrev pub held : Medium → Image
-held m = record {
+abbrev pub medium_image : Medium → Image
+medium_image m = record {
   synced = take (if m.is_cut then m.most else m.least) m.buffer.items;
   newest = take (if m.is_cut then m.least else m.most) m.buffer.items;
   seen = take m.seen m.buffer.items;
@@ -32,4 +32,6 @@ pub record IsSameTime (old new : Medium) : Type 0 where
 
 -- time goes on
 abbrev pub GoesOn : Medium → Medium → Type 0
-GoesOn old new = Elapses (moment old) (moment new) (left_since old) (left_since new) (MayLeave (Some (held new)))
+GoesOn old new =
+    Elapses (moment old) (moment new) (left_since old) (left_since new)
+    (MayLeave (Some (medium_image new)))

@@ -17,7 +17,8 @@ before e s = record { buffer = take e.at s.buffer ++ e.lost.items; least = e.lea
 abbrev pub Left : State → List ℕ → Type 0
 Left s c = (k : ℕ) × (c ≡ take (s.least + k) (take s.most s.buffer))
 
--- a crash in this state, or in one of the n before it, leaves these bytes; the newest change stands first
+-- a crash in this state, or in one of the n before it, leaves these bytes; the newest change
+-- comes first
 abbrev pub LeftWithin : State → List Change → ℕ → List ℕ → Type 0
 LeftWithin s [] n c = Left s c
 LeftWithin s (e ∷ changes) zero c = Left s c
