@@ -2,11 +2,15 @@ use super::*;
 use std::alloc::{AllocError, Global};
 use std::test::Fail;
 
-// Texts, and what is printed of the schedules that they spell.
-const PRINTED: [(&[u8], &str); 9] = [
+// Texts, and what is printed of their schedules.
+const PRINTED: [(&[u8], &str); 10] = [
     (
-        b"federation 7 3\ntree 1\nfolder 1\nfile 1 bagit.txt 4261\nfile 1 manifest-sha512.txt -\ntree 2\nfile 2 m 0a\nquery 4 a 1\ndeposit 1 9 a 1\nquery 3 a%20b 2\n",
-        "federation 7 3\ntree 1\nfolder 1\nfile 1 bagit.txt 4261\nfile 1 manifest-sha512.txt -\ntree 2\nfile 2 m 0a\nquery 4 a 1\ndeposit 1 9 a 1\nquery 3 a%20b 2\n",
+        b"federation 7 3\ntree 1\nfolder 1\nfile 1 bagit.txt 4261\nfile 1 manifest-sha512.txt -\n",
+        "federation 7 3\ntree 1\nfolder 1\nfile 1 bagit.txt 4261\nfile 1 manifest-sha512.txt -\n",
+    ),
+    (
+        b"federation 7 3\ntree 2\nfile 2 m 0a\nquery 4 a 1\ndeposit 1 9 a 1\nquery 3 a%20b 2\n",
+        "federation 7 3\ntree 2\nfile 2 m 0a\nquery 4 a 1\ndeposit 1 9 a 1\nquery 3 a%20b 2\n",
     ),
     (
         b"\n# a \xff comment\n   \nfederation 0 1",
