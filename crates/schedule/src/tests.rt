@@ -17,8 +17,8 @@ const PRINTED: [(&[u8], &str); 10] = [
         "\n\n\nfederation 0 1\n",
     ),
     (
-        b"federation 18446744073709551615 15\r\n\r\ntree 4294967295\r\n#\r\n",
-        "federation 18446744073709551615 15\n\ntree 4294967295\n\n",
+        b"federation 18446744073709551615 63\r\n\r\ntree 4294967295\r\n#\r\n",
+        "federation 18446744073709551615 63\n\ntree 4294967295\n\n",
     ),
     (
         b"  federation   00  0000000000000000000000001  \ntree 01\n",
@@ -67,7 +67,7 @@ const FAULTS: [(&[u8], usize); 67] = [
     (b"federation 0 1\nfederation 0 1\n", 2),
     (b"federation 0 1\ntree 0\nfederation 0 1\n", 2),
     (b"federation 0 0\n", 1),
-    (b"federation 0 16\n", 1),
+    (b"federation 0 64\n", 1),
     (b"federation 0\n", 1),
     (b"federation 18446744073709551616 1\n", 1),
     (b"federation +1 1\n", 1),
