@@ -8,7 +8,8 @@ split true = inl refl
 split false = inr refl
 
 -- the test with what it tells
-pub utf8_tells : (bs : List ℕ) → ((is_utf8 bs ≡ true) × IsUtf8 bs) ⊎ ((is_utf8 bs ≡ false) × (IsUtf8 bs → ⊥))
+pub utf8_tells : (bs : List ℕ) → ((is_utf8 bs ≡ true) × IsUtf8 bs)
+    ⊎ ((is_utf8 bs ≡ false) × (IsUtf8 bs → ⊥))
 utf8_tells bs =
     elim (split (is_utf8 bs)) [
       | inl t ↦ inl (t, IsUtf8-from_is_utf8 bs t)
