@@ -1,15 +1,16 @@
-//! A cell is opened, and what that gives is told in a line.
+//! A cell is opened, and what that gives is said in a line.
 
+use crate::example::FEDERATION;
 use crate::fault::Fault;
-use crate::said::records_text;
+use crate::records_text::records_text;
 use book::{Book, OpenFault};
 use cell_device::Cell;
 use fed_types::{MOST_MEMBERS, Members, SiteNo};
 use std::alloc::Global;
 
-/// The federation of the worked cells, with all its members.
+/// The federation of the example, with as many members as there can be.
 pub fn members() -> Result<Members, Fault> {
-    Ok(Members::new(7, MOST_MEMBERS)?)
+    Ok(Members::new(FEDERATION, MOST_MEMBERS)?)
 }
 
 /// The records of this site's cell, or the fault, and its bytes after it was opened.

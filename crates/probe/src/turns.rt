@@ -4,7 +4,7 @@
 use crate::fault::Fault;
 use crate::files::commit_word;
 use crate::opening::members;
-use crate::said::records_text;
+use crate::records_text::records_text;
 use book::Book;
 use cell_device::FileCell;
 use fed_types::SiteNo;

@@ -1,9 +1,9 @@
 //! A journal in a file.
 
+use crate::example::vote;
 use crate::fault::Fault;
 use crate::opening::{members, opening_line};
-use crate::said::records_text;
-use crate::worked::vote;
+use crate::records_text::records_text;
 use book::{Book, CommitFault};
 use cell_device::FileCell;
 use fed_types::SiteNo;

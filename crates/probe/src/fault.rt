@@ -1,5 +1,6 @@
 use book::{CommitFault, OpenFault};
 use cell_device::CellFault;
+use dgram::DgramFault;
 use fed_types::TypeFault;
 use hex::FromHexError;
 use std::alloc::AllocError;
@@ -10,10 +11,11 @@ use thiserror::Error;
 #[derive(Clone, Copy, Debug, PartialEq, Eq, Error)]
 pub enum Fault {
     /// The arguments are not those of a task.
-    #[error("arguments: none, `file PATH SITE`, `commit PATH SITE`, `turns PATH SITE`, `bench PATH N`, `fill PATH N`, `open PATH` or `growths`")]
+    #[error("tasks: encode|decode N, file|commit|turns PATH SITE, bench|fill PATH N, open PATH, memory")]
     Arguments,
-    /// A line is no comment, and not a site and the hex digits of a cell.
-    #[error("a line that isn't SITE | HEX")]
+    /// A line is no comment, no federation with the hex digits of a datagram, and no site with
+    /// those of a cell.
+    #[error("a line that is neither FEDERATION HEX nor SITE | HEX")]
     Line,
     /// A line asks for no turn.
     #[error("a line that is neither commit nor open")]
@@ -27,10 +29,11 @@ pub enum Fault {
     /// The cell holds no journal of the site.
     #[error("{0:?}")]
     Refused(OpenFault),
-    /// A growth was refused.
+    /// An allocation failed.
     #[error("memory")]
     Memory,
-    /// A call answered what it must not, or didn't leave what it was refused to change.
+    /// A call answered what it must not: it refused what is in range, wrote other bytes, or didn't
+    /// leave what it was refused to change.
     #[error("a wrong answer")]
     Wrong,
 }
@@ -63,6 +66,15 @@ impl From<FromHexError> for Fault {
 impl From<TypeFault> for Fault {
     fn from(_e: TypeFault) -> Fault {
         Fault::Wrong
+    }
+}
+
+impl From<DgramFault> for Fault {
+    fn from(e: DgramFault) -> Fault {
+        match e {
+            DgramFault::Memory => Fault::Memory,
+            DgramFault::NotOurs | DgramFault::Malformed => Fault::Wrong,
+        }
     }
 }
 

@@ -1,10 +1,10 @@
-//! The worked cell is opened and the Vote committed, with a growth refused in a test. A call that was
-//! refused leaves all as it was, and made again it succeeds, since only one growth is ever refused.
+//! The example is opened and the Vote committed, while an allocation fails in a test. A call that
+//! found no memory leaves all as it was, and made again it succeeds: only one allocation fails.
 
+use crate::example::{CELL, RECORDS, site, vote, whole_line};
 use crate::fault::Fault;
 use crate::opening::{book_line, members};
-use crate::said::records_text;
-use crate::worked::{CELL, RECORDS, site, vote, whole_line};
+use crate::records_text::records_text;
 use book::{Book, CommitFault, OpenFault};
 use cell_device::MemoryCell;
 use std::alloc::Global;
@@ -34,7 +34,7 @@ fn committed_line(alloc: Global, book: Book<MemoryCell>) -> Result<String, Fault
             check(!book.needs_opening())?;
             check(records_text(alloc, book.records())?.as_str() == RECORDS)?;
             book.commit(vote(alloc)?)?;
-            // Had the refused call changed the cell, its bytes were others now.
+            // Had the failed call changed the cell, its bytes were others now.
             check_whole(alloc, book_line(alloc, book)?.as_str())?;
             Err(Fault::Memory)
         }

@@ -1,9 +1,9 @@
-//! Calls to be timed, on journals in files. They belong to the site of the worked cell.
+//! Calls to be timed, on journals in files. They belong to the site of the example.
 
+use crate::example::{site, slot, vote};
 use crate::fault::Fault;
 use crate::files::open_book;
 use crate::opening::members;
-use crate::worked::{site, slot, vote};
 use book::{Entry, Record, Round};
 use cell_device::{Cell, FileCell};
 use records::header;

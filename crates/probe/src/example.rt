@@ -1,12 +1,15 @@
-//! The worked cell of site 1, and the Vote that follows in it.
+//! The example: a cell of site 1, and the Vote that follows in it.
 
 use crate::fault::Fault;
 use book::{Entry, Record};
 use fed_types::{BagId, Ballot, SiteNo, Slot};
 use std::alloc::Global;
 
-/// The cell in hex, and what it says: version 1 of object `a` has a ballot of round 1, and the ballot
-/// (1, 1) is promised.
+/// The federation of all that the program makes.
+pub const FEDERATION: u64 = 7;
+
+/// The cell in hex, and what it says: version 1 of object `a` has a ballot of round 1, and the
+/// ballot (1, 1) is promised.
 pub const CELL: &str =
     "42504a31000000000000000701000b0201610000000100000001000c030161000000010000000101";
 
@@ -15,7 +18,7 @@ pub const RECORDS: &str = "Round1 Promise(1,1)";
 /// The bytes of the Vote in hex, but for its bag.
 const VOTE: &str = "004c040161000000010000000101";
 
-/// The site of the worked cell.
+/// The site of the cell.
 pub fn site() -> Result<SiteNo, Fault> {
     Ok(SiteNo::new(1)?)
 }

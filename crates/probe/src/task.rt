@@ -7,8 +7,12 @@ use std::env::Args;
 /// What the program is to do.
 #[derive(Debug, Drop)]
 pub enum Task {
-    /// Open the cells on standard input.
-    Rows,
+    /// Answer the cases on standard input.
+    Cases,
+    /// Encode a datagram so often, to be timed.
+    Encode { count: u32 },
+    /// Decode a datagram so often, to be timed.
+    Decode { count: u32 },
     /// Open the cell in a file.
     File { path: String, site: SiteNo },
     /// Open the cell in a file, and commit a record.
@@ -21,17 +25,23 @@ pub enum Task {
     Fill { path: String, count: u32 },
     /// Open the cell in a file, and take the time.
     Open { path: String },
-    /// Open a cell and commit a record, to have growths refused.
-    Growths,
+    /// Open a cell in memory and commit a record, to have allocations fail.
+    Memory,
 }
 
 /// The task that the program's arguments name.
 pub fn task_of(words: &mut Args) -> Result<Task, Fault> {
     let _program = words.next();
     let Some(name) = words.next() else {
-        return Ok(Task::Rows);
+        return Ok(Task::Cases);
     };
     let task = match name.as_str() {
+        "encode" => Task::Encode {
+            count: count(words)?,
+        },
+        "decode" => Task::Decode {
+            count: count(words)?,
+        },
         "file" => Task::File {
             path: word(words)?,
             site: site(words)?,
@@ -53,7 +63,7 @@ pub fn task_of(words: &mut Args) -> Result<Task, Fault> {
             count: count(words)?,
         },
         "open" => Task::Open { path: word(words)? },
-        "growths" => Task::Growths,
+        "memory" => Task::Memory,
         _ => return Err(Fault::Arguments),
     };
     match words.next() {

@@ -1,28 +1,31 @@
-//! A tool beside the crate `book`. With no arguments it reads cells from standard input, one a
-//! line, and prints what opening each gives. With `file`, `commit` or `turns` it does so with a
-//! file, with `bench`, `fill` or `open` it writes and opens long journals, to be timed, and with
-//! `growths` it has allocations fail.
+//! A tool of the tests, beside the crates `dgram` and `book`. Without arguments it reads datagrams
+//! and cells from standard input, one a line, and prints what each says. Its tasks (`task` lists
+//! them) call those crates on files, time them, and let allocations fail.
 #![tactic(auto)]
 
+mod cases;
+mod datagram_case;
+mod datagram_times;
+mod example;
 mod fault;
 mod files;
+mod journal_times;
+mod message_text;
 mod opening;
-mod refused;
-mod rows;
-mod said;
+mod out_of_memory;
+mod records_text;
 mod task;
-mod timed;
 mod turns;
-mod worked;
 
+use cases::answers;
+use datagram_times::{decoding_line, encoding_line};
 use fault::Fault;
 use files::{commit_line, opened_line};
-use refused::voted_line;
-use rows::answers;
+use journal_times::{commits_line, filled_line, opening_time_line};
+use out_of_memory::voted_line;
 use std::process::ExitCode;
 use std::{env, io};
 use task::{Task, task_of};
-use timed::{commits_line, filled_line, opening_time_line};
 use turns::answer_turns;
 
 fn main(rt: HostRuntime) -> ExitCode {
@@ -42,7 +45,9 @@ fn main(rt: HostRuntime) -> ExitCode {
 fn text(rt: &HostRuntime) -> Result<String, Fault> {
     let alloc = rt.alloc();
     match task_of(&mut env::args(rt)?)? {
-        Task::Rows => answers(alloc, io::read_to_string(alloc, rt.reader())?.as_str()),
+        Task::Cases => answers(alloc, io::read_to_string(alloc, rt.reader())?.as_str()),
+        Task::Encode { count } => encoding_line(alloc, count),
+        Task::Decode { count } => decoding_line(alloc, count),
         Task::File { path, site } => opened_line(rt, path.as_str(), site),
         Task::Commit { path, site } => commit_line(rt, path.as_str(), site),
         Task::Turns { path, site } => {
@@ -52,6 +57,6 @@ fn text(rt: &HostRuntime) -> Result<String, Fault> {
         Task::Bench { path, count } => commits_line(rt, path.as_str(), count),
         Task::Fill { path, count } => filled_line(rt, path.as_str(), count),
         Task::Open { path } => opening_time_line(rt, path.as_str()),
-        Task::Growths => voted_line(alloc),
+        Task::Memory => voted_line(alloc),
     }
 }

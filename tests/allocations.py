@@ -1,7 +1,7 @@
-"""Refuses each growth of one run of the program in turn: the first call for memory fails, then the second,
-and so on up to a run in which none is left to fail. Each answer has to be the whole one, or one of out of
-memory with status 1, and that last run has to be reached. gdb runs this: see the script `growths` beside
-it."""
+"""Makes each allocation of one run of the program fail in turn: the first call for memory, then the
+second, and so on up to a run in which none is left to fail. Each answer has to be the whole one, or
+one of out of memory with status 1, and that last run has to be reached. gdb runs this: see the script
+`allocations` beside it."""
 import os
 import gdb
 
@@ -17,23 +17,23 @@ TOO_MANY = 5000
 WHAT = " ".join([os.path.basename(gdb.current_progspace().filename), *ARGUMENTS.split()[:1]])
 
 
-class Growth(gdb.Breakpoint):
-    """Counts the calls for memory, and stops at the one that is to be refused."""
+class Allocation(gdb.Breakpoint):
+    """Counts the calls for memory, and stops at the one that is to fail."""
 
     calls = 0
-    refused = 0
+    failing = 0
 
     def stop(self):
-        Growth.calls += 1
-        return Growth.calls == Growth.refused
+        Allocation.calls += 1
+        return Allocation.calls == Allocation.failing
 
 
-def run(refused):
-    """Runs the program with that call for memory refused. Returns whether there was one, its status, and what it printed."""
-    Growth.calls, Growth.refused = 0, refused
+def run(failing):
+    """Runs the program with that call for memory failing: whether there was one, the status, and the output."""
+    Allocation.calls, Allocation.failing = 0, failing
     gdb.execute(f"run {ARGUMENTS} < {INPUT} > {SAID}", to_string=True)
-    was_refused = Growth.calls == refused
-    if was_refused:
+    has_failed = Allocation.calls == failing
+    if has_failed:
         # at the function's first instruction: return a null pointer from it
         gdb.execute("set $rax = 0")
         gdb.execute("set $rip = *(unsigned long *)$rsp")
@@ -41,33 +41,36 @@ def run(refused):
         gdb.execute("continue", to_string=True)
     status = gdb.parse_and_eval("$_exitcode")
     with open(SAID, "rb") as said:
-        return was_refused, None if status.type.code == gdb.TYPE_CODE_VOID else int(status), said.read()
+        return has_failed, None if status.type.code == gdb.TYPE_CODE_VOID else int(status), said.read()
 
 
 for setting in ("confirm off", "pagination off", "disable-randomization off", "startup-with-shell on"):
     gdb.execute(f"set {setting}")
-Growth("*rattle_alloc")
-Growth("*rattle_realloc")
+Allocation("*rattle_alloc")
+Allocation("*rattle_realloc")
 passed, failed, whole, without_memory = 0, 0, 0, 0
-refused = 0
-was_refused = True
-while was_refused and refused < TOO_MANY:
-    refused += 1
+failing = 0
+has_failed = True
+while has_failed and failing < TOO_MANY:
+    failing += 1
     gdb.execute("set $_exitcode = (void)0")
-    was_refused, status, said = run(refused)
+    has_failed, status, said = run(failing)
     if (status, said) == (STATUS, WANTED):
         whole += 1
         passed += 1
-    elif was_refused and status == 1 and said in WITHOUT_MEMORY:
+    elif has_failed and status == 1 and said in WITHOUT_MEMORY:
         without_memory += 1
         passed += 1
     else:
         failed += 1
-        print(f"FAILED {ARGUMENTS} with growth {refused} refused: status {status}, and it printed {said!r}")
-print(f"growths of {WHAT} refused: {refused - 1}; answers without memory: {without_memory}, whole ones: {whole}")
-if was_refused:
+        print(f"FAILED {ARGUMENTS} where allocation {failing} fails: status {status}, and it printed {said!r}")
+print(
+    f"allocations of {WHAT} that failed: {failing - 1};"
+    f" answers without memory: {without_memory}, whole ones: {whole}"
+)
+if has_failed:
     failed += 1
-    print(f"FAILED {ARGUMENTS}: after {refused} refused growths there was no run in which none is refused")
+    print(f"FAILED {ARGUMENTS}: after {failing} failed allocations there was no run in which none fails")
 if without_memory == 0 or whole == 0:
     failed += 1
     print(f"FAILED {ARGUMENTS}: no answer without memory, or none that is whole")
