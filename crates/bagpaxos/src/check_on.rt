@@ -6,7 +6,8 @@ ghost use Rattle.bagpaxos.specs.Verdicts.{verdict_of, IsReached, outcome_of_verd
 
 use crate::telling::{Answer, ProgramFault, tell};
 use bag_check::{BagFault, check};
-use bag_tree::{Folders, TreeFault};
+use bag_folders::Folders;
+use bag_tree::TreeFault;
 use fed_types::BagId;
 use std::alloc::{AllocError, Global};
 use std::io::Write;
