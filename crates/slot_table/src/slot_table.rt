@@ -1,8 +1,9 @@
 ghost use Rattle.std.specs.Borrow.{sem};
-ghost use Rattle.std.specs.Prelude.{◌≡◌, Some, None, [], OnOk, OnErr, IsSome, IsOk};
+ghost use Rattle.std.specs.Prelude.{◌≡◌, [], OnOk, OnErr, IsSome, IsOk};
 ghost use Rattle.std.specs.Option.{option_copied, option_copied_mut};
+ghost use Rattle.fed_types.specs.Slots.{SlotName};
 ghost use Rattle.slot_table.specs.Lends.{lends_row};
-ghost use Rattle.slot_table.specs.Rows.{row_at, IsWith, HasSameRows};
+ghost use Rattle.slot_table.specs.Rows.{row_at, row_of, HasRoomFor, HasSameRows};
 
 use fed_types::Slot;
 use indexmap::IndexMap;
@@ -54,9 +55,9 @@ impl<R: Drop> SlotTable<R> {
     /// Gives the slot this row if it has none, so that a change of its row takes no memory.
     pub fn reserve(&mut self, slot: &Slot, empty: R) -> Result<(), AllocError>
         ensures present { OnOk result (IsSome (row_at self.new slot.now)) }
-        ensures added { row_at self.old slot.now ≡ None → OnOk result (IsWith self.old self.new slot.now empty) }
-        ensures kept { IsSome (row_at self.old slot.now) → HasSameRows self.old self.new }
+        ensures added { OnOk result (HasRoomFor empty self.old self.new slot.now) }
         ensures unchanged { OnErr result (HasSameRows self.old self.new) }
+        ensures same { (s : SlotName) → row_of empty self.new s ≡ row_of empty self.old s }
         ensures succeeds { IsSome (row_at self.old slot.now) → IsOk result }
     {
         if self.rows.contains_key(slot) {
