@@ -7,7 +7,8 @@ ghost use Rattle.bagpaxos.specs.Verdicts.{verdict_of, IsOrMemory, AnswersFor, ou
 use crate::answer::{Answer, write_answer};
 use crate::fault::ProgramFault;
 use bag_check::{BagFault, check};
-use bag_tree::{Folders, TreeFault};
+use bag_folders::Folders;
+use bag_tree::TreeFault;
 use fed_types::BagId;
 use std::alloc::{AllocError, Global};
 use std::io::Write;

@@ -67,8 +67,8 @@ takes bytes text rest fits e =
 -- a decoder and the encoding of the same field
 pub record Reads {X : Type 0} (read : Decoder X) (encode : X → List ℕ) (Fits : X → Type 0) : Type 0
   where
-    pub taken : (bytes : List ℕ) (x : X) (rest : List ℕ) → IsBytes bytes → read bytes ≡ Some (x, rest)
-        → Takes bytes (encode x) rest × Fits x
+    pub taken : (bytes : List ℕ) (x : X) (rest : List ℕ) → IsBytes bytes
+        → read bytes ≡ Some (x, rest) → Takes bytes (encode x) rest × Fits x
     pub again : (x : X) (rest : List ℕ) → Fits x → read (encode x ++ rest) ≡ Some (x, rest)
 
 -- one field and then another
