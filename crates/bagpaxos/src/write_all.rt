@@ -1,4 +1,4 @@
-//! Writing a whole text.
+//! Writing all of a text.
 
 ghost use Rattle.std.specs.Prelude.{ℕ, take, OnOk, OnErr};
 ghost use Rattle.std.specs.Io.KnownBytes.{Appends};
@@ -9,11 +9,12 @@ use std::io::{ErrorKind, Write};
 #[derive(Clone, Copy, Debug, PartialEq, Eq)]
 pub struct WriteFault;
 
-/// Writes all of a text. Where a write fails, a beginning of it was written. Writes that were
+/// Writes all of a text. Where a write fails, a prefix of it was written. Writes that were
 /// interrupted are tried again.
-pub fn write_whole<W: Write>(output: &mut W, text: &[u8]) -> Result<(), WriteFault>
+pub fn write_all<W: Write>(output: &mut W, text: &[u8]) -> Result<(), WriteFault>
     ensures ok { OnOk result (Appends (W.contents output.old) (W.contents output.new) text.now) }
-    ensures err { OnErr result ((n : ℕ) × Appends (W.contents output.old) (W.contents output.new) (take n text.now)) }
+    ensures err { OnErr result
+        ((n : ℕ) × Appends (W.contents output.old) (W.contents output.new) (take n text.now)) }
 {
     let mut written = 0;
     'writes: for _ in 0..u64::MAX {

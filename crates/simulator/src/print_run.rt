@@ -1,8 +1,10 @@
-ghost use Rattle.std.specs.Prelude.{◌≡◌, ◌++◌, ◌∷◌, [], List, IfOk, OnOk, string_bytes};
-ghost use Rattle.simulator.specs.Texts.{text_of, line_text, words_text, bag_word, slot_words, reply_words, refusal_words, reason_word, spaced};
+ghost use Rattle.std.specs.Prelude.{◌≡◌, ◌∷◌, [], IfOk, string_bytes};
+ghost use Rattle.schedule.specs.Pushes.{Pushes};
+ghost use Rattle.simulator.specs.Texts.{text_of, line_text, words_text, bag_word, slot_words};
+ghost use Rattle.simulator.specs.Texts.{reply_words, refusal_words, reason_word, spaced_words};
 
 use crate::line::{Line, NamedBag, Reason, Refusal, Reply};
-use crate::running::Trace;
+use crate::trace::Trace;
 use fed_types::Slot;
 use schedule::push_escaped;
 use std::alloc::{AllocError, Global};
@@ -16,8 +18,8 @@ pub struct Options {
     pub identities: bool,
 }
 
-/// The text of a run: a line for each event that says something, each ended by LF. The one refusal
-/// is want of memory.
+/// The text of a run: a line for each event that says something, each ended by LF. It fails
+/// only where memory runs out.
 pub fn text(alloc: Global, trace: &Trace, options: Options) -> Result<String, AllocError>
     ensures { IfOk result (λ text. string_bytes text ≡ text_of options.identities trace.now) }
 {
@@ -35,20 +37,20 @@ fn push_line(
     identities: bool,
     line: &Line,
 ) -> Result<(), AllocError>
-    ensures { OnOk result (string_bytes text.new ≡ string_bytes text.old ++ line_text identities line.now) }
+    ensures { Pushes result text.old text.new (line_text identities line.now) }
 {
     push_words(alloc, text, identities, line)?;
     text.push('\n')
 }
 
-#[tactic(auto, using(crate::proofs::Spaces::spaced_append))]
+#[tactic(auto, using(crate::proofs::Spaces::spaced_words_append))]
 fn push_words(
     alloc: Global,
     text: &mut String,
     identities: bool,
     line: &Line,
 ) -> Result<(), AllocError>
-    ensures { OnOk result (string_bytes text.new ≡ string_bytes text.old ++ words_text identities line.now) }
+    ensures { Pushes result text.old text.new (words_text identities line.now) }
 {
     match line {
         Line::Registered { site, slot, bag } => {
@@ -73,7 +75,7 @@ fn push_words(
 }
 
 fn push_slot(text: &mut String, site: u8, slot: &Slot) -> Result<(), AllocError>
-    ensures { OnOk result (string_bytes text.new ≡ string_bytes text.old ++ spaced (slot_words site slot.now)) }
+    ensures { Pushes result text.old text.new (spaced_words (slot_words site slot.now)) }
 {
     write!(text, " {site} ")?;
     push_escaped(text, slot.object())?;
@@ -88,7 +90,7 @@ fn push_bag(
     identities: bool,
     named: NamedBag,
 ) -> Result<(), AllocError>
-    ensures { OnOk result (string_bytes text.new ≡ string_bytes text.old ++ spaced (bag_word identities named ∷ [])) }
+    ensures { Pushes result text.old text.new (spaced_words (bag_word identities named ∷ [])) }
 {
     if identities {
         let digits = hex::encode(alloc, named.bag.0)?;
@@ -106,7 +108,7 @@ fn push_reply(
     identities: bool,
     reply: Reply,
 ) -> Result<(), AllocError>
-    ensures { OnOk result (string_bytes text.new ≡ string_bytes text.old ++ spaced (reply_words identities reply)) }
+    ensures { Pushes result text.old text.new (spaced_words (reply_words identities reply)) }
 {
     match reply {
         Reply::Pending(named) => {
@@ -118,7 +120,7 @@ fn push_reply(
 }
 
 fn push_refusal(text: &mut String, refusal: Refusal) -> Result<(), AllocError>
-    ensures { OnOk result (string_bytes text.new ≡ string_bytes text.old ++ spaced (refusal_words refusal)) }
+    ensures { Pushes result text.old text.new (spaced_words (refusal_words refusal)) }
 {
     match refusal {
         Refusal::InvalidBag(fault) => {
@@ -130,7 +132,7 @@ fn push_refusal(text: &mut String, refusal: Refusal) -> Result<(), AllocError>
 }
 
 fn push_reason(text: &mut String, reason: Reason) -> Result<(), AllocError>
-    ensures { OnOk result (string_bytes text.new ≡ string_bytes text.old ++ spaced (reason_word reason ∷ [])) }
+    ensures { Pushes result text.old text.new (spaced_words (reason_word reason ∷ [])) }
 {
     match reason {
         Reason::Site => text.push_str(" site"),

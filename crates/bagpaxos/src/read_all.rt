@@ -1,7 +1,7 @@
 //! Reading all that a reader has.
 
 ghost use Rattle.std.specs.Prelude.{◌≡◌, IfOk, IfSome};
-ghost use Rattle.bagpaxos.specs.declared.reading.ReadFault.TheVariants.{Memory};
+ghost use Rattle.bagpaxos.specs.declared.read_all.ReadFault.TheVariants.{Memory};
 ghost use Rattle.bagpaxos.specs.Limits.{most_reads};
 
 use std::alloc::{AllocError, Global};
@@ -18,7 +18,7 @@ const PIECE: usize = 8192;
 pub enum ReadFault {
     /// A read failed, or the reader didn't end.
     Input,
-    /// A growth was refused.
+    /// An allocation failed.
     Memory,
 }
 
@@ -32,8 +32,9 @@ impl From<AllocError> for ReadFault {
 
 /// All the bytes that a reader has left. Reads that were interrupted are tried again. A reader that
 /// hasn't ended after `MOST_READS` reads counts as one that failed.
-pub fn read_whole<R: Read>(alloc: Global, input: &mut R) -> Result<Vec<u8>, ReadFault>
-    ensures whole { IfOk result (λ bytes. IfSome (R.remaining input.old) (λ all. bytes.items ≡ all)) }
+pub fn read_all<R: Read>(alloc: Global, input: &mut R) -> Result<Vec<u8>, ReadFault>
+    ensures whole { IfOk result
+        (λ bytes. IfSome (R.remaining input.old) (λ all. bytes.items ≡ all)) }
     ensures limit { MOST_READS ≡ most_reads }
 {
     read_within(alloc, input, MOST_READS)

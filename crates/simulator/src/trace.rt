@@ -32,8 +32,8 @@ impl Trace {
     }
 }
 
-/// Runs a schedule: the lines are those of the reference run. The one fault is out of memory, and then
-/// there is no trace.
+/// Runs a schedule: the lines are those of the reference run. The one fault is out of memory, and
+/// then there is no trace.
 #[tactic(auto, unfolding(crate::specs::Runs::run_of))]
 pub fn run(alloc: Global, schedule: &Schedule) -> Result<Trace, RunFault>
     ensures { IfOk result (λ trace. trace ≡ (run_of schedule.now).lines) }
