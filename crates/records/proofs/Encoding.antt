@@ -4,18 +4,17 @@ use Rattle.std.specs.Int.{w32, to_be_bytes}
 use Rattle.std.proofs.lemmas.Bool.{eqb-true}
 use Rattle.std.proofs.lemmas.Bool.Decides.{eqb_tells}
 use Rattle.std.proofs.lemmas.List.{append-nil, nil_from_length}
-use Rattle.fed_types.specs.declared.bag_id.BagId.{BagId}
-use Rattle.fed_types.specs.Ballots.{BallotNumber}
-use Rattle.fields.specs.Spelling.{bag_bytes, ballot_bytes, vote_bytes, slot_bytes}
-use Rattle.fields.specs.Reading.{◌>>=◌, both, meant, byte_at, number_at, ballot_at, bag_at, slot_at}
-use Rattle.fields.proofs.Bytes.{IsBytes, bind_some, some_is, past_test, in_test, Takes, Reads, both_read, meant_taken, meant_again, meant_read}
-use Rattle.fields.proofs.Fields.{byte_read, number32_read, ballot_read, bag_read, slot_read}
-use Rattle.records.specs.Numbers.{DEPOSIT, ROUND, PROMISE, VOTE, KNOWN}
+use Rattle.fed_types.specs.Values.{IsRound, IsBallot, IsBag, IsVote}
+use Rattle.fields.specs.Encoding.{bag_bytes, ballot_bytes, vote_bytes, slot_bytes}
+use Rattle.fields.specs.Decoding.{◌>>=◌, meant, byte_at, number_at, ballot_at, bag_at, vote_at, slot_at}
+use Rattle.fields.proofs.Bytes.{IsBytes, bind_some, some_is, past_test, in_test, Takes, Reads, meant_taken, meant_again, meant_read}
+use Rattle.fields.proofs.Fields.{byte_read, number32_read, ballot_read, bag_read, vote_read, slot_read}
+use Rattle.records.specs.Numbers.{deposit_code, round_code, promise_code, vote_code, known_code}
 use Rattle.records.specs.declared.entry.Entry.{Entry}
 use Rattle.records.specs.declared.entry.Entry.TheVariants.{Deposit, Round, Promise, Vote, Known}
 use Rattle.records.specs.declared.record.Record.{Record}
 use Rattle.records.specs.Layout.{kind_code, entry_bytes, content_bytes}
-use Rattle.records.specs.Records.{IsRound, IsBallot, IsBag, IsEntry, IsRecord}
+use Rattle.records.specs.Records.{IsEntry, IsRecord}
 use Rattle.records.specs.inner.Decoding.{round_of, round_at, entry_at, at_end, content_at}
 
 round_read : Reads round_at (to_be_bytes w32) IsRound
@@ -30,15 +29,6 @@ round_read = meant_read (number_at w32) (to_be_bytes w32) (λ n. n < 2 ^ 32) rou
       let z : eqb y 0 ≡ false = grind (arith, eqb_tells, h.0) in
       (h.1, rw z refl);
 })
-
-abbrev IsVote : BallotNumber × BagId → Type 0
-IsVote p = IsBallot p.0 × IsBag p.1
-
-abbrev encode_vote : BallotNumber × BagId → List ℕ
-encode_vote p = vote_bytes p.0 p.1
-
-vote_read : Reads (both ballot_at bag_at) encode_vote IsVote
-vote_read = both_read ballot_at ballot_bytes IsBallot bag_at bag_bytes IsBag ballot_read bag_read
 
 -- what was read as the entry of a kind
 abbrev IsRead : ℕ → List ℕ → List ℕ → Entry → Type 0
@@ -60,26 +50,26 @@ Decodes kind bytes rest e = entry_at kind bytes ≡ Some (e, rest)
 entry_taken : (kind : ℕ) (bytes : List ℕ) (e : Entry) (rest : List ℕ) → IsBytes bytes → Decodes kind bytes rest e → IsRead kind bytes rest e
 unfolding entry_at
 entry_taken kind bytes e rest fits h =
-    elim (eqb_tells kind DEPOSIT) [
+    elim (eqb_tells kind deposit_code) [
       | inl t ↦
           let is : entry_at kind bytes ≡ meant bag_at (λ b. Some (Deposit b)) bytes = rw t.0 refl in
-          subst (λ (k : ℕ). IsRead k bytes rest e) (sym t.1) (made bag_at bag_bytes IsBag DEPOSIT Deposit bag_read (λ a. (refl, refl, λ f. f)) bytes e rest fits (sym is ∙ h))
-      | inr f ↦ elim (eqb_tells kind ROUND) [
+          subst (λ (k : ℕ). IsRead k bytes rest e) (sym t.1) (made bag_at bag_bytes IsBag deposit_code Deposit bag_read (λ a. (refl, refl, λ f. f)) bytes e rest fits (sym is ∙ h))
+      | inr f ↦ elim (eqb_tells kind round_code) [
         | inl t ↦
             let is : entry_at kind bytes ≡ meant round_at (λ n. Some (Round n)) bytes = rw (f.0, t.0) refl in
-            subst (λ (k : ℕ). IsRead k bytes rest e) (sym t.1) (made round_at (to_be_bytes w32) IsRound ROUND Round round_read (λ a. (refl, refl, λ f. f)) bytes e rest fits (sym is ∙ h))
-        | inr g ↦ elim (eqb_tells kind PROMISE) [
+            subst (λ (k : ℕ). IsRead k bytes rest e) (sym t.1) (made round_at (to_be_bytes w32) IsRound round_code Round round_read (λ a. (refl, refl, λ f. f)) bytes e rest fits (sym is ∙ h))
+        | inr g ↦ elim (eqb_tells kind promise_code) [
           | inl t ↦
               let is : entry_at kind bytes ≡ meant ballot_at (λ b. Some (Promise b)) bytes = rw (f.0, g.0, t.0) refl in
-              subst (λ (k : ℕ). IsRead k bytes rest e) (sym t.1) (made ballot_at ballot_bytes IsBallot PROMISE Promise ballot_read (λ a. (refl, refl, λ f. f)) bytes e rest fits (sym is ∙ h))
-          | inr i ↦ elim (eqb_tells kind VOTE) [
+              subst (λ (k : ℕ). IsRead k bytes rest e) (sym t.1) (made ballot_at ballot_bytes IsBallot promise_code Promise ballot_read (λ a. (refl, refl, λ f. f)) bytes e rest fits (sym is ∙ h))
+          | inr i ↦ elim (eqb_tells kind vote_code) [
             | inl t ↦
-                let is : entry_at kind bytes ≡ meant (both ballot_at bag_at) (λ p. Some (Vote p.0 p.1)) bytes = rw (f.0, g.0, i.0, t.0) refl in
-                subst (λ (k : ℕ). IsRead k bytes rest e) (sym t.1) (made (both ballot_at bag_at) encode_vote IsVote VOTE (λ p. Vote p.0 p.1) vote_read (λ a. (refl, refl, λ f. f)) bytes e rest fits (sym is ∙ h))
-            | inr j ↦ elim (eqb_tells kind KNOWN) [
+                let is : entry_at kind bytes ≡ meant vote_at (λ v. Some (Vote v)) bytes = rw (f.0, g.0, i.0, t.0) refl in
+                subst (λ (k : ℕ). IsRead k bytes rest e) (sym t.1) (made vote_at vote_bytes IsVote vote_code Vote vote_read (λ a. (refl, refl, λ f. f)) bytes e rest fits (sym is ∙ h))
+            | inr j ↦ elim (eqb_tells kind known_code) [
               | inl t ↦
                   let is : entry_at kind bytes ≡ meant bag_at (λ b. Some (Known b)) bytes = rw (f.0, g.0, i.0, j.0, t.0) refl in
-                  subst (λ (k : ℕ). IsRead k bytes rest e) (sym t.1) (made bag_at bag_bytes IsBag KNOWN Known bag_read (λ a. (refl, refl, λ f. f)) bytes e rest fits (sym is ∙ h))
+                  subst (λ (k : ℕ). IsRead k bytes rest e) (sym t.1) (made bag_at bag_bytes IsBag known_code Known bag_read (λ a. (refl, refl, λ f. f)) bytes e rest fits (sym is ∙ h))
               | inr k ↦
                   let is : entry_at kind bytes ≡ None = rw (f.0, g.0, i.0, j.0, k.0) refl in
                   absurd (cc (is, h))
@@ -94,7 +84,7 @@ unfolding entry_at
 entry_again (Deposit bag) rest h = meant_again bag_at bag_bytes IsBag (λ b. Some (Deposit b)) bag_read bag (Deposit bag) rest h refl
 entry_again (Round round) rest h = meant_again round_at (to_be_bytes w32) IsRound (λ n. Some (Round n)) round_read round (Round round) rest h refl
 entry_again (Promise ballot) rest h = meant_again ballot_at ballot_bytes IsBallot (λ b. Some (Promise b)) ballot_read ballot (Promise ballot) rest h refl
-entry_again (Vote ballot bag) rest h = meant_again (both ballot_at bag_at) encode_vote IsVote (λ p. Some (Vote p.0 p.1)) vote_read (ballot, bag) (Vote ballot bag) rest h refl
+entry_again (Vote vote) rest h = meant_again vote_at vote_bytes IsVote (λ v. Some (Vote v)) vote_read vote (Vote vote) rest h refl
 entry_again (Known bag) rest h = meant_again bag_at bag_bytes IsBag (λ b. Some (Known b)) bag_read bag (Known bag) rest h refl
 
 pub content_taken : (bytes : List ℕ) (r : Record) → IsBytes bytes → content_at bytes ≡ Some r → (bytes ≡ content_bytes r) × IsRecord r

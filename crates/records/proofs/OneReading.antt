@@ -6,7 +6,7 @@ use Rattle.std.proofs.lemmas.Bool.{lt-ltb, le-ltb, eq-eqb}
 use Rattle.std.proofs.lemmas.Bool.Decides.{eqb_tells}
 use Rattle.std.proofs.lemmas.Slice.Eq.{bytes_eq-Decides}
 use Rattle.std.proofs.lemmas.List.{take_at, append_cancel_left, take-append-drop, length-drop}
-use Rattle.records.specs.Numbers.{MAGIC, HEADER}
+use Rattle.records.specs.Numbers.{magic, header_len}
 use Rattle.records.specs.declared.fault.JournalFault.{JournalFault}
 use Rattle.records.specs.declared.fault.JournalFault.TheVariants as faults
 use Rattle.records.specs.declared.owner.Owner.{Owner}
@@ -31,9 +31,9 @@ said s = Some s
 -- what the bytes say, but for what follows a whole header
 abbrev head : Owner → List ℕ → Option Said
 head owner bytes =
-    cond (ltb (length bytes) HEADER)
+    cond (ltb (length bytes) header_len)
     (cond (bytes_eq bytes (take (length bytes) (header_bytes owner))) (Some (Ok [])) (Some (Err (faults.Damaged 0))))
-    (cond (bytes_eq (take 4 bytes) MAGIC)
+    (cond (bytes_eq (take 4 bytes) magic)
     (cond (bytes_eq (take 8 (drop 4 bytes)) (to_be_bytes w64 owner.members.federation))
     (cond (eqb (get_or bytes 12 0) owner.site) None (Some (Err faults.OtherSite)))
     (Some (Err faults.OtherFederation)))
@@ -52,12 +52,12 @@ other a b differ = elim (split (bytes_eq a b)) [
   | inr f ↦ f
 ]
 
-pub header_size : (owner : Owner) → length (header_bytes owner) ≡ HEADER
+pub header_size : (owner : Owner) → length (header_bytes owner) ≡ header_len
 unfolding header_bytes
 header_size owner = refl
 
 -- a proper prefix of the header is shorter, and as many of its first bytes
-pub new_short : (owner : Owner) (bytes : List ℕ) → IsNew owner bytes → length bytes < HEADER
+pub new_short : (owner : Owner) (bytes : List ℕ) → IsNew owner bytes → length bytes < header_len
 new_short owner bytes (rest, some, e) =
     elim (length_cases rest) [
       | inl none ↦ absurd (some none)
@@ -71,13 +71,13 @@ new_short owner bytes (rest, some, e) =
 pub new_prefix : (owner : Owner) (bytes : List ℕ) → IsNew owner bytes → bytes ≡ take (length bytes) (header_bytes owner)
 new_prefix owner bytes (rest, some, e) = sym (take_at bytes rest (length bytes) refl) ∙ ap (take (length bytes)) e
 
-pub new_from : (owner : Owner) (bytes : List ℕ) → length bytes < HEADER → bytes ≡ take (length bytes) (header_bytes owner) → IsNew owner bytes
+pub new_from : (owner : Owner) (bytes : List ℕ) → length bytes < header_len → bytes ≡ take (length bytes) (header_bytes owner) → IsNew owner bytes
 new_from owner bytes short e =
     let h = header_bytes owner in
     (drop (length bytes) h, λ none. omega (arith, short, header_size owner, length-drop (length bytes) h, ap length none), ap (λ (b : List ℕ). b ++ drop (length bytes) h) e ∙ take-append-drop (length bytes) h)
 
 -- as the code finds it
-pub new_decided : (owner : Owner) (bytes header : List ℕ) (b : Bool) → length bytes < HEADER → header ≡ header_bytes owner → b ≡ bytes_eq (take (length bytes) header) bytes
+pub new_decided : (owner : Owner) (bytes header : List ℕ) (b : Bool) → length bytes < header_len → header ≡ header_bytes owner → b ≡ bytes_eq (take (length bytes) header) bytes
     → (b ≡ true → IsNew owner bytes) × (IsNew owner bytes → b ≡ true)
 new_decided owner bytes header b short is test =
     let front : take (length bytes) header ≡ take (length bytes) (header_bytes owner) = ap (take (length bytes)) is in
@@ -87,7 +87,7 @@ new_decided owner bytes header b short is test =
     )
 
 -- the parts of a text's header
-text_magic : (owner : Owner) (rest : List ℕ) → take 4 (header_bytes owner ++ rest) ≡ MAGIC
+text_magic : (owner : Owner) (rest : List ℕ) → take 4 (header_bytes owner ++ rest) ≡ magic
 unfolding header_bytes
 text_magic owner rest = refl
 
@@ -102,11 +102,11 @@ text_site owner rest = refl
 -- bytes that begin with the header
 ours : (owner : Owner) (bytes rest : List ℕ) → bytes ≡ header_bytes owner ++ rest → head owner bytes ≡ None
 ours owner bytes rest e =
-    let long : HEADER ≤ length bytes = omega (arith, ap length e, length-append (header_bytes owner) rest, header_size owner) in
-    let m : take 4 bytes ≡ MAGIC = ap (take 4) e ∙ text_magic owner rest in
+    let long : header_len ≤ length bytes = omega (arith, ap length e, length-append (header_bytes owner) rest, header_size owner) in
+    let m : take 4 bytes ≡ magic = ap (take 4) e ∙ text_magic owner rest in
     let f : take 8 (drop 4 bytes) ≡ to_be_bytes w64 owner.members.federation = ap (λ (b : List ℕ). take 8 (drop 4 b)) e ∙ text_federation owner rest in
     let s : get_or bytes 12 0 ≡ owner.site = ap (λ (b : List ℕ). get_or b 12 0) e ∙ text_site owner rest in
-    rw (le-ltb (length bytes) HEADER long, same (take 4 bytes) MAGIC m, same (take 8 (drop 4 bytes)) (to_be_bytes w64 owner.members.federation) f, eq-eqb (get_or bytes 12 0) owner.site s) refl
+    rw (le-ltb (length bytes) header_len long, same (take 4 bytes) magic m, same (take 8 (drop 4 bytes)) (to_be_bytes w64 owner.members.federation) f, eq-eqb (get_or bytes 12 0) owner.site s) refl
 
 -- records and what follows them
 pub record Body (owner : Owner) (bytes : List ℕ) (v : Said) : Type 0 where
@@ -122,21 +122,21 @@ in_text owner records rest = append_assoc (header_bytes owner) (records_bytes re
 -- the header alone says it, or what follows the header
 says_by : (owner : Owner) (bytes : List ℕ) (v : Said) → Says owner bytes v → (head owner bytes ≡ said v) ⊎ Body owner bytes v
 says_by owner bytes (Ok records) (whole, inl (none, new)) =
-    inl (rw (lt-ltb (length bytes) HEADER (new_short owner bytes new), same bytes (take (length bytes) (header_bytes owner)) (new_prefix owner bytes new)) (ap (λ (rs : List Record). Some (says_all rs)) (sym none)))
+    inl (rw (lt-ltb (length bytes) header_len (new_short owner bytes new), same bytes (take (length bytes) (header_bytes owner)) (new_prefix owner bytes new)) (ap (λ (rs : List Record). Some (says_all rs)) (sym none)))
 says_by owner bytes (Ok records) (whole, inr (end, e, ends)) =
     inr (record { records = records; rest = end; whole = whole; parts = e ∙ in_text owner records end; ends = inl (ends, refl) })
 says_by owner bytes (Err faults.OtherFederation) (long, m, f) =
-    inl (rw (le-ltb (length bytes) HEADER long, same (take 4 bytes) MAGIC m, other (take 8 (drop 4 bytes)) (to_be_bytes w64 owner.members.federation) f) refl)
+    inl (rw (le-ltb (length bytes) header_len long, same (take 4 bytes) magic m, other (take 8 (drop 4 bytes)) (to_be_bytes w64 owner.members.federation) f) refl)
 says_by owner bytes (Err faults.OtherSite) (long, m, f, s) =
     inl (elim (eqb_tells (get_or bytes 12 0) owner.site) [
       | inl t ↦ absurd (s t.1)
-      | inr d ↦ rw (le-ltb (length bytes) HEADER long, same (take 4 bytes) MAGIC m, same (take 8 (drop 4 bytes)) (to_be_bytes w64 owner.members.federation) f, d.0) refl
+      | inr d ↦ rw (le-ltb (length bytes) header_len long, same (take 4 bytes) magic m, same (take 8 (drop 4 bytes)) (to_be_bytes w64 owner.members.federation) f, d.0) refl
     ])
 says_by owner bytes (Err (faults.Damaged place)) (inl (zero, inl (short, never))) =
     let d : bytes_eq bytes (take (length bytes) (header_bytes owner)) ≡ false = other bytes (take (length bytes) (header_bytes owner)) (λ e. never (new_from owner bytes short e)) in
-    inl (rw (lt-ltb (length bytes) HEADER short, d) (ap (λ (p : ℕ). Some (fault (faults.Damaged p))) (sym zero)))
+    inl (rw (lt-ltb (length bytes) header_len short, d) (ap (λ (p : ℕ). Some (fault (faults.Damaged p))) (sym zero)))
 says_by owner bytes (Err (faults.Damaged place)) (inl (zero, inr (long, never))) =
-    inl (rw (le-ltb (length bytes) HEADER long, other (take 4 bytes) MAGIC never) (ap (λ (p : ℕ). Some (fault (faults.Damaged p))) (sym zero)))
+    inl (rw (le-ltb (length bytes) header_len long, other (take 4 bytes) magic never) (ap (λ (p : ℕ). Some (fault (faults.Damaged p))) (sym zero)))
 says_by owner bytes (Err (faults.Damaged place)) (inr (records, rest, whole, e, at, bad)) =
     inr (record { records = records; rest = rest; whole = whole; parts = e ∙ in_text owner records rest; ends = inr (bad, ap (λ (p : ℕ). fault (faults.Damaged p)) at) })
 says_by owner bytes (Err faults.Memory) never = absurd never

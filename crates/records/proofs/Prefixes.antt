@@ -3,22 +3,23 @@ use Rattle.std.proofs.Common.{◌≡◌, ◌⊎◌, ℕ, ◌≤◌, ◌+◌, Lis
 use Rattle.std.specs.Int.{w32, to_be_bytes}
 use Rattle.std.proofs.lemmas.Nat.{from_be_bytes-to_be_bytes_2}
 use Rattle.std.proofs.lemmas.List.{append-nil, take_at, drop_at}
-use Rattle.fields.specs.Spelling.{slot_bytes}
+use Rattle.fields.specs.Encoding.{slot_bytes}
 use Rattle.fields.proofs.Bytes.{some_is}
 use Rattle.records.specs.declared.entry.Entry.{Entry}
 use Rattle.records.specs.declared.entry.Entry.TheVariants.{Deposit, Round, Promise, Vote, Known}
 use Rattle.records.specs.declared.record.Record.{Record}
 use Rattle.records.specs.Layout.{entry_bytes, content_bytes, record_bytes, records_bytes}
+use Rattle.records.specs.Numbers.{shortest_entry, longest_entry}
 use Rattle.records.specs.Records.{IsEntry, IsRecord, AreRecords}
 use Rattle.records.specs.Journals.{IsRecordLength, length_field, IsTornTail, IsNoRecord}
 use Rattle.records.specs.inner.Decoding.{content_at}
 use Rattle.records.proofs.Encoding.{content_again}
 
-entry_size : (e : Entry) → IsEntry e → (4 ≤ length (entry_bytes e)) × (length (entry_bytes e) ≤ 69)
+entry_size : (e : Entry) → IsEntry e → (shortest_entry ≤ length (entry_bytes e)) × (length (entry_bytes e) ≤ longest_entry)
 entry_size (Deposit bag) h = (omega (arith, h), omega (arith, h))
 entry_size (Round round) h = (omega arith, omega arith)
 entry_size (Promise ballot) h = (omega arith, omega arith)
-entry_size (Vote ballot bag) h = (omega (arith, h.1), omega (arith, h.1))
+entry_size (Vote vote) h = (omega (arith, h.1), omega (arith, h.1))
 entry_size (Known bag) h = (omega (arith, h), omega (arith, h))
 
 -- a record's length is one that a record can have

@@ -2,7 +2,7 @@
 use Rattle.std.proofs.Common.{◌≡◌, ◌≢◌, ◌⊎◌, ℕ, zero, suc, ◌+◌, ◌<◌, ◌≤◌, List, [], ◌∷◌, ◌++◌, length, take, drop, Ok, refl, sym, ap, subst, ◌∙◌, arith, inl, inr, append_assoc, length-append}
 use Rattle.std.proofs.lemmas.Bool.Decides.{leb_tells}
 use Rattle.std.proofs.lemmas.List.{append-nil, length-take, take_all, take-append-drop, length-drop, drop_at}
-use Rattle.records.specs.Numbers.{HEADER}
+use Rattle.records.specs.Numbers.{header_len}
 use Rattle.records.specs.declared.journal.Journal.{Journal}
 use Rattle.records.specs.declared.owner.Owner.{Owner}
 use Rattle.records.specs.declared.record.Record.{Record}
@@ -144,13 +144,13 @@ module _ (owner : Owner) (bytes : List ℕ) (new : IsNew owner bytes) where
 -- bytes that say records, cut at the end of their text or after it
 module _ (owner : Owner) (bytes : List ℕ) (journal : Journal) (ends : HasTextEnd owner bytes journal) where
   -- with fewer bytes than a header they are a new journal
-  pub is_new : length bytes < HEADER → IsNew owner bytes × (journal.records.items ≡ [])
+  pub is_new : length bytes < header_len → IsNew owner bytes × (journal.records.items ≡ [])
   is_new short = elim ends [
     | inl t ↦ (t.1, t.2)
     | inr t ↦ absurd (omega (arith, short, t.0))
   ]
 
-  pub cut_text : HEADER ≤ length bytes → (journal.end ≤ length bytes) × IsTextOf owner journal.records.items (take journal.end bytes)
+  pub cut_text : header_len ≤ length bytes → (journal.end ≤ length bytes) × IsTextOf owner journal.records.items (take journal.end bytes)
   cut_text long = elim ends [
     | inl t ↦ absurd (omega (arith, long, t.0))
     | inr t ↦ (t.1, t.2)
@@ -160,7 +160,7 @@ module _ (owner : Owner) (bytes : List ℕ) (journal : Journal) (ends : HasTextE
   cut_after [] e k = let is : 0 + k ≡ k = omega arith in ap (λ (n : ℕ). take n e) is
   cut_after (x ∷ text) e k = let is : length (x ∷ text) + k ≡ suc (length text + k) = omega arith in ap (λ (n : ℕ). take n (x ∷ text ++ e)) is ∙ ap (λ (b : List ℕ). x ∷ b) (cut_after text e k)
 
-  pub cut_says : HEADER ≤ length bytes → Says owner bytes (Ok journal.records.items) → (k : ℕ) → Says owner (take (journal.end + k) bytes) (Ok journal.records.items)
+  pub cut_says : header_len ≤ length bytes → Says owner bytes (Ok journal.records.items) → (k : ℕ) → Says owner (take (journal.end + k) bytes) (Ok journal.records.items)
   unfolding IsTextOf
   cut_says long (are, inl (none, new)) k = absurd (omega (arith, long, new_short owner bytes new))
   cut_says long (are, inr (e, is, end)) k =
@@ -171,5 +171,5 @@ module _ (owner : Owner) (bytes : List ℕ) (journal : Journal) (ends : HasTextE
       subst (λ (b : List ℕ). Says owner b (Ok journal.records.items)) (sym cut) (end_says owner journal.records.items e k are end)
 
   -- all of the bytes, where there is no torn tail
-  pub whole_text : HEADER ≤ length bytes → length bytes ≤ journal.end → IsTextOf owner journal.records.items bytes
+  pub whole_text : header_len ≤ length bytes → length bytes ≤ journal.end → IsTextOf owner journal.records.items bytes
   whole_text long all = subst (IsTextOf owner journal.records.items) (take_all journal.end bytes all) (cut_text long).1

@@ -1,6 +1,6 @@
 -- What reading a journal answers.
 use Rattle.std.specs.Prelude.{◌≡◌, ◌⊎◌, ◌≤◌, ◌<◌, ℕ, List, [], length, take, Result, Ok, Err}
-use Rattle.records.specs.Numbers.{HEADER}
+use Rattle.records.specs.Numbers.{header_len}
 use Rattle.records.specs.declared.fault.JournalFault.{JournalFault}
 use Rattle.records.specs.declared.fault.JournalFault.TheVariants as faults
 use Rattle.records.specs.declared.journal.Journal.{Journal}
@@ -29,7 +29,7 @@ IsReading owner bytes (Err faults.Memory) = SaysRecords owner bytes
 -- the bytes up to the journal's end are a text of its records; of a new journal there is none
 abbrev pub HasTextEnd : Owner → List ℕ → Journal → Type 0
 HasTextEnd owner bytes journal =
-    ((length bytes < HEADER) × IsNew owner bytes
+    ((length bytes < header_len) × IsNew owner bytes
     × (journal.records.items ≡ []) × (journal.end ≡ 0))
-    ⊎ ((HEADER ≤ length bytes) × (journal.end ≤ length bytes)
+    ⊎ ((header_len ≤ length bytes) × (journal.end ≤ length bytes)
     × IsTextOf owner journal.records.items (take journal.end bytes))

@@ -1,7 +1,7 @@
 -- What bytes say as the journal of their owner: its records, or why they are none.
 use Rattle.std.specs.Prelude.{◌≡◌, ◌≢◌, ◌⊎◌, ◌≤◌, ◌<◌, ◌+◌, ℕ, List, [], ◌++◌, length, take, drop, get_or, Result, Ok, Err}
 use Rattle.std.specs.Int.{w16, w64, to_be_bytes, from_be_bytes}
-use Rattle.records.specs.Numbers.{MAGIC, HEADER, SHORTEST, LONGEST}
+use Rattle.records.specs.Numbers.{magic, header_len, shortest_record, longest_record}
 use Rattle.records.specs.declared.fault.JournalFault.{JournalFault}
 use Rattle.records.specs.declared.fault.JournalFault.TheVariants as faults
 use Rattle.records.specs.declared.owner.Owner.{Owner}
@@ -11,7 +11,7 @@ use Rattle.records.specs.Records.{IsRecord, AreRecords}
 
 -- a length that a record can have
 abbrev pub IsRecordLength : ℕ → Type 0
-IsRecordLength n = (SHORTEST ≤ n) × (n ≤ LONGEST)
+IsRecordLength n = (shortest_record ≤ n) × (n ≤ longest_record)
 
 -- the length in the first two bytes
 abbrev pub length_field : List ℕ → ℕ
@@ -45,21 +45,21 @@ federation_field bytes = take 8 (drop 4 bytes)
 -- with a whole header, but of another federation
 abbrev pub IsOfOtherFederation : Owner → List ℕ → Type 0
 IsOfOtherFederation owner bytes =
-    (HEADER ≤ length bytes) × (take 4 bytes ≡ MAGIC)
+    (header_len ≤ length bytes) × (take 4 bytes ≡ magic)
     × (federation_field bytes ≢ to_be_bytes w64 owner.members.federation)
 
 -- of this federation, but of another site
 abbrev pub IsOfOtherSite : Owner → List ℕ → Type 0
 IsOfOtherSite owner bytes =
-    (HEADER ≤ length bytes) × (take 4 bytes ≡ MAGIC)
+    (header_len ≤ length bytes) × (take 4 bytes ≡ magic)
     × (federation_field bytes ≡ to_be_bytes w64 owner.members.federation)
     × (get_or bytes 12 0 ≢ owner.site)
 
 -- no journal's header, nor a prefix of this one's
 abbrev pub HasNoHeader : Owner → List ℕ → Type 0
 HasNoHeader owner bytes =
-    ((length bytes < HEADER) × ¬ IsNew owner bytes)
-    ⊎ ((HEADER ≤ length bytes) × (take 4 bytes ≢ MAGIC))
+    ((length bytes < header_len) × ¬ IsNew owner bytes)
+    ⊎ ((header_len ≤ length bytes) × (take 4 bytes ≢ magic))
 
 -- a length that no record has, or as many bytes as it says, which are no record's
 abbrev pub IsNoRecord : List ℕ → Type 0

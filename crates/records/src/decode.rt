@@ -1,5 +1,5 @@
 ghost use Rattle.std.specs.Prelude.{◌↔◌, IsTrue, IsSome, IsOkUnless};
-ghost use Rattle.fields.specs.Reading.{Gives};
+ghost use Rattle.fields.specs.Decoding.{Gives};
 ghost use Rattle.records.specs.inner.Decoding.{round_at, entry_at, content_at};
 
 use crate::entry::Entry;
@@ -29,11 +29,7 @@ fn read_entry(kind: u8, reader: &mut Reader) -> Result<Entry, FieldFault>
         DEPOSIT => Ok(Entry::Deposit(reader.bag()?)),
         ROUND => Ok(Entry::Round(read_round(reader)?)),
         PROMISE => Ok(Entry::Promise(reader.ballot()?)),
-        VOTE => {
-            let ballot = reader.ballot()?;
-            let bag = reader.bag()?;
-            Ok(Entry::Vote { ballot, bag })
-        }
+        VOTE => Ok(Entry::Vote(reader.vote()?)),
         KNOWN => Ok(Entry::Known(reader.bag()?)),
         _ => Err(FieldFault::Malformed),
     }

@@ -1,5 +1,6 @@
-ghost use Rattle.std.specs.Prelude.{◌≡◌, ◌≤◌, ◌++◌, length, IfOk, OnOk};
-ghost use Rattle.records.specs.Numbers.{SHORTEST, LONGEST};
+ghost use Rattle.std.specs.Prelude.{◌≡◌, ◌≤◌, length, IfOk};
+ghost use Rattle.fields.specs.Puts.{Puts};
+ghost use Rattle.records.specs.Numbers.{shortest_record, longest_record};
 ghost use Rattle.records.specs.Records.{IsRecord};
 ghost use Rattle.records.specs.Layout.{entry_bytes, content_bytes, record_bytes, header_bytes};
 
@@ -11,38 +12,38 @@ use fields::{put_bag, put_ballot, put_slot, put_vote};
 use std::alloc::{AllocError, Global};
 
 fn put_entry(out: &mut Vec<u8>, entry: &Entry) -> Result<(), AllocError>
-    ensures { OnOk result (out.new.items ≡ out.old.items ++ entry_bytes entry.now) }
+    ensures { Puts result out.old out.new (entry_bytes entry.now) }
 {
     match entry {
         Entry::Deposit(bag) | Entry::Known(bag) => put_bag(out, bag),
         Entry::Round(round) => out.extend_from_slice(&round.number().to_be_bytes()),
         Entry::Promise(ballot) => put_ballot(out, *ballot),
-        Entry::Vote { ballot, bag } => put_vote(out, *ballot, bag),
+        Entry::Vote(vote) => put_vote(out, *vote),
     }
 }
 
 // What follows the length.
-fn put_content(out: &mut Vec<u8>, entry: &Record) -> Result<(), AllocError>
-    ensures { OnOk result (out.new.items ≡ out.old.items ++ content_bytes entry.now) }
+fn put_content(out: &mut Vec<u8>, kept: &Record) -> Result<(), AllocError>
+    ensures { Puts result out.old out.new (content_bytes kept.now) }
 {
-    out.push(entry.body.kind())?;
-    put_slot(out, &entry.slot)?;
-    put_entry(out, &entry.body)
+    out.push(kept.body.kind())?;
+    put_slot(out, &kept.slot)?;
+    put_entry(out, &kept.body)
 }
 
 #[tactic(auto, unfolding(crate::specs::Layout::record_bytes))]
-fn put_record(out: &mut Vec<u8>, entry: &Record) -> Result<(), AllocError>
-    ensures { OnOk result (out.new.items ≡ out.old.items ++ record_bytes entry.now) }
+fn put_record(out: &mut Vec<u8>, kept: &Record) -> Result<(), AllocError>
+    ensures { Puts result out.old out.new (record_bytes kept.now) }
 {
-    out.extend_from_slice(&(entry.size() as u16).to_be_bytes())?;
-    put_content(out, entry)
+    out.extend_from_slice(&(kept.size() as u16).to_be_bytes())?;
+    put_content(out, kept)
 }
 
 impl Record {
     /// How many bytes the record has, its length left out: `SHORTEST` to `LONGEST`.
     fn size(&self) -> usize
         ensures value { result ≡ length (content_bytes self.now) }
-        ensures in_range { (SHORTEST ≤ result) × (result ≤ LONGEST) }
+        ensures in_range { (shortest_record ≤ result) × (result ≤ longest_record) }
         ensures sound { IsRecord self.now }
     {
         let head = 1 + 1 + self.slot.object().len() + self.slot.version().to_be_bytes().len();

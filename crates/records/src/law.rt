@@ -1,4 +1,4 @@
-ghost use Rattle.std.specs.Prelude.{◌≡◌, ℕ, max, List, [], ◌∷◌, ◌++◌, take, None, Result, Ok};
+ghost use Rattle.std.specs.Prelude.{◌≡◌, ◌<◌, ℕ, max, List, [], ◌∷◌, ◌++◌, take, None, Result, Ok};
 ghost use Rattle.std.specs.List.{AllByRecursion};
 ghost use Rattle.fed_types.specs.Slots.{SlotName};
 ghost use Rattle.records.specs.declared.fault.JournalFault.{JournalFault};
@@ -6,7 +6,8 @@ ghost use Rattle.records.specs.declared.owner.Owner.{Owner};
 ghost use Rattle.records.specs.declared.record.Record.{Record};
 ghost use Rattle.records.specs.Journals.{Says};
 ghost use Rattle.records.specs.Layout.{record_bytes};
-ghost use Rattle.records.specs.Records.{IsByte, IsRecord};
+ghost use Rattle.records.specs.Numbers.{magic, header_len, shortest_record, longest_record};
+ghost use Rattle.records.specs.Records.{IsRecord};
 ghost use Rattle.records.specs.Texts.{IsTextOf, kept_records};
 ghost use Rattle.records.specs.Words.{higher, earlier, with_one, said_in, ballot_in, vote_in, round_in, deposit_in, known_in, promised_of, vote_of, used_of, deposit_of, known_of};
 
@@ -22,7 +23,7 @@ pub fn one_reading()
 /// All bytes say something as the journal of their owner: records, or a fault. It does nothing: its
 /// contract is the law.
 pub fn all_bytes_say_something()
-    ensures { (owner : Owner) (bytes : List ℕ) → AllByRecursion IsByte bytes →
+    ensures { (owner : Owner) (bytes : List ℕ) → AllByRecursion (λ (b : ℕ). b < 256) bytes →
         (said : Result (List Record) JournalFault) × Says owner bytes said }
 {}
 
@@ -58,7 +59,7 @@ pub fn no_records()
 /// bag. It does nothing: its contract is the law.
 pub fn one_more_record()
     ensures promised { (slot : SlotName) (rs : List Record) (r : Record) → promised_of slot (rs ++ r ∷ []) ≡ with_one (higher (λ b. b)) (promised_of slot rs) (said_in ballot_in slot r) }
-    ensures vote { (slot : SlotName) (rs : List Record) (r : Record) → vote_of slot (rs ++ r ∷ []) ≡ with_one (higher (λ v. v.0)) (vote_of slot rs) (said_in vote_in slot r) }
+    ensures vote { (slot : SlotName) (rs : List Record) (r : Record) → vote_of slot (rs ++ r ∷ []) ≡ with_one (higher (λ v. v.ballot)) (vote_of slot rs) (said_in vote_in slot r) }
     ensures used { (slot : SlotName) (rs : List Record) (r : Record) → used_of slot (rs ++ r ∷ []) ≡ with_one max (used_of slot rs) (said_in round_in slot r) }
     ensures deposit { (slot : SlotName) (rs : List Record) (r : Record) → deposit_of slot (rs ++ r ∷ []) ≡ with_one earlier (deposit_of slot rs) (said_in deposit_in slot r) }
     ensures known { (slot : SlotName) (rs : List Record) (r : Record) → known_of slot (rs ++ r ∷ []) ≡ with_one earlier (known_of slot rs) (said_in known_in slot r) }
@@ -71,11 +72,11 @@ pub fn records_are_prefix_free()
         → record_bytes r ++ x ≡ record_bytes s ++ y → (r ≡ s) × (x ≡ y) }
 {}
 
-/// The numbers of the layout, as docs/FORMATS.md has them. It does nothing: its contract is the
+/// The numbers of the layout are those of the definitions. It does nothing: its contract is the
 /// law.
 pub fn layout_numbers()
-    ensures magic { MAGIC ≡ 66 ∷ 80 ∷ 74 ∷ 49 ∷ [] }
-    ensures header { HEADER ≡ 13 }
-    ensures shortest { SHORTEST ≡ 11 }
-    ensures longest { LONGEST ≡ 275 }
+    ensures magic { MAGIC ≡ magic }
+    ensures header { HEADER ≡ header_len }
+    ensures shortest { SHORTEST ≡ shortest_record }
+    ensures longest { LONGEST ≡ longest_record }
 {}

@@ -1,7 +1,7 @@
 // The test vectors of cells are the golden output of the program that opens them with a book.
 
 use super::*;
-use fed_types::{BagId, Ballot, Members, SiteNo, Slot};
+use fed_types::{BagId, Ballot, Members, SiteNo, Slot, Vote};
 use std::alloc::{AllocError, Global};
 use std::test::Fail;
 
@@ -32,15 +32,15 @@ fn slot(alloc: Global, object: &str, version: u32) -> Result<Slot, Fail> {
 
 // What a record of each kind says.
 fn entries() -> Result<[Entry; 5], Fail> {
-    let vote = Entry::Vote {
+    let vote = Vote {
         ballot: ballot(9, 2)?,
         bag: B,
     };
     Ok([
         Entry::Deposit(A),
         Entry::Round(round(1)?),
-        Entry::Promise(ballot(0x1020304, 15)?),
-        vote,
+        Entry::Promise(ballot(0x1020304, 63)?),
+        Entry::Vote(vote),
         Entry::Known(B),
     ])
 }
@@ -52,7 +52,7 @@ type Kind = ([&'static str; 2], u8, &'static str, Option<u8>);
 static KINDS: [Kind; 5] = [
     (["0047", "010e"], 1, "", Some(0xaa)),
     (["000b", "00d2"], 2, "00000001", None),
-    (["000c", "00d3"], 3, "010203040f", None),
+    (["000c", "00d3"], 3, "010203043f", None),
     (["004c", "0113"], 4, "0000000902", Some(0xbb)),
     (["0047", "010e"], 5, "", Some(0xbb)),
 ];
@@ -105,7 +105,7 @@ fn headers_are_encoded(rt: HostRuntime) -> Result<(), Fail> {
     for (federation, site, text) in [
         (0, 1, "42504a31000000000000000001"),
         (7, 1, HEADER_7_1),
-        (0x102030405060708, 15, "42504a3101020304050607080f"),
+        (0x102030405060708, 63, "42504a3101020304050607083f"),
         (u64::MAX, 2, "42504a31ffffffffffffffff02"),
     ] {
         let bytes = header(owner(federation, site)?);
@@ -221,12 +221,12 @@ static SPOILT: [Spoilt; 31] = [
     ("000b0201610000000100000000", None),
     ("000c030161000000010000000001", None),
     ("004c040161000000010000000001", Some(0xaa)),
-    // The sites 0, 16 and 255.
+    // The sites 0, 64 and 255.
     ("000c030161000000010000000100", None),
-    ("000c030161000000010000000110", None),
+    ("000c030161000000010000000140", None),
     ("000c0301610000000100000001ff", None),
     ("004c040161000000010000000100", Some(0xaa)),
-    ("004c040161000000010000000110", Some(0xaa)),
+    ("004c040161000000010000000140", Some(0xaa)),
     // Bytes after the record, within its length.
     ("000c020161000000010000000100", None),
     ("000d03016100000001000000010100", None),

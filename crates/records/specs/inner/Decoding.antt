@@ -1,26 +1,27 @@
 -- Decoding a record from left to right.
 use Rattle.std.specs.Prelude.{ℕ, List, length, Option, Some, None, ◌==◌, if◌then◌else◌}
 use Rattle.std.specs.Int.{w32}
-use Rattle.fields.specs.Reading.{◌>>=◌, both, meant, byte_at, number_at, ballot_at, bag_at, slot_at}
-use Rattle.records.specs.Numbers.{DEPOSIT, ROUND, PROMISE, VOTE, KNOWN}
+use Rattle.fields.specs.Decoding.{◌>>=◌, Decoder, meant, byte_at, number_at, ballot_at, bag_at, vote_at, slot_at}
+use Rattle.records.specs.Numbers.{deposit_code, round_code, promise_code, vote_code, known_code}
 use Rattle.records.specs.declared.entry.Entry.{Entry}
 use Rattle.records.specs.declared.entry.Entry.TheVariants.{Deposit, Round, Promise, Vote, Known}
 use Rattle.records.specs.declared.record.Record.{Record}
 
+-- a round that isn't 0
 abbrev pub round_of : ℕ → Option ℕ
 round_of n = if n == 0 then None else Some n
 
-unfoldable pub round_at : List ℕ → Option (ℕ × List ℕ)
+unfoldable pub round_at : Decoder ℕ
 round_at bytes = meant (number_at w32) round_of bytes
 
 -- what a record of this kind says
-unfoldable pub entry_at : ℕ → List ℕ → Option (Entry × List ℕ)
+unfoldable pub entry_at : ℕ → Decoder Entry
 entry_at kind bytes =
-    if kind == DEPOSIT then meant bag_at (λ b. Some (Deposit b)) bytes else
-    (if kind == ROUND then meant round_at (λ n. Some (Round n)) bytes else
-    (if kind == PROMISE then meant ballot_at (λ b. Some (Promise b)) bytes else
-    (if kind == VOTE then meant (both ballot_at bag_at) (λ p. Some (Vote p.0 p.1)) bytes else
-    (if kind == KNOWN then meant bag_at (λ b. Some (Known b)) bytes else None))))
+    if kind == deposit_code then meant bag_at (λ b. Some (Deposit b)) bytes else
+    (if kind == round_code then meant round_at (λ n. Some (Round n)) bytes else
+    (if kind == promise_code then meant ballot_at (λ b. Some (Promise b)) bytes else
+    (if kind == vote_code then meant vote_at (λ v. Some (Vote v)) bytes else
+    (if kind == known_code then meant bag_at (λ b. Some (Known b)) bytes else None))))
 
 -- nothing follows it
 abbrev pub at_end : {A : Type 0} → A × List ℕ → Option A

@@ -1,7 +1,7 @@
 -- What the steps of reading a journal answer.
 use Rattle.std.specs.Prelude.{◌≡◌, ◌≤◌, ◌+◌, ℕ, List, ◌++◌, length, take, drop, get_or, Result, Ok, Err}
 use Rattle.std.specs.Int.{w64, to_be_bytes}
-use Rattle.records.specs.Numbers.{MAGIC, HEADER}
+use Rattle.records.specs.Numbers.{magic, header_len}
 use Rattle.records.specs.declared.fault.JournalFault.{JournalFault}
 use Rattle.records.specs.declared.fault.JournalFault.TheVariants as faults
 use Rattle.records.specs.declared.record.Record.{Record}
@@ -38,7 +38,7 @@ IsFound bytes finds.Damaged = IsNoRecord bytes
 -- what the header says
 abbrev pub HeaderSays : Owner → List ℕ → Result (Unit {0}) JournalFault → Type 0
 HeaderSays owner bytes (Ok _) =
-    (take 4 bytes ≡ MAGIC)
+    (take 4 bytes ≡ magic)
     × (federation_field bytes ≡ to_be_bytes w64 owner.members.federation)
     × (get_or bytes 12 0 ≡ owner.site)
 HeaderSays owner bytes (Err faults.OtherFederation) = IsOfOtherFederation owner bytes
@@ -50,8 +50,8 @@ HeaderSays owner bytes (Err faults.Memory) = ⊥
 pub record Parts (bytes : List ℕ) (records : List Record) (place : ℕ) (rest : List ℕ) : Type 0 where
   pub are_records : AreRecords records
   pub in_range : place ≤ length bytes
-  pub after_header : HEADER ≤ place
-  pub text : take place bytes ≡ take HEADER bytes ++ records_bytes records
+  pub after_header : header_len ≤ place
+  pub text : take place bytes ≡ take header_len bytes ++ records_bytes records
   pub rest_is : drop place bytes ≡ rest
 
 -- these records, up to an end
