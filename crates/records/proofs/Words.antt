@@ -45,9 +45,9 @@ pub promised-push : (slot : SlotName) (rs : List Record) (r : Record) → promis
 unfolding promised_of
 promised-push slot rs r = fold-push (higher (λ b. b)) ballot_in slot rs r None
 
-pub vote-push : (slot : SlotName) (rs : List Record) (r : Record) → vote_of slot (rs ++ r ∷ []) ≡ with_one (higher (λ v. v.0)) (vote_of slot rs) (said_in vote_in slot r)
+pub vote-push : (slot : SlotName) (rs : List Record) (r : Record) → vote_of slot (rs ++ r ∷ []) ≡ with_one (higher (λ v. v.ballot)) (vote_of slot rs) (said_in vote_in slot r)
 unfolding vote_of
-vote-push slot rs r = fold-push (higher (λ v. v.0)) vote_in slot rs r None
+vote-push slot rs r = fold-push (higher (λ v. v.ballot)) vote_in slot rs r None
 
 pub used-push : (slot : SlotName) (rs : List Record) (r : Record) → used_of slot (rs ++ r ∷ []) ≡ with_one max (used_of slot rs) (said_in round_in slot r)
 unfolding used_of

@@ -1,10 +1,11 @@
 -- What a site's records say of a slot.
 use Rattle.std.specs.Prelude.{ℕ, max, List, [], ◌∷◌, Option, Some, None, fold, filter_map, if◌then◌else◌}
 use Rattle.fed_types.specs.declared.bag_id.BagId.{BagId}
+use Rattle.fed_types.specs.declared.vote.Vote.{Vote}
 use Rattle.fed_types.specs.Ballots.{BallotNumber, below}
 use Rattle.fed_types.specs.Slots.{SlotName, same_slot}
 use Rattle.records.specs.declared.entry.Entry.{Entry}
-use Rattle.records.specs.declared.entry.Entry.TheVariants.{Deposit, Round, Promise, Vote, Known}
+use Rattle.records.specs.declared.entry.Entry.TheVariants as entry
 use Rattle.records.specs.declared.record.Record.{Record}
 
 -- what a record says of this slot
@@ -41,49 +42,37 @@ first (x ∷ xs) = Some x
 
 -- the ballot of a Promise or a Vote
 abbrev pub ballot_in : Entry → Option BallotNumber
-ballot_in (Promise ballot) = Some ballot
-ballot_in (Vote ballot bag) = Some ballot
-ballot_in (Deposit bag) = None
-ballot_in (Round round) = None
-ballot_in (Known bag) = None
+ballot_in (entry.Promise ballot) = Some ballot
+ballot_in (entry.Vote vote) = Some vote.ballot
+ballot_in _ = None
 
--- the ballot and bag of a Vote
-abbrev pub vote_in : Entry → Option (BallotNumber × BagId)
-vote_in (Vote ballot bag) = Some (ballot, bag)
-vote_in (Promise ballot) = None
-vote_in (Deposit bag) = None
-vote_in (Round round) = None
-vote_in (Known bag) = None
+-- what was voted in a Vote
+abbrev pub vote_in : Entry → Option Vote
+vote_in (entry.Vote vote) = Some vote
+vote_in _ = None
 
 -- the number of a Round
 abbrev pub round_in : Entry → Option ℕ
-round_in (Round round) = Some round
-round_in (Deposit bag) = None
-round_in (Promise ballot) = None
-round_in (Vote ballot bag) = None
-round_in (Known bag) = None
+round_in (entry.Round round) = Some round
+round_in _ = None
 
+-- the bag of a Deposit
 abbrev pub deposit_in : Entry → Option BagId
-deposit_in (Deposit bag) = Some bag
-deposit_in (Round round) = None
-deposit_in (Promise ballot) = None
-deposit_in (Vote ballot bag) = None
-deposit_in (Known bag) = None
+deposit_in (entry.Deposit bag) = Some bag
+deposit_in _ = None
 
+-- the bag of a Known
 abbrev pub known_in : Entry → Option BagId
-known_in (Known bag) = Some bag
-known_in (Deposit bag) = None
-known_in (Round round) = None
-known_in (Promise ballot) = None
-known_in (Vote ballot bag) = None
+known_in (entry.Known bag) = Some bag
+known_in _ = None
 
 -- promised: the greatest ballot in the Promise and Vote records of the slot
 unfoldable pub promised_of : SlotName → List Record → Option BallotNumber
 promised_of slot records = highest (λ b. b) (filter_map ballot_in (entries slot records))
 
 -- the vote: of the Vote records of the slot the one of the greatest ballot, of equal ones the first
-unfoldable pub vote_of : SlotName → List Record → Option (BallotNumber × BagId)
-vote_of slot records = highest (λ v. v.0) (filter_map vote_in (entries slot records))
+unfoldable pub vote_of : SlotName → List Record → Option Vote
+vote_of slot records = highest (λ v. v.ballot) (filter_map vote_in (entries slot records))
 
 -- used: the greatest round in the Round records of the slot, 0 if there is none
 unfoldable pub used_of : SlotName → List Record → ℕ
