@@ -90,7 +90,7 @@ text_atomic owner records text r k is fine = elim (leb_tells (length (record_byt
       subst (λ (rs : List Record). Says owner (text ++ take k (record_bytes r)) (Ok rs)) (sym kept)
       (subst (λ (b : List ℕ). Says owner (text ++ b) (Ok (records ++ r ∷ []))) (sym all) said)
   | inr f ↦
-      let kept : kept_records k records r ≡ records = rw f.0 refl in
+      let kept : kept_records k records r ≡ records = rw f.0 (append-nil records) in
       let said : Says owner (journal_text owner records ++ take k (record_bytes r)) (Ok records) =
       (is.0, inr (take k (record_bytes r), refl, record_prefix r k fine f.1)) in
       subst (λ (rs : List Record). Says owner (text ++ take k (record_bytes r)) (Ok rs)) (sym kept)
@@ -103,15 +103,19 @@ pub with_or_without : (owner : Owner) (records : List Record) (text : List ℕ) 
 with_or_without owner records text r k is fine =
     let said = text_atomic owner records text r k is fine in
     elim (leb_tells (length (record_bytes r)) k) [
-      | inl t ↦ inr (subst (λ (rs : List Record). Says owner (text ++ take k (record_bytes r)) (Ok rs)) (rw t.0 refl) said)
-      | inr f ↦ inl (subst (λ (rs : List Record). Says owner (text ++ take k (record_bytes r)) (Ok rs)) (rw f.0 refl) said)
+      | inl t ↦
+          let kept : kept_records k records r ≡ records ++ r ∷ [] = rw t.0 refl in
+          inr (subst (λ (rs : List Record). Says owner (text ++ take k (record_bytes r)) (Ok rs)) kept said)
+      | inr f ↦
+          let kept : kept_records k records r ≡ records = rw f.0 (append-nil records) in
+          inl (subst (λ (rs : List Record). Says owner (text ++ take k (record_bytes r)) (Ok rs)) kept said)
     ]
 
 -- none of its bytes is no record
 pub none_kept : (records : List Record) (r : Record) → IsRecord r → kept_records 0 records r ≡ records
 none_kept records r is = elim (leb_tells (length (record_bytes r)) 0) [
   | inl t ↦ absurd (omega (arith, t.1, record_size r [], ap length (append-nil (record_bytes r))))
-  | inr f ↦ rw f.0 refl
+  | inr f ↦ rw f.0 (append-nil records)
 ]
 
 -- a new journal, with the rest of its header, or a part of that
