@@ -11,7 +11,8 @@ use Rattle.bag_text.specs.declared.algorithm.Algorithm.{Algorithm}
 use Rattle.bag_text.specs.declared.algorithm.Algorithm.TheVariants.{Md5, Sha1, Sha256, Sha512}
 use Rattle.bag_text.specs.ListedFile.{ListedFile}
 use Rattle.bag_tree.specs.Path.{is_unsafe, is_payload}
-use Rattle.bag_tree.specs.Facts.{FileFact, TreeFacts, digest_by}
+use Rattle.bag_digest.specs.Digests.{digest_by}
+use Rattle.bag_tree.specs.Facts.{FileFact, TreeFacts}
 use Rattle.bag_check.specs.declared.manifests.Kind.{Kind}
 use Rattle.bag_check.specs.declared.manifests.Kind.TheVariants.{Payload, Tag}
 use Rattle.bag_check.specs.Manifests.{Manifest, file_at, has_file, text_at, algorithms, manifest_name, manifest_at, manifests_of, manifests_of_kind, is_listed}

@@ -44,7 +44,7 @@ fn find_fault(alloc: Global, facts: &Facts) -> Result<(), BagFault>
     ensures { Finds (first_fault facts.now) result }
 {
     let files = facts.files();
-    if let Some(fault) = fault_of_tag_files(files, facts.payload_stands()) {
+    if let Some(fault) = fault_of_tag_files(files, facts.payload_exists()) {
         return Err(fault);
     }
     let listings = listings(alloc, facts)?;
