@@ -1,5 +1,5 @@
-ghost use Rattle.std.specs.Prelude.{◌≡◌, ◌≢◌, ◌≤◌, ◌<◌, ℕ, max, List, [], ◌∷◌, ◌++◌, take, Some, None};
-ghost use Rattle.std.specs.Prelude.{IsSome, Result, Ok};
+ghost use Rattle.std.specs.Prelude.{◌≡◌, ◌≢◌, ◌≤◌, ◌<◌, ℕ, max, List, [], ◌∷◌, ◌++◌};
+ghost use Rattle.std.specs.Prelude.{take, Some, None, IsSome, Result, Ok};
 ghost use Rattle.std.specs.List.{AllByRecursion};
 ghost use Rattle.fed_types.specs.declared.bag_id.BagId.{BagId};
 ghost use Rattle.fed_types.specs.declared.vote.Vote.{Vote};
@@ -54,7 +54,6 @@ pub fn texts_say_their_records()
 {}
 
 /// Of no records each word says none, or 0. It does nothing: its contract is the law.
-#[tactic(auto, unfolding(crate::specs::Words::promised_of, crate::specs::Words::vote_of, crate::specs::Words::used_of, crate::specs::Words::deposit_of, crate::specs::Words::known_of))]
 pub fn no_records()
     ensures promised { (slot : SlotName) → promised_of slot [] ≡ None }
     ensures vote { (slot : SlotName) → vote_of slot [] ≡ None }
@@ -63,8 +62,8 @@ pub fn no_records()
     ensures known { (slot : SlotName) → known_of slot [] ≡ None }
 {}
 
-/// What one more record makes of what the records say of a slot: the greater ballot, the vote of the
-/// greater ballot (of equal ones the first), the greater round, the first deposit and the first
+/// What one more record makes of what the records say of a slot: the greater ballot, the vote of
+/// the greater ballot (of equal ones the first), the greater round, the first deposit and the first
 /// known bag. It does nothing: its contract is the law.
 pub fn one_more_record()
     ensures promised { (slot : SlotName) (rs : List Record) (r : Record)
@@ -115,8 +114,8 @@ pub fn each_word_is_of_a_record()
         → known_of slot rs ≡ Some bag → HasEntry slot rs (entry.Known bag) }
 {}
 
-/// The bytes of records are prefix-free: bytes that begin with a record begin with no other. It does
-/// nothing: its contract is the law.
+/// The bytes of records are prefix-free: bytes that begin with a record begin with no other. It
+/// does nothing: its contract is the law.
 pub fn records_are_prefix_free()
     ensures { (r s : Record) (x y : List ℕ) → IsRecord r → IsRecord s
         → record_bytes r ++ x ≡ record_bytes s ++ y → (r ≡ s) × (x ≡ y) }
