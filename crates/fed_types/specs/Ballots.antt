@@ -1,5 +1,5 @@
 -- Ballots and their order.
-use Rattle.std.specs.Prelude.{◌≡◌, ℕ, ◌<◌, ◌⊎◌, Bool}
+use Rattle.std.specs.Prelude.{◌≡◌, ℕ, ◌<◌, ◌⊎◌, Bool, ◌==◌, ◌&&◌}
 use Rattle.std.specs.declared.cmp.Ordering.{Ordering}
 use Rattle.std.specs.Ordering.{nat_cmp, then_cmp, on, is_lt}
 
@@ -8,7 +8,12 @@ pub record BallotNumber : Type 0 where
   pub round : ℕ
   pub site : ℕ
 
--- the order of ballots: by round, and within a round by site, so that the ballots of two sites differ (Lamport, Paxos Made Simple, section 2.2)
+-- whether two ballots are one
+abbrev pub same_ballot : BallotNumber → BallotNumber → Bool
+same_ballot a b = (a.round == b.round) && (a.site == b.site)
+
+-- the order of ballots: by round, and within a round by site, so that the ballots of two sites
+-- differ (Lamport, Paxos Made Simple, section 2.2)
 unfoldable pub ballot_cmp : BallotNumber → BallotNumber → Ordering
 ballot_cmp = then_cmp (on (λ b. b.round) nat_cmp) (on (λ b. b.site) nat_cmp)
 

@@ -1,3 +1,4 @@
+pub mod Bags
 pub mod Ballots
 pub mod Faults
 pub mod Laws
@@ -6,5 +7,6 @@ pub mod Lists
 pub mod Quorums
 pub mod Sites
 pub mod Slots
+pub mod Values
 pub mod Voters
 pub mod Words

@@ -1,26 +1,38 @@
 -- The limits, as numbers. The code has constants and types of its own, which `limits_law` and the
 -- contracts of the types hold to these.
-use Rattle.std.specs.Prelude.{ℕ}
+use Rattle.std.specs.Prelude.{ℕ, ◌-◌, ◌^◌}
 
--- the greatest number of a site; the least is 1
+-- the greatest number of a site, so that a set of sites is a word of 64 bits; the least is 1
 abbrev pub greatest_site : ℕ
-greatest_site = 15
+greatest_site = 63
 
--- the most members of a federation; the fewest is 1
+-- the most members of a federation: as many as there are numbers of sites; the fewest is 1
 abbrev pub most_members : ℕ
-most_members = 15
+most_members = 63
 
--- the most bytes of an object's name; the fewest is 1
+-- the greatest weight of a member, so that a weight is a byte; the least is 1
+abbrev pub greatest_weight : ℕ
+greatest_weight = 255
+
+-- the most bytes of an object's name, so that its length is a byte; the fewest is 1
 abbrev pub longest_object : ℕ
 longest_object = 200
 
+-- the bits of a ballot's round, a field of four bytes
+abbrev pub round_bits : ℕ
+round_bits = 32
+
 -- the greatest round of a ballot; the least is 1
 abbrev pub greatest_round : ℕ
-greatest_round = 4294967295
+greatest_round = 2 ^ round_bits - 1
+
+-- the bits of an object's version, a field of four bytes
+abbrev pub version_bits : ℕ
+version_bits = 32
 
 -- the greatest version of an object; the least is 1
 abbrev pub greatest_version : ℕ
-greatest_version = 4294967295
+greatest_version = 2 ^ version_bits - 1
 
 -- the bytes of a bag's identity: those of a SHA-512 (FIPS 180-4)
 abbrev pub bag_len : ℕ

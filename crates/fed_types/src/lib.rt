@@ -11,17 +11,22 @@ mod quorums;
 mod site_no;
 mod slot;
 mod type_fault;
+mod vote;
 mod voters;
 
-pub use bag_id::BagId;
+pub use bag_id::{BAG_BYTES, BagId};
 pub use ballot::Ballot;
-pub use law::limits_law;
-pub use limits::{GREATEST_SITE, LONGEST_OBJECT, MOST_MEMBERS};
+pub use law::{
+    bags_are_well_formed, ballots_are_well_formed, limits_law, sites_are_well_formed,
+    slots_are_well_formed, votes_are_well_formed,
+};
+pub use limits::{GREATEST_SITE, GREATEST_WEIGHT, LONGEST_OBJECT, MOST_MEMBERS};
 pub use members::Members;
 pub use quorums::Quorums;
 pub use site_no::SiteNo;
 pub use slot::Slot;
 pub use type_fault::TypeFault;
+pub use vote::Vote;
 pub use voters::Voters;
 
 #[cfg(test)]

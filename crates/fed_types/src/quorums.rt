@@ -1,6 +1,6 @@
 ghost use Rattle.std.specs.Prelude.{◌≡◌};
 ghost use Rattle.fed_types.specs.Lists.{is_in};
-ghost use Rattle.fed_types.specs.Quorums.{QuorumSystem, QuorumsMeet, QuorumGrows, majority};
+ghost use Rattle.fed_types.specs.Quorums.{QuorumSystem, QuorumsMeet, QuorumGrows, quorums_of};
 
 use crate::members::Members;
 use crate::site_no::SiteNo;
@@ -29,7 +29,7 @@ pub trait Quorums {
 impl Quorums for Members {
     ghost use Rattle.fed_types.specs.Laws.Quorums.{quorums_meet, quorum_grows};
 
-    ghost quorum_system = { majority };
+    ghost quorum_system = { quorums_of };
 
     ghost quorums_meet = { quorums_meet };
 

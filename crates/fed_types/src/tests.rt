@@ -1,5 +1,7 @@
 ghost use Rattle.std.specs.Prelude.{◌≡◌, ◌↔◌, ◌&&◌, [], ◌∷◌, IsTrue, refl};
 ghost use Rattle.std.proofs.lemmas.Bool.{and_parts, and_from};
+ghost use Rattle.fed_types.specs.Bags as bags;
+ghost use Rattle.fed_types.specs.Ballots as ballots;
 ghost use Rattle.fed_types.specs.Ballots.{below};
 ghost use Rattle.fed_types.specs.Lists.{is_in, here, there};
 ghost use Rattle.fed_types.specs.Quorums.{IsQuorum};
@@ -24,13 +26,15 @@ fn is_above(a: Ballot, b: Ballot) -> bool
 }
 
 fn same_ballot(a: Ballot, b: Ballot) -> bool
-    ensures { IsTrue result ↔ (a ≡ b) }
+    ensures value { result ≡ ballots.same_ballot a b }
+    ensures equal { IsTrue result ↔ (a ≡ b) }
 {
     a == b
 }
 
 fn same_bag(a: BagId, b: BagId) -> bool
-    ensures { IsTrue result ↔ (a ≡ b) }
+    ensures value { result ≡ bags.same_bag a b }
+    ensures equal { IsTrue result ↔ (a ≡ b) }
 {
     a == b
 }
@@ -86,8 +90,8 @@ fn voters_of(numbers: &[u8]) -> Result<Voters, TypeFault> {
 
 #[test]
 fn sites(rt: HostRuntime) {
-    let numbers = [0, 1, 15, 16, 63, 255];
-    let wants = [None, Some(1), Some(15), None, None, None];
+    let numbers = [0, 1, 15, 63, 64, 255];
+    let wants = [None, Some(1), Some(15), Some(63), None, None];
     for (number, want) in numbers.iter().zip(wants.iter()) {
         let got = SiteNo::new(*number).ok().map(|site| site.number());
         assert_eq!(rt; got, *want, "site {number}");
@@ -102,7 +106,7 @@ fn sites(rt: HostRuntime) {
 
 #[test]
 fn memberships(rt: HostRuntime) -> Result<(), Fail> {
-    for count in [0, 16, 255] {
+    for count in [0, 64, 255] {
         assert_eq!(rt;
             Members::new(7, count).err(),
             Some(TypeFault::BadCount),
@@ -112,11 +116,11 @@ fn memberships(rt: HostRuntime) -> Result<(), Fail> {
     let members = Members::new(7, 3)?;
     assert_eq!(rt; members.federation(), 7);
     assert_eq!(rt; members.count(), 3);
-    for (number, want) in [(1, true), (3, true), (4, false), (15, false)] {
+    for (number, want) in [(1, true), (3, true), (4, false), (63, false)] {
         assert_eq!(rt; members.has(SiteNo::new(number)?), want, "site {number}");
     }
     assert!(rt; Members::new(u64::MAX, 1).is_ok());
-    assert!(rt; Members::new(0, 15).is_ok());
+    assert!(rt; Members::new(0, 63).is_ok());
     Ok(())
 }
 
@@ -129,7 +133,7 @@ fn ballots_by_round_then_site(rt: HostRuntime) -> Result<(), Fail> {
     let ascending = [
         (1, 1),
         (1, 2),
-        (1, 15),
+        (1, 63),
         (2, 1),
         (2, 3),
         (u32::MAX, 1),
@@ -186,8 +190,9 @@ fn slots(rt: HostRuntime) -> Result<(), Fail> {
 
 #[test]
 fn bags(rt: HostRuntime) {
-    let bag = BagId([7; 64]);
-    limits_law(&bag);
+    let bag = BagId([7; BAG_BYTES]);
+    limits_law();
+    bags_are_well_formed(&bag);
     let mut bytes = [7; 64];
     assert!(rt; same_bag(bag, BagId(bytes)));
     bytes[63] = 8;
@@ -197,7 +202,7 @@ fn bags(rt: HostRuntime) {
 #[test]
 fn quorums_are_more_than_half(rt: HostRuntime) -> Result<(), Fail> {
     // Members, voters, whether they are a quorum.
-    let rows: [(u8, &[u8], bool); 12] = [
+    let rows: [(u8, &[u8], bool); 14] = [
         (1, &[], false),
         (1, &[1], true),
         (1, &[2, 3], false),
@@ -210,6 +215,8 @@ fn quorums_are_more_than_half(rt: HostRuntime) -> Result<(), Fail> {
         (4, &[1, 2, 5, 6], false),
         (15, &[1, 2, 3, 4, 5, 6, 7], false),
         (15, &[1, 2, 3, 4, 5, 6, 7, 15], true),
+        (63, &[1, 63], false),
+        (3, &[3, 63], false),
     ];
     for (count, numbers, want) in rows {
         let voters = voters_of(numbers)?;
@@ -219,8 +226,8 @@ fn quorums_are_more_than_half(rt: HostRuntime) -> Result<(), Fail> {
             "{numbers:?} of {count}"
         );
     }
-    let voters = voters_of(&[3, 15])?;
-    for (number, want) in [(1, false), (3, true), (14, false), (15, true)] {
+    let voters = voters_of(&[3, 63])?;
+    for (number, want) in [(1, false), (3, true), (62, false), (63, true)] {
         assert_eq!(rt; voters.has(SiteNo::new(number)?), want, "site {number}");
     }
     Ok(())
@@ -253,8 +260,8 @@ fn quorums_at_two_types(rt: HostRuntime) -> Result<(), Fail> {
 #[test]
 fn faults(rt: HostRuntime) -> Result<(), Fail> {
     for (fault, number, text) in [
-        (TypeFault::BadCount, 1, "a federation has 1 to 15 members"),
-        (TypeFault::BadSite, 2, "a site number is 1 to 15"),
+        (TypeFault::BadCount, 1, "a federation has 1 to 63 members"),
+        (TypeFault::BadSite, 2, "a site number is 1 to 63"),
         (
             TypeFault::BadObject,
             3,
@@ -262,6 +269,7 @@ fn faults(rt: HostRuntime) -> Result<(), Fail> {
         ),
         (TypeFault::ZeroVersion, 4, "a version is at least 1"),
         (TypeFault::ZeroRound, 5, "a round is at least 1"),
+        (TypeFault::BadWeight, 6, "a weight is 1 to 255"),
     ] {
         assert_eq!(rt; fault.number(), number);
         assert_eq!(rt; fault.to_string(rt.alloc())?.as_str(), text);

@@ -1,6 +1,6 @@
 ghost use Rattle.std.specs.Prelude.{◌≡◌};
 
-use crate::limits::{GREATEST_SITE, LONGEST_OBJECT, MOST_MEMBERS};
+use crate::limits::{GREATEST_SITE, GREATEST_WEIGHT, LONGEST_OBJECT, MOST_MEMBERS};
 use thiserror::Error;
 
 /// Why a number or a name is out of range.
@@ -16,12 +16,14 @@ pub enum TypeFault {
     ZeroVersion,
     #[error("a round is at least 1")]
     ZeroRound,
+    #[error("a weight is 1 to {greatest}", greatest = GREATEST_WEIGHT)]
+    BadWeight,
 }
 
 impl TypeFault {
     ghost use Rattle.fed_types.specs.Faults.{fault_number};
 
-    /// The number by which the fault is told, 1 to 5.
+    /// The number of the fault, 1 to 6.
     pub fn number(self) -> u8
         ensures { result ≡ fault_number self }
     {
@@ -31,6 +33,7 @@ impl TypeFault {
             TypeFault::BadObject => 3,
             TypeFault::ZeroVersion => 4,
             TypeFault::ZeroRound => 5,
+            TypeFault::BadWeight => 6,
         }
     }
 }

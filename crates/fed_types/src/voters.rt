@@ -1,7 +1,7 @@
 ghost use Rattle.std.specs.Prelude.{◌≡◌, ◌<◌, ◌||◌, ◌==◌, ℕ, [], IsTrue};
 ghost use Rattle.fed_types.specs.Lists.{is_in};
 ghost use Rattle.fed_types.specs.Voters.{with_voter};
-ghost use Rattle.fed_types.specs.Quorums.{majority};
+ghost use Rattle.fed_types.specs.Quorums.{quorums_of};
 
 use crate::members::Members;
 use crate::site_no::SiteNo;
@@ -59,7 +59,7 @@ impl Voters {
     /// Whether more than half of the members are in the set. Sites that aren't members don't
     /// count.
     pub fn is_quorum(&self, members: &Members) -> bool
-        ensures { result ≡ (majority members.now).is_quorum self.now }
+        ensures { result ≡ (quorums_of members.now).is_quorum self.now }
     {
         let count = members.count();
         let mut present = 0;

@@ -2,13 +2,13 @@
 use Rattle.std.proofs.Common.{◌≡◌, ℕ, ◌≤◌, ◌+◌, ◌-◌, List, [], ◌∷◌, ◌++◌, length, take, drop, refl, sym, ap, subst, ◌∙◌, arith, append_assoc, length-append}
 use Rattle.std.proofs.lemmas.List.{append-nil, take_at, take-append-drop, length-drop, length-take}
 use Rattle.std.proofs.Math.Seq.{take-length}
-use Rattle.records.specs.Numbers.{HEADER}
+use Rattle.records.specs.Numbers.{header_len}
 use Rattle.records.specs.declared.record.Record.{Record}
 use Rattle.records.specs.declared.journal.Step.TheVariants as steps
 use Rattle.records.specs.Layout.{record_bytes, records_bytes}
 use Rattle.records.specs.Records.{IsRecord, AreRecords}
-use Rattle.records.specs.Answers.{IsStep, Parts}
-use Rattle.records.proofs.Begins.{record_size, content_size}
+use Rattle.records.specs.inner.Steps.{IsStep, Parts}
+use Rattle.records.proofs.Prefixes.{record_size, content_size}
 
 pub records-push : (rs : List Record) (r : Record) → records_bytes (rs ++ r ∷ []) ≡ records_bytes rs ++ record_bytes r
 unfolding records_bytes
@@ -19,14 +19,14 @@ pub whole-push : (rs : List Record) (r : Record) → AreRecords rs → IsRecord 
 whole-push [] r h k = (k, tt)
 whole-push (s ∷ rs) r h k = (h.0, whole-push rs r h.1 k)
 
-pub parts_start : (bytes : List ℕ) (rs : List Record) → HEADER ≤ length bytes → rs ≡ [] → Parts bytes rs HEADER (drop HEADER bytes)
+pub parts_start : (bytes : List ℕ) (rs : List Record) → header_len ≤ length bytes → rs ≡ [] → Parts bytes rs header_len (drop header_len bytes)
 unfolding records_bytes
 parts_start bytes rs long none =
-    subst (λ (l : List Record). Parts bytes l HEADER (drop HEADER bytes)) (sym none) (record {
-      records_whole = tt;
-      place_in = long;
-      behind = omega arith;
-      front = sym (append-nil (take HEADER bytes));
+    subst (λ (l : List Record). Parts bytes l header_len (drop header_len bytes)) (sym none) (record {
+      are_records = tt;
+      in_range = long;
+      after_header = omega arith;
+      text = sym (append-nil (take header_len bytes));
       rest_is = refl;
     })
 
@@ -55,13 +55,13 @@ pub parts_next : (bytes : List ℕ) (rs ss : List Record) (place size : ℕ) (r 
     → Parts bytes ss (place + size) (drop (place + size) bytes)
 parts_next bytes rs ss place size r p s e =
     let step : IsStep (drop place bytes) (steps.Whole r size) = subst (λ (b : List ℕ). IsStep b (steps.Whole r size)) (from_is bytes place) s in
-    let front : take (place + size) bytes ≡ take HEADER bytes ++ records_bytes (rs ++ r ∷ []) =
-    take_both bytes place size p.place_in step.1 ∙ ap (λ (b : List ℕ). b ++ take size (drop place bytes)) p.front ∙ append_assoc (take HEADER bytes) (records_bytes rs) (take size (drop place bytes))
-    ∙ ap (λ (b : List ℕ). take HEADER bytes ++ (records_bytes rs ++ b)) step.2 ∙ ap (λ (b : List ℕ). take HEADER bytes ++ b) (sym (records-push rs r)) in
+    let text : take (place + size) bytes ≡ take header_len bytes ++ records_bytes (rs ++ r ∷ []) =
+    take_both bytes place size p.in_range step.1 ∙ ap (λ (b : List ℕ). b ++ take size (drop place bytes)) p.text ∙ append_assoc (take header_len bytes) (records_bytes rs) (take size (drop place bytes))
+    ∙ ap (λ (b : List ℕ). take header_len bytes ++ (records_bytes rs ++ b)) step.2 ∙ ap (λ (b : List ℕ). take header_len bytes ++ b) (sym (records-push rs r)) in
     subst (λ (l : List Record). Parts bytes l (place + size) (drop (place + size) bytes)) (sym e) (record {
-      records_whole = whole-push rs r p.records_whole step.0;
-      place_in = omega (arith, step.1, length-drop place bytes, p.place_in);
-      behind = omega (arith, p.behind);
-      front = front;
+      are_records = whole-push rs r p.are_records step.0;
+      in_range = omega (arith, step.1, length-drop place bytes, p.in_range);
+      after_header = omega (arith, p.after_header);
+      text = text;
       rest_is = refl;
     })

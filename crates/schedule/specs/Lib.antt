@@ -6,4 +6,4 @@ pub mod Plans
 pub mod Escapes
 pub mod Texts
 pub mod Faults
-pub mod Spelled
+pub mod inner

@@ -1,12 +1,12 @@
 -- The order of ballots is total.
 use Rattle.std.specs.Prelude.{◌≡◌, ℕ, ◌⊎◌, true, false, not, ◌&&◌, ◌==◌, Decides, refl}
-use Rattle.std.proofs.Common.{arith, inl, inr, subst}
+use Rattle.std.proofs.Common.{arith, inl, inr, subst, ap, eq-eqb}
 use Rattle.std.specs.Cmp.{IsTotalOrder, IsPartialOrder, partial_order_from_agreeing_total}
 use Rattle.std.specs.Ordering.{as_partial_cmp, is_gt, is_le, is_ge, is_eq}
-use Rattle.std.proofs.lemmas.Bool.{cases_order, false_from_ne_true}
+use Rattle.std.proofs.lemmas.Bool.{cases_order, false_from_ne_true, and_parts, and_from, eqb-true}
 use Rattle.std.proofs.lemmas.Bool.Decides.{nat_tests}
 use Rattle.std.proofs.lemmas.Cmp.{then_total, on_total, nat_cmp_total}
-use Rattle.fed_types.specs.Ballots.{BallotNumber, ballot_cmp, below, Below}
+use Rattle.fed_types.specs.Ballots.{BallotNumber, same_ballot, ballot_cmp, below, Below}
 
 -- the order is total
 pub ballot_cmp_total : IsTotalOrder ballot_cmp
@@ -14,17 +14,27 @@ unfolding ballot_cmp
 ballot_cmp_total = then_total (on_total (λ b. b.round) nat_cmp_total) (on_total (λ b. b.site) nat_cmp_total)
 
 -- ballots are equal exactly where the order answers so
-pub ballot_eq_ties : (a b : BallotNumber) → ((a.round == b.round) && (a.site == b.site)) ≡ is_eq (ballot_cmp a b)
+pub ballot_eq_ties : (a b : BallotNumber) → same_ballot a b ≡ is_eq (ballot_cmp a b)
 unfolding ballot_cmp
 ballot_eq_ties a b = grind (arith, nat_tests)
 
 -- `partial_cmp` answers what the order does
-pub ballot_cmp_partial : IsPartialOrder (λ (a b : BallotNumber). (a.round == b.round) && (a.site == b.site)) (as_partial_cmp ballot_cmp)
+pub ballot_cmp_partial : IsPartialOrder same_ballot (as_partial_cmp ballot_cmp)
 ballot_cmp_partial = partial_order_from_agreeing_total ballot_cmp ballot_cmp_total (λ a b. refl) ballot_eq_ties
 
 -- a ballot by its parts
 built : (round round' site site' : ℕ) → round ≡ round' → site ≡ site' → let made : ℕ → ℕ → BallotNumber = λ r s. record { round = r; site = s } in made round site ≡ made round' site'
 built round round' site site' e f = cc
+
+-- the test passes exactly where the two ballots are equal
+pub same_ballot_decides : (a b : BallotNumber) → Decides (same_ballot a b) (a ≡ b)
+same_ballot_decides a b = (
+  λ h. let parts = and_parts (a.round == b.round) (a.site == b.site) h in
+      built a.round b.round a.site b.site (eqb-true a.round b.round parts.0)
+      (eqb-true a.site b.site parts.1),
+  λ e. and_from (a.round == b.round) (a.site == b.site) (eq-eqb a.round b.round (ap (λ c. c.round) e))
+      (eq-eqb a.site b.site (ap (λ c. c.site) e)),
+)
 
 -- of two ballots one is below the other, or they are equal
 pub Below-cases : (a b : BallotNumber) → Below a b ⊎ ((a ≡ b) ⊎ Below b a)

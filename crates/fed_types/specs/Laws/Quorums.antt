@@ -4,7 +4,7 @@ use Rattle.std.proofs.Common.{arith, lt-ltb, sym, ◌∙◌}
 use Rattle.std.proofs.lemmas.Bool.{ltb-true, false≢true}
 use Rattle.fed_types.specs.Lists.{Has, here, is_in}
 use Rattle.fed_types.specs.Sites.{Membership, sites_to}
-use Rattle.fed_types.specs.Quorums.{QuorumsMeet, QuorumGrows, present_to, majority}
+use Rattle.fed_types.specs.Quorums.{QuorumsMeet, QuorumGrows, AreQuorums, QuorumSystem, present_to, quorums_of}
 use Rattle.fed_types.specs.Laws.Lists.{is_in_decides, Has-append_left, Has-append_right}
 
 -- one site more adds at most one
@@ -42,7 +42,7 @@ shared xs ys zero h = absurd (omega arith)
 shared xs ys (suc k) h = shared_more xs ys k (present_to xs k) (present_to ys k) (is_in xs (suc k)) (is_in ys (suc k)) refl refl (shared xs ys k) h
 
 -- two majorities share a member
-pub quorums_meet : (m : Membership) → QuorumsMeet (majority m)
+pub quorums_meet : (m : Membership) → QuorumsMeet (quorums_of m)
 quorums_meet m xs ys p q =
     let first = ltb-true m.count (2 * present_to xs m.count) p in
     let second = ltb-true m.count (2 * present_to ys m.count) q in
@@ -65,8 +65,27 @@ no_fewer xs ys (suc k) h =
     (no_fewer xs ys k (λ n p. h n (Has-append_left n (sites_to k) (suc k ∷ []) p)))
 
 -- voters that hold all members of a majority are one
-pub quorum_grows : (m : Membership) → QuorumGrows (majority m)
+pub quorum_grows : (m : Membership) → QuorumGrows (quorums_of m)
 quorum_grows m xs ys p h =
     let first = ltb-true m.count (2 * present_to xs m.count) p in
     let more = no_fewer xs ys m.count h in
     lt-ltb m.count (2 * present_to ys m.count) (omega arith)
+
+-- a federation's quorums are quorums
+pub are_quorums : (m : Membership) → AreQuorums (quorums_of m)
+are_quorums m = record { meet = quorums_meet m; grow = quorum_grows m }
+
+-- what stands in the one list stands in the other
+same_has : (xs ys : List ℕ) → ((n : ℕ) → is_in xs n ≡ is_in ys n) → (n : ℕ) → Has n xs → Has n ys
+same_has xs ys same n h = (is_in_decides ys n).0 (sym (same n) ∙ (is_in_decides xs n).1 h)
+
+-- a quorum is a set: the same voters in another order, or twice, are one as well
+pub same_quorum : (q : QuorumSystem) (xs ys : List ℕ) → AreQuorums q
+    → ((n : ℕ) → is_in xs n ≡ is_in ys n) → q.is_quorum xs ≡ q.is_quorum ys
+same_quorum q xs ys laws same = go (q.is_quorum xs) (q.is_quorum ys) refl refl
+  where
+    go : (s t : Bool) → q.is_quorum xs ≡ s → q.is_quorum ys ≡ t → s ≡ t
+    go true true e f = refl
+    go false false e f = refl
+    go true false e f = sym (laws.grow xs ys e (λ n member h. same_has xs ys same n h)) ∙ f
+    go false true e f = sym e ∙ laws.grow ys xs f (λ n member h. same_has ys xs (λ k. sym (same k)) n h)

@@ -1,9 +1,9 @@
-use Rattle.std.proofs.Common.{◌≡◌, ◌⊎◌, List, ℕ, length, drop, arith, ap, subst, refl, [], ◌∷◌, ◌++◌}
+use Rattle.std.proofs.Common.{length, drop, arith, ap, subst, refl, [], ◌∷◌, ◌++◌}
 use Rattle.std.proofs.lemmas.List.{length-drop}
 use Rattle.records.specs.declared.record.Record.{Record}
 use Rattle.records.specs.declared.journal.Step.TheVariants as steps
-use Rattle.records.specs.Journals.{IsTornEnd, IsNoRecord}
-use Rattle.records.specs.Answers.{IsStep}
+use Rattle.records.specs.Journals.{IsEnd, IsNoRecord}
+use Rattle.records.specs.inner.Steps.{IsStep}
 use Rattle.records.proofs.Walk.{from, from_is, parts_start, parts_next, step_size}
 use Rattle.records.proofs.journal.check_records.Goals as goal
 
@@ -16,7 +16,9 @@ returns-in-Damaged c =
 
 pub returns-in-End : goal.returns-in-End
 returns-in-End c =
-    (c.loop-size.invariant.0, c.loop-size.place, drop c.loop-size.place c.args.bytes.now, c.loop-size.invariant.1, subst (λ (b : List ℕ). (b ≡ []) ⊎ IsTornEnd b) (from_is c.args.bytes.now c.loop-size.place) c.in-End.ensures)
+    let rest = drop c.loop-size.place c.args.bytes.now in
+    let end : IsEnd rest = subst IsEnd (from_is c.args.bytes.now c.loop-size.place) c.in-End.ensures in
+    (c.loop-size.invariant.0, c.loop-size.place, (rest, c.loop-size.invariant.1, end))
 
 pub loop-size-smaller : goal.loop-size-smaller
 loop-size-smaller c =

@@ -1,6 +1,6 @@
 use Rattle.std.proofs.Common.{◌-◌, List, length, drop}
 use Rattle.records.specs.declared.record.Record.{Record}
-use Rattle.records.specs.Answers.{Parts}
+use Rattle.records.specs.inner.Steps.{Parts}
 use Rattle.records.proofs.journal.check_records.Given as goal
 
 abbrev pub invariant-loop-size : goal.invariant-loop-size

@@ -1,6 +1,6 @@
 use Rattle.std.proofs.Common.{◌≡◌, ◌-◌, Some, refl, arith, take, drop}
 use Rattle.records.specs.declared.record.Record.{Record}
-use Rattle.records.specs.Reading.{content_at}
+use Rattle.records.specs.inner.Decoding.{content_at}
 use Rattle.records.proofs.Steps.{sized_whole, sized_none, some_of, none_of}
 use Rattle.records.proofs.journal.find_next.Goals as goal
 

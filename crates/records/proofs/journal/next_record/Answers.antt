@@ -1,7 +1,7 @@
 use Rattle.std.proofs.Common.{◌-◌, arith, subst, take, drop}
 use Rattle.fields.specs.declared.fault.FieldFault.{FieldFault}
-use Rattle.fields.specs.Reading.{Fails}
-use Rattle.records.specs.Reading.{content_at}
+use Rattle.fields.specs.Decoding.{Fails}
+use Rattle.records.specs.inner.Decoding.{content_at}
 use Rattle.records.proofs.Steps.{sized_whole, sized_none}
 use Rattle.records.proofs.journal.next_record.Goals as goal
 

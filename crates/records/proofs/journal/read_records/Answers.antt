@@ -1,8 +1,8 @@
-use Rattle.std.proofs.Common.{◌≡◌, ◌⊎◌, List, ℕ, length, drop, arith, ap, subst, []}
+use Rattle.std.proofs.Common.{length, drop, arith, ap, subst}
 use Rattle.std.proofs.lemmas.List.{length-drop}
 use Rattle.records.specs.declared.journal.Step.TheVariants as steps
-use Rattle.records.specs.Journals.{IsTornEnd, IsNoRecord}
-use Rattle.records.specs.Answers.{IsStep}
+use Rattle.records.specs.Journals.{IsEnd, IsNoRecord}
+use Rattle.records.specs.inner.Steps.{IsStep}
 use Rattle.records.proofs.Walk.{from, from_is, parts_start, parts_next, step_size}
 use Rattle.records.proofs.journal.read_records.Goals as goal
 
@@ -16,8 +16,10 @@ returns-in-Damaged c =
 
 pub returns-in-End : goal.returns-in-End
 returns-in-End c =
-    let step : (from c.args.bytes.now c.loop-records.place ≡ []) ⊎ IsTornEnd (from c.args.bytes.now c.loop-records.place) = subst (IsStep (from c.args.bytes.now c.loop-records.place)) c.in-End.is c.in_ok-next_record.ensures in
-    (drop c.loop-records.place c.args.bytes.now, c.loop-records.invariant.read, subst (λ (b : List ℕ). (b ≡ []) ⊎ IsTornEnd b) (from_is c.args.bytes.now c.loop-records.place) step)
+    let here = from c.args.bytes.now c.loop-records.place in
+    let step : IsEnd here = subst (IsStep here) c.in-End.is c.in_ok-next_record.ensures in
+    let rest = drop c.loop-records.place c.args.bytes.now in
+    (rest, c.loop-records.invariant.read, subst IsEnd (from_is c.args.bytes.now c.loop-records.place) step)
 
 pub loop-records-smaller : goal.loop-records-smaller
 loop-records-smaller c =

@@ -1,5 +1,5 @@
 use Rattle.std.proofs.Common.{◌-◌, length, drop}
-use Rattle.records.specs.Answers.{Parts}
+use Rattle.records.specs.inner.Steps.{Parts}
 use Rattle.records.proofs.journal.read_records.Given as goal
 
 abbrev pub invariant-loop-records : goal.invariant-loop-records
