@@ -3,17 +3,18 @@ ghost use Rattle.std.specs.List.{list_any};
 ghost use Rattle.bag_text.specs.Reading.{declaration_of};
 ghost use Rattle.bag_check.specs.Check.{is_supported_version, is_supported_encoding};
 ghost use Rattle.bag_check.specs.Manifests.{text_at, is_unknown};
-ghost use Rattle.bag_check.specs.Order.{fault_of_declaration, fault_of_declared, fault_of_names, fault_of_tag_files};
+ghost use Rattle.bag_check.specs.inner.Order.{fault_of_declaration, fault_of_declared};
+ghost use Rattle.bag_check.specs.inner.Order.{fault_of_names, fault_of_tag_files};
 
 use crate::fault::BagFault;
-use crate::lookups::{has_file, text_at};
+use crate::files_by_path::FilesByPath;
 use crate::manifests::{Kind, is_known_manifest, is_manifest};
 use bag_text::{Algorithm, declaration};
 use bag_tree::FileFacts;
 
 /// The first fault for which no manifest is read: of the declaration, and of which files there are.
-#[tactic(auto, unfolding(crate::specs::Order::fault_of_tag_files))]
-pub(crate) fn fault_of_tag_files(files: &[FileFacts], payload: bool) -> Option<BagFault>
+#[tactic(auto, unfolding(crate::specs::inner::Order::fault_of_tag_files))]
+pub(crate) fn fault_of_tag_files(files: &FilesByPath<'_>, payload: bool) -> Option<BagFault>
     ensures { result ≡ fault_of_tag_files files.now payload }
 {
     match fault_of_declaration(files) {
@@ -22,10 +23,10 @@ pub(crate) fn fault_of_tag_files(files: &[FileFacts], payload: bool) -> Option<B
     }
 }
 
-fn fault_of_declaration(files: &[FileFacts]) -> Option<BagFault>
+fn fault_of_declaration(files: &FilesByPath<'_>) -> Option<BagFault>
     ensures { result ≡ fault_of_declaration (text_at (codes "bagit.txt") files.now) }
 {
-    match text_at(files, b"bagit.txt") {
+    match files.text_at("bagit.txt") {
         None => Some(BagFault::NoDeclaration),
         Some(text) => fault_of_declared(text),
     }
@@ -59,17 +60,17 @@ fn is_supported_encoding(encoding: &[u8]) -> bool
     encoding.eq_ignore_ascii_case(b"UTF-8")
 }
 
-#[tactic(auto, unfolding(crate::specs::Order::fault_of_names))]
-fn fault_of_names(files: &[FileFacts], payload: bool) -> Option<BagFault>
+#[tactic(auto, unfolding(crate::specs::inner::Order::fault_of_names))]
+fn fault_of_names(files: &FilesByPath<'_>, payload: bool) -> Option<BagFault>
     ensures { result ≡ fault_of_names files.now payload }
 {
-    if has_file(files, b"fetch.txt") {
+    if files.has_file("fetch.txt") {
         Some(BagFault::HasFetch)
     } else if !payload {
         Some(BagFault::NoPayloadFolder)
-    } else if !has_file(files, Kind::Payload.manifest_name(Algorithm::Sha512)) {
+    } else if !files.has_file(Kind::Payload.manifest_name(Algorithm::Sha512)) {
         Some(BagFault::NoSha512Manifest)
-    } else if some_unknown(files) {
+    } else if some_unknown(files.files()) {
         Some(BagFault::UnknownAlgorithm)
     } else {
         None
@@ -87,6 +88,6 @@ fn some_unknown(files: &[FileFacts]) -> bool
 fn is_unknown(file: &FileFacts) -> bool
     ensures { result ≡ is_unknown file.now }
 {
-    let path = file.path().as_bytes();
+    let path = file.path();
     is_manifest(path) && !is_known_manifest(path)
 }

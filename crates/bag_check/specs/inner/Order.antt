@@ -1,6 +1,7 @@
--- The faults in the order in which checking looks for them, for the contracts of private functions: the check proves that
--- the first fault found so is the first that holds.
-use Rattle.std.specs.Prelude.{◌≡◌, ℕ, Bool, true, false, not, if◌then◌else◌, List, [], ◌∷◌, ◌++◌, Option, Some, None, Result, Ok, Err, codes}
+-- The faults in the order in which checking looks for them, for the contracts of private functions:
+-- the check proves that the first fault found so is the first that holds.
+use Rattle.std.specs.Prelude.{◌≡◌, ℕ, Bool, true, false, not, if◌then◌else◌, codes}
+use Rattle.std.specs.Prelude.{List, [], ◌∷◌, ◌++◌, Option, Some, None, Result, Ok, Err}
 use Rattle.std.specs.List.{list_any, flat_map}
 use Rattle.std.specs.Option.{option_or}
 use Rattle.bag_text.specs.declared.algorithm.Algorithm.{Algorithm}
@@ -8,14 +9,23 @@ use Rattle.bag_text.specs.ListedFile.{ListedFile}
 use Rattle.bag_text.specs.Reading.{declaration_of}
 use Rattle.bag_tree.specs.Facts.{FileFact}
 use Rattle.bag_check.specs.declared.fault.BagFault.{BagFault}
-use Rattle.bag_check.specs.declared.fault.BagFault.TheVariants.{NoDeclaration, BadDeclaration, UnsupportedVersion, UnsupportedEncoding, HasFetch, NoPayloadFolder, NoSha512Manifest, UnknownAlgorithm, MalformedLine, UnsafePath, DuplicateEntry, MissingFile, UnlistedFile, WrongDigest, Memory}
+use Rattle.bag_check.specs.declared.fault.BagFault.TheVariants.{NoDeclaration, BadDeclaration}
+use Rattle.bag_check.specs.declared.fault.BagFault.TheVariants.{UnsupportedVersion}
+use Rattle.bag_check.specs.declared.fault.BagFault.TheVariants.{UnsupportedEncoding}
+use Rattle.bag_check.specs.declared.fault.BagFault.TheVariants.{HasFetch, NoPayloadFolder}
+use Rattle.bag_check.specs.declared.fault.BagFault.TheVariants.{NoSha512Manifest, UnknownAlgorithm}
+use Rattle.bag_check.specs.declared.fault.BagFault.TheVariants.{MalformedLine, UnsafePath}
+use Rattle.bag_check.specs.declared.fault.BagFault.TheVariants.{DuplicateEntry, MissingFile}
+use Rattle.bag_check.specs.declared.fault.BagFault.TheVariants.{UnlistedFile, WrongDigest, Memory}
 use Rattle.bag_check.specs.declared.manifests.Kind.{Kind}
-use Rattle.bag_check.specs.Manifests.{Manifest, has_file, text_at, sha512_manifest, is_unknown, is_malformed, entries}
-use Rattle.bag_check.specs.Check.{is_supported_version, is_supported_encoding, is_astray, repeats, is_unlisted, is_wrong, if_payload}
+use Rattle.bag_check.specs.Manifests.{Manifest, is_malformed, entries}
+use Rattle.bag_check.specs.Manifests.{has_file, text_at, sha512_manifest, is_unknown}
+use Rattle.bag_check.specs.Check.{is_supported_version, is_supported_encoding, is_astray, repeats}
+use Rattle.bag_check.specs.Check.{is_missing, is_unlisted, is_wrong, if_payload}
 
 -- ---- before any manifest is read
 
--- the first fault of what `bagit.txt` declares, or of its line that isn't of its form
+-- the first fault of what `bagit.txt` declares, or of its line that is malformed
 abbrev pub fault_of_declared : Result (List ℕ × List ℕ) ℕ → Option BagFault
 fault_of_declared (Err line) = Some BadDeclaration
 fault_of_declared (Ok (version, encoding)) =
@@ -39,30 +49,35 @@ fault_of_names files payload =
 
 -- the first fault for which no manifest is read
 unfoldable pub fault_of_tag_files : List FileFact → Bool → Option BagFault
-fault_of_tag_files files payload = option_or (fault_of_declaration (text_at (codes "bagit.txt") files)) (fault_of_names files payload)
+fault_of_tag_files files payload =
+    option_or (fault_of_declaration (text_at (codes "bagit.txt") files))
+    (fault_of_names files payload)
 
 -- ---- what the manifests list
 
--- a manifest, every line of which has its form, and what it lists
+-- a manifest, every line of which is well-formed, and what it lists
 pub record Listed : Type 0 where
   pub kind : Kind
   pub algorithm : Algorithm
   pub files : List ListedFile
 
 abbrev pub listed_in : Kind → Algorithm → Result (List ListedFile) ℕ → List Listed
-listed_in kind algorithm (Ok files) = record { kind = kind; algorithm = algorithm; files = files } ∷ []
+listed_in kind algorithm (Ok files) =
+    record { kind = kind; algorithm = algorithm; files = files } ∷ []
 listed_in kind algorithm (Err line) = []
 
 -- what the manifests list, but for those with a malformed line
 unfoldable pub listings : List Manifest → List Listed
-listings manifests = flat_map (λ manifest. listed_in manifest.kind manifest.algorithm (entries manifest)) manifests
+listings manifests =
+    flat_map (λ manifest. listed_in manifest.kind manifest.algorithm (entries manifest)) manifests
 
 unfoldable pub some_malformed : List Manifest → Bool
 some_malformed manifests = list_any (λ manifest. is_malformed (entries manifest)) manifests
 
--- reading the manifests puts these behind what was found before
+-- reading the manifests puts these after what was found before
 abbrev pub Reads : List Manifest → List Listed → List Listed → Type 0
-Reads manifests before found = (some_malformed manifests ≡ false) × (found ≡ before ++ listings manifests)
+Reads manifests before found =
+    (some_malformed manifests ≡ false) × (found ≡ before ++ listings manifests)
 
 -- reading the manifests fails so
 abbrev pub FailsToRead : List Manifest → BagFault → Type 0
@@ -79,7 +94,7 @@ abbrev pub has_repeat : Listed → Bool
 has_repeat listed = if_payload listed.kind (repeats listed.files)
 
 abbrev pub has_missing : List FileFact → Listed → Bool
-has_missing files listed = list_any (λ entry. not (has_file entry.path files)) listed.files
+has_missing files listed = list_any (is_missing files) listed.files
 
 abbrev pub has_unlisted : List FileFact → Listed → Bool
 has_unlisted files listed = if_payload listed.kind (list_any (is_unlisted listed.files) files)

@@ -32,11 +32,13 @@ impl<'a> Model for FilesByPath<'a> {
     ghost view = { λ f. f.files.now };
 
     // A look-up finds the first file of the path.
-    ghost invariant = { λ f. (q : List ℕ) → option_copied (get_by (λ k. slice_cmp nat_cmp q k.now) f.by_path) ≡ file_at q f.files.now };
+    ghost invariant = { λ f. (q : List ℕ)
+        → option_copied (get_by (λ k. slice_cmp nat_cmp q k.now) f.by_path)
+        ≡ file_at q f.files.now };
 }
 
 impl<'a> FilesByPath<'a> {
-    ghost use Rattle.bag_check.specs.Manifests.{file_at, has_file};
+    ghost use Rattle.bag_check.specs.Manifests.{file_at, has_file, text_at};
 
     pub(crate) fn new(alloc: Global, files: &'a [FileFacts]) -> Result<FilesByPath<'a>, AllocError>
         ensures { IfOk result (λ found. found ≡ files.now) }
@@ -67,6 +69,16 @@ impl<'a> FilesByPath<'a> {
         ensures { result ≡ has_file path.now self.now }
     {
         self.file_at(path).is_some()
+    }
+
+    /// The bytes of the text of this path, where there is one.
+    pub(crate) fn text_at(&self, path: &str) -> Option<&'a [u8]>
+        ensures { option_copied result ≡ text_at path.now self.now }
+    {
+        match self.file_at(path) {
+            None => None,
+            Some(file) => Some(file.text().unwrap_or(&[])),
+        }
     }
 }
 
