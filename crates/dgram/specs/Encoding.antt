@@ -1,53 +1,44 @@
--- The one spelling of each message, field by field. Numbers are big-endian.
+-- The canonical encoding of each message, field by field. Numbers are big-endian.
 use Rattle.std.specs.Prelude.{ℕ, ◌+◌, List, [], ◌∷◌, ◌++◌, length, Option, Some, None}
 use Rattle.std.specs.Int.{w16, w64, to_be_bytes}
 use Rattle.fed_types.specs.declared.bag_id.BagId.{BagId}
-use Rattle.fields.specs.Spelling.{ballot_bytes, bag_bytes, vote_bytes, slot_bytes}
-use Rattle.dgram.specs.Numbers.{MAGIC, LAYOUT, NO_SITE, NO_BAG, NO_PRIOR, PRIOR, PREPARE, PROMISE, ACCEPT, ACCEPTED, REFUSED, ASK, KNOWN, DEPOSIT, QUERY, DEPOSIT_REPLY, QUERY_REPLY, REGISTERED, OTHER_DEPOSIT, OTHER_KNOWN, DEVICE, MEMORY, NEEDS_OPEN, BEFORE_TREE_FAULTS, BEFORE_BAG_FAULTS, IS_KNOWN, IS_PENDING, IS_NOTHING}
-use Rattle.dgram.specs.declared.kind.Kind.{Kind}
-use Rattle.dgram.specs.declared.kind.Kind.TheVariants as kinds
+use Rattle.fed_types.specs.declared.vote.Vote.{Vote}
+use Rattle.fields.specs.Encoding.{ballot_bytes, bag_bytes, vote_bytes, slot_bytes}
+use Rattle.dgram.specs.Numbers.{MAGIC, LAYOUT, NO_SITE, NO_BAG, NO_PRIOR, PRIOR, PREPARE, PROMISE}
+use Rattle.dgram.specs.Numbers.{ACCEPT, ACCEPTED, REFUSED, ASK, KNOWN, DEPOSIT, QUERY}
+use Rattle.dgram.specs.Numbers.{DEPOSIT_REPLY, QUERY_REPLY, REGISTERED, OTHER_DEPOSIT, OTHER_KNOWN}
+use Rattle.dgram.specs.Numbers.{DEVICE, MEMORY, NEEDS_OPEN, BEFORE_TREE_FAULTS, BEFORE_BAG_FAULTS}
+use Rattle.dgram.specs.Numbers.{IS_KNOWN, IS_PENDING, IS_NOTHING}
 use Rattle.dgram.specs.declared.answers.DepositAnswer.{DepositAnswer}
 use Rattle.dgram.specs.declared.answers.DepositAnswer.TheVariants as deposit
 use Rattle.dgram.specs.declared.answers.QueryAnswer.{QueryAnswer}
 use Rattle.dgram.specs.declared.answers.QueryAnswer.TheVariants as query
-use Rattle.dgram.specs.declared.body.PriorVote.{PriorVote}
 use Rattle.dgram.specs.declared.body.Body.{Body}
-use Rattle.dgram.specs.declared.body.Body.TheVariants.{Prepare, Promise, Accept, Accepted, Refused, Ask, Known, Deposit, Query, DepositReply, QueryReply}
+use Rattle.dgram.specs.declared.body.Body.TheVariants.{Prepare, Promise, Accept, Accepted, Refused}
+use Rattle.dgram.specs.declared.body.Body.TheVariants.{Ask, Known, Deposit, Query, DepositReply}
+use Rattle.dgram.specs.declared.body.Body.TheVariants.{QueryReply}
 use Rattle.dgram.specs.declared.message.Message.{Message}
 
 -- the byte of each kind
-abbrev pub kind_code : Kind → ℕ
-kind_code kinds.Prepare = PREPARE
-kind_code kinds.Promise = PROMISE
-kind_code kinds.Accept = ACCEPT
-kind_code kinds.Accepted = ACCEPTED
-kind_code kinds.Refused = REFUSED
-kind_code kinds.Ask = ASK
-kind_code kinds.Known = KNOWN
-kind_code kinds.Deposit = DEPOSIT
-kind_code kinds.Query = QUERY
-kind_code kinds.DepositReply = DEPOSIT_REPLY
-kind_code kinds.QueryReply = QUERY_REPLY
-
-abbrev pub body_kind : Body → Kind
-body_kind (Prepare ballot) = kinds.Prepare
-body_kind (Promise from ballot prior) = kinds.Promise
-body_kind (Accept ballot bag) = kinds.Accept
-body_kind (Accepted from ballot bag) = kinds.Accepted
-body_kind (Refused from asked standing) = kinds.Refused
-body_kind (Ask from) = kinds.Ask
-body_kind (Known from bag) = kinds.Known
-body_kind (Deposit path) = kinds.Deposit
-body_kind Query = kinds.Query
-body_kind (DepositReply from answer) = kinds.DepositReply
-body_kind (QueryReply from answer) = kinds.QueryReply
+abbrev pub kind_of : Body → ℕ
+kind_of (Prepare ballot) = PREPARE
+kind_of (Promise from ballot prior) = PROMISE
+kind_of (Accept vote) = ACCEPT
+kind_of (Accepted from vote) = ACCEPTED
+kind_of (Refused from asked standing) = REFUSED
+kind_of (Ask from) = ASK
+kind_of (Known from bag) = KNOWN
+kind_of (Deposit path) = DEPOSIT
+kind_of Query = QUERY
+kind_of (DepositReply from answer) = DEPOSIT_REPLY
+kind_of (QueryReply from answer) = QUERY_REPLY
 
 -- the site that says it: a Prepare and an Accept come from their ballot's site
 abbrev pub body_from : Body → Option ℕ
 body_from (Prepare ballot) = Some ballot.site
 body_from (Promise from ballot prior) = Some from
-body_from (Accept ballot bag) = Some ballot.site
-body_from (Accepted from ballot bag) = Some from
+body_from (Accept vote) = Some vote.ballot.site
+body_from (Accepted from vote) = Some from
 body_from (Refused from asked standing) = Some from
 body_from (Ask from) = Some from
 body_from (Known from bag) = Some from
@@ -62,9 +53,9 @@ from_byte None = NO_SITE
 from_byte (Some site) = site
 
 -- a flag, and the prior vote where there is one
-abbrev pub prior_bytes : Option PriorVote → List ℕ
+abbrev pub prior_bytes : Option Vote → List ℕ
 prior_bytes None = NO_PRIOR ∷ []
-prior_bytes (Some v) = PRIOR ∷ vote_bytes v.ballot v.bag
+prior_bytes (Some v) = PRIOR ∷ vote_bytes v
 
 -- length in two bytes, path
 abbrev pub path_bytes : List ℕ → List ℕ
@@ -114,8 +105,8 @@ reply_bytes code bag = code ∷ bag_bytes bag
 abbrev pub body_bytes : Body → List ℕ
 body_bytes (Prepare ballot) = ballot_bytes ballot
 body_bytes (Promise from ballot prior) = ballot_bytes ballot ++ prior_bytes prior
-body_bytes (Accept ballot bag) = vote_bytes ballot bag
-body_bytes (Accepted from ballot bag) = vote_bytes ballot bag
+body_bytes (Accept vote) = vote_bytes vote
+body_bytes (Accepted from vote) = vote_bytes vote
 body_bytes (Refused from asked standing) = ballot_bytes asked ++ ballot_bytes standing
 body_bytes (Ask from) = []
 body_bytes (Known from bag) = bag_bytes bag
@@ -128,6 +119,11 @@ body_bytes (QueryReply from answer) = reply_bytes (query_code answer) (query_bag
 abbrev pub front_bytes : ℕ → ℕ → List ℕ
 front_bytes federation kind = (MAGIC ++ LAYOUT ∷ kind ∷ []) ++ to_be_bytes w64 federation
 
--- the datagram of a message of a federation
+-- front, sender
+abbrev pub start_bytes : ℕ → Body → List ℕ
+start_bytes federation b = front_bytes federation (kind_of b) ++ from_byte (body_from b) ∷ []
+
+-- the datagram of a message of a federation: start, slot, body
 abbrev pub datagram_of : ℕ → Message → List ℕ
-datagram_of federation m = front_bytes federation (kind_code (body_kind m.body)) ++ (from_byte (body_from m.body) ∷ (slot_bytes m.slot ++ body_bytes m.body))
+datagram_of federation m =
+    start_bytes federation m.body ++ (slot_bytes m.slot ++ body_bytes m.body)
