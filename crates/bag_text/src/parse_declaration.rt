@@ -3,8 +3,11 @@ ghost use Rattle.std.specs.Char.{is_ascii_digit};
 ghost use Rattle.std.specs.List.{list_all, position};
 ghost use Rattle.std.specs.Option.{option_copied};
 ghost use Rattle.bag_text.specs.Lines.{lines_of};
-ghost use Rattle.bag_text.specs.Declarations.{IsDeclaration, IsDeclarationFault, is_visible, full_stop};
-ghost use Rattle.bag_text.specs.Reading.{Gives, declaration_of, field_value, version_in, encoding_in, is_version, is_number, is_encoding_name};
+ghost use Rattle.bag_text.specs.Declarations.{IsDeclaration, IsDeclarationFault};
+ghost use Rattle.bag_text.specs.Declarations.{is_visible, full_stop};
+ghost use Rattle.bag_text.specs.Reading.{declaration_of, field_value, version_in, encoding_in};
+ghost use Rattle.bag_text.specs.Reading.{is_version, is_number, is_encoding_name};
+ghost use Rattle.bag_text.specs.Fault.{IsOrMemory};
 
 use crate::bagit_txt::Declaration;
 use crate::blank::{after_gap, trim_blanks};
@@ -12,11 +15,12 @@ use crate::fault::TextFault;
 use crate::line::first_line;
 
 /// The version and the encoding that the text of a `bagit.txt` declares (RFC 8493, 2.1.1). It is
-/// `Malformed` at the first of lines 1 and 2 that is missing or isn't of its form, else at line 3
+/// `Malformed` at the first of lines 1 and 2 that is missing or isn't well-formed, else at line 3
 /// where there is one. It takes no memory.
 pub fn declaration(text: &[u8]) -> Result<Declaration<'_>, TextFault>
     // What is read is what the text declares.
-    ensures found { IfOk result (λ read. IsDeclaration text.now read.version.now read.encoding.now) }
+    ensures found { IfOk result
+        (λ read. IsDeclaration text.now read.version.now read.encoding.now) }
     // What a text declares is read.
     ensures only { (version encoding : List ℕ) → IsDeclaration text.now version encoding
         → IsOkAnd result (λ read. (read.version.now ≡ version) × (read.encoding.now ≡ encoding)) }
@@ -24,13 +28,15 @@ pub fn declaration(text: &[u8]) -> Result<Declaration<'_>, TextFault>
     ensures malformed { IfErr result (λ fault. (line : ℕ) × (fault ≡ TextFault.Malformed line)
         × IsDeclarationFault (lines_of text.now) line) }
     // The same as a function.
-    ensures exact { Gives (λ read. (read.version.now, read.encoding.now)) result (declaration_of text.now) }
+    ensures exact { IsOrMemory (λ read. (read.version.now, read.encoding.now)) result
+        (declaration_of text.now) }
 {
     declared(text)
 }
 
 fn declared(text: &[u8]) -> Result<Declaration<'_>, TextFault>
-    ensures exact { Gives (λ read. (read.version.now, read.encoding.now)) result (declaration_of text.now) }
+    ensures exact { IsOrMemory (λ read. (read.version.now, read.encoding.now)) result
+        (declaration_of text.now) }
     ensures memory { IfErr result (λ fault. fault ≢ TextFault.Memory) }
 {
     if text.is_empty() {

@@ -2,14 +2,15 @@ ghost use Rattle.std.specs.Prelude.{◌≡◌, ℕ, List, IfOk, IsErrOf, MatchRe
 ghost use Rattle.bag_text.specs.ListedFile.{ListedFile};
 ghost use Rattle.bag_text.specs.Lines.{lines_of};
 ghost use Rattle.bag_text.specs.Manifests.{IsManifest, IsFirstMalformed};
-ghost use Rattle.bag_text.specs.Reading.{Gives, entries_of};
+ghost use Rattle.bag_text.specs.Reading.{entries_of};
+ghost use Rattle.bag_text.specs.Fault.{IsOrMemory};
 
 use crate::algorithm::Algorithm;
 use crate::blank::is_blank_line;
 use crate::entry::Entry;
 use crate::fault::TextFault;
 use crate::line::first_line;
-use crate::listing::entry_in;
+use crate::parse_entry::entry_in;
 use std::alloc::Global;
 
 /// The entries of a payload or tag manifest of the algorithm, in order (RFC 8493, 2.1.3 and 2.2.1).
@@ -20,18 +21,19 @@ pub fn manifest(alloc: Global, algorithm: Algorithm, text: &[u8]) -> Result<Vec<
     ensures found { IfOk result (λ entries. IsManifest algorithm text.now entries.items) }
     // What a text lists is read, unless memory runs out.
     ensures only { (files : List ListedFile) → IsManifest algorithm text.now files
-        → MatchResult result (λ entries. entries.items ≡ files) (λ fault. fault ≡ TextFault.Memory) }
+        → MatchResult result (λ entries. entries.items ≡ files)
+        (λ fault. fault ≡ TextFault.Memory) }
     // Which line is malformed.
     ensures malformed { (line : ℕ) → IsErrOf result (TextFault.Malformed line)
         → IsFirstMalformed algorithm (lines_of text.now) line }
     // The same as a function.
-    ensures exact { Gives (λ entries. entries.items) result (entries_of algorithm text.now) }
+    ensures exact { IsOrMemory (λ entries. entries.items) result (entries_of algorithm text.now) }
 {
     entries_in(alloc, algorithm, text)
 }
 
 fn entries_in(alloc: Global, algorithm: Algorithm, text: &[u8]) -> Result<Vec<Entry>, TextFault>
-    ensures { Gives (λ entries. entries.items) result (entries_of algorithm text.now) }
+    ensures { IsOrMemory (λ entries. entries.items) result (entries_of algorithm text.now) }
 {
     let mut entries = Vec::new(alloc);
     let mut rest = text;
