@@ -1,2 +1,3 @@
-pub mod Present
 pub mod SetBits
+pub mod Sums
+pub mod Weights

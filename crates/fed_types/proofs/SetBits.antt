@@ -9,7 +9,7 @@ use Rattle.std.proofs.lemmas.Nat.{or_lt}
 use Rattle.std.proofs.lemmas.Nat.Bits.{bit_at_set_same, bit_at_set_other, shr_and_one}
 use Rattle.fed_types.specs.Lists.{is_in}
 use Rattle.fed_types.specs.Voters.{with_voter}
-use Rattle.fed_types.specs.Words.{bits_below}
+use Rattle.fed_types.specs.inner.Words.{bits_below}
 use Rattle.fed_types.specs.Laws.Words.{is_in-bits_below, same_bits, one_more}
 
 -- the set of the word is the old one and k

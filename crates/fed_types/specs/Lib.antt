@@ -9,4 +9,4 @@ pub mod Sites
 pub mod Slots
 pub mod Values
 pub mod Voters
-pub mod Words
+pub mod inner

@@ -2,6 +2,10 @@
 -- contracts of the types hold to these.
 use Rattle.std.specs.Prelude.{ℕ, ◌-◌, ◌^◌}
 
+-- the bits of a federation's number, a field of eight bytes
+abbrev pub federation_bits : ℕ
+federation_bits = 64
+
 -- the greatest number of a site, so that a set of sites is a word of 64 bits; the least is 1
 abbrev pub greatest_site : ℕ
 greatest_site = 63

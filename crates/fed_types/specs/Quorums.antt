@@ -1,8 +1,9 @@
 -- Quorums: any two share a member, as any two majorities do (Lamport, Paxos Made Simple,
 -- section 2.2).
-use Rattle.std.specs.Prelude.{ℕ, zero, suc, ◌+◌, ◌*◌, Bool, List, nat_lt, IsTrue, if◌then◌else◌}
+use Rattle.std.specs.Prelude.{ℕ, ◌*◌, Bool, List, nat_lt, IsTrue}
+use Rattle.std.specs.List.{filter}
 use Rattle.fed_types.specs.Lists.{Has, is_in}
-use Rattle.fed_types.specs.Sites.{Membership, sites_to}
+use Rattle.fed_types.specs.Sites.{Membership, members_of, weight_sum}
 
 -- the members, and whether a list of voters is a quorum
 pub record QuorumSystem : Type 0 where
@@ -31,14 +32,15 @@ pub record AreQuorums (q : QuorumSystem) : Type 0 where
   pub meet : QuorumsMeet q
   pub grow : QuorumGrows q
 
--- how many of the sites 1 to n are among the voters
-unfoldable pub present_to : List ℕ → ℕ → ℕ
-present_to voters zero = 0
-present_to voters (suc n) = present_to voters n + (if is_in voters (suc n) then 1 else 0)
+-- the members that are among the voters
+abbrev pub members_among : Membership → List ℕ → List ℕ
+members_among m voters = filter (is_in voters) (members_of m)
 
--- a federation's quorums: voters among whom are more than half of its members
+-- a federation's quorums: voters whose weight, taken twice, is more than that of all members;
+-- voters that aren't members have none
 abbrev pub quorums_of : Membership → QuorumSystem
 quorums_of m = record {
-  members = sites_to m.count;
-  is_quorum = λ voters. nat_lt m.count (2 * present_to voters m.count);
+  members = members_of m;
+  is_quorum = λ voters.
+      nat_lt (weight_sum m (members_of m)) (2 * weight_sum m (members_among m voters));
 }

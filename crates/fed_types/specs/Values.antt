@@ -4,8 +4,8 @@ use Rattle.std.specs.Str.{IsUtf8}
 use Rattle.fed_types.specs.declared.bag_id.BagId.{BagId}
 use Rattle.fed_types.specs.declared.vote.Vote.{Vote}
 use Rattle.fed_types.specs.Ballots.{BallotNumber}
-use Rattle.fed_types.specs.Limits.{bag_len, round_bits, version_bits}
-use Rattle.fed_types.specs.Sites.{IsSiteNumber}
+use Rattle.fed_types.specs.Limits.{bag_len, federation_bits, round_bits, version_bits}
+use Rattle.fed_types.specs.Sites.{AreWeights, IsSiteNumber, Membership}
 use Rattle.fed_types.specs.Slots.{SlotName, IsSlotName}
 
 -- a slot's object is a text, and its version fits its field
@@ -27,3 +27,7 @@ IsBag b = length b.0 ≡ bag_len
 -- a vote has a ballot and a bag
 abbrev pub IsVote : Vote → Type 0
 IsVote v = IsBallot v.ballot × IsBag v.bag
+
+-- a federation's number fits its field, and it has weights for 1 to the most members
+abbrev pub IsMembership : Membership → Type 0
+IsMembership m = (m.federation < 2 ^ federation_bits) × AreWeights m.weights

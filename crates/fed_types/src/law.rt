@@ -9,11 +9,12 @@ ghost use Rattle.fed_types.specs.Limits.{
   most_members,
 };
 ghost use Rattle.fed_types.specs.Sites.{IsSiteNumber};
-ghost use Rattle.fed_types.specs.Values.{IsBag, IsBallot, IsSlot, IsVote};
+ghost use Rattle.fed_types.specs.Values.{IsBag, IsBallot, IsMembership, IsSlot, IsVote};
 
 use crate::bag_id::{BAG_BYTES, BagId};
 use crate::ballot::Ballot;
 use crate::limits::{GREATEST_SITE, GREATEST_WEIGHT, LONGEST_OBJECT, MOST_MEMBERS};
+use crate::members::Members;
 use crate::site_no::SiteNo;
 use crate::slot::Slot;
 use crate::vote::Vote;
@@ -32,6 +33,15 @@ pub fn sites_are_well_formed(site: SiteNo)
     ensures { IsSiteNumber site }
 {
     let _number = site.number();
+}
+
+/// A federation's number has 64 bits, and it has 1 to `MOST_MEMBERS` members of weights 1 to
+/// `GREATEST_WEIGHT`.
+pub fn members_are_well_formed(members: &Members)
+    ensures { IsMembership members.now }
+{
+    let _federation = members.federation();
+    let _weights = members.weights();
 }
 
 /// A slot's object is a text of 1 to `LONGEST_OBJECT` bytes, and its version is at least 1 and has

@@ -17,8 +17,8 @@ mod voters;
 pub use bag_id::{BAG_BYTES, BagId};
 pub use ballot::Ballot;
 pub use law::{
-    bags_are_well_formed, ballots_are_well_formed, limits_law, sites_are_well_formed,
-    slots_are_well_formed, votes_are_well_formed,
+    bags_are_well_formed, ballots_are_well_formed, limits_law, members_are_well_formed,
+    sites_are_well_formed, slots_are_well_formed, votes_are_well_formed,
 };
 pub use limits::{GREATEST_SITE, GREATEST_WEIGHT, LONGEST_OBJECT, MOST_MEMBERS};
 pub use members::Members;

@@ -1,48 +1,104 @@
-ghost use Rattle.std.specs.Prelude.{◌≡◌, ◌≤◌, ◌↔◌, IsTrue, IsOk, IfOk, IsErrOf};
+ghost use Rattle.std.specs.Prelude.{
+  ◌≡◌,
+  ◌≤◌,
+  ◌↔◌,
+  ℕ,
+  length,
+  replicate,
+  IsTrue,
+  IsOk,
+  IfOk,
+  IsErrOf,
+};
+ghost use Rattle.std.specs.List.{Contains};
 ghost use Rattle.fed_types.specs.Lists.{is_in};
-ghost use Rattle.fed_types.specs.Sites.{IsMemberCount, sites_to};
+ghost use Rattle.fed_types.specs.Sites.{
+  AreWeights,
+  IsMemberCount,
+  IsSiteNumber,
+  count_of,
+  members_of,
+  weight_of,
+  weight_sum,
+};
 
 use crate::limits::MOST_MEMBERS;
 use crate::site_no::SiteNo;
 use crate::type_fault::TypeFault;
 use std::marker::Model;
 
-/// The members of a federation: the sites 1 to `count`. A clause sees a `Membership`.
+// Room for the weights of as many members as a federation can have.
+const ROOM: usize = 63;
+
+/// The members of a federation: the sites 1 to `count`, each with its weight. A clause sees a
+/// `Membership`.
 #[derive(Clone, Copy, Debug, PartialEq, Eq)]
 pub struct Members {
     federation: u64,
     count: u8,
+    // The weights of the members, that of site 1 first, and then zeros.
+    weights: [u8; ROOM],
 }
 
 impl Model for Members {
-    ghost use Rattle.fed_types.specs.Sites.{Membership, IsMemberCount};
+    ghost use Rattle.std.specs.Prelude.{length, take};
+    ghost use Rattle.std.specs.List.{All};
+    ghost use Rattle.fed_types.specs.Sites.{Membership, IsMemberCount, IsWeight};
+    ghost use Rattle.fed_types.specs.inner.Padded.{IsPadded, padded};
+    ghost use Rattle.fed_types.specs.inner.PaddedLaws.{given_back};
 
     ghost Value = { Membership };
 
-    ghost view = { λ m. record { federation = m.federation; count = m.count } };
+    ghost view = { λ m. record { federation = m.federation; weights = take m.count m.weights } };
 
-    ghost invariant = { λ m. IsMemberCount m.count };
+    ghost invariant = { λ m. IsMemberCount m.count × All IsWeight (take m.count m.weights) × IsPadded m.count m.weights };
 
-    ghost inverse = { λ m. record { federation = m.federation; count = m.count } };
+    ghost inverse = { λ m. record { federation = m.federation; count = length m.weights; weights = padded m.weights } };
+
+    ghost inverse_ok = { λ m h. given_back (λ c ws. record { federation = m.federation; count = c; weights = ws }) m.count m.weights h.0.1 h.2 };
 }
 
 impl Members {
-    /// The federation of this number with the sites 1 to `count`, or `BadCount` where `count` is
-    /// not 1 to `MOST_MEMBERS`.
+    /// The federation of this number with the sites 1 to `count`, each of weight 1, or `BadCount`
+    /// where `count` is not 1 to `MOST_MEMBERS`.
     pub fn new(federation: u64, count: u8) -> Result<Members, TypeFault>
         ensures ok { IsOk result ↔ IsMemberCount count }
-        ensures value { IfOk result (λ m. m ≡ record { federation = federation; count = count }) }
+        ensures value { IfOk result (λ m. m ≡ record { federation = federation; weights = replicate count 1 }) }
         ensures bad_count { IsErrOf result TypeFault.BadCount ↔ ¬ IsMemberCount count }
     {
-        if count == 0 || MOST_MEMBERS < count {
+        if MOST_MEMBERS < count {
             return Err(TypeFault::BadCount);
         }
-        Ok(Members { federation, count })
+        let ones = [1; ROOM];
+        Members::weighted(federation, &ones[..usize::from(count)])
+    }
+
+    /// The federation of this number whose sites, from site 1 on, have these weights. `BadCount`
+    /// where there are not 1 to `MOST_MEMBERS` weights, else `BadWeight` where a weight is 0.
+    pub fn weighted(federation: u64, weights: &[u8]) -> Result<Members, TypeFault>
+        ensures ok { IsOk result ↔ (IsMemberCount (length weights.now) × ¬ Contains weights.now 0) }
+        ensures value { IfOk result (λ m. m ≡ record { federation = federation; weights = weights.now }) }
+        ensures bad_count { IsErrOf result TypeFault.BadCount ↔ ¬ IsMemberCount (length weights.now) }
+        ensures bad_weight { IsErrOf result TypeFault.BadWeight ↔ (IsMemberCount (length weights.now) × Contains weights.now 0) }
+    {
+        if weights.is_empty() || ROOM < weights.len() {
+            return Err(TypeFault::BadCount);
+        }
+        if weights.contains(&0) {
+            return Err(TypeFault::BadWeight);
+        }
+        let mut padded = [0; ROOM];
+        padded[..weights.len()].copy_from_slice(weights);
+        Ok(Members {
+            federation,
+            count: weights.len() as u8,
+            weights: padded,
+        })
     }
 
     /// How many members there are, 1 to `MOST_MEMBERS`.
     pub fn count(self) -> u8
-        ensures value { result ≡ self.count }
+        ensures value { result ≡ count_of self }
         ensures in_range { IsMemberCount result }
     {
         self.count
@@ -55,11 +111,45 @@ impl Members {
         self.federation
     }
 
+    /// The weights of the members, each 1 to `GREATEST_WEIGHT`, that of site 1 first.
+    pub fn weights(&self) -> &[u8]
+        ensures value { result.now ≡ self.now.weights }
+        ensures in_range { AreWeights result.now }
+    {
+        &self.weights[..usize::from(self.count)]
+    }
+
+    /// The weight of the site, 0 where it is no member.
+    pub fn weight(self, site: SiteNo) -> u8
+        ensures { result ≡ weight_of self site }
+    {
+        self.weight_at(site.number())
+    }
+
+    /// The weights of all members, added.
+    pub fn total_weight(self) -> u16
+        ensures { result ≡ weight_sum self (members_of self) }
+    {
+        let mut total = 0;
+        for number in 1..=self.count() {
+            total += u16::from(self.weight_at(number));
+        }
+        total
+    }
+
     /// Whether the site is a member.
     pub fn has(self, site: SiteNo) -> bool
-        ensures member { result ≡ is_in (sites_to self.count) site }
-        ensures in_range { IsTrue result ↔ (site ≤ self.count) }
+        ensures member { result ≡ is_in (members_of self) site }
+        ensures in_range { IsTrue result ↔ (site ≤ count_of self) }
     {
-        site.number() <= self.count
+        site.number() <= self.count()
+    }
+
+    // The weight of the site of this number.
+    pub(crate) fn weight_at(self, number: u8) -> u8
+        requires { IsSiteNumber number }
+        ensures { result ≡ weight_of self number }
+    {
+        self.weights[usize::from(number) - 1]
     }
 }

@@ -125,6 +125,36 @@ fn memberships(rt: HostRuntime) -> Result<(), Fail> {
 }
 
 #[test]
+fn weights(rt: HostRuntime) -> Result<(), Fail> {
+    let many = [0; 64];
+    let rows: [(&[u8], Option<TypeFault>); 8] = [
+        (&[], Some(TypeFault::BadCount)),
+        (&many, Some(TypeFault::BadCount)),
+        (&many[..63], Some(TypeFault::BadWeight)),
+        (&[0], Some(TypeFault::BadWeight)),
+        (&[1, 0], Some(TypeFault::BadWeight)),
+        (&[1], None),
+        (&[255; 63], None),
+        (&[1; 64], Some(TypeFault::BadCount)),
+    ];
+    for (weights, want) in rows {
+        assert_eq!(rt; Members::weighted(7, weights).err(), want, "{weights:?}");
+    }
+    let members = Members::weighted(7, &[2, 1, 255])?;
+    members_are_well_formed(&members);
+    assert_eq!(rt; members.federation(), 7);
+    assert_eq!(rt; members.count(), 3);
+    assert_eq!(rt; members.total_weight(), 258);
+    for (number, want) in [(1, 2), (2, 1), (3, 255), (4, 0), (63, 0)] {
+        assert_eq!(rt; members.weight(SiteNo::new(number)?), want, "site {number}");
+    }
+    assert!(rt; Members::weighted(7, &[1, 1, 1])? == Members::new(7, 3)?);
+    assert!(rt; members != Members::weighted(7, &[2, 1])?);
+    assert!(rt; members != Members::weighted(8, &[2, 1, 255])?);
+    Ok(())
+}
+
+#[test]
 fn ballots_by_round_then_site(rt: HostRuntime) -> Result<(), Fail> {
     assert_eq!(rt;
         Ballot::new(0, SiteNo::new(1)?).err(),
@@ -229,6 +259,41 @@ fn quorums_are_more_than_half(rt: HostRuntime) -> Result<(), Fail> {
     let voters = voters_of(&[3, 63])?;
     for (number, want) in [(1, false), (3, true), (62, false), (63, true)] {
         assert_eq!(rt; voters.has(SiteNo::new(number)?), want, "site {number}");
+    }
+    Ok(())
+}
+
+#[test]
+fn quorums_have_more_than_half_of_the_weight(rt: HostRuntime) -> Result<(), Fail> {
+    // Weights, voters, whether they are a quorum.
+    let rows: [(&[u8], &[u8], bool); 11] = [
+        (&[2, 1, 1], &[1, 2], true),
+        (&[2, 1, 1], &[2, 3], false),
+        (&[2, 1, 1], &[1], false),
+        (&[2, 1, 1], &[1, 4, 5, 63], false),
+        (&[2, 1], &[1], true),
+        (&[2, 1], &[2], false),
+        (&[200, 100], &[2], false),
+        (&[200, 100, 100], &[1, 3], true),
+        (&[1], &[1], true),
+        (&[255], &[2], false),
+        (&[1, 1, 255], &[1, 2], false),
+    ];
+    for (weights, numbers, want) in rows {
+        let members = Members::weighted(7, weights)?;
+        let voters = voters_of(numbers)?;
+        assert_eq!(rt;
+            voters.is_quorum(&members),
+            want,
+            "{numbers:?} of {weights:?}"
+        );
+    }
+    let most = Members::weighted(7, &[255; 63])?;
+    assert_eq!(rt; most.total_weight(), 16_065);
+    let mut voters = Voters::new();
+    for number in 1..=63 {
+        voters.add(SiteNo::new(number)?);
+        assert_eq!(rt; voters.is_quorum(&most), number >= 32, "{number} of 63");
     }
     Ok(())
 }

@@ -1,7 +1,9 @@
-ghost use Rattle.std.specs.Prelude.{◌≡◌, ◌<◌, ◌||◌, ◌==◌, ℕ, [], IsTrue};
+ghost use Rattle.std.specs.Prelude.{◌≡◌, ◌<◌, ◌≤◌, ◌*◌, ◌||◌, ◌==◌, ℕ, [], IsTrue};
 ghost use Rattle.fed_types.specs.Lists.{is_in};
 ghost use Rattle.fed_types.specs.Voters.{with_voter};
-ghost use Rattle.fed_types.specs.Quorums.{quorums_of};
+ghost use Rattle.fed_types.specs.Quorums.{members_among, quorums_of};
+ghost use Rattle.fed_types.specs.Sites.{weight_sum};
+ghost use Rattle.fed_types.specs.Limits.{greatest_weight, most_members};
 
 use crate::members::Members;
 use crate::site_no::SiteNo;
@@ -17,7 +19,7 @@ pub struct Voters {
 impl Model for Voters {
     ghost use Rattle.std.specs.Prelude.{ℕ, List, ◌<◌, ◌^◌};
     ghost use Rattle.std.proofs.Common.{ap};
-    ghost use Rattle.fed_types.specs.Words.{bits_below, word_of};
+    ghost use Rattle.fed_types.specs.inner.Words.{bits_below, word_of};
     ghost use Rattle.fed_types.specs.Laws.Words.{word_of-bits_below};
 
     ghost Value = { List ℕ };
@@ -33,7 +35,7 @@ impl Model for Voters {
 
 impl Voters {
     /// The empty set.
-    #[tactic(auto, unfolding(crate::specs::Words::bits_below))]
+    #[tactic(auto, unfolding(crate::specs::inner::Words::bits_below))]
     pub fn new() -> Voters
         ensures { result ≡ [] }
     {
@@ -56,17 +58,26 @@ impl Voters {
         self.holds(site.number())
     }
 
-    /// Whether more than half of the members are in the set. Sites that aren't members don't
-    /// count.
+    /// Whether the members in the set have more than half of the weight of all members. Sites
+    /// that aren't members don't count.
     pub fn is_quorum(&self, members: &Members) -> bool
         ensures { result ≡ (quorums_of members.now).is_quorum self.now }
     {
-        let count = members.count();
-        let mut present = 0;
-        for number in 1..=count {
-            present += u8::from(self.holds(number));
+        2 * self.weight(members) > members.total_weight()
+    }
+
+    // The weights of the members in the set, added.
+    fn weight(&self, members: &Members) -> u16
+        ensures value { result ≡ weight_sum members.now (members_among members.now self.now) }
+        ensures most { result ≤ most_members * greatest_weight }
+    {
+        let mut sum = 0;
+        for number in 1..=members.count() {
+            if self.holds(number) {
+                sum += u16::from(members.weight_at(number));
+            }
         }
-        2 * present > count
+        sum
     }
 
     // Whether the site of this number is in the set.

@@ -1,8 +1,9 @@
 ghost use Rattle.std.specs.Prelude.{OnOk};
 ghost use Rattle.hex.specs.Hex.{IsBytes};
 ghost use Rattle.schedule.specs.declared.command.Command.TheVariants.{File, Deposit, Query};
+ghost use Rattle.schedule.specs.Pushes.{Pushes};
 ghost use Rattle.schedule.specs.Texts.{hex_word, printed_command, federation_line};
-ghost use Rattle.schedule.specs.inner.Printed.{Pushes, RoundTrips, FederationRoundTrips};
+ghost use Rattle.schedule.specs.inner.Printed.{RoundTrips, FederationRoundTrips};
 
 use crate::command::{Command, Content, FilePath, TreeNo};
 use crate::word::push_escaped;

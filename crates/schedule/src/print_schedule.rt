@@ -1,7 +1,8 @@
 ghost use Rattle.std.specs.Prelude.{◌≡◌, IfOk, IfSome, OnOk, Ok, string_bytes};
 ghost use Rattle.schedule.specs.Plans.{plan_of};
+ghost use Rattle.schedule.specs.Pushes.{Pushes};
 ghost use Rattle.schedule.specs.Texts.{printed_line, schedule_text};
-ghost use Rattle.schedule.specs.inner.Printed.{Pushes, RoundTrips};
+ghost use Rattle.schedule.specs.inner.Printed.{RoundTrips};
 
 use crate::command::Command;
 use crate::plan::Schedule;

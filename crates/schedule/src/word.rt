@@ -1,5 +1,6 @@
-ghost use Rattle.std.specs.Prelude.{◌≡◌, ◌++◌, OnOk, OnErr, string_bytes};
+ghost use Rattle.std.specs.Prelude.{◌≡◌, OnErr, string_bytes};
 ghost use Rattle.schedule.specs.Escapes.{escaped_text};
+ghost use Rattle.schedule.specs.Pushes.{Pushes};
 
 use percent_encoding::{AsciiSet, CONTROLS, ascii_set, utf8_percent_encode};
 use std::alloc::AllocError;
@@ -12,8 +13,7 @@ const ESCAPED: AsciiSet = ascii_set!(CONTROLS.add(b' ').add(b'%'));
 /// to 20, 25, and 7F and all above are percent-encoded, with capital hex digits. Out of memory, it
 /// leaves the text as it was.
 pub fn push_escaped(text: &mut String, name: &str) -> Result<(), AllocError>
-    ensures ok { OnOk result
-        (string_bytes text.new ≡ string_bytes text.old ++ escaped_text name.now) }
+    ensures ok { Pushes result text.old text.new (escaped_text name.now) }
     ensures err { OnErr result (string_bytes text.new ≡ string_bytes text.old) }
 {
     utf8_percent_encode(name, ESCAPED).append_to(text)

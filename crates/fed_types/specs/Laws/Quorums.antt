@@ -1,80 +1,99 @@
--- Majorities meet, and they grow.
-use Rattle.std.specs.Prelude.{◌≡◌, ℕ, zero, suc, ◌+◌, ◌*◌, ◌<◌, ◌≤◌, true, false, Bool, List, [], ◌∷◌, refl, if◌then◌else◌}
+-- Quorums meet, and they grow: of one federation, by the weights of its members.
+use Rattle.std.specs.Prelude.{◌≡◌, ℕ, zero, suc, ◌+◌, ◌*◌, ◌<◌, ◌≤◌, true, false, Bool, List, [], ◌∷◌, cond, refl}
+use Rattle.std.specs.List.{filter, sum_by}
 use Rattle.std.proofs.Common.{arith, lt-ltb, sym, ◌∙◌}
 use Rattle.std.proofs.lemmas.Bool.{ltb-true, false≢true}
-use Rattle.fed_types.specs.Lists.{Has, here, is_in}
-use Rattle.fed_types.specs.Sites.{Membership, sites_to}
-use Rattle.fed_types.specs.Quorums.{QuorumsMeet, QuorumGrows, AreQuorums, QuorumSystem, present_to, quorums_of}
-use Rattle.fed_types.specs.Laws.Lists.{is_in_decides, Has-append_left, Has-append_right}
+use Rattle.std.proofs.lemmas.List.Sums.{sum_by-cons}
+use Rattle.fed_types.specs.Lists.{Has, here, there, is_in}
+use Rattle.fed_types.specs.Sites.{Membership, members_of, weight_of}
+use Rattle.fed_types.specs.Quorums.{QuorumsMeet, QuorumGrows, AreQuorums, QuorumSystem, quorums_of}
+use Rattle.fed_types.specs.Laws.Lists.{is_in_decides}
 
--- one site more adds at most one
-present_more : (k a : ℕ) (p : Bool) → a ≤ k → a + (if p then 1 else 0) ≤ suc k
-present_more k a true h = omega arith
-present_more k a false h = omega arith
+-- ---- the sum of those elements that pass a test
+among : (ℕ → ℕ) → (ℕ → Bool) → List ℕ → ℕ
+among f p ns = sum_by f (filter p ns)
 
--- no more of the sites 1 to k are present than there are
-pub present_to-le : (voters : List ℕ) (k : ℕ) → present_to voters k ≤ k
-unfolding present_to
-present_to-le voters zero = omega arith
-present_to-le voters (suc k) = present_more k (present_to voters k) (is_in voters (suc k)) (present_to-le voters k)
+-- no elements, no sum
+among_none : (f : ℕ → ℕ) (p : ℕ → Bool) → (among f p [] ≡ 0) × (sum_by f [] ≡ 0)
+unfolding among
+among_none f p = (refl, refl)
 
--- some number stands in all three lists
-abbrev Shared : List ℕ → List ℕ → List ℕ → Type 0
-Shared members xs ys = (n : ℕ) × Has n members × Has n xs × Has n ys
+-- one element more counts where it passes
+among_more : (f : ℕ → ℕ) (p : ℕ → Bool) (n : ℕ) (ns : List ℕ) (t : Bool) → p n ≡ t
+    → among f p (n ∷ ns) ≡ cond t (f n) 0 + among f p ns
+unfolding among
+among_more f p n ns true e = rw e (sum_by-cons f n (filter p ns))
+among_more f p n ns false e = rw e (omega arith)
 
--- what is shared among the sites 1 to k is shared among one more
-shared_before : (xs ys : List ℕ) (k : ℕ) → Shared (sites_to k) xs ys → Shared (sites_to (suc k)) xs ys
-unfolding sites_to
-shared_before xs ys k found = (found.0, Has-append_left found.0 (sites_to k) (suc k ∷ []) found.1, found.2, found.3)
+-- some element passes both tests
+abbrev Both : (ℕ → Bool) → (ℕ → Bool) → List ℕ → Type 0
+Both p q ns = (n : ℕ) × Has n ns × (p n ≡ true) × (q n ≡ true)
 
--- one site more: it is shared, or the counts without it are together more than the sites without it
-shared_more : (xs ys : List ℕ) (k a b : ℕ) (p q : Bool) → is_in xs (suc k) ≡ p → is_in ys (suc k) ≡ q → (k < a + b → Shared (sites_to k) xs ys) → suc k < (a + (if p then 1 else 0)) + (b + (if q then 1 else 0)) → Shared (sites_to (suc k)) xs ys
-unfolding sites_to
-shared_more xs ys k a b true true e f before h = (suc k, Has-append_right (suc k) (sites_to k) (suc k ∷ []) (here refl), (is_in_decides xs (suc k)).0 e, (is_in_decides ys (suc k)).0 f)
-shared_more xs ys k a b true false e f before h = shared_before xs ys k (before (omega arith))
-shared_more xs ys k a b false true e f before h = shared_before xs ys k (before (omega arith))
-shared_more xs ys k a b false false e f before h = shared_before xs ys k (before (omega arith))
+-- one that a shorter list has
+both_later : (p q : ℕ → Bool) (m : ℕ) (ns : List ℕ) → Both p q ns → Both p q (m ∷ ns)
+both_later p q m ns found = (found.0, there found.1, found.2, found.3)
 
--- where two counts are together more than the sites, a site is counted twice
-pub shared : (xs ys : List ℕ) (k : ℕ) → k < present_to xs k + present_to ys k → Shared (sites_to k) xs ys
-unfolding present_to
-shared xs ys zero h = absurd (omega arith)
-shared xs ys (suc k) h = shared_more xs ys k (present_to xs k) (present_to ys k) (is_in xs (suc k)) (is_in ys (suc k)) refl refl (shared xs ys k) h
+-- one element more, of weight w: it passes both, or the sums without it are more without it
+both_more : (p q : ℕ → Bool) (n w all a b : ℕ) (ns : List ℕ) (s t : Bool) → p n ≡ s → q n ≡ t
+    → (all < a + b → Both p q ns)
+    → w + all < (cond s w 0 + a) + (cond t w 0 + b) → Both p q (n ∷ ns)
+both_more p q n w all a b ns true true e g before h = (n, here refl, e, g)
+both_more p q n w all a b ns true false e g before h = both_later p q n ns (before (omega arith))
+both_more p q n w all a b ns false true e g before h = both_later p q n ns (before (omega arith))
+both_more p q n w all a b ns false false e g before h = both_later p q n ns (before (omega arith))
 
--- two majorities share a member
+-- where two sums are together more than that of all, some element is in both
+both : (f : ℕ → ℕ) (p q : ℕ → Bool) (ns : List ℕ) → sum_by f ns < among f p ns + among f q ns
+    → Both p q ns
+both f p q [] h = absurd (omega (arith, among_none f p, among_none f q))
+both f p q (n ∷ ns) h =
+    both_more p q n (f n) (sum_by f ns) (among f p ns) (among f q ns) ns (p n) (q n) refl refl
+    (both f p q ns)
+    (omega (arith, sum_by-cons f n ns, among_more f p n ns (p n) refl, among_more f q n ns (q n) refl))
+
+-- one element more counts in the second sum where it counts in the first
+no_less_more : (w a b : ℕ) (s t : Bool) → (s ≡ true → t ≡ true) → a ≤ b
+    → cond s w 0 + a ≤ cond t w 0 + b
+no_less_more w a b true true h l = omega arith
+no_less_more w a b true false h l = absurd (false≢true (h refl))
+no_less_more w a b false true h l = omega arith
+no_less_more w a b false false h l = omega arith
+
+-- where all that pass the first test pass the second, the second sum is no less
+no_less : (f : ℕ → ℕ) (p q : ℕ → Bool) (ns : List ℕ)
+    → ((n : ℕ) → Has n ns → p n ≡ true → q n ≡ true) → among f p ns ≤ among f q ns
+no_less f p q [] h = omega (arith, among_none f p, among_none f q)
+no_less f p q (n ∷ ns) h =
+    rw (among_more f p n ns (p n) refl, among_more f q n ns (q n) refl)
+    (no_less_more (f n) (among f p ns) (among f q ns) (p n) (q n) (h n (here refl))
+    (no_less f p q ns (λ m k. h m (there k))))
+
+-- ---- a federation's quorums
+-- two of them share a member
 pub quorums_meet : (m : Membership) → QuorumsMeet (quorums_of m)
+unfolding among
 quorums_meet m xs ys p q =
-    let first = ltb-true m.count (2 * present_to xs m.count) p in
-    let second = ltb-true m.count (2 * present_to ys m.count) q in
-    shared xs ys m.count (omega arith)
+    let total = sum_by (weight_of m) (members_of m) in
+    let first = ltb-true total (2 * among (weight_of m) (is_in xs) (members_of m)) p in
+    let second = ltb-true total (2 * among (weight_of m) (is_in ys) (members_of m)) q in
+    let found = both (weight_of m) (is_in xs) (is_in ys) (members_of m) (omega arith) in
+    (found.0, found.1, (is_in_decides xs found.0).0 found.2, (is_in_decides ys found.0).0 found.3)
 
--- one site more counts in ys where it counts in xs
-more_present : (xs ys : List ℕ) (n a b : ℕ) (p q : Bool) → is_in xs n ≡ p → is_in ys n ≡ q → (Has n xs → Has n ys) → a ≤ b → a + (if p then 1 else 0) ≤ b + (if q then 1 else 0)
-more_present xs ys n a b true true e f h l = omega arith
-more_present xs ys n a b true false e f h l = absurd (false≢true (sym f ∙ (is_in_decides ys n).1 (h ((is_in_decides xs n).0 e))))
-more_present xs ys n a b false true e f h l = omega arith
-more_present xs ys n a b false false e f h l = omega arith
-
--- voters that hold all that others hold of the sites 1 to k are no fewer among these
-pub no_fewer : (xs ys : List ℕ) (k : ℕ) → ((n : ℕ) → Has n (sites_to k) → Has n xs → Has n ys) → present_to xs k ≤ present_to ys k
-unfolding present_to sites_to
-no_fewer xs ys zero h = omega arith
-no_fewer xs ys (suc k) h =
-    more_present xs ys (suc k) (present_to xs k) (present_to ys k) (is_in xs (suc k)) (is_in ys (suc k)) refl refl
-    (h (suc k) (Has-append_right (suc k) (sites_to k) (suc k ∷ []) (here refl)))
-    (no_fewer xs ys k (λ n p. h n (Has-append_left n (sites_to k) (suc k ∷ []) p)))
-
--- voters that hold all members of a majority are one
+-- voters that hold all members of one are one
 pub quorum_grows : (m : Membership) → QuorumGrows (quorums_of m)
+unfolding among
 quorum_grows m xs ys p h =
-    let first = ltb-true m.count (2 * present_to xs m.count) p in
-    let more = no_fewer xs ys m.count h in
-    lt-ltb m.count (2 * present_to ys m.count) (omega arith)
+    let total = sum_by (weight_of m) (members_of m) in
+    let first = ltb-true total (2 * among (weight_of m) (is_in xs) (members_of m)) p in
+    let more = no_less (weight_of m) (is_in xs) (is_in ys) (members_of m)
+    (λ n k e. (is_in_decides ys n).1 (h n k ((is_in_decides xs n).0 e))) in
+    lt-ltb total (2 * among (weight_of m) (is_in ys) (members_of m)) (omega arith)
 
 -- a federation's quorums are quorums
 pub are_quorums : (m : Membership) → AreQuorums (quorums_of m)
 are_quorums m = record { meet = quorums_meet m; grow = quorum_grows m }
 
+-- ---- any quorums
 -- what stands in the one list stands in the other
 same_has : (xs ys : List ℕ) → ((n : ℕ) → is_in xs n ≡ is_in ys n) → (n : ℕ) → Has n xs → Has n ys
 same_has xs ys same n h = (is_in_decides ys n).0 (sym (same n) ∙ (is_in_decides xs n).1 h)
@@ -88,4 +107,5 @@ same_quorum q xs ys laws same = go (q.is_quorum xs) (q.is_quorum ys) refl refl
     go true true e f = refl
     go false false e f = refl
     go true false e f = sym (laws.grow xs ys e (λ n member h. same_has xs ys same n h)) ∙ f
-    go false true e f = sym e ∙ laws.grow ys xs f (λ n member h. same_has ys xs (λ k. sym (same k)) n h)
+    go false true e f =
+        sym e ∙ laws.grow ys xs f (λ n member h. same_has ys xs (λ k. sym (same k)) n h)

@@ -8,7 +8,7 @@ use Rattle.std.proofs.lemmas.Bool.{cases_eq, le-ltb}
 use Rattle.std.proofs.lemmas.Bool.Decides.{nat_tests}
 use Rattle.std.proofs.lemmas.Nat.Bits.{bit_at-lt}
 use Rattle.fed_types.specs.Lists.{is_in}
-use Rattle.fed_types.specs.Words.{bits_below, word_of}
+use Rattle.fed_types.specs.inner.Words.{bits_below, word_of}
 use Rattle.fed_types.specs.Voters.{with_voter}
 use Rattle.fed_types.specs.Laws.Lists.{is_in-nil, is_in-append}
 use Rattle.fed_types.specs.Laws.Voters.{AllBelow, with_voter-push, with_voter-last, with_voter-last_again}

@@ -1,6 +1,6 @@
 use Rattle.std.proofs.Common.{◌<◌, arith, ap, ◌∙◌}
 use Rattle.fed_types.specs.Lists.{is_in}
-use Rattle.fed_types.specs.Words.{bits_below}
+use Rattle.fed_types.specs.inner.Words.{bits_below}
 use Rattle.fed_types.specs.Laws.Voters.{is_in-with_voter}
 use Rattle.fed_types.proofs.SetBits.{bits_below-set, bits_below-set_again, set_fits}
 use Rattle.fed_types.proofs.voters.Voters.add.Goals as goal

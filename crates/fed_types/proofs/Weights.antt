@@ -1,0 +1,64 @@
+-- The weights of members in a slice and in the array that keeps them.
+use Rattle.std.specs.Prelude.{◌≡◌, ℕ, ◌<◌, ◌≤◌, ◌-◌, ◌==◌, false, List, ◌++◌, length, take, drop, replicate, slice_index, refl}
+use Rattle.std.specs.List.{All, Contains, list_any}
+use Rattle.std.proofs.Common.{arith, sym, ap, ◌∙◌, inl, inr, eq-eqb, length-append}
+use Rattle.std.proofs.Math.Seq.{drop-append_seam}
+use Rattle.std.proofs.lemmas.Bool.{cases_eq, false≢true}
+use Rattle.std.proofs.lemmas.List.{length-replicate, length-drop, drop-replicate, take-replicate, take_at, get_or-replicate}
+use Rattle.std.proofs.lemmas.List.Elements.{All-from_get_or}
+use Rattle.std.proofs.lemmas.List.Folds.{list_any_at}
+use Rattle.fed_types.specs.Sites.{IsMemberCount, IsWeight}
+use Rattle.fed_types.specs.inner.Padded.{IsPadded, room}
+
+-- a number of a list without 0 is at least 1
+positive : (ws : List ℕ) (i : ℕ) → list_any (λ y. y == 0) ws ≡ false → i < length ws
+    → 1 ≤ slice_index ws i
+positive ws i none l =
+    elim (cases_eq (slice_index ws i) 0) [
+      | inl zero ↦ absurd (false≢true (sym none ∙ list_any_at (λ y. y == 0) ws i 0 l (eq-eqb (slice_index ws i) 0 zero)))
+      | inr differ ↦ omega arith
+    ]
+
+-- bytes without 0 are weights
+pub are_weights : (ws : List ℕ) → ((k : ℕ) → slice_index ws k < 256)
+    → list_any (λ y. y == 0) ws ≡ false → All IsWeight ws
+are_weights ws fits none =
+    All-from_get_or IsWeight ws 0 (λ i l. (positive ws i none l, omega (arith, fits i)))
+
+-- the zeros that the array begins with
+abbrev zeros : List ℕ
+zeros = replicate room 0
+
+-- weights written over zeros are padded
+pub made_padded : (ws : List ℕ) → length ws ≤ room
+    → IsPadded (length ws) (ws ++ drop (length ws) zeros)
+made_padded ws l = (
+  length-append ws (drop (length ws) zeros)
+      ∙ rw (length-drop (length ws) zeros, length-replicate {A = ℕ} room 0) (omega arith),
+  drop-append_seam ws (drop (length ws) zeros) ∙ drop-replicate (length ws) room 0,
+)
+
+-- and they are read back
+pub made_again : (ws rest : List ℕ) → take (length ws) (ws ++ rest) ≡ ws
+made_again ws rest = take_at ws rest (length ws) refl
+
+-- what members of these weights keep
+pub made_weights : (ws : List ℕ) → IsMemberCount (length ws) → All IsWeight ws
+    → IsMemberCount (length ws)
+    × All IsWeight (take (length ws) (ws ++ drop (length ws) zeros))
+    × IsPadded (length ws) (ws ++ drop (length ws) zeros)
+made_weights ws count all = (
+  count,
+  rw (made_again ws (drop (length ws) zeros)) all,
+  made_padded ws count.1,
+)
+
+-- ---- weights of 1
+pub ones : (n : ℕ) → n ≤ room → take {A = ℕ} n (replicate room 1) ≡ replicate n 1
+ones n l = take-replicate n room 1 l
+
+-- they have no 0
+pub no_zero : (n : ℕ) → ¬ Contains {X = ℕ} (replicate n 1) 0
+no_zero n found =
+    let one = get_or-replicate {A = ℕ} n found.0 1 0 (rw (length-replicate {A = ℕ} n 1) at found.1) in
+    absurd (omega (arith, one, found.2))

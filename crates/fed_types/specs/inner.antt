@@ -1,0 +1,4 @@
+-- What only private clauses and proofs need.
+pub mod Padded
+pub mod PaddedLaws
+pub mod Words
