@@ -23,7 +23,7 @@ module _ (old : Rows Row) (records : List Record) (heard : List Message) (r : Re
     (stands : StandsFor old records heard) where
   push : (s : SlotName) → known_of s (records ++ r ∷ [])
       ≡ with_one earlier (known_of s records)
-          (if_some bag_in (cond (same_slot r.slot s) (Some r.body) None))
+      (if_some bag_in (cond (same_slot r.slot s) (Some r.body) None))
   push s = known-push s records r
 
   -- a record that is no Known settles nothing
@@ -65,7 +65,7 @@ module _ (old : Rows Row) (records : List Record) (heard : List Message) (r : Re
           ≡ with_one earlier (known_of s records) (if_some bag_in (cond t (Some r.body) None))
       known s true e =
           ap (λ (k : SlotName). Some (first_known (known_in (row_at old k)) bag))
-              ((same_slot_decides r.slot s).0 e)
+          ((same_slot_decides r.slot s).0 e)
           ∙ ap (λ (o : Option BagId). Some (first_known o bag)) (stands.known s)
           ∙ first_of (known_of s records)
           ∙ ap (with_one earlier (known_of s records)) (sym says_bag)
@@ -84,10 +84,10 @@ module _ (old : Rows Row) (records : List Record) (heard : List Message) (r : Re
           ≡ is_in (voters_for v (bodies_of s heard)) n
       votes s true e none v n = absurd (not_none (known_of s records)
           (ap (λ (u : Bool). with_one earlier (known_of s records)
-              (if_some bag_in (cond u (Some r.body) None))) (sym e) ∙ sym (push s) ∙ none))
+          (if_some bag_in (cond u (Some r.body) None))) (sym e) ∙ sym (push s) ∙ none))
       votes s false e none v n = stands.votes s
           (sym (ap (λ (u : Bool). with_one earlier (known_of s records)
-              (if_some bag_in (cond u (Some r.body) None))) e) ∙ sym (push s) ∙ none) v n
+          (if_some bag_in (cond u (Some r.body) None))) e) ∙ sym (push s) ∙ none) v n
 
 -- what a record says that is no Known
 pub says_none : (e : Entry) → ((bag : BagId) → e ≡ entry.Known bag → ⊥) → bag_in e ≡ None

@@ -61,27 +61,27 @@ module _ (old new : Rows Row) (slot : SlotName) (before after : Row)
   pub knows_put : known_in (Some after) ≡ known_in (Some before) → KnowsSame old new
   knows_put known s =
       words_put known_in s (known_in (row_at old s))
-          (λ same. known ∙ ap known_in (sym (old_row s same))) (λ other. refl)
+      (λ same. known ∙ ap known_in (sym (old_row s same))) (λ other. refl)
 
   pub counts_put : (vote : Vote) (voters : List ℕ) → IsRowCounted before after vote voters
       → IsCounted old new slot vote voters
   counts_put vote voters counted s v =
       words_put (λ found. counted_in found v) s
-          (cond (same_slot slot s && same_vote vote v) voters (counted_in (row_at old s) v))
-          (λ same. counted v
-              ∙ ap (λ (found : Option Row). cond (same_vote vote v) voters (counted_in found v))
-                  (sym (old_row s same))
-              ∙ ap (λ (t : Bool). cond (t && same_vote vote v) voters (counted_in (row_at old s) v))
-                  (sym ((same_slot_decides slot s).1 same)))
-          (λ other. ap (λ (t : Bool). cond (t && same_vote vote v) voters
-              (counted_in (row_at old s) v)) (sym other))
+      (cond (same_slot slot s && same_vote vote v) voters (counted_in (row_at old s) v))
+      (λ same. counted v
+      ∙ ap (λ (found : Option Row). cond (same_vote vote v) voters (counted_in found v))
+      (sym (old_row s same))
+      ∙ ap (λ (t : Bool). cond (t && same_vote vote v) voters (counted_in (row_at old s) v))
+      (sym ((same_slot_decides slot s).1 same)))
+      (λ other. ap (λ (t : Bool). cond (t && same_vote vote v) voters
+      (counted_in (row_at old s) v)) (sym other))
 
   pub counts_kept : after ≡ before → CountsSame old new
   counts_kept is s v =
       words_put (λ found. counted_in found v) s (counted_in (row_at old s) v)
-          (λ same. ap (λ (row : Row). counted_in (Some row) v) is
-              ∙ ap (λ (found : Option Row). counted_in found v) (sym (old_row s same)))
-          (λ other. refl)
+      (λ same. ap (λ (row : Row). counted_in (Some row) v) is
+      ∙ ap (λ (found : Option Row). counted_in found v) (sym (old_row s same)))
+      (λ other. refl)
 
 -- what follows of an Ok, and of an Err
 pub on_ok : {T E P Q : Type 0} (r : Result T E) → OnOk r P → (P → Q) → OnOk r Q

@@ -81,11 +81,11 @@ impl<Q: Quorums + Drop> Learner<Q> {
         ensures learned { IfOk result (λ o. (records : List declared_record)
             (heard : List Message) → StandsFor self.old.rows records heard
             → o ≡ learned_from (Q.quorum_system self.old.members) slot.now records heard from
-                (record { ballot = ballot; bag = bag })) }
+            (record { ballot = ballot; bag = bag })) }
         ensures heard { IfOk result (λ o. o ≡ None → (records : List declared_record)
             (heard : List Message) → StandsFor self.old.rows records heard
             → StandsFor self.new.rows records (with_vote heard slot.now from
-                (record { ballot = ballot; bag = bag }))) }
+            (record { ballot = ballot; bag = bag }))) }
         ensures unchanged { IfOk result (λ o. IsSome o → self.new ≡ self.old) }
         ensures memory { OnErr result ((records : List declared_record) (heard : List Message)
             → StandsFor self.old.rows records heard → StandsFor self.new.rows records heard) }

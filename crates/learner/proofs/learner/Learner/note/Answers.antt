@@ -9,11 +9,11 @@ use Rattle.learner.proofs.learner.Learner.note.Goals as goal
 pub returns-in_ok-reserve-clause-noted : goal.returns-in_ok-reserve-clause-noted
 returns-in_ok-reserve-clause-noted g c records heard stands =
     noted_known c.reserve.new.table records heard c.args.new.now
-        (same_stands c.self.inside.table c.reserve.new.table c.reserve.ensures.known
-            c.reserve.ensures.counted records heard
-            (subst (λ (l : Ledger g.row.Q.Denot). StandsFor l.rows records heard)
-                (sym c.self.view_is) stands))
-        c.settle.new.table c.in-Known.bag c.in-Known.is c.settle.ensures
+    (same_stands c.self.inside.table c.reserve.new.table c.reserve.ensures.known
+    c.reserve.ensures.counted records heard
+    (subst (λ (l : Ledger g.row.Q.Denot). StandsFor l.rows records heard)
+    (sym c.self.view_is) stands))
+    c.settle.new.table c.in-Known.bag c.in-Known.is c.settle.ensures
 
 pub returns-in_default : goal.returns-in_default
 returns-in_default g c = record {
