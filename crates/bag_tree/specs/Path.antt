@@ -1,5 +1,7 @@
--- Paths: bytes of UTF-8 with parts between slashes (RFC 8493, 2.1.3: relative to the bag's own folder).
-use Rattle.std.specs.Prelude.{ℕ, Bool, true, false, ◌&&◌, ◌||◌, ◌==◌, List, [], ◌∷◌, ◌++◌, codes, length}
+-- Paths: bytes of UTF-8 with parts between slashes (RFC 8493, 2.1.3: relative to the bag's own
+-- folder).
+use Rattle.std.specs.Prelude.{ℕ, Bool, true, false, ◌&&◌, ◌||◌, ◌==◌, List, [], ◌∷◌, ◌++◌, codes}
+use Rattle.std.specs.Prelude.{length}
 use Rattle.std.specs.List.{slice_split, starts_with, ends_with, list_any}
 use Rattle.std.specs.Str.{bytes_eq}
 
@@ -10,7 +12,7 @@ slash = 47
 abbrev pub dot : ℕ
 dot = 46
 
--- what stands between the slashes; a path of no bytes has one empty part
+-- what is between the slashes; a path of no bytes has one empty part
 abbrev pub parts_of : List ℕ → List (List ℕ)
 parts_of path = slice_split (λ b. b == slash) path
 
@@ -36,10 +38,15 @@ payload_folder = codes "data"
 abbrev pub is_payload : List ℕ → Bool
 is_payload path = is_below payload_folder path
 
--- FRONT, any text or none, and then `.txt`
+-- the path begins with this prefix and ends with `.txt`
 abbrev pub is_text_named : List ℕ → List ℕ → Bool
-is_text_named front path = starts_with (λ a b. a == b) path front && ends_with (λ a b. a == b) path (codes ".txt")
+is_text_named prefix path =
+    starts_with (λ a b. a == b) path prefix && ends_with (λ a b. a == b) path (codes ".txt")
 
--- the texts at the tree's own level that are read: `bagit.txt`, `manifest-X.txt` and `tagmanifest-X.txt`, whatever X is
+-- the texts at the tree's own level that are read: `bagit.txt`, `manifest-X.txt` and
+-- `tagmanifest-X.txt`, whatever X is
 abbrev pub is_read_text : List ℕ → Bool
-is_read_text path = length (parts_of path) == 1 && (bytes_eq path (codes "bagit.txt") || is_text_named (codes "manifest-") path || is_text_named (codes "tagmanifest-") path)
+is_read_text path =
+    length (parts_of path) == 1
+    && (bytes_eq path (codes "bagit.txt")
+    || is_text_named (codes "manifest-") path || is_text_named (codes "tagmanifest-") path)

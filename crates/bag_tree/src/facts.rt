@@ -1,95 +1,12 @@
-ghost use Rattle.std.specs.Prelude.{◌≡◌, IfOk, is_some};
-ghost use Rattle.bag_tree.specs.Path.{is_read_text};
-ghost use Rattle.std.specs.Option.{option_copied};
+ghost use Rattle.std.specs.Prelude.{◌≡◌, IfOk};
+ghost use Rattle.bag_tree.specs.Facts.{facts_of_tree};
 
-use crate::digests::Digests;
-use crate::path::is_read_text;
-use crate::tree::{Tree, TreeFile};
+use crate::file_facts::FileFacts;
+use crate::tree::Tree;
 use std::alloc::{AllocError, Global};
 use std::marker::Model;
 
-/// What a checker is told of one file: its path, its digests, and its bytes where it is one of the
-/// texts that describe a bag.
-#[derive(Drop)]
-pub struct FileFacts {
-    path: String,
-    digests: Digests,
-    text: Option<Vec<u8>>,
-}
-
-impl Model for FileFacts {
-    ghost use Rattle.std.specs.Prelude.{string_bytes};
-    ghost use Rattle.std.specs.Option.{option_map};
-    ghost use Rattle.std.specs.Prelude.{◌≡◌, is_some};
-    ghost use Rattle.bag_tree.specs.Path.{is_read_text};
-    ghost use Rattle.bag_tree.specs.Facts.{FileFact};
-
-    ghost Value = { FileFact };
-
-    ghost view = { λ f. record { path = string_bytes f.path; digests = f.digests; text = option_map (λ t. t.items) f.text } };
-
-    // The bytes are there exactly where they are of a text that is read.
-    ghost invariant = { λ f. is_some f.text ≡ is_read_text (string_bytes f.path) };
-}
-
-impl FileFacts {
-    ghost use Rattle.std.specs.Prelude.{string_bytes};
-    ghost use Rattle.std.specs.Option.{option_map};
-    ghost use Rattle.bag_tree.specs.Facts.{fact_of_file};
-
-    /// A file's path and digests, and its bytes where it is a text that is read.
-    pub(crate) fn new(path: String, digests: Digests, text: Option<Vec<u8>>) -> FileFacts
-        requires { is_some text ≡ is_read_text (string_bytes path) }
-        ensures { result ≡ record { path = string_bytes path; digests = digests; text = option_map (λ t. t.items) text } }
-    {
-        FileFacts {
-            path,
-            digests,
-            text,
-        }
-    }
-
-    /// The facts of one file of a tree.
-    fn of(alloc: Global, file: &TreeFile) -> Result<FileFacts, AllocError>
-        ensures { IfOk result (λ facts. facts ≡ fact_of_file file.now) }
-    {
-        let path = String::from_str(alloc, file.path())?;
-        let digests = Digests::of(file.bytes());
-        let text = if is_read_text(file.path().as_bytes()) {
-            Some(Vec::from_slice(alloc, file.bytes())?)
-        } else {
-            None
-        };
-        Ok(FileFacts::new(path, digests, text))
-    }
-
-    /// The path, relative to the tree's own folder.
-    pub fn path(&self) -> &str
-        ensures { result.now ≡ self.now.path }
-    {
-        self.path.as_str()
-    }
-
-    /// The digests of the file's bytes.
-    pub fn digests(&self) -> &Digests
-        ensures { result.now ≡ self.now.digests }
-    {
-        &self.digests
-    }
-
-    /// The file's bytes, where it is one of the texts that describe a bag.
-    pub fn text(&self) -> Option<&[u8]>
-        ensures value { option_copied result ≡ self.now.text }
-        ensures read { is_some self.now.text ≡ is_read_text self.now.path }
-    {
-        match &self.text {
-            None => None,
-            Some(text) => Some(text.as_slice()),
-        }
-    }
-}
-
-/// What a checker is told of a tree: the facts of each file, and whether the payload's folder stands.
+/// What a checker knows of a tree: the facts of each file, and whether the payload's folder exists.
 #[derive(Drop)]
 pub struct Facts {
     files: Vec<FileFacts>,
@@ -105,8 +22,8 @@ impl Model for Facts {
 }
 
 impl Facts {
-    /// What is told of a tree of these files.
-    pub(crate) fn new(files: Vec<FileFacts>, payload: bool) -> Facts
+    /// What is known of a tree of these files.
+    pub fn new(files: Vec<FileFacts>, payload: bool) -> Facts
         ensures { result ≡ record { files = files.items; payload = payload } }
     {
         Facts { files, payload }
@@ -119,17 +36,15 @@ impl Facts {
         self.files.as_slice()
     }
 
-    /// Whether the payload's folder `data` stands.
-    pub fn payload_stands(&self) -> bool
+    /// Whether the payload's folder `data` exists.
+    pub fn payload_exists(&self) -> bool
         ensures { result ≡ self.now.payload }
     {
         self.payload
     }
 }
 
-ghost use Rattle.bag_tree.specs.Facts.{facts_of_tree};
-
-/// What a checker is told of this tree. The one refusal is want of memory.
+/// What a checker knows of this tree. The one refusal is that memory ran out.
 pub fn facts_of(alloc: Global, tree: &Tree) -> Result<Facts, AllocError>
     ensures { IfOk result (λ facts. facts ≡ facts_of_tree tree.now) }
 {
@@ -139,6 +54,6 @@ pub fn facts_of(alloc: Global, tree: &Tree) -> Result<Facts, AllocError>
     }
     Ok(Facts {
         files,
-        payload: tree.payload_stands(),
+        payload: tree.payload_exists(),
     })
 }

@@ -26,7 +26,7 @@ pub enum TreeFault {
     /// A file that can't be read.
     #[error("a file could not be read")]
     Device,
-    /// A growth was refused.
+    /// Memory ran out.
     #[error("out of memory")]
     Memory,
     /// A path that no further file of this tree can have. Only `Tree::add` answers it.
@@ -35,7 +35,7 @@ pub enum TreeFault {
 }
 
 impl TreeFault {
-    /// The number that stands for the fault in what the program prints and sends.
+    /// The number of the fault in what the program prints and sends.
     pub fn number(self) -> u8
         ensures { result ≡ number_of self }
     {

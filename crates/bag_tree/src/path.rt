@@ -1,5 +1,9 @@
 ghost use Rattle.std.specs.Prelude.{◌≡◌, length};
-ghost use Rattle.bag_tree.specs.Path.{parts_of, is_unsafe_part, is_unsafe, is_below, is_payload, is_text_named, is_read_text};
+ghost use Rattle.bag_tree.specs.Path.{parts_of, is_unsafe_part, is_unsafe, is_below, is_payload};
+ghost use Rattle.bag_tree.specs.Path.{is_text_named, is_read_text};
+
+/// The payload's folder, relative to the bag.
+pub const PAYLOAD_FOLDER: &str = "data";
 
 /// A path has at most this many parts.
 pub const DEEPEST_PATH: usize = 32;
@@ -30,10 +34,11 @@ pub fn is_payload(path: &[u8]) -> bool
     lies_below(b"data", path)
 }
 
-fn is_text_named(front: &[u8], path: &[u8]) -> bool
-    ensures { result ≡ is_text_named front.now path.now }
+/// Whether a path begins with this text and ends with `.txt`.
+pub fn is_text_named(prefix: &[u8], path: &[u8]) -> bool
+    ensures { result ≡ is_text_named prefix.now path.now }
 {
-    path.starts_with(front) && path.ends_with(b".txt")
+    path.starts_with(prefix) && path.ends_with(b".txt")
 }
 
 fn is_special(part: &[u8]) -> bool
@@ -42,8 +47,8 @@ fn is_special(part: &[u8]) -> bool
     matches!(part, [] | [b'.'] | [b'.', b'.'])
 }
 
-/// How many parts a path has.
-pub(crate) fn part_count(path: &[u8]) -> usize
+/// How many parts a path has: one more than it has slashes.
+pub fn part_count(path: &[u8]) -> usize
     ensures { result ≡ length (parts_of path.now) }
 {
     path.split(|b| *b == b'/').count()

@@ -3,7 +3,7 @@ ghost use Rattle.bag_tree.specs.Fault.{RefusesFor};
 
 use crate::fault::TreeFault;
 use crate::path::{
-    DEEPEST_PATH, has_unsafe_part, is_payload, is_read_text, lies_below, part_count,
+    DEEPEST_PATH, PAYLOAD_FOLDER, has_unsafe_part, is_payload, is_read_text, lies_below, part_count,
 };
 use std::alloc::{AllocError, Global};
 use std::marker::Model;
@@ -13,9 +13,6 @@ pub const MOST_FILES: usize = 100_000;
 
 /// A text that describes a bag has at most this many bytes, 64 MiB.
 pub const LONGEST_TEXT: usize = 67_108_864;
-
-/// The payload's folder, relative to the bag.
-pub(crate) const PAYLOAD_FOLDER: &str = "data";
 
 /// A file of a tree: its path, and its bytes.
 #[derive(Drop)]
@@ -59,7 +56,7 @@ impl TreeFile {
 }
 
 /// A tree of files held in memory: a finite map from paths to bytes, and whether the payload's
-/// folder `data` stands.
+/// folder `data` exists.
 #[derive(Drop)]
 pub struct Tree {
     alloc: Global,
@@ -76,7 +73,8 @@ impl Model for Tree {
 }
 
 impl Tree {
-    ghost use Rattle.bag_tree.specs.Tree.{no_files, with_file, with_folder, payload_stands, is_bad_path, fault_of_added};
+    ghost use Rattle.bag_tree.specs.Tree.{no_files, with_file, with_folder, payload_exists};
+    ghost use Rattle.bag_tree.specs.Tree.{is_bad_path, fault_of_added};
 
     /// A tree of nothing.
     pub fn new(alloc: Global) -> Tree
@@ -96,22 +94,22 @@ impl Tree {
         self.files.as_slice()
     }
 
-    /// Makes the payload's folder `data` stand.
+    /// Makes the payload's folder `data`.
     pub fn add_folder(&mut self)
         ensures { self.new ≡ with_folder self.old }
     {
         self.folder = true;
     }
 
-    /// Whether the payload's folder `data` stands: it was added, or a file lies in it.
-    pub fn payload_stands(&self) -> bool
-        ensures { result ≡ payload_stands self.now }
+    /// Whether the payload's folder `data` exists: it was added, or a file lies in it.
+    pub fn payload_exists(&self) -> bool
+        ensures { result ≡ payload_exists self.now }
     {
         self.folder || has_payload(self.files.as_slice())
     }
 
     /// Adds a file. It is refused, and nothing changes, for the first of these that holds:
-    /// `BadPath`, where the path is unsafe, is `data`, is there, lies in a file or has a file in it;
+    /// `BadPath`, where the path is unsafe, is `data`, exists, lies in a file or has a file in it;
     /// `TooDeep`; `TooMany`; `TextTooLong`, for a text that describes a bag; and `Memory`.
     #[tactic(auto, unfolding(crate::specs::Tree::fault_of_added))]
     pub fn add(&mut self, path: &str, bytes: &[u8]) -> Result<(), TreeFault>

@@ -1,7 +1,7 @@
 -- The numbers of the faults that end a run of the program.
 use Rattle.std.specs.Prelude.{ℕ}
-use Rattle.bagpaxos.specs.declared.telling.ProgramFault.{ProgramFault}
-use Rattle.bagpaxos.specs.declared.telling.ProgramFault.TheVariants.{Input, Output}
+use Rattle.bagpaxos.specs.declared.fault.ProgramFault.{ProgramFault}
+use Rattle.bagpaxos.specs.declared.fault.ProgramFault.TheVariants.{Input, Output}
 
 abbrev pub number_of : ProgramFault → ℕ
 number_of Input = 1

@@ -1,5 +1,6 @@
 -- What a run of the program answers to the bytes of a schedule.
-use Rattle.std.specs.Prelude.{◌≡◌, ℕ, Bool, List, [], ◌∷◌, ◌++◌, take, Option, Result, Ok, Err, codes}
+use Rattle.std.specs.Prelude.{◌≡◌, ◌⊎◌, ℕ, Bool, List, [], ◌∷◌, ◌++◌, take, Option, Result, Ok, Err}
+use Rattle.std.specs.Prelude.{codes}
 use Rattle.std.specs.Io.KnownBytes.{Appends}
 use Rattle.std.specs.Fmt.{decimal}
 use Rattle.schedule.specs.Plans.{Plan, plan_of}
@@ -11,23 +12,34 @@ pub record Outcome : Type 0 where
   pub status : ℕ
   pub text : List ℕ
 
--- the text of the written run, or the one line of the fault
+-- the text of the reference run, or the one line of the fault
 abbrev pub outcome_for : Bool → Result Plan ℕ → Outcome
-outcome_for identities (Ok plan) = record { status = 0; text = text_of identities (run_of plan).lines }
-outcome_for identities (Err line) = record { status = 1; text = codes "schedule line " ++ decimal line ++ 10 ∷ [] }
+outcome_for identities (Ok plan) = record {
+  status = 0;
+  text = text_of identities (run_of plan).lines;
+}
+outcome_for identities (Err line) = record {
+  status = 1;
+  text = codes "schedule line " ++ decimal line ++ 10 ∷ [];
+}
 
 -- the outcome for the bytes of a schedule
 unfoldable pub outcome_of : Bool → List ℕ → Outcome
 outcome_of identities bytes = outcome_for identities (plan_of bytes)
 
--- the outcome where a growth was refused
+-- the outcome where memory ran out
 abbrev pub no_memory : Outcome
 no_memory = record { status = 1; text = codes "memory" ++ 10 ∷ [] }
 
--- a writer was told the whole outcome
-abbrev pub Tells : Option (List ℕ) → Option (List ℕ) → ℕ → Outcome → Type 0
-Tells old new status outcome = (status ≡ outcome.status) × Appends old new outcome.text
+-- a writer took the whole text of the outcome, and the status is its own
+abbrev pub Writes : Option (List ℕ) → Option (List ℕ) → ℕ → Outcome → Type 0
+Writes old new status outcome = (status ≡ outcome.status) × Appends old new outcome.text
 
--- a writer was told a beginning of the outcome's text
-abbrev pub BeginsToTell : Option (List ℕ) → Option (List ℕ) → Outcome → Type 0
-BeginsToTell old new outcome = (n : ℕ) × Appends old new (take n outcome.text)
+-- a writer took a prefix of the outcome's text
+abbrev pub WritesPrefix : Option (List ℕ) → Option (List ℕ) → Outcome → Type 0
+WritesPrefix old new outcome = (n : ℕ) × Appends old new (take n outcome.text)
+
+-- what a run may end with, and what is written of it then: the outcome for these bytes, or that
+-- memory ran out
+abbrev pub AnswersTo : Bool → List ℕ → (Outcome → Type 0) → Type 0
+AnswersTo identities bytes P = P (outcome_of identities bytes) ⊎ P no_memory

@@ -62,8 +62,8 @@ pub enum Task<'a> {
     Check(&'a str),
 }
 
-/// What these words ask for, the program's own name being the first of them. Help is an error of clap's
-/// that goes to standard output, with status 0.
+/// What these words ask for, the program's own name being the first of them. Help is an error of
+/// clap's that goes to standard output, with status 0.
 pub fn task_of(alloc: Global, words: &[String]) -> Result<Option<Task<'_>>, Error> {
     let matches = command(alloc)?.try_get_matches_from(words)?;
     Ok(task_in(&matches))

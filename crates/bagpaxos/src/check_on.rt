@@ -1,12 +1,14 @@
 //! One check of a folder.
 
-ghost use Rattle.std.specs.Prelude.{◌≡◌, ◌⊎◌, IfErr, IfOk, IfSome, IsErrOf, string_bytes};
-ghost use Rattle.bagpaxos.specs.Outcomes.{no_memory, Tells, BeginsToTell};
-ghost use Rattle.bagpaxos.specs.Verdicts.{verdict_of, IsReached, outcome_of_verdict};
+ghost use Rattle.std.specs.Prelude.{◌≡◌, IfErr, IfOk, IfSome, IsErrOf, string_bytes};
+ghost use Rattle.bagpaxos.specs.Outcomes.{Writes, WritesPrefix};
+ghost use Rattle.bagpaxos.specs.Verdicts.{verdict_of, IsOrMemory, AnswersFor, outcome_of_verdict};
 
-use crate::telling::{Answer, ProgramFault, tell};
+use crate::answer::{Answer, write_answer};
+use crate::fault::ProgramFault;
 use bag_check::{BagFault, check};
-use bag_tree::{Folders, TreeFault};
+use bag_folders::Folders;
+use bag_tree::TreeFault;
 use fed_types::BagId;
 use std::alloc::{AllocError, Global};
 use std::io::Write;
@@ -22,9 +24,9 @@ pub enum Verdict {
     Unread(TreeFault),
 }
 
-/// Checks the folder of this path, and writes its verdict as one line: `valid HEX` with status 0, the
-/// identity in 128 hex digits; `invalid N` or `unread N` with status 1, the number of the fault. Where
-/// there was no room for the line, it is `memory` with status 1.
+/// Checks the folder of this path, and writes its verdict as one line: `valid HEX` with status 0,
+/// the identity in 128 hex digits; `invalid N` or `unread N` with status 1, the number of the
+/// fault. Where there was no room for the line, it is `memory` with status 1.
 pub fn check_on<F: Folders, W: Write>(
     alloc: Global,
     folders: &mut F,
@@ -32,24 +34,25 @@ pub fn check_on<F: Folders, W: Write>(
     output: &mut W,
 ) -> Result<u8, ProgramFault>
     ensures ok { IfOk result (λ status. IfSome (F.gives folders.old) (λ gives.
-        ((verdict : Verdict) × IsReached (verdict_of (gives path.now)) verdict × Tells (W.contents output.old) (W.contents output.new) status (outcome_of_verdict verdict))
-        ⊎ Tells (W.contents output.old) (W.contents output.new) status no_memory)) }
+        AnswersFor (verdict_of (gives path.now))
+        (Writes (W.contents output.old) (W.contents output.new) status))) }
     ensures output { IsErrOf result ProgramFault.Output → IfSome (F.gives folders.old) (λ gives.
-        ((verdict : Verdict) × IsReached (verdict_of (gives path.now)) verdict × BeginsToTell (W.contents output.old) (W.contents output.new) (outcome_of_verdict verdict))
-        ⊎ BeginsToTell (W.contents output.old) (W.contents output.new) no_memory) }
+        AnswersFor (verdict_of (gives path.now))
+        (WritesPrefix (W.contents output.old) (W.contents output.new))) }
     ensures kept { F.gives folders.new ≡ F.gives folders.old }
     ensures fault { IfErr result (λ fault. fault ≡ ProgramFault.Output) }
 {
     let verdict = verdict_on(alloc, folders, path);
     match line_of(alloc, verdict) {
-        Ok(answer) => tell(output, answer.status, answer.text.as_str()),
-        Err(AllocError) => tell(output, 1, "memory\n"),
+        Ok(answer) => write_answer(output, answer.status, answer.text.as_str()),
+        Err(AllocError) => write_answer(output, 1, "memory\n"),
     }
 }
 
 /// The verdict on the folder of this path.
 fn verdict_on<F: Folders>(alloc: Global, folders: &mut F, path: &str) -> Verdict
-    ensures verdict { IfSome (F.gives folders.old) (λ gives. IsReached (verdict_of (gives path.now)) result) }
+    ensures verdict { IfSome (F.gives folders.old)
+        (λ gives. IsOrMemory result (verdict_of (gives path.now))) }
     ensures kept { F.gives folders.new ≡ F.gives folders.old }
 {
     match folders.read(path) {

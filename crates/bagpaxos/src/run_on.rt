@@ -1,19 +1,20 @@
 //! One run of the program on the bytes of a schedule.
 
-ghost use Rattle.std.specs.Prelude.{◌≡◌, ◌⊎◌, IfOk, IfSome, IsErrOf, string_bytes};
+ghost use Rattle.std.specs.Prelude.{◌≡◌, IfOk, IfSome, IsErrOf, string_bytes};
 ghost use Rattle.std.specs.Io.KnownBytes.{Keeps};
-ghost use Rattle.bagpaxos.specs.Outcomes.{outcome_of, no_memory, Tells, BeginsToTell};
+ghost use Rattle.bagpaxos.specs.Outcomes.{outcome_of, AnswersTo, Writes, WritesPrefix};
 
-use crate::reading::{ReadFault, read_whole};
-use crate::telling::{Answer, ProgramFault, tell};
+use crate::answer::{Answer, write_answer};
+use crate::fault::ProgramFault;
+use crate::read_all::{ReadFault, read_all};
 use schedule::{ParseFault, parse};
 use simulator::{Options, RunFault, run, text};
 use std::alloc::{AllocError, Global};
 use std::io::{Read, Write};
 
 /// Reads a schedule, runs it, and writes what the run says. The exit status is 0, or 1 where the
-/// text is no schedule: then its line `schedule line N` is written alone. Where a growth was
-/// refused, the line `memory` is written alone, and the status is 1.
+/// text is no schedule: then its line `schedule line N` is written alone. Where
+/// memory runs out, the line `memory` is written alone, and the status is 1.
 pub fn run_on<R: Read, W: Write>(
     alloc: Global,
     input: &mut R,
@@ -21,29 +22,32 @@ pub fn run_on<R: Read, W: Write>(
     options: Options,
 ) -> Result<u8, ProgramFault>
     ensures ok { IfOk result (λ status. IfSome (R.remaining input.old) (λ bytes.
-        Tells (W.contents output.old) (W.contents output.new) status (outcome_of options.identities bytes)
-        ⊎ Tells (W.contents output.old) (W.contents output.new) status no_memory)) }
-    ensures input { IsErrOf result ProgramFault.Input → Keeps (W.contents output.old) (W.contents output.new) }
-    ensures output { IsErrOf result ProgramFault.Output → IfSome (R.remaining input.old) (λ bytes.
-        BeginsToTell (W.contents output.old) (W.contents output.new) (outcome_of options.identities bytes)
-        ⊎ BeginsToTell (W.contents output.old) (W.contents output.new) no_memory) }
+        AnswersTo options.identities bytes
+        (Writes (W.contents output.old) (W.contents output.new) status))) }
+    ensures input { IsErrOf result ProgramFault.Input
+        → Keeps (W.contents output.old) (W.contents output.new) }
+    ensures output { IsErrOf result ProgramFault.Output
+        → IfSome (R.remaining input.old) (λ bytes. AnswersTo options.identities bytes
+        (WritesPrefix (W.contents output.old) (W.contents output.new))) }
 {
-    let bytes = match read_whole(alloc, input) {
+    let bytes = match read_all(alloc, input) {
         Ok(bytes) => bytes,
         Err(ReadFault::Input) => return Err(ProgramFault::Input),
-        Err(ReadFault::Memory) => return tell(output, 1, "memory\n"),
+        Err(ReadFault::Memory) => return write_answer(output, 1, "memory\n"),
     };
     match answer_to(alloc, bytes.as_slice(), options) {
-        Ok(answer) => tell(output, answer.status, answer.text.as_str()),
-        Err(AllocError) => tell(output, 1, "memory\n"),
+        Ok(answer) => write_answer(output, answer.status, answer.text.as_str()),
+        Err(AllocError) => write_answer(output, 1, "memory\n"),
     }
 }
 
 /// The status and the text for the bytes of a schedule.
 #[tactic(auto, unfolding(crate::specs::Outcomes::outcome_of))]
 fn answer_to(alloc: Global, bytes: &[u8], options: Options) -> Result<Answer, AllocError>
-    ensures status { IfOk result (λ a. a.status ≡ (outcome_of options.identities bytes.now).status) }
-    ensures text { IfOk result (λ a. string_bytes a.text ≡ (outcome_of options.identities bytes.now).text) }
+    ensures status { IfOk result
+        (λ a. a.status ≡ (outcome_of options.identities bytes.now).status) }
+    ensures text { IfOk result
+        (λ a. string_bytes a.text ≡ (outcome_of options.identities bytes.now).text) }
 {
     match parse(alloc, bytes) {
         Ok(schedule) => {

@@ -1,8 +1,9 @@
 use crate::check_on::check_on;
-use crate::reading::{ReadFault, read_within};
+use crate::fault::ProgramFault;
+use crate::read_all::{ReadFault, read_within};
 use crate::run_on::run_on;
-use crate::telling::ProgramFault;
-use bag_tree::{MemoryFolders, Tree};
+use bag_folders::MemoryFolders;
+use bag_tree::Tree;
 use simulator::Options;
 use std::alloc::Global;
 use std::io;

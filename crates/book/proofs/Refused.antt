@@ -1,7 +1,7 @@
 -- What is no crash's due.
 use Rattle.std.proofs.Common.{◌≡◌, ◌≢◌, ℕ, ◌+◌, ◌<◌, List, [], ◌∷◌, ◌++◌, length, take, Some, Ok, inl, inr, refl, sym, ap, ◌∙◌, arith, length-append}
 use Rattle.std.proofs.lemmas.List.{append-nil, length-take, take_all}
-use Rattle.cell_device.specs.Images.{keeps, at_rest, appended, cut_to}
+use Rattle.cell_device.specs.Images.{keeps, at_rest, with_bytes, cut_to}
 use Rattle.records.specs.declared.record.Record.{Record}
 use Rattle.records.specs.Layout.{header_bytes, records_bytes, cell_text}
 use Rattle.records.specs.Records.{AreRecords}
@@ -18,7 +18,7 @@ none_more text [] e = refl
 none_more text (b ∷ bytes) e = absurd (omega (arith, ap length e, length-append text (b ∷ bytes)))
 
 -- a crash may leave the text without what was appended
-pub append_unsynced : (text bytes : List ℕ) → bytes ≢ [] → LeavesBytes (text ++ bytes) (Some (appended bytes (at_rest text))) → ⊥
+pub append_unsynced : (text bytes : List ℕ) → bytes ≢ [] → LeavesBytes (text ++ bytes) (Some (with_bytes bytes (at_rest text))) → ⊥
 append_unsynced text bytes some leaves = some (none_more text bytes (leaves text (0, sym (keeps_appended 0 text bytes ∙ append-nil text))))
 
 -- and with what was cut

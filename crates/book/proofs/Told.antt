@@ -6,7 +6,7 @@ use Rattle.std.proofs.lemmas.Bool.Decides.{leb_tells}
 use Rattle.std.proofs.lemmas.List.{append-nil, length-take, take_all}
 use Rattle.cell_device.specs.declared.fault.CellFault.{CellFault}
 use Rattle.cell_device.specs.declared.fault.CellFault.TheVariants.{Device, Memory}
-use Rattle.cell_device.specs.Images.{Image, keeps, Leaves, MayLeave, at_rest, appended, cut_to, made_durable, untouched}
+use Rattle.cell_device.specs.Images.{Image, keeps, Leaves, MayLeave, at_rest, with_bytes, cut_to, all_synced, same_image}
 use Rattle.cell_device.specs.Calls.{Outcome, Turns}
 use Rattle.book.specs.Volumes.{IfTold, RestsAt}
 
@@ -49,11 +49,11 @@ leaves_tried (Err Memory) tried i new Q is before after c left = before c (subst
 leaves_tried (Err Device) tried i new Q (inl is) before after c left = before c (subst (λ (o : Option Image). MayLeave o c) is left)
 leaves_tried (Err Device) tried i new Q (inr (k, is)) before after c left = after c (subst (λ (o : Option Image). MayLeave o c) is left)
 
-pub append_leaves : {T : Type 0} (result : Result T CellFault) (bytes b : List ℕ) (old new : Option Image) (Q : List ℕ → Type 0) → RestsAt bytes old → Turns result (appended b) (appended b) old new
+pub append_leaves : {T : Type 0} (result : Result T CellFault) (bytes b : List ℕ) (old new : Option Image) (Q : List ℕ → Type 0) → RestsAt bytes old → Turns result (with_bytes b) (with_bytes b) old new
     → ((k : ℕ) → Q (bytes ++ take k b)) → (c : List ℕ) → MayLeave new c → IfTold old (λ i. Q c)
 append_leaves result bytes b None new Q rest turns q c left = tt
 append_leaves result bytes b (Some i) new Q is turns q c left =
-    leaves_tried result (appended b) i new Q turns
+    leaves_tried result (with_bytes b) i new Q turns
     (λ c here. subst Q (append-nil bytes ∙ sym (rest_leaves bytes i c is here)) (q 0))
     (λ c here. subst Q (sym (here.1 ∙ ap (λ (j : Image). keeps here.0 j.synced (j.seen ++ b)) is ∙ keeps_appended here.0 bytes b)) (q here.0))
     c left
@@ -68,43 +68,43 @@ cut_leaves result bytes len (Some i) new Q le is turns q c left =
     c left
 
 -- a sync leaves what might have been left before it, or what a read gives
-pub sync_leaves : {T : Type 0} (result : Result T CellFault) (old new : Option Image) (Q : List ℕ → Type 0) → Turns result untouched made_durable old new
+pub sync_leaves : {T : Type 0} (result : Result T CellFault) (old new : Option Image) (Q : List ℕ → Type 0) → Turns result same_image all_synced old new
     → ((c : List ℕ) → MayLeave old c → Q c) → IfTold old (λ i. Q i.seen) → (c : List ℕ) → MayLeave new c → Q c
 sync_leaves result None new Q is before seen c left = before c tt
-sync_leaves (Ok x) (Some i) new Q is before seen c left = subst Q (sym (rest_leaves i.seen (made_durable i) c refl (subst (λ (o : Option Image). MayLeave o c) is left))) seen
+sync_leaves (Ok x) (Some i) new Q is before seen c left = subst Q (sym (rest_leaves i.seen (all_synced i) c refl (subst (λ (o : Option Image). MayLeave o c) is left))) seen
 sync_leaves (Err Memory) (Some i) new Q is before seen c left = before c (subst (λ (o : Option Image). MayLeave o c) is left)
 sync_leaves (Err Device) (Some i) new Q (inl is) before seen c left = before c (subst (λ (o : Option Image). MayLeave o c) is left)
 sync_leaves (Err Device) (Some i) new Q (inr (k, is)) before seen c left = before c (subst (λ (o : Option Image). MayLeave o c) is left)
 
 -- what was appended to bytes at rest, and synced, is at rest
-pub append_mends : {T U : Type 0} (x : T) (result : Result U CellFault) (bytes b text : List ℕ) (old mid new : Option Image) → RestsAt bytes old → Turns (Ok x) (appended b) (appended b) old mid → Turns result untouched made_durable mid new
+pub append_mends : {T U : Type 0} (x : T) (result : Result U CellFault) (bytes b text : List ℕ) (old mid new : Option Image) → RestsAt bytes old → Turns (Ok x) (with_bytes b) (with_bytes b) old mid → Turns result same_image all_synced mid new
     → bytes ++ b ≡ text → OnOk result (RestsAt text new)
 append_mends {U = U} x result bytes b text old mid new rest first second e = synced old result rest first second
   where
-    synced : (old : Option Image) (result : Result U CellFault) → RestsAt bytes old → Turns (Ok x) (appended b) (appended b) old mid → Turns result untouched made_durable mid new → OnOk result (RestsAt text new)
+    synced : (old : Option Image) (result : Result U CellFault) → RestsAt bytes old → Turns (Ok x) (with_bytes b) (with_bytes b) old mid → Turns result same_image all_synced mid new → OnOk result (RestsAt text new)
     synced old (Err fault) rest first second = tt
     synced None (Ok y) rest first second =
-        let is : new ≡ None = subst (λ (o : Option Image). Turns (Ok y) untouched made_durable o new) first second in
+        let is : new ≡ None = subst (λ (o : Option Image). Turns (Ok y) same_image all_synced o new) first second in
         subst (RestsAt text) (sym is) tt
     synced (Some i) (Ok y) is first second =
-        let made : new ≡ Some (at_rest (i.seen ++ b)) = subst (λ (o : Option Image). Turns (Ok y) untouched made_durable o new) first second in
+        let made : new ≡ Some (at_rest (i.seen ++ b)) = subst (λ (o : Option Image). Turns (Ok y) same_image all_synced o new) first second in
         subst (RestsAt text) (sym made) (ap at_rest (ap (λ (j : Image). j.seen ++ b) is ∙ e))
 
-pub cut_mends : {T U : Type 0} (x : T) (result : Result U CellFault) (bytes text : List ℕ) (len : ℕ) (old mid new : Option Image) → RestsAt bytes old → Turns (Ok x) (cut_to len) (cut_to len) old mid → Turns result untouched made_durable mid new
+pub cut_mends : {T U : Type 0} (x : T) (result : Result U CellFault) (bytes text : List ℕ) (len : ℕ) (old mid new : Option Image) → RestsAt bytes old → Turns (Ok x) (cut_to len) (cut_to len) old mid → Turns result same_image all_synced mid new
     → take len bytes ≡ text → OnOk result (RestsAt text new)
 cut_mends {U = U} x result bytes text len old mid new rest first second e = synced old result rest first second
   where
-    synced : (old : Option Image) (result : Result U CellFault) → RestsAt bytes old → Turns (Ok x) (cut_to len) (cut_to len) old mid → Turns result untouched made_durable mid new → OnOk result (RestsAt text new)
+    synced : (old : Option Image) (result : Result U CellFault) → RestsAt bytes old → Turns (Ok x) (cut_to len) (cut_to len) old mid → Turns result same_image all_synced mid new → OnOk result (RestsAt text new)
     synced old (Err fault) rest first second = tt
     synced None (Ok y) rest first second =
-        let is : new ≡ None = subst (λ (o : Option Image). Turns (Ok y) untouched made_durable o new) first second in
+        let is : new ≡ None = subst (λ (o : Option Image). Turns (Ok y) same_image all_synced o new) first second in
         subst (RestsAt text) (sym is) tt
     synced (Some i) (Ok y) is first second =
-        let made : new ≡ Some (at_rest (take len i.seen)) = subst (λ (o : Option Image). Turns (Ok y) untouched made_durable o new) first second in
+        let made : new ≡ Some (at_rest (take len i.seen)) = subst (λ (o : Option Image). Turns (Ok y) same_image all_synced o new) first second in
         subst (RestsAt text) (sym made) (ap at_rest (ap (λ (j : Image). take len j.seen) is ∙ e))
 
 -- after both calls a crash leaves what it might have left after the first
-pub append_sync_leaves : {T U : Type 0} (x : T) (result : Result U CellFault) (bytes b : List ℕ) (old mid new : Option Image) (Q : List ℕ → Type 0) → RestsAt bytes old → Turns (Ok x) (appended b) (appended b) old mid → Turns result untouched made_durable mid new
+pub append_sync_leaves : {T U : Type 0} (x : T) (result : Result U CellFault) (bytes b : List ℕ) (old mid new : Option Image) (Q : List ℕ → Type 0) → RestsAt bytes old → Turns (Ok x) (with_bytes b) (with_bytes b) old mid → Turns result same_image all_synced mid new
     → ((k : ℕ) → Q (bytes ++ take k b)) → (c : List ℕ) → MayLeave new c → IfTold old (λ i. Q c)
 append_sync_leaves x result bytes b None mid new Q rest first second q c left = tt
 append_sync_leaves {T = T} x result bytes b (Some i) mid new Q is first second q c left =
@@ -112,7 +112,7 @@ append_sync_leaves {T = T} x result bytes b (Some i) mid new Q is first second q
     let seen : Q (i.seen ++ b) = subst Q (ap (λ (l : List ℕ). bytes ++ l) (take_all (length b) b (omega arith)) ∙ ap (λ (j : Image). j.seen ++ b) (sym is)) (q (length b)) in
     sync_leaves result mid new Q second (append_leaves ok bytes b (Some i) mid Q is first q) (subst (λ (o : Option Image). IfTold o (λ j. Q j.seen)) (sym first) seen) c left
 
-pub cut_sync_leaves : {T U : Type 0} (x : T) (result : Result U CellFault) (bytes : List ℕ) (len : ℕ) (old mid new : Option Image) (Q : List ℕ → Type 0) → len ≤ length bytes → RestsAt bytes old → Turns (Ok x) (cut_to len) (cut_to len) old mid → Turns result untouched made_durable mid new
+pub cut_sync_leaves : {T U : Type 0} (x : T) (result : Result U CellFault) (bytes : List ℕ) (len : ℕ) (old mid new : Option Image) (Q : List ℕ → Type 0) → len ≤ length bytes → RestsAt bytes old → Turns (Ok x) (cut_to len) (cut_to len) old mid → Turns result same_image all_synced mid new
     → ((k : ℕ) → Q (take (len + k) bytes)) → (c : List ℕ) → MayLeave new c → IfTold old (λ i. Q c)
 cut_sync_leaves x result bytes len None mid new Q le rest first second q c left = tt
 cut_sync_leaves {T = T} x result bytes len (Some i) mid new Q le is first second q c left =

@@ -6,7 +6,7 @@ use Rattle.cell_device.specs.declared.fuse.FuseState.{FuseState}
 use Rattle.cell_device.specs.declared.fuse.FuseState.TheVariants.{Clear, Burning, Stopped}
 use Rattle.cell_device.specs.Images.{Image}
 use Rattle.cell_device.specs.Devices.{Device}
-use Rattle.cell_device.specs.Fuses.{fires, burnt}
+use Rattle.cell_device.specs.Fuses.{fires, next_fuse}
 use Rattle.cell_device.specs.Calls.{HasGrown}
 use Rattle.records.specs.declared.record.Record.{Record}
 use Rattle.records.specs.Kept.{kept_records}
@@ -21,7 +21,7 @@ OpensWithOrWithout federation site records r bytes = Says federation site bytes 
 
 -- the fuse's call is one of the two of a commit
 abbrev pub fires_within : FuseState → Bool
-fires_within f = fires f || fires (burnt f)
+fires_within f = fires f || fires (next_fuse f)
 
 -- so many bytes of what was appended are there after a fuse has fired
 abbrev pub bytes_kept : FuseState → ℕ
@@ -31,8 +31,8 @@ bytes_kept Stopped = 0
 
 -- what appending bytes to a text, and syncing, makes of the fuse and of what a read gives
 abbrev pub AppendBurns : Result (Unit {0}) CellFault → FuseState → (text bytes : List ℕ) → Option FuseState → Option Image → Type 0
-AppendBurns (Ok _) f text bytes fuse image = (fires_within f ≡ false) × (fuse ≡ Some (burnt (burnt f)))
-AppendBurns (Err cells.Device) f text bytes fuse image = (fires_within f ≡ true) × (fuse ≡ Some (burnt (burnt f))) × IfTold image (λ i. i.seen ≡ text ++ take (bytes_kept f) bytes)
+AppendBurns (Ok _) f text bytes fuse image = (fires_within f ≡ false) × (fuse ≡ Some (next_fuse (next_fuse f)))
+AppendBurns (Err cells.Device) f text bytes fuse image = (fires_within f ≡ true) × (fuse ≡ Some (next_fuse (next_fuse f))) × IfTold image (λ i. i.seen ≡ text ++ take (bytes_kept f) bytes)
 AppendBurns (Err cells.Memory) f text bytes fuse image = fuse ≡ Some f
 
 -- what the cell recovers to after a fuse has fired: with the new record exactly if at least as many
@@ -44,8 +44,8 @@ records_kept Stopped records r = records
 
 -- what a commit makes of the fuse and the bytes
 abbrev pub Burns : ℕ → ℕ → Result (Unit {0}) CommitFault → FuseState → List Record → Record → Option FuseState → Option Image → Type 0
-Burns federation site (Ok _) f records r fuse image = (fires_within f ≡ false) × (fuse ≡ Some (burnt (burnt f)))
-Burns federation site (Err faults.Device) f records r fuse image = (fires_within f ≡ true) × (fuse ≡ Some (burnt (burnt f))) × IfTold image (λ i. Says federation site i.seen (Ok (records_kept f records r)))
+Burns federation site (Ok _) f records r fuse image = (fires_within f ≡ false) × (fuse ≡ Some (next_fuse (next_fuse f)))
+Burns federation site (Err faults.Device) f records r fuse image = (fires_within f ≡ true) × (fuse ≡ Some (next_fuse (next_fuse f))) × IfTold image (λ i. Says federation site i.seen (Ok (records_kept f records r)))
 Burns federation site (Err faults.Memory) f records r fuse image = fuse ≡ Some f
 Burns federation site (Err faults.NeedsOpen) f records r fuse image = fuse ≡ Some f
 

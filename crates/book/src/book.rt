@@ -2,8 +2,8 @@ ghost use Rattle.std.specs.Prelude.{◌≡◌, ◌≢◌, ◌↔◌, true, false
 ghost use Rattle.cell_device.specs.declared.fuse.FuseState.{FuseState};
 ghost use Rattle.cell_device.specs.declared.fuse.FuseState.TheVariants.{Clear};
 ghost use Rattle.cell_device.specs.Time.{LeavesOnly};
-ghost use Rattle.cell_device.specs.Images.{made_durable};
-ghost use Rattle.cell_device.specs.Memory.{image_of, fuse_of, failures_of, fuse_set, IsSameMedium};
+ghost use Rattle.cell_device.specs.Images.{all_synced};
+ghost use Rattle.cell_device.specs.Memory.{image_of, fuse_of, failures_of, fuse_after_set, IsSameMedium};
 ghost use Rattle.records.specs.declared.fault.OpenFault.{OpenFault as declared_fault};
 ghost use Rattle.records.specs.declared.fault.OpenFault.TheVariants as open_faults;
 ghost use Rattle.records.specs.declared.record.Record.{Record as declared_record};
@@ -179,7 +179,7 @@ impl<C: Cell> Book<C> {
 impl Book<MemoryCell> {
     /// Sets the cell's fuse, or takes it away. It changes nothing else.
     pub fn set_fuse(&mut self, fuse: Option<Fuse>)
-        ensures fuse { fuse_of self.new.cell ≡ fuse_set fuse (fuse_of self.old.cell) }
+        ensures fuse { fuse_of self.new.cell ≡ fuse_after_set fuse (fuse_of self.old.cell) }
         ensures medium { IsSameMedium self.old.cell self.new.cell }
         ensures failures { failures_of self.new.cell ≡ failures_of self.old.cell }
         ensures records { (self.new.records ≡ self.old.records) × (self.new.needs_opening ≡ self.old.needs_opening) }
@@ -200,7 +200,7 @@ impl Book<MemoryCell> {
             (λ e. e.1 ≡ open_faults.Memory) }
         // The cell that is handed back can be opened again.
         ensures kept { IfErr result (λ e. LeavesAlike self.members.federation self.site
-            (Some (made_durable (image_of self.cell))) (image_of e.0).seen) }
+            (Some (all_synced (image_of self.cell))) (image_of e.0).seen) }
         // A book that needed no opening has the same records again, unless memory runs out.
         ensures same { self.needs_opening ≡ false → MatchResult result
             (λ book. book.records ≡ self.records) (λ e. e.1 ≡ open_faults.Memory) }

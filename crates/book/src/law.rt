@@ -1,5 +1,5 @@
 ghost use Rattle.std.specs.Prelude.{◌≡◌, ◌≢◌, ◌<◌, ℕ, List, [], ◌∷◌, ◌++◌, length, take, Some, Ok};
-ghost use Rattle.cell_device.specs.Images.{keeps, at_rest, appended, cut_to};
+ghost use Rattle.cell_device.specs.Images.{keeps, at_rest, with_bytes, cut_to};
 ghost use Rattle.records.specs.declared.record.Record.{Record};
 ghost use Rattle.records.specs.Journals.{Says};
 ghost use Rattle.records.specs.Layout.{record_bytes, cell_text};
@@ -23,7 +23,7 @@ pub fn append_is_atomic()
 /// moment, where it has records. It does nothing: its contract is the law.
 pub fn wrong_orders_are_refused()
     ensures append_without_a_sync { (text bytes : List ℕ) → bytes ≢ [] →
-        ¬ LeavesBytes (text ++ bytes) (Some (appended bytes (at_rest text))) }
+        ¬ LeavesBytes (text ++ bytes) (Some (with_bytes bytes (at_rest text))) }
     ensures cut_without_a_sync { (bytes : List ℕ) (len : ℕ) → len < length bytes →
         ¬ LeavesBytes (take len bytes) (Some (cut_to len (at_rest bytes))) }
     ensures torn_tail_left { (text tail : List ℕ) → tail ≢ [] →

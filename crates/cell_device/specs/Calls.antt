@@ -1,58 +1,75 @@
--- What a call answers, and what it does.
-use Rattle.std.specs.Prelude.{◌≡◌, ◌≢◌, ◌⊎◌, ◌<◌, ◌≤◌, ◌-◌, ◌^◌, ℕ, List, true, false, Option, Some, None, Result, Ok, Err, IsErrOf}
+-- What a call answers, and what it does. A call tries one thing, and does another where it answers
+-- Ok: an append tries to append and appends; a sync tries nothing, and keeps what a read gives.
+use Rattle.std.specs.Prelude.{◌≡◌, ◌≢◌, ◌⊎◌, ◌<◌, ◌≤◌, ◌-◌, ◌^◌, ℕ, List, true, false}
+use Rattle.std.specs.Prelude.{Option, Some, None, Result, Ok, Err, IsErrOf}
 use Rattle.cell_device.specs.declared.fault.CellFault.{CellFault}
 use Rattle.cell_device.specs.declared.fault.CellFault.TheVariants.{Device, Memory}
 use Rattle.cell_device.specs.declared.fuse.FuseState.{FuseState}
 use Rattle.cell_device.specs.declared.fuse.FuseState.TheVariants.{Stopped}
-use Rattle.cell_device.specs.Images.{Image, MayLeave, failed}
+use Rattle.cell_device.specs.Images.{Image, IfKnown, MayLeave, after_failure}
 use Rattle.cell_device.specs.Time.{Elapses}
 use Rattle.cell_device.specs.Devices as devices
-use Rattle.cell_device.specs.Fuses.{fires, burnt, fused}
+use Rattle.cell_device.specs.Fuses.{fires, next_fuse, next_image}
 
--- what a call that tries one thing and does another makes of the image: where memory lacks nothing, where the device failed nothing or what it keeps of what was tried
-abbrev pub Outcome : {T : Type 0} → Result T CellFault → (tried done : Image → Image) → Image → Option Image → Type 0
+-- Ok: it is done. Memory: the image is as it was. Device: so it is, or a part of what was tried is
+-- there
+abbrev pub Outcome : {T : Type 0} → Result T CellFault
+    → (tried done : Image → Image) → Image → Option Image → Type 0
 Outcome (Ok x) tried done i new = new ≡ Some (done i)
 Outcome (Err Memory) tried done i new = new ≡ Some i
-Outcome (Err Device) tried done i new = (new ≡ Some i) ⊎ ((k : ℕ) × (new ≡ Some (failed k (tried i))))
+Outcome (Err Device) tried done i new =
+    (new ≡ Some i) ⊎ ((k : ℕ) × (new ≡ Some (after_failure k (tried i))))
 
--- the same, where the cell tells its bytes; one that doesn't tell them goes on so
-abbrev pub Turns : {T : Type 0} → Result T CellFault → (tried done : Image → Image) → Option Image → Option Image → Type 0
+-- the same, where the bytes are known; where they aren't they don't become so
+abbrev pub Turns : {T : Type 0} → Result T CellFault
+    → (tried done : Image → Image) → (old new : Option Image) → Type 0
 Turns result tried done None new = new ≡ None
 Turns result tried done (Some i) new = Outcome result tried done i new
 
--- the image after a call, by the fuse
-abbrev pub IsFused : FuseState → (tried done : Image → Image) → Option Image → Option Image → Type 0
-IsFused f tried done None new = Unit {0}
-IsFused f tried done (Some i) new = new ≡ Some (fused f tried done i)
+-- the image after a call, by the fuse, where it is known
+abbrev pub FollowsFuse : FuseState
+    → (tried done : Image → Image) → (old new : Option Image) → Type 0
+FollowsFuse f tried done None new = Unit {0}
+FollowsFuse f tried done (Some i) new = new ≡ Some (next_image f tried done i)
 
--- a call that isn't refused for memory answers Device exactly where the fuse fires, and burns it; a stopped cell refuses none for memory
-abbrev pub Burns : {T : Type 0} → Result T CellFault → (tried done : Image → Image) → FuseState → Option FuseState → Option Image → Option Image → Type 0
-Burns (Ok x) tried done f fuse old new = (fires f ≡ false) × (fuse ≡ Some (burnt f)) × IsFused f tried done old new
-Burns (Err Device) tried done f fuse old new = (fires f ≡ true) × (fuse ≡ Some (burnt f)) × IsFused f tried done old new
+-- a call that isn't refused for memory answers Device exactly where the fuse fires, and burns it; a
+-- stopped cell refuses none for memory
+abbrev pub Burns : {T : Type 0} → Result T CellFault → (tried done : Image → Image)
+    → FuseState → Option FuseState → (old new : Option Image) → Type 0
+Burns (Ok x) tried done f fuse old new =
+    (fires f ≡ false) × (fuse ≡ Some (next_fuse f)) × FollowsFuse f tried done old new
+Burns (Err Device) tried done f fuse old new =
+    (fires f ≡ true) × (fuse ≡ Some (next_fuse f)) × FollowsFuse f tried done old new
 Burns (Err Memory) tried done f fuse old new = (f ≢ Stopped) × (fuse ≡ Some f)
 
--- the same, where the cell tells its fuse
-abbrev pub Follows : {T : Type 0} → Result T CellFault → (tried done : Image → Image) → (before after : Option FuseState) → Option Image → Option Image → Type 0
+-- the same, where the fuse is known
+abbrev pub Follows : {T : Type 0} → Result T CellFault → (tried done : Image → Image)
+    → (before after : Option FuseState) → (old new : Option Image) → Type 0
 Follows result tried done None fuse old new = Unit {0}
 Follows result tried done (Some f) fuse old new = Burns result tried done f fuse old new
 
--- the count grew, or stood at the most that a word of 64 bits holds
-abbrev pub HasGrown : ℕ → ℕ → Type 0
-HasGrown before now = (before < now) ⊎ (2 ^ 64 - 1 ≤ before)
+-- the most failures that are counted: a count has 64 bits
+abbrev pub most_failures : ℕ
+most_failures = 2 ^ 64 - 1
 
--- Device is answered exactly where the device failed: a failure is told as Device and as nothing else
+-- the count grew, or was the greatest
+abbrev pub HasGrown : ℕ → ℕ → Type 0
+HasGrown before now = (before < now) ⊎ (most_failures ≤ before)
+
+-- Device is answered exactly where the device failed, and no failure is answered as anything else
 pub record HasCause {T : Type 0} (before now : ℕ) (result : Result T CellFault) : Type 0 where
   pub later : before ≤ now
   pub failed : IsErrOf result Device → HasGrown before now
   pub same : ¬ IsErrOf result Device → now ≡ before
 
--- what a read gives, where the cell tells its bytes
+-- what a read gives, where the bytes are known
 abbrev pub IsRead : Option Image → List ℕ → Type 0
-IsRead None bytes = Unit {0}
-IsRead (Some i) bytes = bytes ≡ i.seen
+IsRead image bytes = IfKnown image (λ i. bytes ≡ i.seen)
 
--- What a call does that tries one thing and does another: to the bytes, to the fuse, to what crashes may have left, and to the count of failures.
-pub record Calls {T : Type 0} (tried done : Image → Image) (old new : devices.Device) (result : Result T CellFault) : Type 0 where
+-- What a call does that tries one thing and does another: to the bytes, to the fuse, to what
+-- crashes may have left, and to the count of failures.
+pub record Calls {T : Type 0} (tried done : Image → Image) (old new : devices.Device)
+    (result : Result T CellFault) : Type 0 where
   pub bytes : Turns result tried done old.image new.image
   pub fuse : Follows result tried done old.fuse new.fuse old.image new.image
   pub time : Elapses old.moment new.moment old.left_since new.left_since (MayLeave new.image)

@@ -4,9 +4,9 @@ use Rattle.cell_device.specs.declared.fuse.FuseState.{FuseState}
 use Rattle.cell_device.specs.Images.{Image}
 
 pub record Device : Type 1 where
-  -- its bytes, where it tells them
+  -- its bytes, where they are known
   pub image : Option Image
-  -- what becomes of the calls to come, where it tells that
+  -- what becomes of the calls to come, where that is known
   pub fuse : Option FuseState
   -- the moment, as a number that doesn't fall
   pub moment : ℕ

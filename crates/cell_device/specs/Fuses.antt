@@ -4,7 +4,7 @@ use Rattle.cell_device.specs.declared.fuse.How.{How}
 use Rattle.cell_device.specs.declared.fuse.How.TheVariants as how
 use Rattle.cell_device.specs.declared.fuse.FuseState.{FuseState}
 use Rattle.cell_device.specs.declared.fuse.FuseState.TheVariants.{Clear, Burning, Stopped}
-use Rattle.cell_device.specs.Images.{Image, failed}
+use Rattle.cell_device.specs.Images.{Image, after_failure}
 
 -- the next call answers Device
 abbrev pub fires : FuseState → Bool
@@ -12,19 +12,24 @@ fires Clear = false
 fires (Burning f) = f.call == 1
 fires Stopped = true
 
--- what is left of a fuse that has fired
-abbrev pub blown : How → FuseState
-blown how.Fail = Clear
-blown how.Stop = Stopped
+-- the fuse after it has fired
+abbrev pub fuse_after_firing : How → FuseState
+fuse_after_firing how.Fail = Clear
+fuse_after_firing how.Stop = Stopped
 
 -- the fuse after the next call
-abbrev pub burnt : FuseState → FuseState
-burnt Clear = Clear
-burnt (Burning f) = if f.call == 1 then blown f.how else Burning (record f { call = f.call - 1 })
-burnt Stopped = Stopped
+abbrev pub next_fuse : FuseState → FuseState
+next_fuse Clear = Clear
+next_fuse (Burning f) =
+    if f.call == 1
+    then fuse_after_firing f.how
+    else Burning (record f { call = f.call - 1 })
+next_fuse Stopped = Stopped
 
--- the image after the next call, where it is tried and where it is done; a stopped cell does nothing more
-abbrev pub fused : FuseState → (Image → Image) → (Image → Image) → Image → Image
-fused Clear tried done i = done i
-fused (Burning f) tried done i = if f.call == 1 then failed f.kept (tried i) else done i
-fused Stopped tried done i = i
+-- the image after the next call, where it is tried and where it is done; a stopped cell does
+-- nothing more
+abbrev pub next_image : FuseState → (tried done : Image → Image) → Image → Image
+next_image Clear tried done i = done i
+next_image (Burning f) tried done i =
+    if f.call == 1 then after_failure f.kept (tried i) else done i
+next_image Stopped tried done i = i

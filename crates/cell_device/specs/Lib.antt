@@ -1,11 +1,11 @@
-pub mod Faults
+-- What a cell promises is read in this order: Images, Fuses, Devices, Time, Calls. Memory and
+-- FileCells are what the two kinds of cells let one know; inner/ is for private clauses and proofs.
 pub mod Images
 pub mod Fuses
 pub mod Devices
 pub mod Time
 pub mod Calls
-pub mod Undone
-pub mod Mediums
 pub mod Memory
-pub mod Laws
 pub mod FileCells
+pub mod Faults
+pub mod inner

@@ -1,19 +1,16 @@
--- What a cell in memory tells.
-use Rattle.std.specs.Prelude.{◌≡◌, ℕ, List, true, false, Option, Some, None, Result, Ok, Err}
-use Rattle.cell_device.specs.declared.fault.CellFault.{CellFault}
-use Rattle.cell_device.specs.declared.fault.CellFault.TheVariants as faults
+-- What is known of a cell in memory: all.
+use Rattle.std.specs.Prelude.{◌≡◌, ℕ, List, Option, Some, None}
 use Rattle.cell_device.specs.declared.fuse.Fuse.{Fuse}
 use Rattle.cell_device.specs.declared.fuse.FuseState.{FuseState}
 use Rattle.cell_device.specs.declared.fuse.FuseState.TheVariants.{Clear, Burning, Stopped}
 use Rattle.cell_device.specs.declared.memory_cell.MemoryCell.{MemoryCell}
 use Rattle.cell_device.specs.Images.{Image}
 use Rattle.cell_device.specs.Devices.{Device}
-use Rattle.cell_device.specs.Fuses.{fires}
-use Rattle.cell_device.specs.Mediums.{held, moment, left_since, IsSameTime}
+use Rattle.cell_device.specs.inner.Mediums.{medium_image, moment, left_since}
 
 -- its bytes: the synced ones, the newest, and what a read gives
 abbrev pub image_of : MemoryCell → Image
-image_of cell = held cell.medium
+image_of cell = medium_image cell.medium
 
 -- what becomes of the calls to come
 abbrev pub fuse_of : MemoryCell → FuseState
@@ -35,29 +32,13 @@ left_since_of cell = left_since cell.medium
 abbrev pub IsSameMedium : MemoryCell → MemoryCell → Type 0
 IsSameMedium old new = new.medium ≡ old.medium
 
--- the moment, and what crashes may have left, are as they were
-abbrev pub IsSameMoment : MemoryCell → MemoryCell → Type 0
-IsSameMoment old new = IsSameTime old.medium new.medium
+-- the fuse after one is set, or taken away; a stopped cell stays stopped
+abbrev pub fuse_after_set : Option Fuse → FuseState → FuseState
+fuse_after_set fuse Stopped = Stopped
+fuse_after_set None f = Clear
+fuse_after_set (Some fuse) f = Burning fuse
 
--- a fuse is set, or taken away; a stopped cell stays stopped
-abbrev pub fuse_set : Option Fuse → FuseState → FuseState
-fuse_set fuse Stopped = Stopped
-fuse_set None f = Clear
-fuse_set (Some fuse) f = Burning fuse
-
--- a call that was tried answers Device where the fuse fires
-abbrev pub Fires : {T : Type 0} → FuseState → Result T CellFault → Type 0
-Fires f (Ok x) = fires f ≡ false
-Fires f (Err faults.Device) = fires f ≡ true
-Fires f (Err faults.Memory) = ⊥
-
--- a call of a stopped cell answers Device
-abbrev pub StopsAt : {T : Type 0} → FuseState → Result T CellFault → Type 0
-StopsAt f (Ok x) = f ≡ Stopped → ⊥
-StopsAt f (Err faults.Device) = f ≡ Stopped
-StopsAt f (Err faults.Memory) = ⊥
-
--- all that a cell in memory tells of its device
+-- all that is known of its device
 abbrev pub device_of : MemoryCell → Device
 device_of cell = record {
   image = Some (image_of cell);

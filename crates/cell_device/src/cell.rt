@@ -1,7 +1,7 @@
 ghost use Rattle.std.specs.Prelude.{◌≡◌, ◌≢◌, ◌≤◌, ℕ, List, Some, IfOk, IfErr};
 ghost use Rattle.cell_device.specs.declared.fault.CellFault.TheVariants.{Memory};
 ghost use Rattle.cell_device.specs.Images.{Image, Leaves, MayLeave, AllowsAppend, AllowsCut};
-ghost use Rattle.cell_device.specs.Images.{appended, cut_to, made_durable, untouched};
+ghost use Rattle.cell_device.specs.Images.{with_bytes, cut_to, all_synced, same_image};
 ghost use Rattle.cell_device.specs.Devices.{Device};
 ghost use Rattle.cell_device.specs.Calls.{Calls, IsRead};
 
@@ -16,13 +16,14 @@ pub trait Cell {
     /// All the bytes. It changes none of them, unless the device fails.
     fn load(&mut self, alloc: Global) -> Result<Vec<u8>, CellFault>
         ensures read { IfOk result (λ bytes. IsRead (device self.old).image bytes.items) }
-        ensures does { Calls untouched untouched (device self.old) (device self.new) result };
+        ensures does { Calls same_image same_image (device self.old) (device self.new) result };
 
     /// Puts the bytes after those that are there. Until a sync succeeds, a crash may leave any
     /// number of them.
     fn append(&mut self, bytes: &[u8]) -> Result<(), CellFault>
         requires { AllowsAppend (device self.old).image }
-        ensures does { Calls (appended bytes.now) (appended bytes.now) (device self.old) (device self.new) result };
+        ensures does { Calls (with_bytes bytes.now) (with_bytes bytes.now)
+            (device self.old) (device self.new) result };
 
     /// Cuts the cell to a length. Until a sync succeeds, a crash may leave any number of the bytes
     /// after that length.
@@ -32,15 +33,17 @@ pub trait Cell {
 
     /// After it, a crash leaves what a read gives. It needs no memory.
     fn sync(&mut self) -> Result<(), CellFault>
-        ensures does { Calls untouched made_durable (device self.old) (device self.new) result }
+        ensures does { Calls same_image all_synced (device self.old) (device self.new) result }
         ensures no_memory { IfErr result (λ fault. fault ≢ Memory) };
 
     // What a read gives is among what a crash now may leave.
     ghost seen_now: { (cell : Self) (i : Image) → (device cell).image ≡ Some i → Leaves i i.seen };
 
     // This moment is one of those since an earlier one.
-    ghost counts_now: { (cell : Self) (t : ℕ) (c : List ℕ) → t ≤ (device cell).moment → MayLeave (device cell).image c → (device cell).left_since t c };
+    ghost counts_now: { (cell : Self) (t : ℕ) (c : List ℕ) → t ≤ (device cell).moment
+        → MayLeave (device cell).image c → (device cell).left_since t c };
 
     // Since this moment there is no other.
-    ghost only_now: { (cell : Self) (c : List ℕ) → (device cell).left_since (device cell).moment c → MayLeave (device cell).image c };
+    ghost only_now: { (cell : Self) (c : List ℕ) → (device cell).left_since (device cell).moment c
+        → MayLeave (device cell).image c };
 }

@@ -1,9 +1,9 @@
 /// How a medium was before one change of it.
 #[derive(Drop)]
 pub(crate) struct Change {
-    /// So many of the first bytes of the buffer stood there already.
+    /// So many of the first bytes of the buffer were there already.
     pub at: usize,
-    /// The bytes that stood behind these.
+    /// The bytes after these.
     pub lost: Vec<u8>,
     /// What a crash left at least.
     pub least: usize,

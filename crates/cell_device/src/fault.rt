@@ -9,7 +9,7 @@ pub enum CellFault {
     /// The device failed.
     #[error("the cell's device failed")]
     Device,
-    /// No memory was found; the call changed nothing.
+    /// Out of memory; the call changed nothing.
     #[error("out of memory")]
     Memory,
 }
@@ -27,7 +27,7 @@ impl From<AllocError> for CellFault {
 impl CellFault {
     ghost use Rattle.cell_device.specs.Faults.{fault_number};
 
-    /// The number by which the fault is told, 1 or 2.
+    /// The error code of the fault, 1 or 2.
     pub fn number(self) -> u8
         ensures { result ≡ fault_number self }
     {

@@ -8,9 +8,9 @@ use std::io::{self, ErrorKind, Read, Seek, SeekFrom, Write};
 use std::os::fd::AsRawFd;
 use std::path::Path;
 
-/// A cell in a file. No contract tells what a file holds.
+/// A cell in a file. No contract says what a file holds.
 ///
-/// A call that failed may have left bytes that nobody wrote: the system tells once that it couldn't
+/// A call that failed may have left bytes that nobody wrote: the system says once that it couldn't
 /// write some, and may then give zeros or old bytes in their place. So where an append, a cut or a
 /// sync has failed, the file is cut back to the bytes that an earlier sync has made sure of. Where
 /// that fails, or where only the path no longer leads to the file, more of them may stay.
@@ -68,8 +68,7 @@ impl FileCell {
         let folder = fs::open(rt, folder_of(path))?;
         folder.sync_all()?;
         // Before the lock the path may have been led elsewhere: to a file that has replaced this
-        // one, or over a link, behind which this one lies in another folder than the one that is
-        // synced.
+        // one, or over a link, where this one lies in another folder than the one that is synced.
         let sure = place.length()?;
         Ok(FileCell {
             file,
@@ -126,11 +125,12 @@ impl FileCell {
 }
 
 impl Cell for FileCell {
-    ghost use Rattle.cell_device.specs.FileCells.{device_of, nothing_told};
+    ghost use Rattle.cell_device.specs.FileCells.{device_of};
+    ghost use Rattle.cell_device.specs.inner.Laws.{file_seen_now_of};
 
     ghost device = { device_of };
 
-    ghost seen_now = { λ cell i told. nothing_told i told };
+    ghost seen_now = { file_seen_now_of };
 
     ghost counts_now = { λ cell t c le now. tt };
 
@@ -169,7 +169,7 @@ impl Cell for FileCell {
         if self.file.sync_all().is_err() {
             return Err(self.fail_change());
         }
-        // Behind the sync, so that the answer speaks of the file that the path leads to now.
+        // After the sync, so that the answer speaks of the file that the path leads to now.
         match self.place.length() {
             Ok(length) => {
                 self.sure = length;
@@ -185,7 +185,7 @@ impl Cell for FileCell {
 
 /// The file of this path, which no other cell has open.
 fn open_locked(rt: &HostRuntime, path: &str) -> io::Result<File> {
-    // Nothing is made behind a link that leads nowhere.
+    // Nothing is made where a link leads nowhere.
     match fs::symlink_metadata(rt, path) {
         Ok(there) if !there.is_file() => return Err(ErrorKind::InvalidInput.into()),
         Ok(_) => {}

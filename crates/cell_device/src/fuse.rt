@@ -1,5 +1,5 @@
 ghost use Rattle.std.specs.Prelude.{◌≡◌};
-ghost use Rattle.cell_device.specs.Fuses.{burnt, fires};
+ghost use Rattle.cell_device.specs.Fuses.{next_fuse, fires};
 
 /// How a call fails.
 #[derive(Clone, Copy, Debug, PartialEq, Eq)]
@@ -46,8 +46,8 @@ impl FuseState {
     }
 
     /// The state after the next call.
-    pub(crate) fn burnt(self) -> FuseState
-        ensures { result ≡ burnt self }
+    pub(crate) fn next(self) -> FuseState
+        ensures { result ≡ next_fuse self }
     {
         match self {
             FuseState::Clear => FuseState::Clear,

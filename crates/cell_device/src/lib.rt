@@ -1,5 +1,5 @@
-//! Cells: where a site keeps its journal. A cell is a file of bytes that keeps what it has synced; what a crash
-//! leaves of the rest, at each moment, is a part of every call's contract.
+//! Cells: where a site keeps its journal. A cell is a file of bytes that keeps what it has synced;
+//! what a crash leaves of the rest, at each moment, is a part of every call's contract.
 #![tactic(auto)]
 
 mod cell;

@@ -4,8 +4,8 @@ ghost use Rattle.std.specs.Vec.{vec_capacity};
 use crate::change::Change;
 use std::alloc::{AllocError, Global};
 
-/// The bytes of a cell in memory, and all that crashes may have left of them. A crash leaves the first
-/// bytes of the buffer, from `least` to `most` of them; a read gives the first `seen`.
+/// The bytes of a cell in memory, and all that crashes may have left of them. A crash leaves the
+/// first bytes of the buffer, from `least` to `most` of them; a read gives the first `seen`.
 #[derive(Drop)]
 pub(crate) struct Medium {
     alloc: Global,
@@ -13,7 +13,7 @@ pub(crate) struct Medium {
     least: usize,
     most: usize,
     seen: usize,
-    /// The bytes behind `least` are cut, and not appended.
+    /// The bytes after `least` are cut, and not appended.
     is_cut: bool,
     /// The changes of all that, the newest last.
     changes: Vec<Change>,
@@ -26,13 +26,15 @@ pub(crate) struct Medium {
 
 impl Medium {
     ghost use Rattle.std.specs.Prelude.{◌≡◌, OnOk, OnErr};
-    ghost use Rattle.cell_device.specs.Images.{at_rest, appended, cut_to, made_durable, failed};
-    ghost use Rattle.cell_device.specs.Undone.{before};
-    ghost use Rattle.cell_device.specs.Mediums.{held, state, moment, IsSameTime, GoesOn};
+    ghost use Rattle.cell_device.specs.Images.{at_rest, with_bytes, cut_to, all_synced};
+    ghost use Rattle.cell_device.specs.Images.{after_failure};
+    ghost use Rattle.cell_device.specs.inner.Undone.{before};
+    ghost use Rattle.cell_device.specs.inner.Mediums.{medium_image, state, moment};
+    ghost use Rattle.cell_device.specs.inner.Mediums.{IsSameTime, GoesOn};
 
     /// These bytes, all of them synced.
     pub fn new(alloc: Global, bytes: Vec<u8>) -> Medium
-        ensures bytes { held result ≡ at_rest bytes.items }
+        ensures bytes { medium_image result ≡ at_rest bytes.items }
         ensures moment { moment result ≡ 0 }
     {
         let len = bytes.len();
@@ -49,20 +51,21 @@ impl Medium {
 
     /// What a read gives.
     pub fn bytes(&self) -> &[u8]
-        ensures { result.now ≡ (held self.now).seen }
+        ensures { result.now ≡ (medium_image self.now).seen }
     {
         &self.buffer[..self.seen]
     }
 
-    /// Puts the bytes behind those that a read gives.
+    /// Puts the bytes after those that a read gives.
     pub fn append(&mut self, bytes: &[u8]) -> Result<(), AllocError>
-        requires { length (held self.old).synced ≤ length (held self.old).newest }
-        ensures done { OnOk result (held self.new ≡ appended bytes.now (held self.old)) }
-        ensures refused { OnErr result (held self.new ≡ held self.old) }
+        requires { length (medium_image self.old).synced ≤ length (medium_image self.old).newest }
+        ensures done { OnOk result
+            (medium_image self.new ≡ with_bytes bytes.now (medium_image self.old)) }
+        ensures refused { OnErr result (medium_image self.new ≡ medium_image self.old) }
         ensures time { GoesOn self.old self.new }
     {
-        // Every growth comes first, so that a refusal changes nothing. There is room for two changes:
-        // this one, and that of the sync behind it.
+        // Memory is taken first, so that a refusal changes nothing. There is room for two changes:
+        // this one, and that of the sync after it.
         let lost = self.buffer[self.seen..].to_vec(self.alloc)?;
         self.changes.reserve(2)?;
         self.buffer.reserve(bytes.len())?;
@@ -84,13 +87,13 @@ impl Medium {
 
     /// Cuts what a read gives to a length.
     pub fn cut(&mut self, len: usize) -> Result<(), AllocError>
-        requires settled { (held self.old).synced ≡ (held self.old).newest }
-        requires within { len ≤ length (held self.old).seen }
-        ensures done { OnOk result (held self.new ≡ cut_to len (held self.old)) }
-        ensures refused { OnErr result (held self.new ≡ held self.old) }
+        requires settled { (medium_image self.old).synced ≡ (medium_image self.old).newest }
+        requires within { len ≤ length (medium_image self.old).seen }
+        ensures done { OnOk result (medium_image self.new ≡ cut_to len (medium_image self.old)) }
+        ensures refused { OnErr result (medium_image self.new ≡ medium_image self.old) }
         ensures time { GoesOn self.old self.new }
     {
-        // For this change, and that of the sync behind it.
+        // For this change, and that of the sync after it.
         self.changes.reserve(2)?;
         let change = self.now();
         self.changes.push_reserved(change);
@@ -102,7 +105,7 @@ impl Medium {
 
     /// What a read gives is synced. It takes no memory.
     pub fn settle(&mut self)
-        ensures bytes { held self.new ≡ made_durable (held self.old) }
+        ensures bytes { medium_image self.new ≡ all_synced (medium_image self.old) }
         ensures time { GoesOn self.old self.new }
     {
         if self.least < self.most {
@@ -116,7 +119,7 @@ impl Medium {
 
     /// Of the bytes that no sync has kept, a read gives so many.
     pub fn fail(&mut self, kept: usize)
-        ensures bytes { held self.new ≡ failed kept (held self.old) }
+        ensures bytes { medium_image self.new ≡ after_failure kept (medium_image self.old) }
         ensures time { IsSameTime self.old self.new }
     {
         self.seen = self.least.saturating_add(kept).min(self.most);

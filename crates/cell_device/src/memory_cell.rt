@@ -4,7 +4,7 @@ use crate::fuse::{Fuse, FuseState};
 use crate::medium::Medium;
 use std::alloc::Global;
 
-/// A cell in memory, with a fuse: it tells what it holds, and what becomes of the calls to come. It
+/// A cell in memory, with a fuse: what it holds is known, and what becomes of the calls to come. It
 /// keeps how to undo each change, so what crashes may have left is known for each moment.
 #[derive(Drop)]
 pub struct MemoryCell {
@@ -17,11 +17,13 @@ impl MemoryCell {
     ghost use Rattle.std.specs.Prelude.{◌≡◌, ◌≢◌, Some};
     ghost use Rattle.cell_device.specs.declared.fault.CellFault.TheVariants.{Device};
     ghost use Rattle.cell_device.specs.declared.fuse.FuseState.TheVariants.{Clear, Stopped};
-    ghost use Rattle.cell_device.specs.Images.{at_rest, made_durable, untouched, MayLeave};
-    ghost use Rattle.cell_device.specs.Fuses.{burnt, fused};
+    ghost use Rattle.cell_device.specs.Images.{at_rest, all_synced, same_image, MayLeave};
+    ghost use Rattle.cell_device.specs.Fuses.{next_fuse, next_image};
     ghost use Rattle.cell_device.specs.Time.{Elapses};
     ghost use Rattle.cell_device.specs.Calls.{HasCause};
-    ghost use Rattle.cell_device.specs.Memory.{image_of, fuse_of, failures_of, moment_of, left_since_of, fuse_set, IsSameMedium, IsSameMoment, Fires, StopsAt};
+    ghost use Rattle.cell_device.specs.Memory.{image_of, fuse_of, failures_of, moment_of};
+    ghost use Rattle.cell_device.specs.Memory.{left_since_of, fuse_after_set, IsSameMedium};
+    ghost use Rattle.cell_device.specs.inner.Turns.{IsSameMoment, Fires, StopsAt};
 
     /// A cell with these bytes, all of them synced, and no fuse.
     pub fn new(alloc: Global, bytes: Vec<u8>) -> MemoryCell
@@ -61,7 +63,7 @@ impl MemoryCell {
     /// Sets a fuse, or takes it away. Calls are counted from 1 since then. A stopped cell stays
     /// stopped.
     pub fn set_fuse(&mut self, fuse: Option<Fuse>)
-        ensures fuse { fuse_of self.new ≡ fuse_set fuse (fuse_of self.old) }
+        ensures fuse { fuse_of self.new ≡ fuse_after_set fuse (fuse_of self.old) }
         ensures medium { IsSameMedium self.old self.new }
         ensures failures { failures_of self.new ≡ failures_of self.old }
     {
@@ -74,10 +76,11 @@ impl MemoryCell {
 
     /// What a read gives is synced, and there is no fuse. It takes no memory.
     pub fn restart(&mut self)
-        ensures bytes { image_of self.new ≡ made_durable (image_of self.old) }
+        ensures bytes { image_of self.new ≡ all_synced (image_of self.old) }
         ensures fuse { fuse_of self.new ≡ Clear }
         ensures failures { failures_of self.new ≡ failures_of self.old }
-        ensures time { Elapses (moment_of self.old) (moment_of self.new) (left_since_of self.old) (left_since_of self.new) (MayLeave (Some (image_of self.new))) }
+        ensures time { Elapses (moment_of self.old) (moment_of self.new) (left_since_of self.old)
+            (left_since_of self.new) (MayLeave (Some (image_of self.new))) }
     {
         self.medium.settle();
         self.fuse = FuseState::Clear;
@@ -100,13 +103,14 @@ impl MemoryCell {
     fn turn(&mut self) -> Result<(), CellFault>
         requires { fuse_of self.old ≢ Stopped }
         ensures outcome { Fires (fuse_of self.old) result }
-        ensures fuse { fuse_of self.new ≡ burnt (fuse_of self.old) }
-        ensures bytes { image_of self.new ≡ fused (fuse_of self.old) untouched untouched (image_of self.old) }
+        ensures fuse { fuse_of self.new ≡ next_fuse (fuse_of self.old) }
+        ensures bytes { image_of self.new
+            ≡ next_image (fuse_of self.old) same_image same_image (image_of self.old) }
         ensures time { IsSameMoment self.old self.new }
         ensures cause { HasCause (failures_of self.old) (failures_of self.new) result }
     {
         let fuse = self.fuse;
-        self.fuse = fuse.burnt();
+        self.fuse = fuse.next();
         match fuse {
             FuseState::Burning(fuse) if fuse.call == 1 => {
                 self.medium.fail(fuse.kept);
@@ -130,7 +134,7 @@ impl MemoryCell {
 
 impl Cell for MemoryCell {
     ghost use Rattle.cell_device.specs.Memory.{device_of};
-    ghost use Rattle.cell_device.specs.Laws.{seen_now_of, counts_now_of, only_now_of};
+    ghost use Rattle.cell_device.specs.inner.Laws.{seen_now_of, counts_now_of, only_now_of};
 
     ghost device = { device_of };
 

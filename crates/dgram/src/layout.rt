@@ -1,5 +1,7 @@
 //! The numbers of the datagrams' layout.
 
+use fed_types::BAG_BYTES;
+
 /// The two bytes with which every datagram begins.
 pub const MAGIC: [u8; 2] = [0x42, 0x50];
 
@@ -13,7 +15,7 @@ pub(crate) const FRONT: usize = 12;
 pub(crate) const NO_SITE: u8 = 0;
 
 /// What stands for a bag where none is named.
-pub(crate) const NO_BAG: [u8; 64] = [0; 64];
+pub(crate) const NO_BAG: [u8; BAG_BYTES] = [0; BAG_BYTES];
 
 /// The most bytes that a folder's path can have; the fewest is 1.
 pub const LONGEST_PATH: usize = 400;

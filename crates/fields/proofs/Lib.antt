@@ -1,3 +1,3 @@
-pub mod Texts
+pub mod Utf8
 pub mod Bytes
 pub mod Fields

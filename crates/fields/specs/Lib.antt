@@ -1,4 +1,3 @@
-pub mod Numbers
-pub mod Values
-pub mod Spelling
-pub mod Reading
+pub mod Encoding
+pub mod Decoding
+pub mod Puts

@@ -1,5 +1,5 @@
 use super::*;
-use fed_types::{BagId, Ballot, SiteNo, Slot};
+use fed_types::{BAG_BYTES, BagId, Ballot, SiteNo, Slot, Vote};
 use std::alloc::AllocError;
 use std::test::Fail;
 
@@ -11,7 +11,7 @@ fn ballot(round: u32, site: u8) -> Result<Ballot, Fail> {
 fn fields_are_written(rt: HostRuntime) -> Result<(), Fail> {
     let alloc = rt.alloc();
     let slot = Slot::new(String::from_str(alloc, "\u{e9}a")?, 0x1020304)?;
-    let ballot = ballot(0xfffefdfc, 15)?;
+    let ballot = ballot(0xfffefdfc, 63)?;
     let bag = BagId([0xaa; 64]);
     let mut out = Vec::from_array(alloc, [0xff])?;
     put_slot(&mut out, &slot)?;
@@ -21,12 +21,12 @@ fn fields_are_written(rt: HostRuntime) -> Result<(), Fail> {
     );
     out.clear();
     put_ballot(&mut out, ballot)?;
-    assert_eq!(rt; out.as_slice(), [0xff, 0xfe, 0xfd, 0xfc, 15].as_slice());
+    assert_eq!(rt; out.as_slice(), [0xff, 0xfe, 0xfd, 0xfc, 63].as_slice());
     put_bag(&mut out, &bag)?;
-    assert_eq!(rt; &out[..5], [0xff, 0xfe, 0xfd, 0xfc, 15].as_slice());
+    assert_eq!(rt; &out[..5], [0xff, 0xfe, 0xfd, 0xfc, 63].as_slice());
     assert_eq!(rt; &out[5..], [0xaa; 64].as_slice());
     let mut vote = Vec::new(alloc);
-    put_vote(&mut vote, ballot, &bag)?;
+    put_vote(&mut vote, Vote { ballot, bag })?;
     assert_eq!(rt; vote.as_slice(), out.as_slice());
     Ok(())
 }
@@ -40,6 +40,8 @@ fn fields_are_read(rt: HostRuntime) -> Result<(), Fail> {
     bytes.extend_from_slice(&[2, 0x62, 0x63, 0, 0, 1, 0])?;
     bytes.extend_from_slice(&[0, 0, 0, 3, 2])?;
     bytes.extend_from_slice(&[0xbb; 64])?;
+    bytes.extend_from_slice(&[0, 0, 0, 4, 63])?;
+    bytes.extend_from_slice(&[0xcc; 64])?;
     let mut reader = Reader::new(&bytes);
     assert_eq!(rt; reader.byte()?, 9);
     assert_eq!(rt; reader.u16()?, 0x102);
@@ -48,17 +50,17 @@ fn fields_are_read(rt: HostRuntime) -> Result<(), Fail> {
     assert_eq!(rt; reader.text(2, 2)?, "\u{e9}");
     assert_eq!(rt; reader.object(alloc)?.as_str(), "a");
     let slot = reader.slot(alloc)?;
-    slots_are_well_formed(&slot);
     assert_eq!(rt; slot.object(), "bc");
     assert_eq!(rt; slot.version(), 256);
     let ballot = reader.ballot()?;
-    ballots_are_well_formed(ballot);
     assert_eq!(rt; ballot.round(), 3);
     assert_eq!(rt; ballot.site().number(), 2);
     assert!(rt; !reader.is_empty());
     let bag = reader.bag()?;
-    bags_are_well_formed(&bag);
     assert!(rt; bag == BagId([0xbb; BAG_BYTES]));
+    let vote = reader.vote()?;
+    assert_eq!(rt; (vote.ballot.round(), vote.ballot.site().number()), (4, 63));
+    assert!(rt; vote.bag == BagId([0xcc; BAG_BYTES]));
     assert!(rt; reader.is_empty());
     Ok(())
 }
@@ -72,6 +74,7 @@ fn fields_that_end_early_are_refused(rt: HostRuntime) {
     assert_eq!(rt; Reader::new(&[1, 2, 3]).u32().err(), malformed);
     assert_eq!(rt; Reader::new(&[1, 2]).bytes(3).err(), malformed);
     assert_eq!(rt; Reader::new(&[0; 63]).bag().err(), malformed);
+    assert_eq!(rt; Reader::new(&[1; 68]).vote().err(), malformed);
     assert_eq!(rt; Reader::new(&[0, 0, 0, 1]).ballot().err(), malformed);
     assert_eq!(rt; Reader::new(&[0x61]).text(9, 2).err(), malformed);
     assert_eq!(rt; Reader::new(&[2, 0x61]).object(alloc).err(), malformed);
@@ -85,10 +88,10 @@ fn fields_that_end_early_are_refused(rt: HostRuntime) {
 fn fields_out_of_range_are_refused(rt: HostRuntime) -> Result<(), Fail> {
     let alloc = rt.alloc();
     let malformed = Some(FieldFault::Malformed);
-    // A ballot of round 0, and of the sites 0 and 16.
+    // A ballot of round 0, and of the sites 0 and 64.
     assert_eq!(rt; Reader::new(&[0, 0, 0, 0, 1]).ballot().err(), malformed);
     assert_eq!(rt; Reader::new(&[0, 0, 0, 1, 0]).ballot().err(), malformed);
-    assert_eq!(rt; Reader::new(&[0, 0, 0, 1, 16]).ballot().err(), malformed);
+    assert_eq!(rt; Reader::new(&[0, 0, 0, 1, 64]).ballot().err(), malformed);
     // An empty text, one that is too long, and bytes that are no text.
     assert_eq!(rt; Reader::new(&[0x61]).text(1, 0).err(), malformed);
     assert_eq!(rt; Reader::new(&[0x61, 0x61]).text(1, 2).err(), malformed);

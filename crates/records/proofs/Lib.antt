@@ -1,10 +1,13 @@
-pub mod Spelled
-pub mod Begins
-pub mod Heads
+pub mod Encoding
+pub mod Prefixes
+pub mod OneReading
 pub mod Steps
 pub mod Walk
-pub mod Told
+pub mod Readings
 pub mod Words
-pub mod Fronts
+pub mod Lists
+pub mod Highest
+pub mod Bounds
+pub mod Texts
 pub mod Total
 mod Examples

@@ -2,8 +2,9 @@ pub mod Faults
 pub mod Numbers
 pub mod Layout
 pub mod Records
+pub mod Texts
 pub mod Journals
-pub mod Kept
 pub mod Words
+pub mod Bounds
 pub mod Answers
-pub mod Reading
+pub mod inner

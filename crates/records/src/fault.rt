@@ -3,59 +3,55 @@ ghost use Rattle.std.specs.Prelude.{◌≡◌};
 use std::alloc::{AllocError, AllocFailed};
 use thiserror::Error;
 
-/// Why a journal could not be opened.
+/// Why bytes were not read as a journal.
 #[derive(Clone, Copy, Debug, PartialEq, Eq, Error)]
-pub enum OpenFault {
+pub enum JournalFault {
     /// It is a journal of another federation.
     #[error("the journal of another federation")]
     OtherFederation,
     /// It is the journal of another site of the federation.
     #[error("the journal of another site")]
     OtherSite,
-    /// What stands at this place, in bytes from the beginning, is no record and no beginning of one.
+    /// From this place on, in bytes from the start, there is neither a record nor a prefix of one.
     #[error("the journal is damaged at byte {0}")]
     Damaged(usize),
-    /// The device failed.
-    #[error("the journal's device failed")]
-    Device,
-    /// No memory was found.
+    /// An allocation failed.
     #[error("out of memory")]
     Memory,
 }
 
-impl From<AllocError> for OpenFault {
-    ghost use Rattle.records.specs.declared.fault.OpenFault.TheVariants.{Memory};
+impl From<AllocError> for JournalFault {
+    ghost use Rattle.records.specs.declared.fault.JournalFault.TheVariants.{Memory};
 
     ghost from_gives = { λ _ e. e ≡ Memory };
 
-    fn from(_e: AllocError) -> OpenFault {
+    fn from(_e: AllocError) -> JournalFault {
         Self::Memory
     }
 }
 
-impl<T: Drop> From<AllocFailed<T>> for OpenFault {
-    ghost use Rattle.records.specs.declared.fault.OpenFault.TheVariants.{Memory};
+impl<T: Drop> From<AllocFailed<T>> for JournalFault {
+    ghost use Rattle.records.specs.declared.fault.JournalFault.TheVariants.{Memory};
 
     ghost from_gives = { λ _ e. e ≡ Memory };
 
-    fn from(_e: AllocFailed<T>) -> OpenFault {
+    fn from(_e: AllocFailed<T>) -> JournalFault {
         Self::Memory
     }
 }
 
-impl OpenFault {
+impl JournalFault {
     ghost use Rattle.records.specs.Faults.{fault_number};
 
-    /// The number by which the fault is told, 1 to 5.
+    /// The fault's number: 1, 2, 3 or 5. 4 is that of a device, which a book adds.
     pub fn number(self) -> u8
         ensures { result ≡ fault_number self }
     {
         match self {
-            OpenFault::OtherFederation => 1,
-            OpenFault::OtherSite => 2,
-            OpenFault::Damaged(_) => 3,
-            OpenFault::Device => 4,
-            OpenFault::Memory => 5,
+            JournalFault::OtherFederation => 1,
+            JournalFault::OtherSite => 2,
+            JournalFault::Damaged(_) => 3,
+            JournalFault::Memory => 5,
         }
     }
 }

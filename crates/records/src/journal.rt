@@ -1,31 +1,34 @@
-ghost use Rattle.std.specs.Prelude.{◌≡◌, ◌≤◌, ◌<◌, ◌↔◌, List, Result, length, IfOk, IsErrOf, IsTrue};
-ghost use Rattle.records.specs.declared.fault.OpenFault.{OpenFault as declared_fault};
+ghost use Rattle.std.specs.Prelude.{◌≤◌, ◌<◌, ◌↔◌, List, Result, length, IfOk, IsTrue};
+ghost use Rattle.records.specs.declared.fault.JournalFault.{JournalFault as declared_fault};
 ghost use Rattle.records.specs.declared.record.Record.{Record as declared_record};
+ghost use Rattle.records.specs.Answers.{IsReading, HasTextEnd, records_read};
+ghost use Rattle.records.specs.Faults.{IsOrMemory};
 ghost use Rattle.records.specs.Journals.{IsNew, Says};
-ghost use Rattle.records.specs.Answers.{IsStep, IsSized, IsFound, HeaderSays, HasRecords, ReadsRecords, SaysRecords, Tells, IsToldOrMemory, IsText};
+ghost use Rattle.records.specs.inner.Steps.{IsStep, IsSized, IsFound, HeaderSays, HasRecords};
+ghost use Rattle.records.specs.inner.Steps.{ReadsRecords};
 
-use crate::fault::OpenFault;
+use crate::decode::{is_record, read_record};
+use crate::encode::header;
+use crate::fault::JournalFault;
 use crate::layout::{HEADER, LONGEST, MAGIC, SHORTEST};
-use crate::reading::{is_record, read_record};
+use crate::owner::Owner;
 use crate::record::Record;
-use crate::writing::header;
-use fed_types::SiteNo;
 use fields::FieldFault;
 use std::alloc::{AllocError, Global};
 
-/// What a journal was found to say.
+/// A journal that was read.
 #[derive(Debug, Drop)]
 pub struct Journal {
     /// The records, in order.
     pub records: Vec<Record>,
-    /// How many of the bytes are the text of these records: 0 where not even the header is whole.
+    /// How many of the bytes are a text of these records: 0 where the header is not complete.
     pub end: usize,
 }
 
-/// What stands next.
+/// What comes next.
 #[derive(Debug, Drop)]
 pub(crate) enum Step {
-    /// Nothing, or a torn end.
+    /// Nothing, or a torn tail.
     End,
     /// A record of this many bytes.
     Whole(Record, usize),
@@ -33,7 +36,7 @@ pub(crate) enum Step {
     Damaged,
 }
 
-/// What stands next, by its size alone.
+/// What comes next, by its size alone.
 #[derive(Clone, Copy, Debug)]
 pub(crate) enum Find {
     /// Nothing, or a torn tail.
@@ -44,7 +47,7 @@ pub(crate) enum Find {
     Damaged,
 }
 
-// Finds how many bytes stand next, by the length in front of them.
+// Finds how many bytes come next, by the length before them.
 fn find_size(bytes: &[u8]) -> Find
     ensures { IsSized bytes.now result }
 {
@@ -61,7 +64,7 @@ fn find_size(bytes: &[u8]) -> Find
     Find::Whole(2 + size)
 }
 
-// Finds what stands next. It takes no memory.
+// Finds what comes next. It takes no memory.
 fn find_next(bytes: &[u8]) -> Find
     ensures { IsFound bytes.now result }
 {
@@ -77,8 +80,8 @@ fn find_next(bytes: &[u8]) -> Find
     }
 }
 
-// Whether records stand behind the header, up to the end or a torn tail. It takes no memory.
-fn check_records(bytes: &[u8]) -> Result<(), OpenFault>
+// Whether records follow the header, up to the end or a torn tail. It takes no memory.
+fn check_records(bytes: &[u8]) -> Result<(), JournalFault>
     requires { HEADER ≤ length bytes.now }
     ensures { HasRecords bytes.now result }
 {
@@ -86,7 +89,7 @@ fn check_records(bytes: &[u8]) -> Result<(), OpenFault>
     loop {
         match find_next(&bytes[place..]) {
             Find::End => return Ok(()),
-            Find::Damaged => return Err(OpenFault::Damaged(place)),
+            Find::Damaged => return Err(JournalFault::Damaged(place)),
             Find::Whole(size) => place += size,
         }
     }
@@ -106,8 +109,8 @@ fn next_record(alloc: Global, bytes: &[u8]) -> Result<Step, AllocError>
     }
 }
 
-// The records behind the header.
-fn read_records(alloc: Global, bytes: &[u8]) -> Result<Journal, OpenFault>
+// The records after the header.
+fn read_records(alloc: Global, bytes: &[u8]) -> Result<Journal, JournalFault>
     requires { HEADER ≤ length bytes.now }
     ensures { ReadsRecords bytes.now result }
 {
@@ -121,7 +124,7 @@ fn read_records(alloc: Global, bytes: &[u8]) -> Result<Journal, OpenFault>
                     end: place,
                 });
             }
-            Step::Damaged => return Err(OpenFault::Damaged(place)),
+            Step::Damaged => return Err(JournalFault::Damaged(place)),
             Step::Whole(next, size) => {
                 records.push(next)?;
                 place += size;
@@ -131,51 +134,46 @@ fn read_records(alloc: Global, bytes: &[u8]) -> Result<Journal, OpenFault>
 }
 
 // Whether the bytes begin with the whole header.
-fn check_header(federation: u64, site: SiteNo, bytes: &[u8]) -> Result<(), OpenFault>
+fn check_header(owner: Owner, bytes: &[u8]) -> Result<(), JournalFault>
     requires { HEADER ≤ length bytes.now }
-    ensures { HeaderSays federation site bytes.now result }
+    ensures { HeaderSays owner bytes.now result }
 {
     if &bytes[..4] != MAGIC.as_slice() {
-        return Err(OpenFault::Damaged(0));
+        return Err(JournalFault::Damaged(0));
     }
-    if &bytes[4..12] != federation.to_be_bytes().as_slice() {
-        return Err(OpenFault::OtherFederation);
+    if &bytes[4..12] != owner.members.federation().to_be_bytes().as_slice() {
+        return Err(JournalFault::OtherFederation);
     }
-    if bytes[12] != site.number() {
-        return Err(OpenFault::OtherSite);
+    if bytes[12] != owner.site.number() {
+        return Err(JournalFault::OtherSite);
     }
     Ok(())
 }
 
-// Whether the bytes, fewer than the header has, are a beginning of it.
-fn is_new(federation: u64, site: SiteNo, bytes: &[u8]) -> bool
+// Whether the bytes, fewer than the header has, are a prefix of it.
+fn is_new(owner: Owner, bytes: &[u8]) -> bool
     requires { length bytes.now < HEADER }
-    ensures { IsTrue result ↔ IsNew federation site bytes.now }
+    ensures { IsTrue result ↔ IsNew owner bytes.now }
 {
-    &header(federation, site)[..bytes.len()] == bytes
+    &header(owner)[..bytes.len()] == bytes
 }
 
 // What the bytes say, and where their text ends.
-fn read_text(
-    alloc: Global,
-    federation: u64,
-    site: SiteNo,
-    bytes: &[u8],
-) -> Result<Journal, OpenFault>
-    ensures told { Tells (Says federation site bytes.now) result }
-    ensures text { IfOk result (IsText federation site bytes.now) }
-    ensures memory { IsErrOf result OpenFault.Memory → SaysRecords federation site bytes.now }
+#[tactic(auto, unfolding(crate::specs::Texts::IsTextOf))]
+fn read_text(alloc: Global, owner: Owner, bytes: &[u8]) -> Result<Journal, JournalFault>
+    ensures said { IsReading owner bytes.now result }
+    ensures text { IfOk result (HasTextEnd owner bytes.now) }
 {
     if HEADER <= bytes.len() {
-        check_header(federation, site, bytes)?;
+        check_header(owner, bytes)?;
         // Memory is taken only where the bytes say records, so it hides no fault.
         if let Err(fault) = check_records(bytes) {
             return Err(fault);
         }
         return read_records(alloc, bytes);
     }
-    if !is_new(federation, site, bytes) {
-        return Err(OpenFault::Damaged(0));
+    if !is_new(owner, bytes) {
+        return Err(JournalFault::Damaged(0));
     }
     Ok(Journal {
         records: Vec::new(alloc),
@@ -183,22 +181,16 @@ fn read_text(
     })
 }
 
-/// Reads the journal of this site of this federation: its records in order, none skipped and none in
-/// part. What follows a crash, a torn end or an unfinished header, is passed over. The faults are
-/// `OtherFederation`, `OtherSite`, `Damaged` and `Memory`.
-pub fn read_journal(
-    alloc: Global,
-    federation: u64,
-    site: SiteNo,
-    bytes: &[u8],
-) -> Result<Journal, OpenFault>
-    // What is told is what the bytes say.
-    ensures told { Tells (Says federation site bytes.now) result }
-    // What the bytes say is told, unless memory runs out.
-    ensures only { (said : Result (List declared_record) declared_fault) → Says federation site bytes.now said → IsToldOrMemory result said }
-    ensures text { IfOk result (IsText federation site bytes.now) }
-    // Memory can run out only where the bytes say records: each fault of theirs is told.
-    ensures memory { IsErrOf result OpenFault.Memory → SaysRecords federation site bytes.now }
+/// Reads the journal of this owner: its records in order, none skipped and none in part. What
+/// follows a crash, a torn tail or an unfinished header, is passed over. Memory can run out only
+/// where the bytes say records, so it hides no fault of theirs.
+pub fn read_journal(alloc: Global, owner: Owner, bytes: &[u8]) -> Result<Journal, JournalFault>
+    // What is answered is what the bytes say.
+    ensures said { IsReading owner bytes.now result }
+    // What the bytes say is answered, unless memory runs out.
+    ensures only { (said : Result (List declared_record) declared_fault)
+        → Says owner bytes.now said → IsOrMemory (records_read result) said }
+    ensures text { IfOk result (HasTextEnd owner bytes.now) }
 {
-    read_text(alloc, federation, site, bytes)
+    read_text(alloc, owner, bytes)
 }

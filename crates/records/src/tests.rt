@@ -1,7 +1,7 @@
-// The worked cells are the stored run of the program `journals`, which opens them with a book.
+// The test vectors of cells are the golden output of the program that opens them with a book.
 
 use super::*;
-use fed_types::{BagId, Ballot, SiteNo, Slot};
+use fed_types::{BagId, Ballot, Members, SiteNo, Slot, Vote};
 use std::alloc::{AllocError, Global};
 use std::test::Fail;
 
@@ -10,6 +10,13 @@ const A: BagId = BagId([0xaa; 64]);
 const B: BagId = BagId([0xbb; 64]);
 
 const HEADER_7_1: &str = "42504a31000000000000000701";
+
+fn owner(federation: u64, site: u8) -> Result<Owner, Fail> {
+    Ok(Owner {
+        members: Members::new(federation, 3)?,
+        site: SiteNo::new(site)?,
+    })
+}
 
 fn ballot(round: u32, site: u8) -> Result<Ballot, Fail> {
     Ok(Ballot::new(round, SiteNo::new(site)?)?)
@@ -25,27 +32,27 @@ fn slot(alloc: Global, object: &str, version: u32) -> Result<Slot, Fail> {
 
 // What a record of each kind says.
 fn entries() -> Result<[Entry; 5], Fail> {
-    let vote = Entry::Vote {
+    let vote = Vote {
         ballot: ballot(9, 2)?,
         bag: B,
     };
     Ok([
         Entry::Deposit(A),
         Entry::Round(round(1)?),
-        Entry::Promise(ballot(0x1020304, 15)?),
-        vote,
+        Entry::Promise(ballot(0x1020304, 63)?),
+        Entry::Vote(vote),
         Entry::Known(B),
     ])
 }
 
-// How it is spelled: the lengths in hex about an object of 1 and of 200 bytes, the kind, and the bytes
-// behind the slot: those in hex, and the byte that is then repeated 64 times.
+// How it is encoded: the lengths in hex about an object of 1 and of 200 bytes, the kind, and the
+// bytes after the slot: those in hex, and the byte that is then repeated 64 times.
 type Kind = ([&'static str; 2], u8, &'static str, Option<u8>);
 
 static KINDS: [Kind; 5] = [
     (["0047", "010e"], 1, "", Some(0xaa)),
     (["000b", "00d2"], 2, "00000001", None),
-    (["000c", "00d3"], 3, "010203040f", None),
+    (["000c", "00d3"], 3, "010203043f", None),
     (["004c", "0113"], 4, "0000000902", Some(0xbb)),
     (["0047", "010e"], 5, "", Some(0xbb)),
 ];
@@ -56,7 +63,7 @@ fn put_hex(alloc: Global, out: &mut Vec<u8>, text: &str) -> Result<(), Fail> {
 }
 
 // The bytes of a record of the kind, by its length.
-fn spelled(
+fn encoded(
     alloc: Global,
     length: &str,
     kind: &Kind,
@@ -76,8 +83,8 @@ fn spelled(
     Ok(out)
 }
 
-// Whether a journal tells these records and this end of its text.
-fn tells(journal: &Journal, records: &[Record], end: usize) -> bool {
+// Whether a journal has these records and this end of its text.
+fn has(journal: &Journal, records: &[Record], end: usize) -> bool {
     let pairs = journal.records.iter().zip(records.iter());
     journal.end == end
         && journal.records.len() == records.len()
@@ -87,24 +94,24 @@ fn tells(journal: &Journal, records: &[Record], end: usize) -> bool {
             == 0
 }
 
-// The fault of these bytes, opened as the journal of site 1 of federation 7.
-fn fault(alloc: Global, bytes: &[u8]) -> Result<Option<OpenFault>, Fail> {
-    Ok(read_journal(alloc, 7, SiteNo::new(1)?, bytes).err())
+// The fault of these bytes, read as the journal of site 1 of federation 7.
+fn fault(alloc: Global, bytes: &[u8]) -> Result<Option<JournalFault>, Fail> {
+    Ok(read_journal(alloc, owner(7, 1)?, bytes).err())
 }
 
 #[test]
-fn headers_are_written(rt: HostRuntime) -> Result<(), Fail> {
+fn headers_are_encoded(rt: HostRuntime) -> Result<(), Fail> {
     let alloc = rt.alloc();
     for (federation, site, text) in [
         (0, 1, "42504a31000000000000000001"),
         (7, 1, HEADER_7_1),
-        (0x102030405060708, 15, "42504a3101020304050607080f"),
+        (0x102030405060708, 63, "42504a3101020304050607083f"),
         (u64::MAX, 2, "42504a31ffffffffffffffff02"),
     ] {
-        let bytes = header(federation, SiteNo::new(site)?);
+        let bytes = header(owner(federation, site)?);
         assert_eq!(rt; bytes.as_slice(), hex::decode(alloc, text)?.as_slice());
-        let journal = read_journal(alloc, federation, SiteNo::new(site)?, &bytes)?;
-        assert!(rt; tells(&journal, &[], 13), "{text}");
+        let journal = read_journal(alloc, owner(federation, site)?, &bytes)?;
+        assert!(rt; has(&journal, &[], 13), "{text}");
     }
     Ok(())
 }
@@ -112,7 +119,6 @@ fn headers_are_written(rt: HostRuntime) -> Result<(), Fail> {
 #[test]
 fn records_have_their_bytes(rt: HostRuntime) -> Result<(), Fail> {
     let alloc = rt.alloc();
-    let site = SiteNo::new(1)?;
     let long = "\u{e9}".repeat(alloc, 100)?;
     // Their sizes about an object of 1 and of 200 bytes.
     let sizes = [[73, 272], [13, 212], [14, 213], [78, 277], [73, 272]];
@@ -130,14 +136,14 @@ fn records_have_their_bytes(rt: HostRuntime) -> Result<(), Fail> {
                     body: *entry,
                 };
                 let bytes = record.to_bytes(alloc)?;
-                let expected = spelled(alloc, length, kind, object, text)?;
+                let expected = encoded(alloc, length, kind, object, text)?;
                 assert_eq!(rt; bytes.as_slice(), expected.as_slice());
                 assert_eq!(rt; bytes.len(), size);
                 let mut text = hex::decode(alloc, HEADER_7_1)?;
                 text.extend_from_slice(&expected)?;
-                let journal = read_journal(alloc, 7, site, &text)?;
+                let journal = read_journal(alloc, owner(7, 1)?, &text)?;
                 let records = Vec::from_array(alloc, [record.copy(alloc)?])?;
-                assert!(rt; tells(&journal, &records, text.len()), "kind {}", kind.1);
+                assert!(rt; has(&journal, &records, text.len()), "kind {}", kind.1);
             }
         }
     }
@@ -145,15 +151,14 @@ fn records_have_their_bytes(rt: HostRuntime) -> Result<(), Fail> {
 }
 
 #[test]
-fn a_journal_cut_anywhere_tells_its_whole_records(rt: HostRuntime) -> Result<(), Fail> {
+fn a_journal_cut_anywhere_has_its_whole_records(rt: HostRuntime) -> Result<(), Fail> {
     let alloc = rt.alloc();
-    let site = SiteNo::new(1)?;
     let mut bytes = hex::decode(alloc, HEADER_7_1)?;
     let mut expected = Vec::new(alloc);
     let entries = entries()?;
     for (entry, kind) in entries.iter().zip(KINDS.iter()) {
         let [length, _] = kind.0;
-        bytes.extend_from_slice(&spelled(alloc, length, kind, "a", "00000001")?)?;
+        bytes.extend_from_slice(&encoded(alloc, length, kind, "a", "00000001")?)?;
         expected.push(Record {
             slot: slot(alloc, "a", 1)?,
             body: *entry,
@@ -163,12 +168,12 @@ fn a_journal_cut_anywhere_tells_its_whole_records(rt: HostRuntime) -> Result<(),
     // Where the header and each record end.
     let ends = [13, 86, 99, 113, 191, 264];
     for cut in 0..=bytes.len() {
-        let journal = read_journal(alloc, 7, site, &bytes[..cut])?;
+        let journal = read_journal(alloc, owner(7, 1)?, &bytes[..cut])?;
         let whole = ends.iter().filter(|end| **end <= cut).count();
         let end = ends.iter().filter(|end| **end <= cut).max();
         let records = expected.get(..whole.saturating_sub(1)).ok_or("records")?;
         assert!(rt;
-            tells(&journal, records, end.copied().unwrap_or(0)),
+            has(&journal, records, end.copied().unwrap_or(0)),
             "cut at {cut}"
         );
     }
@@ -181,7 +186,7 @@ fn a_journal_cut_anywhere_tells_its_whole_records(rt: HostRuntime) -> Result<(),
         }
         assert_eq!(rt;
             fault(alloc, &begun)?,
-            Some(OpenFault::Damaged(0)),
+            Some(JournalFault::Damaged(0)),
             "cut at {cut}"
         );
     }
@@ -216,13 +221,13 @@ static SPOILT: [Spoilt; 31] = [
     ("000b0201610000000100000000", None),
     ("000c030161000000010000000001", None),
     ("004c040161000000010000000001", Some(0xaa)),
-    // The sites 0, 16 and 255.
+    // The sites 0, 64 and 255.
     ("000c030161000000010000000100", None),
-    ("000c030161000000010000000110", None),
+    ("000c030161000000010000000140", None),
     ("000c0301610000000100000001ff", None),
     ("004c040161000000010000000100", Some(0xaa)),
-    ("004c040161000000010000000110", Some(0xaa)),
-    // Bytes behind the record, within its length.
+    ("004c040161000000010000000140", Some(0xaa)),
+    // Bytes after the record, within its length.
     ("000c020161000000010000000100", None),
     ("000d03016100000001000000010100", None),
     ("004805016100000001bb", Some(0xbb)),
@@ -246,21 +251,21 @@ fn what_is_no_record_is_damaged_at_its_place(rt: HostRuntime) -> Result<(), Fail
             if let Some(byte) = repeated {
                 bytes.extend_from_slice(&[*byte; 64])?;
             }
-            let damaged = Some(OpenFault::Damaged(place));
+            let damaged = Some(JournalFault::Damaged(place));
             assert_eq!(rt; fault(alloc, &bytes)?, damaged, "{text}");
-            // Neither a record behind it nor another damage changes that.
+            // Neither a record after it nor another damage changes that.
             put_hex(alloc, &mut bytes, round)?;
             put_hex(alloc, &mut bytes, "0000")?;
             assert_eq!(rt; fault(alloc, &bytes)?, damaged, "{text} and more");
         }
     }
     // An object of 201 bytes, and one of 200.
-    for (front, size, want) in [
-        ("00d302c9", 201, Some(OpenFault::Damaged(13))),
+    for (begin, size, want) in [
+        ("00d302c9", 201, Some(JournalFault::Damaged(13))),
         ("00d202c8", 200, None),
     ] {
         let mut bytes = hex::decode(alloc, HEADER_7_1)?;
-        put_hex(alloc, &mut bytes, front)?;
+        put_hex(alloc, &mut bytes, begin)?;
         bytes.extend_from_slice("x".repeat(alloc, size)?.as_bytes())?;
         put_hex(alloc, &mut bytes, "0000000100000001")?;
         assert_eq!(rt; fault(alloc, &bytes)?, want, "{size} bytes");
@@ -269,24 +274,27 @@ fn what_is_no_record_is_damaged_at_its_place(rt: HostRuntime) -> Result<(), Fail
 }
 
 // Bytes that don't begin as the journal of site 1 of federation 7, and their fault.
-static OTHERS: [(&str, OpenFault); 15] = [
+static OTHERS: [(&str, JournalFault); 15] = [
     // Fewer bytes than a header has.
-    ("00", OpenFault::Damaged(0)),
-    ("43", OpenFault::Damaged(0)),
-    ("314a5042", OpenFault::Damaged(0)),
-    ("42504a3101", OpenFault::Damaged(0)),
-    ("42504a320000000000000007", OpenFault::Damaged(0)),
-    ("42504a310000000000000008", OpenFault::Damaged(0)),
-    ("42504a310700000000000000", OpenFault::Damaged(0)),
+    ("00", JournalFault::Damaged(0)),
+    ("43", JournalFault::Damaged(0)),
+    ("314a5042", JournalFault::Damaged(0)),
+    ("42504a3101", JournalFault::Damaged(0)),
+    ("42504a320000000000000007", JournalFault::Damaged(0)),
+    ("42504a310000000000000008", JournalFault::Damaged(0)),
+    ("42504a310700000000000000", JournalFault::Damaged(0)),
     // First the magic, then the federation, then the site, then the records.
-    ("42504a32000000000000000701", OpenFault::Damaged(0)),
-    ("52504a31000000000000000802", OpenFault::Damaged(0)),
-    ("42504a31010000000000000701", OpenFault::OtherFederation),
-    ("42504a31070000000000000001", OpenFault::OtherFederation),
-    ("42504a31000000000000000802", OpenFault::OtherFederation),
-    ("42504a310000000000000008010000", OpenFault::OtherFederation),
-    ("42504a31000000000000000700", OpenFault::OtherSite),
-    ("42504a310000000000000007020000", OpenFault::OtherSite),
+    ("42504a32000000000000000701", JournalFault::Damaged(0)),
+    ("52504a31000000000000000802", JournalFault::Damaged(0)),
+    ("42504a31010000000000000701", JournalFault::OtherFederation),
+    ("42504a31070000000000000001", JournalFault::OtherFederation),
+    ("42504a31000000000000000802", JournalFault::OtherFederation),
+    (
+        "42504a310000000000000008010000",
+        JournalFault::OtherFederation,
+    ),
+    ("42504a31000000000000000700", JournalFault::OtherSite),
+    ("42504a310000000000000007020000", JournalFault::OtherSite),
 ];
 
 #[test]
@@ -312,28 +320,30 @@ fn rounds_are_at_least_1(rt: HostRuntime) -> Result<(), Fail> {
 fn faults_have_numbers(rt: HostRuntime) -> Result<(), Fail> {
     for (fault, number, text) in [
         (
-            OpenFault::OtherFederation,
+            JournalFault::OtherFederation,
             1,
             "the journal of another federation",
         ),
-        (OpenFault::OtherSite, 2, "the journal of another site"),
+        (JournalFault::OtherSite, 2, "the journal of another site"),
         (
-            OpenFault::Damaged(26),
+            JournalFault::Damaged(26),
             3,
             "the journal is damaged at byte 26",
         ),
-        (OpenFault::Device, 4, "the journal's device failed"),
-        (OpenFault::Memory, 5, "out of memory"),
+        (JournalFault::Memory, 5, "out of memory"),
     ] {
         assert_eq!(rt; fault.number(), number);
         assert_eq!(rt; fault.to_string(rt.alloc())?.as_str(), text);
     }
-    assert_eq!(rt; OpenFault::from(AllocError), OpenFault::Memory);
+    assert_eq!(rt; JournalFault::from(AllocError), JournalFault::Memory);
     one_reading();
-    no_record_begins_another();
+    records_are_prefix_free();
     all_bytes_say_something();
+    texts_say_their_records();
     no_records();
     one_more_record();
+    records_are_bounded();
+    each_word_is_of_a_record();
     layout_numbers();
     Ok(())
 }

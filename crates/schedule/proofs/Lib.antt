@@ -6,6 +6,6 @@ pub mod PlanLemmas
 pub mod Utf8Lemmas
 pub mod EscapeLemmas
 pub mod WordLemmas
-pub mod SpelledWords
-pub mod SpelledCommands
-pub mod SpelledLines
+pub mod PrintedWords
+pub mod PrintedCommands
+pub mod PrintedLines

@@ -1,54 +1,70 @@
 -- Lines that are read one after another.
-use Rattle.std.proofs.Common.{◌≡◌, ℕ, ◌+◌, true, false, List, [], ◌∷◌, ◌++◌, Option, Some, None, Result, Ok, Err, refl, sym, ap, ◌∙◌, append_assoc}
+use Rattle.std.proofs.Common.{◌≡◌, ℕ, ◌+◌, true, false, List, [], ◌∷◌, ◌++◌, Option, Some, None}
+use Rattle.std.proofs.Common.{Result, Ok, Err, refl, sym, ap, ◌∙◌, append_assoc}
 use Rattle.std.proofs.lemmas.List.{append-nil}
 use Rattle.fed_types.specs.Sites.{Membership}
 use Rattle.schedule.specs.declared.command.Command.{Command}
 use Rattle.schedule.specs.declared.fault.ParseFault.{ParseFault}
 use Rattle.schedule.specs.declared.fault.ParseFault.TheVariants.{Line, Memory}
 use Rattle.std.specs.Option.{ok_or}
-use Rattle.schedule.specs.Plans.{Plan, is_skipped, later_line, later_lines, before, planned, plan_after}
+use Rattle.schedule.specs.Plans.{Plan, is_skipped, later_line, later_lines, line_then, plan_from}
+use Rattle.schedule.specs.Plans.{plan_after}
 use Rattle.schedule.specs.Commands.{federation_of}
-use Rattle.schedule.specs.Faults.{Fails, Parses}
+use Rattle.schedule.specs.Faults.{IsOrMemory}
 use Rattle.schedule.specs.Words.{words_of}
 
--- what was read, and then what the rest says
-abbrev pub behind : List (Option Command) → Result (List (Option Command)) ℕ → Result (List (Option Command)) ℕ
-behind front (Ok commands) = Ok (front ++ commands)
-behind front (Err fault) = Err fault
+-- the lines read earlier, and then what the rest says
+abbrev pub with_earlier : List (Option Command) → Result (List (Option Command)) ℕ
+    → Result (List (Option Command)) ℕ
+with_earlier front (Ok commands) = Ok (front ++ commands)
+with_earlier front (Err fault) = Err fault
 
-pub behind_none : (later : Result (List (Option Command)) ℕ) → behind [] later ≡ later
-behind_none (Ok commands) = refl
-behind_none (Err fault) = refl
+pub with_earlier-none : (later : Result (List (Option Command)) ℕ) → with_earlier [] later ≡ later
+with_earlier-none (Ok commands) = refl
+with_earlier-none (Err fault) = refl
 
 -- a line more that was read
-pub behind_more : (front : List (Option Command)) (number : ℕ) (line : List ℕ) (lines : List (List ℕ)) (said : Option Command) → later_line line ≡ Some said
-    → behind front (later_lines number (line ∷ lines)) ≡ behind (front ++ said ∷ []) (later_lines (number + 1) lines)
+pub with_earlier-more : (front : List (Option Command)) (number : ℕ) (line : List ℕ)
+    (lines : List (List ℕ)) (said : Option Command) → later_line line ≡ Some said
+    → with_earlier front (later_lines number (line ∷ lines))
+    ≡ with_earlier (front ++ said ∷ []) (later_lines (number + 1) lines)
 unfolding later_lines
-behind_more front number line lines said says =
-    ap (λ (s : Option (Option Command)). behind front (before s number (later_lines (number + 1) lines))) says ∙ go (later_lines (number + 1) lines)
+with_earlier-more front number line lines said says =
+    ap (λ (s : Option (Option Command)). with_earlier front
+    (line_then s number (later_lines (number + 1) lines))) says
+    ∙ go (later_lines (number + 1) lines)
   where
-    go : (later : Result (List (Option Command)) ℕ) → behind front (before (Some said) number later) ≡ behind (front ++ said ∷ []) later
-    go (Ok commands) = ap (λ (cs : List (Option Command)). Ok cs) (sym (append_assoc front (said ∷ []) commands))
+    go : (later : Result (List (Option Command)) ℕ)
+        → with_earlier front (line_then (Some said) number later)
+        ≡ with_earlier (front ++ said ∷ []) later
+    go (Ok commands) =
+        ap (λ (cs : List (Option Command)). Ok cs) (sym (append_assoc front (said ∷ []) commands))
     go (Err fault) = refl
 
 -- a line that is at fault
-pub behind_fault : (front : List (Option Command)) (number : ℕ) (line : List ℕ) (lines : List (List ℕ)) → later_line line ≡ None → behind front (later_lines number (line ∷ lines)) ≡ Err number
+pub with_earlier-fault : (front : List (Option Command)) (number : ℕ) (line : List ℕ)
+    (lines : List (List ℕ)) → later_line line ≡ None
+    → with_earlier front (later_lines number (line ∷ lines)) ≡ Err number
 unfolding later_lines
-behind_fault front number line lines says = rw says refl
+with_earlier-fault front number line lines says = rw says refl
 
 -- no line more
-pub behind_all : (front : List (Option Command)) (number : ℕ) → behind front (later_lines number []) ≡ Ok front
+pub with_earlier-all : (front : List (Option Command)) (number : ℕ)
+    → with_earlier front (later_lines number []) ≡ Ok front
 unfolding later_lines
-behind_all front number = ap (λ (cs : List (Option Command)). Ok cs) (append-nil front)
+with_earlier-all front number = ap (λ (cs : List (Option Command)). Ok cs) (append-nil front)
 
 -- a line before the federation's that is skipped
-pub plan_after-skipped : (skipped : ℕ) (line : List ℕ) (lines : List (List ℕ)) → is_skipped line ≡ true → plan_after skipped (line ∷ lines) ≡ plan_after (skipped + 1) lines
+pub plan_after-skipped : (skipped : ℕ) (line : List ℕ) (lines : List (List ℕ))
+    → is_skipped line ≡ true → plan_after skipped (line ∷ lines) ≡ plan_after (skipped + 1) lines
 unfolding plan_after
 plan_after-skipped skipped line lines is = rw is refl
 
 -- the federation's line
-pub plan_after-federation : (skipped : ℕ) (line : List ℕ) (lines : List (List ℕ)) → is_skipped line ≡ false
-    → plan_after skipped (line ∷ lines) ≡ planned skipped (federation_of (words_of line)) (later_lines (skipped + 2) lines)
+pub plan_after-federation : (skipped : ℕ) (line : List ℕ) (lines : List (List ℕ))
+    → is_skipped line ≡ false
+    → plan_after skipped (line ∷ lines)
+    ≡ plan_from skipped (federation_of (words_of line)) (later_lines (skipped + 2) lines)
 unfolding plan_after
 plan_after-federation skipped line lines isnt = rw isnt refl
 
@@ -58,18 +74,25 @@ unfolding plan_after
 plan_after-none skipped = refl
 
 -- a test that answers by a fault
-pub fault_from_ok_or : {X : Type 0} (found : Option X) (number : ℕ) (fault : ParseFault) → Err fault ≡ ok_or found (Line number) → (found ≡ None) × (fault ≡ Line number)
+pub fault_from_ok_or : {X : Type 0} (found : Option X) (number : ℕ) (fault : ParseFault)
+    → Err fault ≡ ok_or found (Line number) → (found ≡ None) × (fault ≡ Line number)
 fault_from_ok_or None number fault e = (refl, cc)
 fault_from_ok_or (Some x) number fault e = absurd (cc e)
 
 -- a federation's line that is at fault
-pub Parses-no_federation : (plan : Result Plan ℕ) (skipped : ℕ) (members : Option Membership) (later : Result (List (Option Command)) ℕ) (fault : ParseFault) → plan ≡ planned skipped members later
-    → members ≡ None → fault ≡ Line (skipped + 1) → Parses plan (Err fault)
-Parses-no_federation plan skipped members later fault is none at = rw at (is ∙ ap (λ (m : Option Membership). planned skipped m later) none)
+pub IsOrMemory-no_federation : (plan : Result Plan ℕ) (skipped : ℕ) (members : Option Membership)
+    (later : Result (List (Option Command)) ℕ) (fault : ParseFault)
+    → plan ≡ plan_from skipped members later
+    → members ≡ None → fault ≡ Line (skipped + 1) → IsOrMemory (Err fault) plan
+IsOrMemory-no_federation plan skipped members later fault is none at =
+    rw at (is ∙ ap (λ (m : Option Membership). plan_from skipped m later) none)
 
--- a line behind the federation's that is at fault
-pub Parses-later_fault : (plan : Result Plan ℕ) (skipped : ℕ) (members : Option Membership) (known : Membership) (later : Result (List (Option Command)) ℕ) (fault : ParseFault) → plan ≡ planned skipped members later
-    → members ≡ Some known → Fails later fault → Parses plan (Err fault)
-Parses-later_fault plan skipped members known later (Line number) is some fails =
-    is ∙ ap (λ (m : Option Membership). planned skipped m later) some ∙ ap (planned skipped (Some known)) fails
-Parses-later_fault plan skipped members known later Memory is some fails = tt
+-- a line after the federation's that is at fault
+pub IsOrMemory-later_fault : (plan : Result Plan ℕ) (skipped : ℕ) (members : Option Membership)
+    (known : Membership) (later : Result (List (Option Command)) ℕ) (fault : ParseFault)
+    → plan ≡ plan_from skipped members later
+    → members ≡ Some known → IsOrMemory (Err fault) later → IsOrMemory (Err fault) plan
+IsOrMemory-later_fault plan skipped members known later (Line number) is some fails =
+    is ∙ ap (λ (m : Option Membership). plan_from skipped m later) some
+    ∙ ap (plan_from skipped (Some known)) fails
+IsOrMemory-later_fault plan skipped members known later Memory is some fails = tt

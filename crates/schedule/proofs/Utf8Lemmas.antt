@@ -23,9 +23,13 @@ All-encode : (c : ℕ) → c < 1114112 → All IsByte (encode c)
 unfolding encode
 All-encode c small =
     cond_both (ltb c 128) _ _ (All IsByte) (λ a. one c (omega (arith, ltb-true c 128 a)))
-    (λ _. cond_both (ltb c 2048) _ _ (All IsByte) (λ a. let lt = ltb-true c 2048 a in two (192 + c / 64) (next c) (omega arith) (omega arith))
-    (λ _. cond_both (ltb c 65536) _ _ (All IsByte) (λ a. let lt = ltb-true c 65536 a in three (224 + c / 4096) (next (c / 64)) (next c) (omega arith) (omega arith) (omega arith))
-    (λ _. four (240 + c / 262144) (next (c / 4096)) (next (c / 64)) (next c) (omega arith) (omega arith) (omega arith) (omega arith))))
+    (λ _. cond_both (ltb c 2048) _ _ (All IsByte)
+    (λ a. let lt = ltb-true c 2048 a in two (192 + c / 64) (next c) (omega arith) (omega arith))
+    (λ _. cond_both (ltb c 65536) _ _ (All IsByte)
+    (λ a. let lt = ltb-true c 65536 a in three (224 + c / 4096) (next (c / 64)) (next c)
+    (omega arith) (omega arith) (omega arith))
+    (λ _. four (240 + c / 262144) (next (c / 4096)) (next (c / 64)) (next c) (omega arith)
+    (omega arith) (omega arith) (omega arith))))
 
 small_from_scalar : (c : ℕ) → scalar c ≡ true → c < 1114112
 small_from_scalar c is =
@@ -38,7 +42,8 @@ All-encodes : (cs : List ℕ) → scalars cs ≡ true → All IsByte (encodes cs
 All-encodes [] are = All-nil IsByte
 All-encodes (c ∷ cs) are =
     let parts = and_parts (scalar c) (scalars cs) are in
-    All-append IsByte (encode c) (encodes cs) (All-encode c (small_from_scalar c parts.0)) (All-encodes cs parts.1)
+    All-append IsByte (encode c) (encodes cs) (All-encode c (small_from_scalar c parts.0))
+    (All-encodes cs parts.1)
 
 pub IsByte-from_utf8 : (text : List ℕ) → IsUtf8 text → All IsByte text
 IsByte-from_utf8 text is = rw (← is.1.1) (All-encodes is.0 is.1.0)

@@ -1,14 +1,15 @@
 -- The words that are printed: each has a byte, and none has a space or a control.
-use Rattle.std.proofs.Common.{◌≡◌, ℕ, suc, ◌+◌, ◌/◌, ◌%◌, ◌^◌, ◌<◌, Bool, true, false, ◌&&◌, ltb, eqb, List, [], ◌∷◌, length, get_or, All, refl, arith}
+use Rattle.std.proofs.Common.{◌≡◌, ℕ, suc, ◌+◌, ◌/◌, ◌%◌, ◌^◌, ◌<◌, Bool, true, false, ◌&&◌, ltb}
+use Rattle.std.proofs.Common.{eqb, List, [], ◌∷◌, length, get_or, All, refl, arith}
 use Rattle.std.specs.Prelude.{codes}
 use Rattle.std.specs.Fmt.{decimal}
 use Rattle.std.proofs.lemmas.Bool.{and_parts, ltb-true, ne_eqb, agree_below_at}
 use Rattle.std.proofs.lemmas.Fmt.{decimal_nonempty, decimal_by_steps}
 use Rattle.std.proofs.lemmas.List.Elements.{All-nil, All-cons, All-push}
 use Rattle.hex.specs.Hex.{lower_digits, encode_with, encode_lower, IsBytes}
-use Rattle.schedule.specs.Escapes.{escaped}
+use Rattle.schedule.specs.Escapes.{escaped_text}
 use Rattle.schedule.specs.Texts.{hex_word}
-use Rattle.schedule.specs.Spelled.{IsWord}
+use Rattle.schedule.specs.inner.Printed.{IsWord}
 use Rattle.schedule.proofs.EscapeLemmas.{IsAbove, All-escaped, length-escaped}
 
 -- the same as a test, which computes on a word that is written out
@@ -39,20 +40,24 @@ IsWord-decimal n fits = (
 )
 
 -- a name or a path
-pub IsWord-escaped : (text : List ℕ) → 0 < length text → IsWord (escaped text)
+pub IsWord-escaped : (text : List ℕ) → 0 < length text → IsWord (escaped_text text)
 IsWord-escaped text some = (length-escaped text some, All-escaped text)
 
 -- each hex digit
 above_from_digit : (d : ℕ) → d < 16 → IsAbove (get_or lower_digits d 0)
-above_from_digit d small = ltb-true 32 (get_or lower_digits d 0) (agree_below_at (λ k. ltb 32 (get_or lower_digits k 0)) (λ k. true) 16 d refl small)
+above_from_digit d small =
+    ltb-true 32 (get_or lower_digits d 0)
+    (agree_below_at (λ k. ltb 32 (get_or lower_digits k 0)) (λ k. true) 16 d refl small)
 
 All-encode_lower : (bytes : List ℕ) → IsBytes bytes → All IsAbove (encode_lower bytes)
 unfolding encode_with
 All-encode_lower [] fits = All-nil IsAbove
 All-encode_lower (b ∷ bs) fits =
     let byte : b < 256 = fits 0 in
-    All-cons IsAbove (get_or lower_digits (b / 16) 0) (get_or lower_digits (b % 16) 0 ∷ encode_lower bs) (above_from_digit (b / 16) (omega arith))
-    (All-cons IsAbove (get_or lower_digits (b % 16) 0) (encode_lower bs) (above_from_digit (b % 16) (omega arith)) (All-encode_lower bs (λ i. fits (suc i))))
+    All-cons IsAbove (get_or lower_digits (b / 16) 0)
+    (get_or lower_digits (b % 16) 0 ∷ encode_lower bs) (above_from_digit (b / 16) (omega arith))
+    (All-cons IsAbove (get_or lower_digits (b % 16) 0) (encode_lower bs)
+    (above_from_digit (b % 16) (omega arith)) (All-encode_lower bs (λ i. fits (suc i))))
 
 -- some bytes are no `-`
 pub hex_word-some : (bytes : List ℕ) → 0 < length bytes → hex_word bytes ≡ encode_lower bytes
@@ -68,4 +73,6 @@ length-encode_lower (b ∷ bs) some = omega arith
 -- a file's bytes
 pub IsWord-hex_word : (bytes : List ℕ) → IsBytes bytes → IsWord (hex_word bytes)
 IsWord-hex_word [] fits = IsWord-computed (codes "-") refl
-IsWord-hex_word (b ∷ bs) fits = rw (hex_word-some (b ∷ bs) (omega arith)) (length-encode_lower (b ∷ bs) (omega arith), All-encode_lower (b ∷ bs) fits)
+IsWord-hex_word (b ∷ bs) fits =
+    rw (hex_word-some (b ∷ bs) (omega arith))
+    (length-encode_lower (b ∷ bs) (omega arith), All-encode_lower (b ∷ bs) fits)

@@ -1,11 +1,12 @@
--- The commands, each by the words that spell it.
+-- The commands, each by its words.
 use Rattle.std.specs.Prelude.{ℕ, List, [], ◌∷◌, Option, Some, None, codes, if◌then◌else◌}
 use Rattle.std.specs.Str.{bytes_eq}
+use Rattle.fed_types.specs.Limits.{most_members, greatest_version}
 use Rattle.fed_types.specs.Sites.{Membership}
 use Rattle.fed_types.specs.Slots.{SlotName}
 use Rattle.schedule.specs.declared.command.Command.{Command}
 use Rattle.schedule.specs.declared.command.Command.TheVariants.{Tree, Folder, File, Deposit, Query}
-use Rattle.schedule.specs.Limits.{greatest_federation, most_members, greatest_site, greatest_number}
+use Rattle.schedule.specs.Limits.{greatest_federation, greatest_site, greatest_tree}
 use Rattle.schedule.specs.Words.{◌>>=◌, number_in, text_of, object_of, content_of}
 
 -- S
@@ -14,13 +15,13 @@ site_of word = number_in 0 greatest_site word
 
 -- T
 abbrev pub tree_of : List ℕ → Option ℕ
-tree_of word = number_in 1 greatest_number word
+tree_of word = number_in 1 greatest_tree word
 
 -- OBJ V
 unfoldable pub slot_of : List ℕ → List ℕ → Option SlotName
 slot_of object version = do
   o ← object_of object
-  v ← number_in 1 greatest_number version
+  v ← number_in 1 greatest_version version
   Some (record { object = o; version = v })
 
 -- `federation F N`
@@ -74,7 +75,7 @@ query_command (site ∷ object ∷ version ∷ []) = do
   Some (Query s slot)
 query_command words = None
 
--- the command that the words spell, if they spell one
+-- the command of these words, if they are one's
 unfoldable pub command_of : List (List ℕ) → Option Command
 command_of [] = None
 command_of (name ∷ arguments) =

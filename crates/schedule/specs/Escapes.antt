@@ -1,6 +1,7 @@
 -- A name or a path as one word of a line: percent-encoded (URL Standard, 1.3), so that no space, no
 -- control and no end of a line is in it.
-use Rattle.std.specs.Prelude.{ℕ, ◌+◌, ◌-◌, ◌/◌, ◌%◌, Bool, ◌||◌, ◌==◌, nat_le, nat_lt, if◌then◌else◌, List, [], ◌∷◌}
+use Rattle.std.specs.Prelude.{ℕ, ◌+◌, ◌-◌, ◌/◌, ◌%◌, nat_le, nat_lt}
+use Rattle.std.specs.Prelude.{Bool, ◌||◌, ◌==◌, if◌then◌else◌, List, [], ◌∷◌}
 use Rattle.std.specs.List.{flat_map}
 
 -- the bytes that are escaped: 00 to 20, which are controls and the space, 25, the percent sign, and
@@ -20,5 +21,5 @@ abbrev pub printed_byte : ℕ → List ℕ
 printed_byte byte = if is_escaped byte then escape_of byte else byte ∷ []
 
 -- the bytes of a text, each as it is or escaped
-unfoldable pub escaped : List ℕ → List ℕ
-escaped text = flat_map printed_byte text
+unfoldable pub escaped_text : List ℕ → List ℕ
+escaped_text text = flat_map printed_byte text

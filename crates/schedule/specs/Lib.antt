@@ -4,6 +4,7 @@ pub mod Grammar
 pub mod Commands
 pub mod Plans
 pub mod Escapes
+pub mod Pushes
 pub mod Texts
 pub mod Faults
-pub mod Spelled
+pub mod inner

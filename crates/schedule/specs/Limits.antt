@@ -1,22 +1,15 @@
--- The ranges of the numbers in a schedule, and the longest name.
+-- The ranges of the numbers in a schedule, beside those that `fed_types` gives members, objects and
+-- versions.
 use Rattle.std.specs.Prelude.{ℕ}
 
--- F is 0 to this
+-- F is 0 to this: a federation's number is eight bytes of a datagram and of a cell
 abbrev pub greatest_federation : ℕ
 greatest_federation = 18446744073709551615
 
--- N of `federation` is 1 to this
-abbrev pub most_members : ℕ
-most_members = 15
-
--- S is 0 to this: whether it is a member is asked when the schedule runs
+-- S is 0 to this, which a byte holds: whether it is a member is asked when the schedule runs
 abbrev pub greatest_site : ℕ
 greatest_site = 255
 
--- T and V are 1 to this
-abbrev pub greatest_number : ℕ
-greatest_number = 4294967295
-
--- OBJ has 1 to so many bytes, once its escapes are undone
-abbrev pub longest_object : ℕ
-longest_object = 200
+-- T is 1 to this, which four bytes hold: more trees than a schedule has lines to declare
+abbrev pub greatest_tree : ℕ
+greatest_tree = 4294967295

@@ -1,34 +1,45 @@
 -- The one text in which a schedule is printed.
-use Rattle.std.specs.Prelude.{ℕ, ◌==◌, if◌then◌else◌, List, [], ◌∷◌, ◌++◌, length, replicate, Option, Some, None, codes}
+use Rattle.std.specs.Prelude.{ℕ, ◌==◌, if◌then◌else◌, Option, Some, None}
+use Rattle.std.specs.Prelude.{List, [], ◌∷◌, ◌++◌, length, replicate, codes}
 use Rattle.std.specs.List.{flat_map, join_with_byte}
 use Rattle.std.specs.Fmt.{decimal}
 use Rattle.hex.specs.Hex.{encode_lower}
 use Rattle.fed_types.specs.Sites.{Membership}
+use Rattle.fed_types.specs.Slots.{SlotName}
 use Rattle.schedule.specs.declared.command.Command.{Command}
 use Rattle.schedule.specs.declared.command.Command.TheVariants.{Tree, Folder, File, Deposit, Query}
-use Rattle.schedule.specs.Escapes.{escaped}
+use Rattle.schedule.specs.Escapes.{escaped_text}
 use Rattle.schedule.specs.Plans.{Plan}
 
 -- bytes as a word: in lower case, and `-` for none
 abbrev pub hex_word : List ℕ → List ℕ
 hex_word bytes = if length bytes == 0 then codes "-" else encode_lower bytes
 
--- the words that spell a command
+-- OBJ V
+abbrev pub slot_words : SlotName → List (List ℕ)
+slot_words slot = escaped_text slot.object ∷ decimal slot.version ∷ []
+
+-- a command's words
 abbrev pub words_for : Command → List (List ℕ)
 words_for (Tree t) = codes "tree" ∷ decimal t ∷ []
 words_for (Folder t) = codes "folder" ∷ decimal t ∷ []
-words_for (File t path content) = codes "file" ∷ decimal t ∷ escaped path ∷ hex_word content ∷ []
-words_for (Deposit s t slot) = codes "deposit" ∷ decimal s ∷ decimal t ∷ escaped slot.object ∷ decimal slot.version ∷ []
-words_for (Query s slot) = codes "query" ∷ decimal s ∷ escaped slot.object ∷ decimal slot.version ∷ []
+words_for (File t path content) =
+    codes "file" ∷ decimal t ∷ escaped_text path ∷ hex_word content ∷ []
+words_for (Deposit s t slot) = codes "deposit" ∷ decimal s ∷ decimal t ∷ slot_words slot
+words_for (Query s slot) = codes "query" ∷ decimal s ∷ slot_words slot
 
 -- words with one space between them, and the end of the line
 abbrev pub line_of_words : List (List ℕ) → List ℕ
 line_of_words words = join_with_byte 32 words ++ 10 ∷ []
 
+-- a command's line
+abbrev pub printed_command : Command → List ℕ
+printed_command command = line_of_words (words_for command)
+
 -- a command's line, or an empty one
 abbrev pub printed_line : Option Command → List ℕ
 printed_line None = 10 ∷ []
-printed_line (Some command) = line_of_words (words_for command)
+printed_line (Some command) = printed_command command
 
 -- the words that name a federation's members, and their line
 abbrev pub federation_words : Membership → List (List ℕ)
@@ -39,4 +50,7 @@ federation_line m = line_of_words (federation_words m)
 
 -- each line of a schedule at its number, those that are skipped empty
 unfoldable pub schedule_text : Plan → List ℕ
-schedule_text plan = replicate plan.skipped 10 ++ federation_line plan.members ++ flat_map printed_line plan.lines
+schedule_text plan =
+    replicate plan.skipped 10
+    ++ federation_line plan.members
+    ++ flat_map printed_line plan.lines

@@ -1,11 +1,12 @@
--- The words of a line, and the numbers, names and bytes that a word may spell.
-use Rattle.std.specs.Prelude.{ℕ, ◌+◌, ◌*◌, ◌-◌, ◌&&◌, ◌==◌, not, if◌then◌else◌, List, [], ◌∷◌, length, filter, Option, Some, None, Result, Ok, Err, nat_le, codes}
+-- The words of a line, and the numbers, names and bytes that a word may stand for.
+use Rattle.std.specs.Prelude.{ℕ, ◌+◌, ◌*◌, ◌-◌, nat_le, ◌&&◌, ◌==◌, not, if◌then◌else◌}
+use Rattle.std.specs.Prelude.{List, [], ◌∷◌, length, filter, codes, Option, Some, None}
+use Rattle.std.specs.Result.{result_ok}
 use Rattle.std.specs.List.{slice_split}
 use Rattle.std.specs.Str.{bytes_eq, all_ascii_digits, is_utf8}
-use Rattle.hex.specs.declared.error.FromHexError.{FromHexError}
 use Rattle.hex.specs.Hex.{decode_of}
 use Rattle.percent_encoding.specs.Percent.{percent_decode}
-use Rattle.schedule.specs.Limits.{longest_object}
+use Rattle.fed_types.specs.Limits.{longest_object}
 
 infixl 10 ◌>>=◌
 -- the second step, if the first found something
@@ -17,7 +18,7 @@ None >>= f = None
 unfoldable pub words_of : List ℕ → List (List ℕ)
 words_of line = filter (λ word. not (length word == 0)) (slice_split (λ b. b == 32) line)
 
--- the number that decimal digits spell behind those that spelled n
+-- the number of decimal digits, after earlier ones whose number is n
 abbrev pub value_after : ℕ → List ℕ → ℕ
 value_after n [] = n
 value_after n (digit ∷ digits) = value_after (10 * n + (digit - 48)) digits
@@ -25,8 +26,9 @@ value_after n (digit ∷ digits) = value_after (10 * n + (digit - 48)) digits
 -- one or more ASCII digits, of a value from low to high
 unfoldable pub number_in : ℕ → ℕ → List ℕ → Option ℕ
 number_in low high word =
-    if not (length word == 0) && all_ascii_digits word && nat_le low (value_after 0 word) && nat_le (value_after 0 word) high
-    then Some (value_after 0 word)
+    let value = value_after 0 word in
+    if not (length word == 0) && all_ascii_digits word && nat_le low value && nat_le value high
+    then Some value
     else None
 
 -- the bytes of a word with its escapes undone, where they are UTF-8
@@ -39,11 +41,7 @@ object_of word = do
   name ← text_of word
   if nat_le 1 (length name) && nat_le (length name) longest_object then Some name else None
 
--- the bytes that were decoded
-abbrev pub decoded : Result (List ℕ) FromHexError → Option (List ℕ)
-decoded (Ok bytes) = Some bytes
-decoded (Err e) = None
-
--- `-` for no bytes, else two hex digits of either case for each byte; a word has at least one byte, so at least two digits
+-- `-` for no bytes, else two hex digits of either case for each byte; a word has at least one byte,
+-- so at least two digits
 unfoldable pub content_of : List ℕ → Option (List ℕ)
-content_of word = if bytes_eq word (codes "-") then Some [] else decoded (decode_of word)
+content_of word = if bytes_eq word (codes "-") then Some [] else result_ok (decode_of word)

@@ -1,4 +1,5 @@
-ghost use Rattle.std.specs.Prelude.{◌≡◌, ◌≤◌, ◌<◌, ◌↔◌, ℕ, List, length, IsSome, IfSome, string_bytes};
+ghost use Rattle.std.specs.Prelude.{◌≡◌, ◌≤◌, ◌<◌, ◌↔◌, ℕ, List, length, IsSome, IfSome};
+ghost use Rattle.std.specs.Prelude.{string_bytes};
 
 use fed_types::Slot;
 use std::marker::Model;
@@ -113,7 +114,7 @@ pub enum Command {
     Tree {
         tree: TreeNo,
     },
-    /// `folder T` makes the tree's payload folder `data` stand.
+    /// `folder T` adds the tree's payload folder `data`.
     Folder {
         tree: TreeNo,
     },
@@ -123,7 +124,7 @@ pub enum Command {
         path: FilePath,
         content: Content,
     },
-    /// `deposit S T OBJ V` deposits the tree, as it stands then, at the site.
+    /// `deposit S T OBJ V` deposits the tree, as it is then, at the site.
     Deposit {
         site: u8,
         tree: TreeNo,

@@ -12,13 +12,13 @@ pub enum ParseFault {
     /// without a command has its fault in line 1.
     #[error("schedule line {0}")]
     Line(usize),
-    /// A growth was refused.
+    /// An allocation failed.
     #[error("out of memory")]
     Memory,
 }
 
 impl ParseFault {
-    /// The number that stands for the fault: 1 or 2.
+    /// The fault's number: 1 or 2.
     pub fn number(self) -> u8
         ensures { result ≡ number_of self }
     {

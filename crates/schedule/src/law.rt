@@ -7,11 +7,13 @@ ghost use Rattle.schedule.specs.Grammar.{HasWords, IsNumeral};
 
 /// `words_of` says which words a line has: those that spaces separate, in order.
 pub fn words_law()
-    ensures { (line : List ℕ) (words : List (List ℕ)) → HasWords line words ↔ (words_of line ≡ words) }
+    ensures { (line : List ℕ) (words : List (List ℕ))
+        → HasWords line words ↔ (words_of line ≡ words) }
 {}
 
-/// `number_in` says which number a word spells: decimal digits, of a value in the range.
+/// `number_in` says which number a word is: decimal digits, of a value in the range.
 pub fn numbers_law()
     ensures { (low high : ℕ) (word : List ℕ) (value : ℕ)
-        → (IsNumeral word value × (low ≤ value) × (value ≤ high)) ↔ (number_in low high word ≡ Some value) }
+        → (IsNumeral word value × (low ≤ value) × (value ≤ high))
+        ↔ (number_in low high word ≡ Some value) }
 {}

@@ -2,23 +2,23 @@
 #![tactic(auto)]
 
 mod command;
-mod command_printing;
-mod command_reading;
 mod fault;
 mod law;
 mod line;
-mod parsing;
+mod parse_command;
+mod parse_schedule;
 mod plan;
-mod printing;
+mod print_command;
+mod print_schedule;
 mod value;
 mod word;
 
 pub use command::{Command, Content, FilePath, TreeNo};
 pub use fault::ParseFault;
 pub use law::{numbers_law, words_law};
-pub use parsing::parse;
+pub use parse_schedule::parse;
 pub use plan::Schedule;
-pub use printing::print;
+pub use print_schedule::print;
 pub use word::push_escaped;
 
 #[cfg(test)]

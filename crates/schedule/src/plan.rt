@@ -18,14 +18,15 @@ impl Model for Schedule {
 
     ghost Value = { Plan };
 
-    ghost view = { λ s. record { skipped = s.skipped; members = s.members; lines = s.lines.items } };
+    ghost view = { λ s.
+        record { skipped = s.skipped; members = s.members; lines = s.lines.items } };
 
     // Each line's number fits.
     ghost invariant = { λ s. s.skipped + 2 + vec_len s.lines < 2 ^ 64 };
 }
 
 impl Schedule {
-    /// The schedule of a federation's line, behind so many that are skipped, and of what the lines
+    /// The schedule of a federation's line, after so many that are skipped, and of what the lines
     /// after it say.
     pub(crate) fn new(skipped: usize, members: Members, lines: Vec<Option<Command>>) -> Schedule
         requires { skipped + 2 + vec_len lines < 2 ^ 64 }

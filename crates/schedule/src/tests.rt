@@ -2,19 +2,23 @@ use super::*;
 use std::alloc::{AllocError, Global};
 use std::test::Fail;
 
-// Texts, and what is printed of the schedules that they spell.
-const PRINTED: [(&[u8], &str); 9] = [
+// Texts, and what is printed of their schedules.
+const PRINTED: [(&[u8], &str); 10] = [
     (
-        b"federation 7 3\ntree 1\nfolder 1\nfile 1 bagit.txt 4261\nfile 1 manifest-sha512.txt -\ntree 2\nfile 2 m 0a\nquery 4 a 1\ndeposit 1 9 a 1\nquery 3 a%20b 2\n",
-        "federation 7 3\ntree 1\nfolder 1\nfile 1 bagit.txt 4261\nfile 1 manifest-sha512.txt -\ntree 2\nfile 2 m 0a\nquery 4 a 1\ndeposit 1 9 a 1\nquery 3 a%20b 2\n",
+        b"federation 7 3\ntree 1\nfolder 1\nfile 1 bagit.txt 4261\nfile 1 manifest-sha512.txt -\n",
+        "federation 7 3\ntree 1\nfolder 1\nfile 1 bagit.txt 4261\nfile 1 manifest-sha512.txt -\n",
+    ),
+    (
+        b"federation 7 3\ntree 2\nfile 2 m 0a\nquery 4 a 1\ndeposit 1 9 a 1\nquery 3 a%20b 2\n",
+        "federation 7 3\ntree 2\nfile 2 m 0a\nquery 4 a 1\ndeposit 1 9 a 1\nquery 3 a%20b 2\n",
     ),
     (
         b"\n# a \xff comment\n   \nfederation 0 1",
         "\n\n\nfederation 0 1\n",
     ),
     (
-        b"federation 18446744073709551615 15\r\n\r\ntree 4294967295\r\n#\r\n",
-        "federation 18446744073709551615 15\n\ntree 4294967295\n\n",
+        b"federation 18446744073709551615 63\r\n\r\ntree 4294967295\r\n#\r\n",
+        "federation 18446744073709551615 63\n\ntree 4294967295\n\n",
     ),
     (
         b"  federation   00  0000000000000000000000001  \ntree 01\n",
@@ -63,7 +67,7 @@ const FAULTS: [(&[u8], usize); 67] = [
     (b"federation 0 1\nfederation 0 1\n", 2),
     (b"federation 0 1\ntree 0\nfederation 0 1\n", 2),
     (b"federation 0 0\n", 1),
-    (b"federation 0 16\n", 1),
+    (b"federation 0 64\n", 1),
     (b"federation 0\n", 1),
     (b"federation 18446744073709551616 1\n", 1),
     (b"federation +1 1\n", 1),

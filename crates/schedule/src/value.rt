@@ -8,8 +8,8 @@ use hex::FromHexError;
 use percent_encoding::percent_decode;
 use std::alloc::{AllocError, Global};
 
-/// The number that a word of one or more digits spells, if it is from `low` to `high`.
-pub(crate) fn read_number(low: u64, high: u64, word: &[u8]) -> Option<u64>
+/// The number of a word of one or more digits, if it is from `low` to `high`.
+pub(crate) fn parse_number(low: u64, high: u64, word: &[u8]) -> Option<u64>
     ensures value { result ≡ number_in low high word.now }
     ensures in_range { IfSome result (λ n. (low ≤ n) × (n ≤ high)) }
 {
@@ -31,50 +31,50 @@ pub(crate) fn read_number(low: u64, high: u64, word: &[u8]) -> Option<u64>
 }
 
 /// The number of a site, a member or not.
-pub(crate) fn read_site(word: &[u8]) -> Option<u8>
+pub(crate) fn parse_site(word: &[u8]) -> Option<u8>
     ensures { result ≡ site_of word.now }
 {
-    Some(read_number(0, u64::from(u8::MAX), word)? as u8)
+    Some(parse_number(0, u64::from(u8::MAX), word)? as u8)
 }
 
 /// The number of a tree.
-pub(crate) fn read_tree_no(word: &[u8]) -> Option<TreeNo>
+pub(crate) fn parse_tree_no(word: &[u8]) -> Option<TreeNo>
     ensures { result ≡ tree_of word.now }
 {
-    TreeNo::new(read_number(1, u64::from(u32::MAX), word)? as u32)
+    TreeNo::new(parse_number(1, u64::from(u32::MAX), word)? as u32)
 }
 
 /// The slot of an object's name and a version.
 #[tactic(auto, unfolding(crate::specs::Commands::slot_of, crate::specs::Words::object_of))]
-pub(crate) fn read_slot(
+pub(crate) fn parse_slot(
     alloc: Global,
     object: &[u8],
     version: &[u8],
 ) -> Result<Option<Slot>, AllocError>
     ensures { IfOk result (λ slot. slot ≡ slot_of object.now version.now) }
 {
-    let Some(name) = read_text(alloc, object)? else {
+    let Some(name) = parse_text(alloc, object)? else {
         return Ok(None);
     };
-    let Some(version) = read_number(1, u64::from(u32::MAX), version) else {
+    let Some(version) = parse_number(1, u64::from(u32::MAX), version) else {
         return Ok(None);
     };
     Ok(Slot::new(name, version as u32).ok())
 }
 
 /// The path of a file.
-pub(crate) fn read_path(alloc: Global, word: &[u8]) -> Result<Option<FilePath>, AllocError>
+pub(crate) fn parse_path(alloc: Global, word: &[u8]) -> Result<Option<FilePath>, AllocError>
     requires { 0 < length word.now }
     ensures { IfOk result (λ path. path ≡ text_of word.now) }
 {
-    let Some(path) = read_text(alloc, word)? else {
+    let Some(path) = parse_text(alloc, word)? else {
         return Ok(None);
     };
     Ok(FilePath::new(path))
 }
 
 // A word with its escapes undone, if that is UTF-8.
-fn read_text(alloc: Global, word: &[u8]) -> Result<Option<String>, AllocError>
+fn parse_text(alloc: Global, word: &[u8]) -> Result<Option<String>, AllocError>
     ensures { IfOk result (λ text. option_map string_bytes text ≡ text_of word.now) }
 {
     let mut bytes = Vec::new(alloc);
@@ -84,7 +84,7 @@ fn read_text(alloc: Global, word: &[u8]) -> Result<Option<String>, AllocError>
 
 /// A file's bytes.
 #[tactic(auto, unfolding(crate::specs::Words::content_of))]
-pub(crate) fn read_content(alloc: Global, word: &[u8]) -> Result<Option<Content>, AllocError>
+pub(crate) fn parse_content(alloc: Global, word: &[u8]) -> Result<Option<Content>, AllocError>
     ensures { IfOk result (λ content. content ≡ content_of word.now) }
 {
     if word == b"-".as_slice() {

@@ -4,7 +4,7 @@ use Rattle.std.specs.List.{flat_map}
 use Rattle.std.specs.Fmt.{decimal}
 use Rattle.hex.specs.Hex.{encode_lower}
 use Rattle.fed_types.specs.Slots.{SlotName}
-use Rattle.schedule.specs.Escapes.{escaped}
+use Rattle.schedule.specs.Escapes.{escaped_text}
 use Rattle.bag_check.specs.Fault.{number_of}
 use Rattle.simulator.specs.declared.line.Line.{Line}
 use Rattle.simulator.specs.declared.line.Line.TheVariants.{Registered, Replied, Refused, Skip}
@@ -22,7 +22,7 @@ bag_word identities named = if identities then encode_lower named.bag.0 else 35 
 
 -- what a site was asked, or what it registered: the site, the object and the version
 abbrev pub slot_words : ℕ → SlotName → List (List ℕ)
-slot_words site slot = decimal site ∷ escaped slot.object ∷ decimal slot.version ∷ []
+slot_words site slot = decimal site ∷ escaped_text slot.object ∷ decimal slot.version ∷ []
 
 abbrev pub reply_words : Bool → Reply → List (List ℕ)
 reply_words identities (Pending bag) = codes "pending" ∷ bag_word identities bag ∷ []
@@ -38,16 +38,20 @@ reason_word reasons.Site = codes "site"
 reason_word reasons.Tree = codes "tree"
 reason_word reasons.Path = codes "path"
 
--- words behind a first one: a space before each
-abbrev pub spaced : List (List ℕ) → List ℕ
-spaced words = flat_map (λ word. 32 ∷ word) words
+-- words after a first one: a space before each
+abbrev pub spaced_words : List (List ℕ) → List ℕ
+spaced_words words = flat_map (λ word. 32 ∷ word) words
 
 -- a line's words, with one space between them
 abbrev pub words_text : Bool → Line → List ℕ
-words_text identities (Registered site slot bag) = codes "registered" ++ spaced (slot_words site slot ++ bag_word identities bag ∷ [])
-words_text identities (Replied site slot reply) = codes "reply" ++ spaced (slot_words site slot ++ reply_words identities reply)
-words_text identities (Refused site refusal) = codes "refused" ++ spaced (decimal site ∷ refusal_words refusal)
-words_text identities (Skip line reason) = codes "skip" ++ spaced (decimal line ∷ reason_word reason ∷ [])
+words_text identities (Registered site slot bag) =
+    codes "registered" ++ spaced_words (slot_words site slot ++ bag_word identities bag ∷ [])
+words_text identities (Replied site slot reply) =
+    codes "reply" ++ spaced_words (slot_words site slot ++ reply_words identities reply)
+words_text identities (Refused site refusal) =
+    codes "refused" ++ spaced_words (decimal site ∷ refusal_words refusal)
+words_text identities (Skip line reason) =
+    codes "skip" ++ spaced_words (decimal line ∷ reason_word reason ∷ [])
 
 -- a line, with its end
 abbrev pub line_text : Bool → Line → List ℕ

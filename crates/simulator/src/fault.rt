@@ -14,7 +14,7 @@ pub enum RunFault {
 }
 
 impl RunFault {
-    /// The number that stands for the fault.
+    /// The fault's number.
     pub fn number(self) -> u8
         ensures { result ≡ number_of self }
     {

@@ -1,9 +1,9 @@
 use bag_check::BagFault;
 use fed_types::{BagId, Slot};
 
-/// A bag as a line names it: by its identity, and by a tree's number. That is the tree of the earliest
-/// deposit so far that reached a member with a tree that was then a valid bag of this identity,
-/// whatever the site answered; 0 where there was none.
+/// A bag as a line names it: by its identity, and by a tree's number. That is the tree of the
+/// earliest deposit so far that reached a member with a tree that was then a valid bag of this
+/// identity, whatever the site answered; 0 where there was none.
 #[derive(Clone, Copy, Debug)]
 pub struct NamedBag {
     pub bag: BagId,

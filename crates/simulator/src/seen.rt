@@ -1,7 +1,6 @@
 ghost use Rattle.std.specs.Prelude.{◌≡◌};
 ghost use Rattle.simulator.specs.Worlds.{first_tree};
 
-use crate::site::is_same_bag;
 use fed_types::BagId;
 use schedule::TreeNo;
 use std::marker::Model;
@@ -35,7 +34,7 @@ pub fn first_tree(seen: &[Seen], bag: BagId) -> u32
 {
     for one in seen {
         let one: &Seen = one;
-        if is_same_bag(one.bag, bag) {
+        if one.bag == bag {
             return one.tree.number();
         }
     }

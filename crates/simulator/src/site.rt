@@ -1,5 +1,5 @@
 ghost use Rattle.std.specs.Prelude.{◌≡◌, List, [], ◌++◌, OnOk, OnErr, IfOk};
-ghost use Rattle.simulator.specs.Sites.{DepositRecord, deposit_of, takes, after_deposit, same_bag};
+ghost use Rattle.simulator.specs.Sites.{DepositRecord, deposit_of, takes, after_deposit};
 
 use fed_types::{BagId, Slot};
 use std::alloc::{AllocError, Global};
@@ -52,15 +52,16 @@ impl Site {
         first_deposit(self.records.as_slice(), slot)
     }
 
-    /// Hands the site a valid bag for the slot. Whether it takes it: it does if the slot has no deposit
-    /// there, which is then recorded, or this very one. Refused for want of memory, it keeps what it kept.
+    /// Hands the site a valid bag for the slot. Whether it takes it: it does if the slot has no
+    /// deposit there, which is then recorded, or this very one. Out of memory, the site keeps what
+    /// it kept.
     pub fn deposit(&mut self, alloc: Global, slot: &Slot, bag: BagId) -> Result<bool, AllocError>
         ensures taken { IfOk result (λ taken. taken ≡ takes (deposit_of slot.now self.old) bag) }
         ensures ok { OnOk result (self.new ≡ after_deposit slot.now bag self.old) }
         ensures err { OnErr result (self.new ≡ self.old) }
     {
         match self.own_deposit(slot) {
-            Some(own) => Ok(is_same_bag(own, bag)),
+            Some(own) => Ok(own == bag),
             None => {
                 let slot = slot.copy(alloc)?;
                 self.records.push(Deposit { slot, bag })?;
@@ -68,12 +69,6 @@ impl Site {
             }
         }
     }
-}
-
-pub fn is_same_bag(a: BagId, b: BagId) -> bool
-    ensures { result ≡ same_bag a b }
-{
-    a.0 == b.0
 }
 
 fn first_deposit(records: &[Deposit], slot: &Slot) -> Option<BagId>

@@ -63,7 +63,7 @@ fn what_runs_say(rt: HostRuntime) -> Result<(), Fail> {
             "query 4 a 1\nquery 0 a 1\ndeposit 1 9 a 1\ndeposit 9 9 a 1\ntree 1\nfolder 9\nfile 1 bagit.txt 42616749742d56657273696f6e3a20312e300a5461672d46696c652d4368617261637465722d456e636f64696e673a205554462d380a\nfile 9 x -\nquery 3 a%20b 2\n",
             "skip 10 site\nskip 11 site\nskip 12 tree\nskip 13 site\nskip 14 tree\nskip 15 tree\nskip 16 path\nskip 17 tree\nreply 3 a%20b 2 nothing\n",
         ),
-        // A tree is deposited as it stands now: a payload file that isn't listed spoils it.
+        // A tree is deposited as it is now: a payload file that isn't listed spoils it.
         (
             "deposit 1 1 a 1\nfile 1 data/x -\ndeposit 1 1 a 1\nquery 1 a 1\n",
             "registered 1 a 1 #1\nrefused 1 10 13\nreply 1 a 1 pending #1\n",

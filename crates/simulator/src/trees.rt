@@ -2,7 +2,7 @@ ghost use Rattle.std.specs.Prelude.{◌≡◌, ◌++◌, ◌∷◌, [], List, If
 ghost use Rattle.std.specs.Option.{option_copied};
 ghost use Rattle.bag_tree.specs.Tree.{fault_of_added};
 ghost use Rattle.simulator.specs.Worlds.{NumberedTree, tree_at};
-ghost use Rattle.simulator.specs.Trees.{outcome_unless, files_after, IsPlace};
+ghost use Rattle.simulator.specs.inner.Trees.{outcome_unless, files_after, IsPlace};
 
 use bag_tree::{Tree, TreeFault};
 use schedule::TreeNo;
@@ -53,7 +53,8 @@ pub enum Added {
 impl Trees {
     ghost use Rattle.std.specs.Prelude.{is_some, Option};
     ghost use Rattle.bag_tree.specs.Tree.{no_files};
-    ghost use Rattle.simulator.specs.Trees.{trees_with_folder, trees_with_file, outcome_of_adding};
+    ghost use Rattle.simulator.specs.inner.Trees.{trees_with_folder, trees_with_file};
+    ghost use Rattle.simulator.specs.inner.Trees.{outcome_of_adding};
 
     /// No trees.
     pub fn new(alloc: Global) -> Trees
@@ -80,7 +81,8 @@ impl Trees {
 
     /// Declares an empty tree under this number.
     pub fn declare(&mut self, alloc: Global, number: TreeNo) -> Result<(), AllocError>
-        ensures ok { OnOk result (self.new ≡ self.old ++ record { number = number; files = no_files } ∷ []) }
+        ensures ok { OnOk result
+            (self.new ≡ self.old ++ record { number = number; files = no_files } ∷ []) }
         ensures err { OnErr result (self.new ≡ self.old) }
     {
         self.declared.push(Declared {
@@ -90,7 +92,7 @@ impl Trees {
         Ok(())
     }
 
-    /// Makes the payload's folder of the tree stand. Whether the tree was declared.
+    /// Adds the payload's folder to the tree. Whether the tree was declared.
     pub fn add_folder(&mut self, number: TreeNo) -> bool
         ensures declared { result ≡ is_some (tree_at number self.old) }
         ensures after { self.new ≡ trees_with_folder number (tree_at number self.old) self.old }
@@ -112,8 +114,11 @@ impl Trees {
         path: &str,
         bytes: &[u8],
     ) -> Result<Added, AllocError>
-        ensures answer { IfOk result (λ a. a ≡ outcome_of_adding path.now bytes.now (tree_at number self.old)) }
-        ensures ok { OnOk result (self.new ≡ trees_with_file number path.now bytes.now (tree_at number self.old) self.old) }
+        ensures answer { IfOk result
+            (λ a. a ≡ outcome_of_adding path.now bytes.now (tree_at number self.old)) }
+        ensures ok { OnOk result
+            (self.new ≡ trees_with_file number path.now bytes.now
+            (tree_at number self.old) self.old) }
     {
         match place_of(self.declared.as_slice(), number) {
             None => Ok(Added::NoTree),
@@ -124,8 +129,15 @@ impl Trees {
 
 /// Adds a file to a tree, where the tree can have it.
 fn add_to(declared: &mut Declared, path: &str, bytes: &[u8]) -> Result<Added, AllocError>
-    ensures answer { IfOk result (λ a. a ≡ outcome_unless (fault_of_added declared.old.files path.now bytes.now)) }
-    ensures ok { OnOk result (declared.new ≡ record { number = declared.old.number; files = files_after path.now bytes.now declared.old.files }) }
+    ensures answer { IfOk result
+        (λ a. a ≡ outcome_unless (fault_of_added declared.old.files path.now bytes.now)) }
+    ensures ok { OnOk result
+        (declared.new
+        ≡ record {
+          number = declared.old.number;
+          files = files_after path.now bytes.now
+              declared.old.files;
+        }) }
 {
     match declared.tree.add(path, bytes) {
         Ok(()) => return Ok(Added::Done),

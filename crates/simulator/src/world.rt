@@ -1,5 +1,5 @@
 ghost use Rattle.std.specs.Prelude.{◌≡◌, ◌≤◌, length, OnOk, IfOk, Result};
-ghost use Rattle.bag_check.specs.Check.{Checks};
+ghost use Rattle.bag_check.specs.Fault.{IsOrMemory};
 ghost use Rattle.bag_check.specs.declared.fault.BagFault.{BagFault};
 ghost use Rattle.fed_types.specs.declared.bag_id.BagId.{BagId};
 
@@ -29,12 +29,19 @@ impl Model for Federation {
 
     ghost Value = { World };
 
-    ghost view = { λ f. record { sites = f.sites.items; trees = f.trees; seen = f.seen.items; lines = f.lines.items } };
+    ghost view = { λ f.
+        record {
+          sites = f.sites.items;
+          trees = f.trees;
+          seen = f.seen.items;
+          lines = f.lines.items;
+        } };
 }
 
 impl Federation {
     ghost use Rattle.simulator.specs.Worlds.{start, is_member, says, skips, records_at, tree_at};
-    ghost use Rattle.simulator.specs.Runs.{happens, line_happens, on_tree, on_folder, on_file, on_deposit, on_checked, on_bag, on_query, named};
+    ghost use Rattle.simulator.specs.Runs.{happens, line_happens, on_tree, on_folder, on_file};
+    ghost use Rattle.simulator.specs.Runs.{on_deposit, on_checked, on_bag, on_query, named_bag};
 
     /// The federation of these members before anything has happened.
     pub fn new(alloc: Global, members: Members) -> Result<Federation, AllocError>
@@ -135,7 +142,8 @@ impl Federation {
 
     #[tactic(auto, unfolding(crate::specs::Runs::on_tree))]
     fn declare_tree(&mut self, alloc: Global, line: usize, tree: TreeNo) -> Result<(), AllocError>
-        ensures { OnOk result (self.new ≡ on_tree self.old line tree (tree_at tree self.old.trees)) }
+        ensures { OnOk result
+            (self.new ≡ on_tree self.old line tree (tree_at tree self.old.trees)) }
     {
         match self.trees.get(tree) {
             None => self.trees.declare(alloc, tree),
@@ -145,7 +153,8 @@ impl Federation {
 
     #[tactic(auto, unfolding(crate::specs::Runs::on_folder))]
     fn make_folder(&mut self, line: usize, tree: TreeNo) -> Result<(), AllocError>
-        ensures { OnOk result (self.new ≡ on_folder self.old line tree (tree_at tree self.old.trees)) }
+        ensures { OnOk result
+            (self.new ≡ on_folder self.old line tree (tree_at tree self.old.trees)) }
     {
         if self.trees.add_folder(tree) {
             return Ok(());
@@ -161,7 +170,9 @@ impl Federation {
         path: &FilePath,
         content: &Content,
     ) -> Result<(), AllocError>
-        ensures { OnOk result (self.new ≡ on_file self.old line tree path.now content.now (tree_at tree self.old.trees)) }
+        ensures { OnOk result
+            (self.new ≡ on_file self.old line tree path.now content.now
+            (tree_at tree self.old.trees)) }
     {
         match self
             .trees
@@ -184,7 +195,8 @@ impl Federation {
     ) -> Result<(), AllocError>
         requires low { 1 ≤ site }
         requires high { site ≤ length self.old.sites }
-        ensures { OnOk result (self.new ≡ on_deposit self.old line site tree slot.now (tree_at tree self.old.trees)) }
+        ensures { OnOk result
+            (self.new ≡ on_deposit self.old line site tree slot.now (tree_at tree self.old.trees)) }
     {
         let Some(files) = self.trees.get(tree) else {
             return self.skip(line, Reason::Tree);
@@ -204,7 +216,9 @@ impl Federation {
     ) -> Result<(), AllocError>
         requires low { 1 ≤ site }
         requires high { site ≤ length self.old.sites }
-        ensures { OnOk result ((found : Result BagId BagFault) → Checks found checked → self.new ≡ on_checked self.old site tree slot.now found) }
+        ensures { OnOk result
+            ((found : Result BagId BagFault) → IsOrMemory checked found
+            → self.new ≡ on_checked self.old site tree slot.now found) }
     {
         match checked {
             Err(BagFault::Memory) => Err(AllocError),
@@ -231,7 +245,7 @@ impl Federation {
         requires high { site ≤ length self.old.sites }
         ensures { OnOk result (self.new ≡ on_bag self.old site slot.now bag) }
     {
-        let named = self.named(bag);
+        let named = self.named_bag(bag);
         let place = usize::from(site) - 1;
         let depositor: &mut Site = &mut self.sites[place];
         if depositor.deposit(alloc, slot, bag)? {
@@ -257,7 +271,7 @@ impl Federation {
     {
         let asked: &Site = &self.sites[usize::from(site) - 1];
         let reply = match asked.own_deposit(slot) {
-            Some(bag) => Reply::Pending(self.named(bag)),
+            Some(bag) => Reply::Pending(self.named_bag(bag)),
             None => Reply::Nothing,
         };
         let slot = slot.copy(alloc)?;
@@ -265,8 +279,8 @@ impl Federation {
     }
 
     /// A bag as a line names it.
-    fn named(&self, bag: BagId) -> NamedBag
-        ensures { result ≡ named self.now bag }
+    fn named_bag(&self, bag: BagId) -> NamedBag
+        ensures { result ≡ named_bag self.now bag }
     {
         NamedBag {
             bag,

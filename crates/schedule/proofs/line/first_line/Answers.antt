@@ -11,5 +11,10 @@ returns-in-Some-clause-value c =
 
 pub returns-in-None-clause-value : goal.returns-in-None-clause-value
 returns-in-None-clause-value c =
-    let some : 0 < length c.args.text.now = omega (arith, eqb-false (length c.args.text.now) 0 (sym c.is_empty.ensures ∙ c.if-is_empty.false)) in
+    let some : 0 < length c.args.text.now =
+    omega (
+      arith,
+      eqb-false (length c.args.text.now) 0
+          (sym c.is_empty.ensures ∙ c.if-is_empty.false),
+    ) in
     lines_without_end c.args.text.now (sym c.line_end.ensures ∙ c.in-None.is) some

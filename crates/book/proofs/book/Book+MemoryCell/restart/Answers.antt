@@ -2,7 +2,7 @@ use Rattle.std.proofs.Common.{ℕ, Some, Ok, sym, ap, subst}
 use Rattle.cell_device.specs.declared.fuse.FuseState.{FuseState}
 use Rattle.cell_device.specs.declared.memory_cell.MemoryCell.{MemoryCell}
 use Rattle.std.specs.Prelude.{IfOk, IfErr}
-use Rattle.cell_device.specs.Images.{Image, made_durable}
+use Rattle.cell_device.specs.Images.{Image, all_synced}
 use Rattle.cell_device.specs.Memory.{image_of, fuse_of}
 use Rattle.fed_types.specs.Sites.{Membership}
 use Rattle.records.specs.Journals.{Says}
@@ -34,7 +34,7 @@ returns-clause-kept c =
     let first = subst (λ (m : Membership). IfErr c.open.result (λ e. LeavesAlike m.federation c.site-site.result (Some (image_of c.restart.new.self)) (image_of e.0).seen)) c.members-members.ensures c.open.ensures.seen_err in
     let second = subst (λ (n : ℕ). IfErr c.open.result (λ e. LeavesAlike book.members.federation n (Some (image_of c.restart.new.self)) (image_of e.0).seen)) c.site-site.ensures first in
     let third = subst (λ (i : Image). IfErr c.open.result (λ e. LeavesAlike book.members.federation book.site (Some i) (image_of e.0).seen)) c.restart.ensures.bytes second in
-    subst (λ (m : MemoryCell). IfErr c.open.result (λ e. LeavesAlike book.members.federation book.site (Some (made_durable (image_of m))) (image_of e.0).seen)) c.close-cell.ensures.cell third
+    subst (λ (m : MemoryCell). IfErr c.open.result (λ e. LeavesAlike book.members.federation book.site (Some (all_synced (image_of m))) (image_of e.0).seen)) c.close-cell.ensures.cell third
 
 pub returns-clause-same : goal.returns-clause-same
 returns-clause-same c = λ opened.

@@ -1,0 +1,13 @@
+//! An acceptor of single-decree Paxos (Lamport, Paxos Made Simple, section 2.2) for every slot at
+//! once: which ballots it promises, and what it votes for, by what its records say of each slot.
+#![tactic(auto)]
+
+mod acceptor;
+mod decision;
+mod row;
+
+pub use acceptor::Acceptor;
+pub use decision::{Answer, Decision};
+
+#[cfg(test)]
+mod tests;

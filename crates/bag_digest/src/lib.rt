@@ -1,0 +1,13 @@
+//! The digests of bytes by the four algorithms that manifests may use (RFC 8493, 2.4): of bytes at
+//! hand, or of bytes that come in pieces.
+#![tactic(auto)]
+
+mod digester;
+mod digests;
+mod fed;
+
+pub use digester::Digester;
+pub use digests::Digests;
+
+#[cfg(test)]
+mod tests;

@@ -1,0 +1,20 @@
+use bag_tree::{Facts, TreeFault};
+
+/// Where folders are read from: a disk, or memory.
+pub trait Folders {
+    ghost use Rattle.std.specs.Prelude.{◌≡◌, ◌≢◌, ℕ, List, Result, Option, None, IfErr, IfSome};
+    ghost use Rattle.bag_tree.specs.declared.fault.TreeFault.{TreeFault};
+    ghost use Rattle.bag_tree.specs.declared.fault.TreeFault.TheVariants.{BadPath};
+    ghost use Rattle.bag_tree.specs.Facts.{TreeFacts};
+    ghost use Rattle.bag_tree.specs.Fault.{IsOrMemory};
+
+    // What a read of each path gives, where it is known.
+    ghost gives: { Self → Option (List ℕ → Result TreeFacts TreeFault) } = { λ _. None };
+
+    /// The facts of the tree in the folder of this path, or the first reason found why it can't be
+    /// read; which of several is left open. It is never `BadPath`.
+    fn read(&mut self, path: &str) -> Result<Facts, TreeFault>
+        ensures known { IfSome (gives self.old) (λ answer. IsOrMemory result (answer path.now)) }
+        ensures kept { gives self.new ≡ gives self.old }
+        ensures faults { IfErr result (λ fault. fault ≢ BadPath) };
+}

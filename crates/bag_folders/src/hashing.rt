@@ -1,0 +1,88 @@
+ghost use Rattle.std.specs.Prelude.{◌≡◌, if◌then◌else◌, [], ◌++◌, length, nat_lt};
+ghost use Rattle.std.specs.Prelude.{IfOk, OnOk, OnErr};
+ghost use Rattle.bag_tree.specs.Facts.{fact_of_file};
+ghost use Rattle.bag_tree.specs.Fault.{RefusesFor};
+ghost use Rattle.bag_tree.specs.Tree.{longest_text, fault_of_text};
+ghost use Rattle.bag_folders.specs.Files.{with_piece};
+
+use bag_digest::Digester;
+use bag_tree::{FileFacts, LONGEST_TEXT, TreeFault, is_read_text};
+use std::alloc::{AllocError, Global};
+use std::marker::Model;
+
+/// A file whose bytes come in pieces: `new`, a `feed` for each piece, and `finish`. A clause sees
+/// the file, with the bytes that came so far. Bytes are kept only of the texts that describe a bag.
+#[derive(Drop)]
+pub struct Hashing {
+    path: String,
+    digester: Digester,
+    text: Option<Vec<u8>>,
+}
+
+impl Model for Hashing {
+    ghost use Rattle.std.specs.Prelude.{string_bytes};
+    ghost use Rattle.std.specs.Option.{option_map};
+    ghost use Rattle.bag_tree.specs.Tree.{File};
+    ghost use Rattle.bag_folders.specs.inner.Kept.{IsKept};
+
+    ghost Value = { File };
+
+    ghost view = { λ h. record { path = string_bytes h.path; bytes = h.digester } };
+
+    ghost invariant = { λ h. IsKept (record { path = string_bytes h.path; bytes = h.digester })
+        (option_map (λ t. t.items) h.text) };
+}
+
+impl Hashing {
+    /// A file of this path, of which no byte has come yet.
+    pub fn new(alloc: Global, path: &str) -> Result<Hashing, AllocError>
+        ensures { IfOk result (λ hashing. hashing ≡ record { path = path.now; bytes = [] }) }
+    {
+        let text = if is_read_text(path.as_bytes()) {
+            Some(Vec::new(alloc))
+        } else {
+            None
+        };
+        Ok(Hashing {
+            path: String::from_str(alloc, path)?,
+            digester: Digester::new(),
+            text,
+        })
+    }
+
+    /// Takes the file's next bytes. It is refused, and nothing changes, with `TextTooLong` where a
+    /// text that describes the bag would be over `LONGEST_TEXT`, and with `Memory`.
+    pub fn feed(&mut self, piece: &[u8]) -> Result<(), TreeFault>
+        ensures refused { RefusesFor
+            (fault_of_text self.old.path (self.old.bytes ++ piece.now)) result }
+        ensures ok { OnOk result (self.new ≡ with_piece self.old piece.now) }
+        ensures err { OnErr result (self.new ≡ self.old) }
+    {
+        if let Some(text) = &mut self.text {
+            keep(text, piece)?;
+        }
+        self.digester.feed(piece);
+        Ok(())
+    }
+
+    /// The facts of the file, which has no further bytes.
+    pub fn finish(self) -> FileFacts
+        ensures { result ≡ fact_of_file self }
+    {
+        FileFacts::new(self.path, self.digester.finish(), self.text)
+    }
+}
+
+/// Keeps the next bytes of a text.
+fn keep(text: &mut Vec<u8>, piece: &[u8]) -> Result<(), TreeFault>
+    ensures refused { RefusesFor (if nat_lt longest_text (length (text.old.items ++ piece.now))
+        then Some TreeFault.TextTooLong else None) result }
+    ensures ok { OnOk result (text.new.items ≡ text.old.items ++ piece.now) }
+    ensures err { OnErr result (text.new.items ≡ text.old.items) }
+{
+    if text.len() + piece.len() > LONGEST_TEXT {
+        return Err(TreeFault::TextTooLong);
+    }
+    text.extend_from_slice(piece)?;
+    Ok(())
+}

@@ -1,0 +1,52 @@
+ghost use Rattle.std.specs.Prelude.{◌≡◌, OnOk, IfOk, IfErr, IfSome, IsErrOf, Some, None};
+ghost use Rattle.std.specs.Io.KnownBytes.{IsAtEnd};
+ghost use Rattle.bag_tree.specs.Facts.{fact_of_file};
+ghost use Rattle.bag_tree.specs.Tree.{fault_of_text};
+ghost use Rattle.bag_folders.specs.Files.{IsReadFault, most_reads};
+
+use crate::hashing::Hashing;
+use bag_tree::{FileFacts, TreeFault};
+use std::alloc::Global;
+use std::io::{ErrorKind, Read};
+
+/// A reader that hasn't ended after so many reads counts as one that failed.
+pub const MOST_READS: u32 = u32::MAX;
+
+/// How many bytes are asked for at a time.
+const PIECE: usize = 8192;
+
+/// The facts of the file of this path whose bytes the reader has left, which are never held whole
+/// unless they are a text that describes a bag. Reads that were interrupted are tried again.
+/// It is refused with `TextTooLong`, where such a text has over `LONGEST_TEXT` bytes; with
+/// `Device`, where a read failed or the reader didn't end within `MOST_READS`; or with `Memory`.
+pub fn hash_reader<R: Read>(
+    alloc: Global,
+    path: &str,
+    input: &mut R,
+) -> Result<FileFacts, TreeFault>
+    ensures facts { IfOk result (λ facts. IfSome (R.remaining input.old) (λ bytes.
+        facts ≡ fact_of_file (record { path = path.now; bytes = bytes }))) }
+    ensures end { OnOk result (IsAtEnd (R.remaining input.new)) }
+    ensures fits { IfOk result (λ facts. IfSome (R.remaining input.old) (λ bytes.
+        fault_of_text path.now bytes ≡ None)) }
+    ensures too_long { IsErrOf result TreeFault.TextTooLong
+        → IfSome (R.remaining input.old) (λ bytes.
+        fault_of_text path.now bytes ≡ Some TreeFault.TextTooLong) }
+    ensures faults { IfErr result IsReadFault }
+    ensures limit { MOST_READS ≡ most_reads }
+{
+    let mut hashing = Hashing::new(alloc, path)?;
+    let mut piece = [0u8; PIECE];
+    'reads: for _ in 0..MOST_READS {
+        match input.read(&mut piece) {
+            Ok(0) => return Ok(hashing.finish()),
+            Ok(count) => hashing.feed(&piece[..count])?,
+            Err(error) => {
+                if error.kind() != ErrorKind::Interrupted {
+                    return Err(TreeFault::Device);
+                }
+            }
+        }
+    }
+    Err(TreeFault::Device)
+}

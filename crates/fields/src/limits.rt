@@ -1,2 +1,0 @@
-/// The bytes of a bag's identity.
-pub const BAG_BYTES: usize = 64;

@@ -1,0 +1,108 @@
+use book::{CommitFault, OpenFault};
+use cell_device::CellFault;
+use dgram::DgramFault;
+use fed_types::TypeFault;
+use hex::FromHexError;
+use std::alloc::AllocError;
+use std::io;
+use thiserror::Error;
+
+/// Why the program has no answer.
+#[derive(Clone, Copy, Debug, PartialEq, Eq, Error)]
+pub enum Fault {
+    /// The arguments are not those of a task.
+    #[error("tasks: encode|decode N, file|commit|turns PATH SITE, bench|fill PATH N, open PATH, memory")]
+    Arguments,
+    /// A line is no comment, no federation with the hex digits of a datagram, and no site with
+    /// those of a cell.
+    #[error("a line that is neither FEDERATION HEX nor SITE | HEX")]
+    Line,
+    /// A line asks for no turn.
+    #[error("a line that is neither commit nor open")]
+    Turn,
+    /// Standard input, the arguments or the clock couldn't be read, or standard output not written.
+    #[error("input unread")]
+    Input,
+    /// There is no cell at a path, or its device failed.
+    #[error("Device")]
+    Device,
+    /// The cell holds no journal of the site.
+    #[error("{0:?}")]
+    Refused(OpenFault),
+    /// An allocation failed.
+    #[error("memory")]
+    Memory,
+    /// A call answered what it must not: it refused what is in range, wrote other bytes, or didn't
+    /// leave what it was refused to change.
+    #[error("a wrong answer")]
+    Wrong,
+}
+
+impl From<AllocError> for Fault {
+    fn from(_e: AllocError) -> Fault {
+        Fault::Memory
+    }
+}
+
+impl From<io::Error> for Fault {
+    fn from(e: io::Error) -> Fault {
+        if e.kind() == io::ErrorKind::OutOfMemory {
+            Fault::Memory
+        } else {
+            Fault::Input
+        }
+    }
+}
+
+impl From<FromHexError> for Fault {
+    fn from(e: FromHexError) -> Fault {
+        match e {
+            FromHexError::OutOfMemory => Fault::Memory,
+            _ => Fault::Line,
+        }
+    }
+}
+
+impl From<TypeFault> for Fault {
+    fn from(_e: TypeFault) -> Fault {
+        Fault::Wrong
+    }
+}
+
+impl From<DgramFault> for Fault {
+    fn from(e: DgramFault) -> Fault {
+        match e {
+            DgramFault::Memory => Fault::Memory,
+            DgramFault::NotOurs | DgramFault::Malformed => Fault::Wrong,
+        }
+    }
+}
+
+impl From<CellFault> for Fault {
+    fn from(e: CellFault) -> Fault {
+        match e {
+            CellFault::Device => Fault::Device,
+            CellFault::Memory => Fault::Memory,
+        }
+    }
+}
+
+impl From<OpenFault> for Fault {
+    fn from(e: OpenFault) -> Fault {
+        match e {
+            OpenFault::Device => Fault::Device,
+            OpenFault::Memory => Fault::Memory,
+            fault => Fault::Refused(fault),
+        }
+    }
+}
+
+impl From<CommitFault> for Fault {
+    fn from(e: CommitFault) -> Fault {
+        match e {
+            CommitFault::Device => Fault::Device,
+            CommitFault::Memory => Fault::Memory,
+            CommitFault::NeedsOpen => Fault::Wrong,
+        }
+    }
+}

@@ -1,0 +1,9 @@
+//! A table of what is known of slots, by slot: the rows of acceptors, proposers and learners.
+#![tactic(auto)]
+
+mod slot_table;
+
+pub use slot_table::SlotTable;
+
+#[cfg(test)]
+mod tests;
