@@ -127,7 +127,8 @@ module _ {A B : Type 0} (f : B → A → B) (P : List A → B → Type 0)
     (step : (xs : List A) (x : A) (b : B) → P xs b → P (xs ++ x ∷ []) (f b x)) where
   fold_from : (done : List A) (b : B) (xs : List A) → P done b → P (done ++ xs) (fold f b xs)
   fold_from done b [] h = rw append-nil h
-  fold_from done b (x ∷ xs) h = rw append_assoc at (fold_from (done ++ x ∷ []) (f b x) xs (step done x b h))
+  fold_from done b (x ∷ xs) h =
+      rw append_assoc at (fold_from (done ++ x ∷ []) (f b x) xs (step done x b h))
 
   pub fold_keeps : (b : B) (xs : List A) → P [] b → P xs (fold f b xs)
   fold_keeps b xs h = fold_from [] b xs h

@@ -50,7 +50,9 @@ both f p q [] h = absurd (omega (arith, among_none f p, among_none f q))
 both f p q (n ∷ ns) h =
     both_more p q n (f n) (sum_by f ns) (among f p ns) (among f q ns) ns (p n) (q n) refl refl
     (both f p q ns)
-    (omega (arith, sum_by-cons f n ns, among_more f p n ns (p n) refl, among_more f q n ns (q n) refl))
+    (let first = among_more f p n ns (p n) refl in
+    let second = among_more f q n ns (q n) refl in
+    omega (arith, sum_by-cons f n ns))
 
 -- one element more counts in the second sum where it counts in the first
 no_less_more : (w a b : ℕ) (s t : Bool) → (s ≡ true → t ≡ true) → a ≤ b

@@ -5,7 +5,8 @@ use Rattle.std.proofs.lemmas.Bool.{leb-true, le-leb, cases_eq}
 use Rattle.std.proofs.lemmas.Bool.Decides.{same_from_decides, Decides-like}
 use Rattle.fed_types.specs.Lists.{Has, here, is_in}
 use Rattle.fed_types.specs.Sites.{sites_to}
-use Rattle.fed_types.specs.Laws.Lists.{is_in_decides, has_none, has_one, has_left, has_right, has_cases}
+use Rattle.fed_types.specs.Laws.Lists.{is_in_decides, has_none, has_one}
+use Rattle.fed_types.specs.Laws.Lists.{has_left, has_right, has_cases}
 
 -- what is one of them is from 1 to k
 pub has_sites_to : (k n : ℕ) → Has n (sites_to k) → (1 ≤ n) × (n ≤ k)

@@ -48,7 +48,8 @@ pub is_in-with_voter : (xs : List ℕ) (n m : ℕ) → is_in (with_voter xs n) m
 is_in-with_voter [] n m = rw (with_voter-none n) (is_in-cons n [] m)
 is_in-with_voter (x ∷ xs) n m =
     elim (cases_order x n) [
-      | inl same ↦ rw (← same, with_voter-first x xs, is_in-cons x xs m) (or_again (x == m) (is_in xs m))
+      | inl same ↦
+          rw (← same, with_voter-first x xs, is_in-cons x xs m) (or_again (x == m) (is_in xs m))
       | inr differ ↦ elim differ [
         | inl less ↦
             rw (with_voter-later x n xs less, is_in-cons x xs m, is_in-cons x (with_voter xs n) m)

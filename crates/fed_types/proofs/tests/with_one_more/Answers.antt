@@ -8,4 +8,6 @@ pub returns : goal.returns
 returns g c =
     c.is_quorum.ensures
     ∙ g.met.Q.Quorums.quorum_grows c.args.members.now c.args.voters.now c.add.new.self c.requires
-    (λ n member voted. subst (λ (xs : List ℕ). Has n xs) (sym c.add.ensures.value) (has_with_voter c.args.voters.now c.args.site voted))
+    (λ n member voted.
+    subst (λ (xs : List ℕ). Has n xs) (sym c.add.ensures.value)
+    (has_with_voter c.args.voters.now c.args.site voted))
