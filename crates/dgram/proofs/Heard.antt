@@ -1,4 +1,4 @@
--- What is heard with one message more. Each word of a list is that of its parts.
+-- The words of what is heard, with more messages.
 use Rattle.std.proofs.Common.{◌≡◌, ℕ, max, List, [], ◌∷◌, ◌++◌, ap, ◌∙◌}
 use Rattle.std.specs.List.{fold, filter_map}
 use Rattle.std.proofs.lemmas.List.Elements.{filter_map-append}
@@ -10,7 +10,8 @@ use Rattle.dgram.specs.declared.body.Body.{Body}
 use Rattle.dgram.specs.declared.body.Body.TheVariants.{Refused}
 use Rattle.dgram.specs.declared.message.Message.{Message}
 use Rattle.dgram.specs.Heard.{body_in, bodies_of, PromiseFrom, promise_in, promises_for, priors}
-use Rattle.dgram.specs.Heard.{voter_in, voters_for, refused_round, floor_of, known_in, known_bags}
+use Rattle.dgram.specs.Heard.{voter_in, voters_for, refused_round, floor_of, known_in}
+use Rattle.dgram.specs.Heard.{known_bags}
 
 pub bodies_of-append : (slot : SlotName) (ms ns : List Message)
     → bodies_of slot (ms ++ ns) ≡ bodies_of slot ms ++ bodies_of slot ns
