@@ -10,7 +10,7 @@ use Rattle.std.proofs.lemmas.Nat.Bits.{bit_at_set_same, bit_at_set_other, shr_an
 use Rattle.fed_types.specs.Lists.{is_in}
 use Rattle.fed_types.specs.Voters.{with_voter}
 use Rattle.fed_types.specs.inner.Words.{bits_below}
-use Rattle.fed_types.specs.Laws.Words.{is_in-bits_below, same_bits, one_more}
+use Rattle.fed_types.specs.inner.WordLaws.{is_in-bits_below, same_bits, one_more}
 
 -- the set of the word is the old one and k
 pub bits_below-set : (word k : ℕ) → k < 64 → bits_below (bit_or word (1 * 2 ^ k % 2 ^ 64)) 64 ≡ with_voter (bits_below word 64) k

@@ -1,5 +1,6 @@
 -- Quorums meet, and they grow: of one federation, by the weights of its members.
-use Rattle.std.specs.Prelude.{◌≡◌, ℕ, zero, suc, ◌+◌, ◌*◌, ◌<◌, ◌≤◌, true, false, Bool, List, [], ◌∷◌, cond, refl}
+use Rattle.std.specs.Prelude.{◌≡◌, ℕ, ◌+◌, ◌*◌, ◌<◌, ◌≤◌, true, false, Bool, List, [], ◌∷◌}
+use Rattle.std.specs.Prelude.{cond, refl}
 use Rattle.std.specs.List.{filter, sum_by}
 use Rattle.std.proofs.Common.{arith, lt-ltb, sym, ◌∙◌}
 use Rattle.std.proofs.lemmas.Bool.{ltb-true, false≢true}
