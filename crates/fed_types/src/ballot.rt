@@ -12,7 +12,7 @@ use std::marker::Model;
 
 /// A ballot: a round, at least 1, and the site that proposes in it. Ballots are ordered by round,
 /// and within a round by site. A clause sees a `BallotNumber`.
-#[derive(Clone, Copy, Debug, PartialEq, Eq)]
+#[derive(Clone, Copy, Debug, PartialEq, Eq, Hash)]
 pub struct Ballot {
     round: u32,
     site: SiteNo,
