@@ -183,7 +183,8 @@ module _ (old : Rows Row) (records : List Record) (heard : List Message) (slot :
           is_in-with_voter (counted_in (row_at old slot) vote) from n
           ∙ ap (λ (t : Bool). from == n || t) (stands.votes slot unknown vote n)
           ∙ sym (cast_after slot from vote heard slot vote n
-              ∙ rw ((same_slot_decides slot slot).1 refl, (same_vote_decides vote vote).1 refl) refl)
+              ∙ rw ((same_slot_decides slot slot).1 refl, (same_vote_decides vote vote).1 refl)
+              refl)
 
   -- the same, by a test
   pub heard_where_known : is_some (known_in (row_at old slot)) ≡ true

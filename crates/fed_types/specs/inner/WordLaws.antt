@@ -94,7 +94,8 @@ AllBelow-bits_below word (suc n) m l =
 
 -- ---- one more at a place k, where the list without the place is xs
 one_more_after : (xs : List ℕ) (k n : ℕ) (t : Bool) → k < n
-    → with_voter (xs ++ (if t then n ∷ [] else [])) k ≡ with_voter xs k ++ (if t then n ∷ [] else [])
+    → with_voter (xs ++ (if t then n ∷ [] else [])) k ≡ with_voter xs k
+    ++ (if t then n ∷ [] else [])
 one_more_after xs k n true l = with_voter-push xs k n l
 one_more_after xs k n false l = simp append-nil
 
