@@ -2,7 +2,7 @@ ghost use Rattle.std.specs.Prelude.{◌≡◌, [], ◌∷◌, ◌++◌, IfOk};
 
 use super::*;
 use cell_device::{Cell, Fuse, How, MemoryCell};
-use fed_types::{BagId, Ballot, Members, SiteNo, Slot};
+use fed_types::{BagId, Ballot, Members, SiteNo, Slot, Vote};
 use std::alloc::Global;
 use std::test::Fail;
 
@@ -37,10 +37,10 @@ fn ballot() -> Result<Ballot, Fail> {
 fn vote(alloc: Global) -> Result<Record, Fail> {
     Ok(Record {
         slot: slot(alloc)?,
-        body: Entry::Vote {
+        body: Entry::Vote(Vote {
             ballot: ballot()?,
             bag: BagId([0xaa; 64]),
-        },
+        }),
     })
 }
 
@@ -75,7 +75,7 @@ fn letters(alloc: Global, records: &[Record]) -> Result<String, Fail> {
             Entry::Deposit(_) => 'D',
             Entry::Round(_) => 'R',
             Entry::Promise(_) => 'P',
-            Entry::Vote { .. } => 'V',
+            Entry::Vote(_) => 'V',
             Entry::Known(_) => 'K',
         })?;
     }
