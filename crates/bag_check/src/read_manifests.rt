@@ -1,4 +1,4 @@
-ghost use Rattle.std.specs.Prelude.{◌≡◌, [], IfOk, IfErr, OnOk};
+ghost use Rattle.std.specs.Prelude.{[], IfOk, IfErr, OnOk};
 ghost use Rattle.bag_check.specs.Manifests.{manifest_at, manifests_of_kind, manifests_of};
 ghost use Rattle.bag_check.specs.inner.Order.{Reads, FailsToRead};
 

@@ -15,8 +15,8 @@ use Rattle.bag_tree.specs.Facts.{FileFact, fact_of_file}
 use Rattle.bag_tree.specs.Fault.{RefusesFor}
 use Rattle.bag_tree.specs.Path.{is_read_text}
 use Rattle.bag_tree.specs.Tree.{File, longest_text, fault_of_text}
-use Rattle.bag_folders.specs.Files.{with_piece}
-use Rattle.bag_folders.specs.Files.{IsReadFault}
+use Rattle.bag_folders.specs.Pieces.{with_piece}
+use Rattle.bag_folders.specs.Pieces.{IsReadFault}
 
 -- the file that is hashed has this path, its bytes are what the reader gave since it had these, and
 -- it fits

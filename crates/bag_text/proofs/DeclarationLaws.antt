@@ -59,7 +59,8 @@ encoding-ok : (version : List ℕ) (found : Option (List ℕ)) (others : List (L
     → with_encoding version found others ≡ Ok said
     → (encoding : List ℕ) × (found ≡ Some encoding) × (others ≡ []) × ((version, encoding) ≡ said)
 encoding-ok version None others said h = absurd cc
-encoding-ok version (Some encoding) others said h = let p =
+encoding-ok version (Some encoding) others said h =
+    let p =
     ended-ok version encoding others said h in (encoding, refl, p.0, p.1)
 
 second-ok : (version : List ℕ) (lines : List (List ℕ)) (said : Texts)
@@ -76,7 +77,8 @@ version-ok : (found : Option (List ℕ)) (lines : List (List ℕ)) (said : Texts
     → (version : List ℕ) × (second : List ℕ) × (encoding : List ℕ) × (found ≡ Some version)
     × (lines ≡ second ∷ []) × (encoding_in second ≡ Some encoding) × ((version, encoding) ≡ said)
 version-ok None lines said h = absurd cc
-version-ok (Some version) lines said h = let p =
+version-ok (Some version) lines said h =
+    let p =
     second-ok version lines said h in (version, p.0, p.1, refl, p.2, p.3, p.4)
 
 -- the lines say what the text declares
@@ -200,7 +202,8 @@ only_declared view (Ok x) said read e h m =
     let alike : said ≡ view x = cc in
     (ap (λ (t : Texts). t.0) (sym alike), ap (λ (t : Texts). t.1) (sym alike))
 only_declared view (Err Memory) said read e h m = absurd (m refl)
-only_declared view (Err (Malformed line)) said read e h m = let bad : Ok said ≡ Err line =
+only_declared view (Err (Malformed line)) said read e h m =
+    let bad : Ok said ≡ Err line =
     sym e ∙ h in absurd cc
 
 pub is_only : {X : Type 0} (view : X → Texts) (r : Result X TextFault)

@@ -41,7 +41,8 @@ unless_empty-some : (following : Option (List ℕ)) (written : List ℕ)
     → option_and_then unless_empty following ≡ Some written → (following ≡ Some written)
     × (written ≡ [] → ⊥)
 unless_empty-some (Some []) written h = absurd cc
-unless_empty-some (Some (byte ∷ rest)) written h = let same : byte ∷ rest ≡ written =
+unless_empty-some (Some (byte ∷ rest)) written h =
+    let same : byte ∷ rest ≡ written =
     cc in (ap (λ (w : List ℕ). Some w) same, λ e. absurd (cc (same ∙ e)))
 unless_empty-some None written h = absurd cc
 
@@ -94,7 +95,8 @@ path_in-some written path h = go (is_utf8 (path_of written)) refl h
 file_made : (digest : List ℕ) (path : Option (List ℕ)) (file : ListedFile)
     → option_map (λ p. record { digest = digest; path = p }) path ≡ Some file
     → (digest ≡ file.digest) × (path ≡ Some file.path)
-file_made digest (Some p) file h = let same : record { digest = digest; path = p } ≡ file =
+file_made digest (Some p) file h =
+    let same : record { digest = digest; path = p } ≡ file =
     cc in (ap (λ f. f.digest) same, ap (λ f. Some f.path) same)
 file_made digest None file h = absurd cc
 
@@ -103,19 +105,21 @@ file_written : (digest : List ℕ) (w : Option (List ℕ)) (file : ListedFile)
     (path_in written)) w ≡ Some file
     → (written : List ℕ) × (w ≡ Some written) × (digest ≡ file.digest)
     × (path_in written ≡ Some file.path)
-file_written digest (Some written) file h = let m =
+file_written digest (Some written) file h =
+    let m =
     file_made digest (path_in written) file h in (written, refl, m.0, m.1)
 file_written digest None file h = absurd cc
 
-file_spelled : (d : Option (List ℕ)) (w : Option (List ℕ)) (file : ListedFile)
+file_digested : (d : Option (List ℕ)) (w : Option (List ℕ)) (file : ListedFile)
     → option_and_then
     (λ digest. option_and_then (λ written. option_map (λ p. record { digest = digest; path = p })
     (path_in written)) w) d ≡ Some file
     → (d ≡ Some file.digest) × ((written : List ℕ) × (w ≡ Some written)
     × (path_in written ≡ Some file.path))
-file_spelled (Some digest) w file h = let m =
+file_digested (Some digest) w file h =
+    let m =
     file_written digest w file h in (ap (λ (x : List ℕ). Some x) m.2, (m.0, m.1, m.3))
-file_spelled None w file h = absurd cc
+file_digested None w file h = absurd cc
 
 result_ok-some : {E : Type 0} (r : Result (List ℕ) E) (x : List ℕ) → result_ok r ≡ Some x → r ≡ Ok x
 result_ok-some (Ok y) x h = cc
@@ -139,7 +143,7 @@ entry-file_in algorithm line file h = go (ltb (length line) (hex_len algorithm))
     go true e k = absurd cc
     go false e k =
         let m =
-        file_spelled (result_ok (decode_of (take n line)))
+        file_digested (result_ok (decode_of (take n line)))
         (written_path (drop n line)) file k in
         let gap = written_path-some (drop n line) m.1.0 m.1.1 in
         let path = path_in-some m.1.0 file.path m.1.2 in

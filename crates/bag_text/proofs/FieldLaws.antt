@@ -57,8 +57,8 @@ both : (a b : Bool) → a ≡ true → b ≡ true → (a && b) ≡ true
 both a b e f = rw (e, f) refl
 
 number-from_test : (digits : List ℕ) → is_number digits ≡ true → IsNumber digits
-number-from_test digits h = let p =
-    and_parts (not (eqb (length digits) 0)) (list_all is_ascii_digit digits) h in
+number-from_test digits h =
+    let p = and_parts (not (eqb (length digits) 0)) (list_all is_ascii_digit digits) h in
     (some_from_test digits p.0, p.1)
 
 test-from_number : (digits : List ℕ) → IsNumber digits → is_number digits ≡ true
@@ -126,8 +126,8 @@ version-from_test value h =
 -- ---- names of encodings
 
 name-from_test : (value : List ℕ) → is_encoding_name value ≡ true → IsEncodingName value
-name-from_test value h = let p =
-    and_parts (not (eqb (length value) 0)) (list_all is_visible value) h in
+name-from_test value h =
+    let p = and_parts (not (eqb (length value) 0)) (list_all is_visible value) h in
     (some_from_test value p.0, p.1)
 
 test-from_name : (value : List ℕ) → IsEncodingName value → is_encoding_name value ≡ true
@@ -237,8 +237,8 @@ version-line line version h =
 pub line-version : (line version : List ℕ) → version_in line ≡ Some version
     → IsVersionLine line version
 unfolding version_in
-line-version line version h = let p =
-    checked-some is_version (field_value version_label line) version h in
+line-version line version h =
+    let p = checked-some is_version (field_value version_label line) version h in
     (field-value version_label line version p.0, version-from_test version p.1)
 
 pub encoding-line : (line encoding : List ℕ) → IsEncodingLine line encoding
@@ -254,6 +254,6 @@ encoding-line line encoding h =
 pub line-encoding : (line encoding : List ℕ) → encoding_in line ≡ Some encoding
     → IsEncodingLine line encoding
 unfolding encoding_in
-line-encoding line encoding h = let p =
-    checked-some is_encoding_name (field_value encoding_label line) encoding h in
+line-encoding line encoding h =
+    let p = checked-some is_encoding_name (field_value encoding_label line) encoding h in
     (field-value encoding_label line encoding p.0, name-from_test encoding p.1)

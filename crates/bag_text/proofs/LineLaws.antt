@@ -109,11 +109,13 @@ pub lines_of-ended : (rest : List ℕ) (found all : List (List ℕ)) → true �
     → found ++ lines_of rest ≡ all → found ≡ all
 unfolding lines_of
 lines_of-ended [] found all e h = sym (append-nil found) ∙ h
-lines_of-ended (byte ∷ rest) found all e h = let long : suc (length rest) ≡ 0 =
+lines_of-ended (byte ∷ rest) found all e h =
+    let long : suc (length rest) ≡ 0 =
     eqb-true (suc (length rest)) 0 (sym e) in absurd (omega arith)
 
 pub lines_of-empty : (text : List ℕ) → true ≡ eqb (length text) 0 → lines_of text ≡ []
 unfolding lines_of
 lines_of-empty [] h = refl
-lines_of-empty (byte ∷ rest) h = let long : suc (length rest) ≡ 0 =
+lines_of-empty (byte ∷ rest) h =
+    let long : suc (length rest) ≡ 0 =
     eqb-true (suc (length rest)) 0 (sym h) in absurd (omega arith)

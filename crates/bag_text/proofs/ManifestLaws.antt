@@ -78,7 +78,8 @@ pub listed-files_from : (algorithm : Algorithm) (number : ℕ) (lines : List (Li
     (files : List ListedFile) → files_from algorithm number lines ≡ Ok files
     → ListsAll algorithm lines files
 unfolding files_from
-listed-files_from algorithm number [] files h = let none : [] ≡ files =
+listed-files_from algorithm number [] files h =
+    let none : [] ≡ files =
     cc in subst (λ fs. ListsAll algorithm [] fs) none none_left
 listed-files_from algorithm number (line ∷ lines) files h =
     line_read algorithm line lines files (files_from algorithm (number + 1) lines) number
@@ -227,7 +228,8 @@ only_listed : {X : Type 0} (view : X → List ListedFile) (r : Result X TextFaul
     → IsOrMemory view r read → MatchResult r (λ x. view x ≡ files) (λ fault. fault ≡ Memory)
 only_listed view (Ok x) files read e h = let same : Ok files ≡ Ok (view x) = sym e ∙ h in cc
 only_listed view (Err Memory) files read e h = refl
-only_listed view (Err (Malformed line)) files read e h = let bad : Ok files ≡ Err line =
+only_listed view (Err (Malformed line)) files read e h =
+    let bad : Ok files ≡ Err line =
     sym e ∙ h in absurd cc
 
 pub is_only : {X : Type 0} (view : X → List ListedFile) (r : Result X TextFault)

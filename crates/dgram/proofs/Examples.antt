@@ -1,5 +1,6 @@
--- What the words give of a few messages about three slots.
+-- What the words give of a few messages about three slots, and the bytes of one of them.
 use Rattle.std.proofs.Common.{◌≡◌, ℕ, List, [], ◌∷◌, length, Some, None, refl}
+use Rattle.std.proofs.Common.{take, drop}
 use Rattle.fed_types.specs.declared.bag_id.BagId.{BagId}
 use Rattle.fed_types.specs.declared.vote.Vote.{Vote}
 use Rattle.fed_types.specs.Ballots.{BallotNumber}
@@ -8,6 +9,8 @@ use Rattle.dgram.specs.declared.body.Body.{Body}
 use Rattle.dgram.specs.declared.body.Body.TheVariants.{Prepare, Promise, Accept, Accepted, Refused}
 use Rattle.dgram.specs.declared.body.Body.TheVariants.{Ask, Known, Query}
 use Rattle.dgram.specs.declared.message.Message.{Message}
+use Rattle.dgram.specs.Encoding.{datagram_of}
+use Rattle.dgram.specs.Decoded.{message_of}
 use Rattle.dgram.specs.Heard.{bodies_of, PromiseFrom, promises_for, promisers, priors, voters_for}
 use Rattle.dgram.specs.Heard.{floor_of, known_bags}
 
@@ -90,3 +93,17 @@ floors = (refl, refl, refl)
 known : (known_bags (bodies_of a1 heard) ≡ bag 7 ∷ []) × (known_bags (bodies_of b1 heard) ≡ [])
 unfolding bodies_of known_bags same_slot
 known = (refl, refl)
+
+-- ---- a datagram: a Query about a1, of federation 7
+abbrev query : List ℕ
+query =
+    0x42 ∷ 0x50 ∷ 1 ∷ 17 ∷ 0 ∷ 0 ∷ 0 ∷ 0 ∷ 0 ∷ 0 ∷ 0 ∷ 7 ∷ 0 ∷ 1 ∷ 97 ∷ 0 ∷ 0 ∷ 0 ∷ 1 ∷ []
+
+encoded : datagram_of 7 (at a1 Query) ≡ query
+encoded = refl
+
+-- bytes of another federation, of another layout, or too short have no message
+others : (message_of 8 query ≡ None) × (message_of 7 (66 ∷ 80 ∷ 2 ∷ drop 3 query) ≡ None)
+    × (message_of 7 (take 11 query) ≡ None)
+unfolding message_of
+others = (refl, refl, refl)

@@ -90,10 +90,10 @@ front_parts federation (a ∷ []) long ours = absurd (omega (arith, long))
 front_parts federation (a ∷ b ∷ []) long ours = absurd (omega (arith, long))
 front_parts federation (a ∷ b ∷ c ∷ []) long ours = absurd (omega (arith, long))
 front_parts federation (a ∷ b ∷ c ∷ k ∷ rest) long ours =
-    let behind : rest ≡ to_be_bytes w64 federation ++ drop 8 rest =
+    let after : rest ≡ to_be_bytes w64 federation ++ drop 8 rest =
     sym (take-append-drop 8 rest) ∙ ap (λ (xs : List ℕ). xs ++ drop 8 rest) ours.1 in
     ap (λ (xs : List ℕ). xs ++ (k ∷ rest)) ours.0
-    ∙ ap (λ (xs : List ℕ). MAGIC ++ (LAYOUT ∷ (k ∷ xs))) behind
+    ∙ ap (λ (xs : List ℕ). MAGIC ++ (LAYOUT ∷ (k ∷ xs))) after
 
 -- what reading gives of the bytes after the front
 abbrev pub read_of : List ℕ → Option Message
@@ -172,9 +172,9 @@ pub faulted : (bytes : List ℕ) (f : FieldFault) (r : Result Message DgramFault
     → Fails f (read_of bytes)
     → (IsErrOf {T = Message} (Err f) field_faults.Memory → IsSome (read_of bytes))
     → IsErrAnd r (λ d. d ≡ fault_of_field f) → Faulted bytes f r
-faulted bytes f r gives memory told =
+faulted bytes f r gives memory given =
     let P : FieldFault → Result Message FieldFault = λ y. Err y in
-    record { gives = gives; memory = λ e. memory (ap P e); answer = answer_of f r told }
+    record { gives = gives; memory = λ e. memory (ap P e); answer = answer_of f r given }
 
 pub err_only : (federation : ℕ) (bytes : List ℕ) (f : FieldFault) (r : Result Message DgramFault)
     → Faulted bytes f r → (m : Message) → IsDatagramOf federation bytes m → IsOrMemory r (Ok m)
@@ -186,7 +186,7 @@ pub err_memory : (federation : ℕ) (bytes : List ℕ) (f : FieldFault) (r : Res
     → IsBytes bytes → FRONT ≤ length bytes → IsOurs federation bytes → Faulted bytes f r
     → IsErrOf r faults.Memory → IsDatagram federation bytes
 err_memory federation bytes field_faults.Malformed r fits long ours h e =
-    let told = h.answer in absurd cc
+    let given = h.answer in absurd cc
 err_memory federation bytes field_faults.Memory r fits long ours h e =
     some_found federation bytes fits long ours (h.memory refl)
 
@@ -204,7 +204,7 @@ err_malformed federation bytes field_faults.Malformed r fits long ours h = (
 )
 err_malformed federation bytes field_faults.Memory r fits long ours h =
     let found = some_found federation bytes fits long ours (h.memory refl) in
-    let told = h.answer in (
+    let given = h.answer in (
       λ e. absurd cc,
       λ bad. elim bad [
         | inl short ↦ absurd (omega (arith, short, long))

@@ -14,7 +14,7 @@ pub(crate) const FRONT: usize = 12;
 /// The sender's byte where no site sends.
 pub(crate) const NO_SITE: u8 = 0;
 
-/// What stands for a bag where none is named.
+/// What is in a bag's place where none is named.
 pub(crate) const NO_BAG: [u8; BAG_BYTES] = [0; BAG_BYTES];
 
 /// The most bytes that a folder's path can have; the fewest is 1.

@@ -1,3 +1,4 @@
 pub mod Rows
 pub mod Hearing
 pub mod Noting
+pub mod Examples

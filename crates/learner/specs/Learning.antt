@@ -27,9 +27,11 @@ chosen_by quorums slot heard vote =
     if quorums.is_quorum (voters_for vote (bodies_of slot heard)) then Some vote.bag else None
 
 -- what is learned from one more vote
-abbrev pub learned_from : QuorumSystem → SlotName → List Record → List Message → ℕ → Vote → Option BagId
+abbrev pub learned_from : QuorumSystem → SlotName → List Record → List Message → ℕ → Vote
+    → Option BagId
 learned_from quorums slot records heard from vote =
-    unless_known (known_of slot records) (chosen_by quorums slot (with_vote heard slot from vote) vote)
+    unless_known (known_of slot records)
+        (chosen_by quorums slot (with_vote heard slot from vote) vote)
 
 -- what is learned from a site that knows this bag
 abbrev pub learned_of_known : SlotName → List Record → BagId → Option BagId

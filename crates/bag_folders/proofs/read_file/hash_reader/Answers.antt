@@ -1,5 +1,5 @@
 use Rattle.std.proofs.Common.{rules, take}
-use Rattle.bag_folders.specs.Files.{IsReadFault}
+use Rattle.bag_folders.specs.Pieces.{IsReadFault}
 use Rattle.bag_tree.specs.declared.fault.TreeFault.TheVariants.{TextTooLong}
 use Rattle.bag_folders.proofs.Taking.{taken_end, taken_facts, taken_fits, taken_more, taken_kept}
 use Rattle.bag_folders.proofs.Taking.{refused_too_long, refused_as, passed_on, passed_on_as}
