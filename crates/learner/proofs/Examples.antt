@@ -49,8 +49,8 @@ stranger_learns_nothing = refl
 -- where a bag is known nothing is learned
 pub known_learns_nothing :
     learned_from four slot
-        (record { slot = slot; body = entry.Known (record { 0 = 7 ∷ [] }) } ∷ [])
-        heard 3 (vote 1 7)
+    (record { slot = slot; body = entry.Known (record { 0 = 7 ∷ [] }) } ∷ [])
+    heard 3 (vote 1 7)
     ≡ None
 unfolding known_of chosen_by bodies_of voters_for same_slot is_in sites_to
 known_learns_nothing = refl

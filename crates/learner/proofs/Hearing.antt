@@ -37,9 +37,10 @@ same_parts a b e f = λ i. record { ballot = e i; bag = f i }
 pub same_vote_decides : (a b : Vote) → Decides (same_vote a b) (a ≡ b)
 same_vote_decides a b =
     let both = Decides-and _ _ (same_ballot_decides a.ballot b.ballot)
-        (same_bag_decides a.bag b.bag) in
-    (λ h. let p = both.0 h in same_parts a b p.0 p.1,
-    λ e. both.1 (ap (λ (v : Vote). v.ballot) e, ap (λ (v : Vote). v.bag) e))
+    (same_bag_decides a.bag b.bag) in (
+      λ h. let p = both.0 h in same_parts a b p.0 p.1,
+      λ e. both.1 (ap (λ (v : Vote). v.ballot) e, ap (λ (v : Vote). v.bag) e),
+    )
 
 -- whether a vote for this slot counts for that one
 abbrev counts_for : SlotName → Vote → SlotName → Vote → Bool
@@ -71,13 +72,13 @@ module _ (slot : SlotName) (from : ℕ) (vote : Vote) (heard : List Message) whe
   pub cast_after : (s : SlotName) (v : Vote) (n : ℕ)
       → is_in (voters_for v (bodies_of s after)) n
       ≡ cond (counts_for slot vote s v) (from == n || is_in (cast_before s v) n)
-          (is_in (cast_before s v) n)
+      (is_in (cast_before s v) n)
   unfolding is_in
   cast_after s v n =
       ap (λ xs. is_in (voters_for v xs) n)
-          (bodies_of-append s heard (record { slot = slot; body = Accepted from vote } ∷ []))
+      (bodies_of-append s heard (record { slot = slot; body = Accepted from vote } ∷ []))
       ∙ ap (λ xs. is_in xs n) (voters_for-append v (bodies_of s heard)
-          (bodies_of s (record { slot = slot; body = Accepted from vote } ∷ [])))
+      (bodies_of s (record { slot = slot; body = Accepted from vote } ∷ [])))
       ∙ is_in-append (cast_before s v) _ n
       ∙ ap (λ xs. is_in (cast_before s v) n || is_in xs n) (cast_now s v)
       ∙ go (counts_for slot vote s v) (is_in (cast_before s v) n)
@@ -131,8 +132,8 @@ module _ (old : Rows Row) (records : List Record) (heard : List Message) (slot :
           → cond (t && same_vote vote v) (from == n || cast s v n) (cast s v n) ≡ cast s v n
       go s none v n true e =
           let known : known_in (row_at old s) ≡ Some bag =
-              subst (λ (k : SlotName). known_in (row_at old k) ≡ Some bag)
-                  ((same_slot_decides slot s).0 e) is in
+          subst (λ (k : SlotName). known_in (row_at old k) ≡ Some bag)
+          ((same_slot_decides slot s).0 e) is in
           absurd (some_none (sym known ∙ stands.known s ∙ none))
       go s none v n false e = refl
 
@@ -150,15 +151,15 @@ module _ (old : Rows Row) (records : List Record) (heard : List Message) (slot :
       go : (s : SlotName) → known_of s records ≡ None → (v : Vote) (n : ℕ) (t u : Bool)
           → same_slot slot s ≡ t → same_vote vote v ≡ u
           → is_in (cond (t && u) (with_voter (counted_in (row_at old slot) vote) from)
-              (counted_in (row_at old s) v)) n
+          (counted_in (row_at old s) v)) n
           ≡ cond (t && u) (from == n || cast s v n) (cast s v n)
       go s none v n true true e f =
           is_in-with_voter (counted_in (row_at old slot) vote) from n
           ∙ ap (λ (t : Bool). from == n || t)
           (ap (λ (k : SlotName). is_in (counted_in (row_at old k) vote) n)
-              ((same_slot_decides slot s).0 e)
+          ((same_slot_decides slot s).0 e)
           ∙ ap (λ (w : Vote). is_in (counted_in (row_at old s) w) n)
-              ((same_vote_decides vote v).0 f)
+          ((same_vote_decides vote v).0 f)
           ∙ stands.votes s none v n)
       go s none v n true false e f = stands.votes s none v n
       go s none v n false u e f = stands.votes s none v n
@@ -168,14 +169,14 @@ module _ (old : Rows Row) (records : List Record) (heard : List Message) (slot :
       → known_in (row_at old slot) ≡ None
       → learned_from quorums slot records heard from vote
       ≡ cond (quorums.is_quorum (with_voter (counted_in (row_at old slot) vote) from))
-          (Some vote.bag) None
+      (Some vote.bag) None
   unfolding chosen_by
   learned_is quorums laws none =
       let unknown : known_of slot records ≡ None = sym (stands.known slot) ∙ none in
       rw unknown (ap (λ (t : Bool). cond t (Some vote.bag) None)
-          (sym (same_quorum quorums (with_voter (counted_in (row_at old slot) vote) from)
-              (voters_for vote (bodies_of slot (with_vote heard slot from vote))) laws
-              (λ n. alike n unknown))))
+      (sym (same_quorum quorums (with_voter (counted_in (row_at old slot) vote) from)
+      (voters_for vote (bodies_of slot (with_vote heard slot from vote))) laws
+      (λ n. alike n unknown))))
     where
       alike : (n : ℕ) → known_of slot records ≡ None
           → is_in (with_voter (counted_in (row_at old slot) vote) from) n ≡ cast_then slot vote n
@@ -183,8 +184,8 @@ module _ (old : Rows Row) (records : List Record) (heard : List Message) (slot :
           is_in-with_voter (counted_in (row_at old slot) vote) from n
           ∙ ap (λ (t : Bool). from == n || t) (stands.votes slot unknown vote n)
           ∙ sym (cast_after slot from vote heard slot vote n
-              ∙ rw ((same_slot_decides slot slot).1 refl, (same_vote_decides vote vote).1 refl)
-              refl)
+          ∙ rw ((same_slot_decides slot slot).1 refl, (same_vote_decides vote vote).1 refl)
+          refl)
 
   -- the same, by a test
   pub heard_where_known : is_some (known_in (row_at old slot)) ≡ true

@@ -31,7 +31,7 @@ abbrev pub learned_from : QuorumSystem → SlotName → List Record → List Mes
     → Option BagId
 learned_from quorums slot records heard from vote =
     unless_known (known_of slot records)
-        (chosen_by quorums slot (with_vote heard slot from vote) vote)
+    (chosen_by quorums slot (with_vote heard slot from vote) vote)
 
 -- what is learned from a site that knows this bag
 abbrev pub learned_of_known : SlotName → List Record → BagId → Option BagId

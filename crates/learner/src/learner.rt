@@ -1,5 +1,17 @@
-ghost use Rattle.std.specs.Prelude.{◌≡◌, ◌++◌, ◌∷◌, [], List, None, Option, OnOk, OnErr, IfOk,
-    IsOk, IsSome};
+ghost use Rattle.std.specs.Prelude.{
+  ◌≡◌,
+  ◌++◌,
+  ◌∷◌,
+  [],
+  List,
+  None,
+  Option,
+  OnOk,
+  OnErr,
+  IfOk,
+  IsOk,
+  IsSome,
+};
 ghost use Rattle.fed_types.specs.Voters.{with_voter};
 ghost use Rattle.records.specs.declared.record.Record.{Record as declared_record};
 ghost use Rattle.records.specs.Words.{known_of};

@@ -1,7 +1,10 @@
-ghost use Rattle.std.specs.Prelude.{◌≡◌};
+ghost use Rattle.std.specs.Prelude.{◌∷◌, [], ◌&&◌, refl};
+ghost use Rattle.std.proofs.lemmas.Bool.{and_parts, and_from};
+ghost use Rattle.fed_types.specs.Lists.{is_in, here, there};
+ghost use Rattle.fed_types.specs.Laws.Lists.{is_in_decides};
 
 use super::*;
-use fed_types::{BagId, Ballot, Members, Quorums, SiteNo, Slot};
+use fed_types::{BagId, Ballot, Members, Quorums, SiteNo, Slot, Voters};
 use records::{Entry, Record};
 use std::alloc::Global;
 use std::test::Fail;
@@ -9,6 +12,30 @@ use std::test::Fail;
 const V: BagId = BagId([1; 64]);
 
 const W: BagId = BagId([2; 64]);
+
+// Two members, whose only quorum is both.
+#[derive(Drop)]
+struct Pair {
+    first: SiteNo,
+    second: SiteNo,
+}
+
+impl Quorums for Pair {
+    ghost quorum_system = { λ p. record { members = p.first ∷ p.second ∷ []; is_quorum = λ voters. is_in voters p.first && is_in voters p.second } };
+
+    ghost quorums_meet = { λ p xs ys a b. (p.first, here refl, (is_in_decides xs p.first).0 (and_parts (is_in xs p.first) (is_in xs p.second) a).0, (is_in_decides ys p.first).0 (and_parts (is_in ys p.first) (is_in ys p.second) b).0) };
+
+    ghost quorum_grows = { λ p xs ys a more. and_from (is_in ys p.first) (is_in ys p.second) ((is_in_decides ys p.first).1 (more p.first (here refl) ((is_in_decides xs p.first).0 (and_parts (is_in xs p.first) (is_in xs p.second) a).0))) ((is_in_decides ys p.second).1 (more p.second (there (here refl)) ((is_in_decides xs p.second).0 (and_parts (is_in xs p.first) (is_in xs p.second) a).1))) };
+
+    #[tactic(auto, unfolding(fed_types::specs::Lists::is_in))]
+    fn has(&self, site: SiteNo) -> bool {
+        self.first == site || self.second == site
+    }
+
+    fn is_quorum(&self, voters: &Voters) -> bool {
+        voters.has(self.first) && voters.has(self.second)
+    }
+}
 
 fn slot(alloc: Global, object: &str) -> Result<Slot, Fail> {
     Ok(Slot::new(String::from_str(alloc, object)?, 1)?)
@@ -94,5 +121,20 @@ fn weights_count(rt: HostRuntime) -> Result<(), Fail> {
     assert!(rt; hears(&mut learner, &slot, 2, 1, V)?.is_none());
     assert!(rt; hears(&mut learner, &slot, 3, 1, V)?.is_none());
     assert!(rt; hears(&mut learner, &slot, 1, 1, V)? == Some(V));
+    Ok(())
+}
+
+#[test]
+fn all_members_are_the_only_quorum(rt: HostRuntime) -> Result<(), Fail> {
+    let alloc = rt.alloc();
+    let slot = slot(alloc, "a")?;
+    let members = Pair {
+        first: SiteNo::new(1)?,
+        second: SiteNo::new(3)?,
+    };
+    let mut learner = Learner::new(alloc, members);
+    assert!(rt; hears(&mut learner, &slot, 1, 1, V)?.is_none());
+    assert!(rt; hears(&mut learner, &slot, 2, 1, V)?.is_none());
+    assert!(rt; hears(&mut learner, &slot, 3, 1, V)? == Some(V));
     Ok(())
 }
