@@ -51,7 +51,7 @@ pub promised_vote :
 unfolding accept_decision promised_of vote_of same_slot ballot_cmp
 promised_vote = refl
 
--- its vote is told again, though it has promised a greater ballot since
+-- its vote is answered again, though it has promised a greater ballot since
 pub told_again :
     accept_decision slot records (vote (ballot 1 2) 7) ≡ votes_again (vote (ballot 1 2) 7)
 unfolding accept_decision promised_of vote_of same_slot ballot_cmp

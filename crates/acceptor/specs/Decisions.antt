@@ -1,6 +1,7 @@
 -- What an acceptor decides of a slot, from what its records say of it (Lamport, Paxos Made Simple,
--- section 2.2). Three things are this project's own: a vote is a promise of its ballot too; a vote
--- that was cast is told again, whatever was promised since; and a refusal is answered.
+-- section 2.2). Its vote is the one of the greatest ballot. Three things are this project's own: a
+-- vote is a promise of its ballot too; its vote is answered again, whatever was promised since; and
+-- a refusal is answered.
 use Rattle.std.specs.Prelude.{Bool, false, ◌||◌, ◌&&◌, List, Option, Some, None, if◌then◌else◌}
 use Rattle.fed_types.specs.declared.bag_id.BagId.{BagId}
 use Rattle.fed_types.specs.declared.vote.Vote.{Vote}
@@ -22,7 +23,7 @@ promises ballot vote =
 abbrev pub votes : Vote → Decision
 votes vote = record { entry = Some (entry.Vote vote); answer = answer.Accepted vote }
 
--- it has cast this vote, and says so again
+-- this is its vote, and it says so again
 abbrev pub votes_again : Vote → Decision
 votes_again vote = record { entry = None; answer = answer.Accepted vote }
 
@@ -46,7 +47,7 @@ abbrev pub is_vote : Vote → Option Vote → Bool
 is_vote asked None = false
 is_vote asked (Some vote) = same_ballot vote.ballot asked.ballot && same_bag vote.bag asked.bag
 
--- Phase 2 (b), and P1a: a vote that it hasn't cast is cast, unless a greater ballot is promised, or
+-- Phase 2 (b), and P1a: a vote that isn't its vote is cast, unless a greater ballot is promised, or
 -- its vote in this ballot is for another bag.
 abbrev pub on_new_accept : Option BallotNumber → Option Vote → Vote → Decision
 on_new_accept None vote asked = votes asked
@@ -55,7 +56,7 @@ on_new_accept (Some promised) vote asked =
     then refuses asked.ballot promised
     else votes asked
 
--- a vote that it has cast is told again; else it is asked anew
+-- its vote is answered again; for any other it is asked anew
 abbrev pub on_accept : Option BallotNumber → Option Vote → Vote → Decision
 on_accept promised vote asked =
     if is_vote asked vote then votes_again asked else on_new_accept promised vote asked

@@ -1,9 +1,17 @@
 ghost use Rattle.std.specs.Prelude.{◌≡◌, ◌++◌, ◌∷◌, [], List, Some, OnOk, OnErr, IsOk, IsSome};
 ghost use Rattle.fed_types.specs.Slots.{SlotName};
 ghost use Rattle.records.specs.declared.record.Record.{Record as declared_record};
-ghost use Rattle.slot_table.specs.Rows.{row_at, IsWith};
-ghost use Rattle.acceptor.specs.Decisions.{on_prepare, on_accept, refuses, on_new_accept, is_vote,
-    is_in_ballot, prepare_decision, accept_decision};
+ghost use Rattle.slot_table.specs.Rows.{row_at, IsWith, HasRooms};
+ghost use Rattle.acceptor.specs.Decisions.{
+  on_prepare,
+  on_accept,
+  refuses,
+  on_new_accept,
+  is_vote,
+  is_in_ballot,
+  prepare_decision,
+  accept_decision,
+};
 ghost use Rattle.acceptor.specs.Rows.{StandsFor, row_of};
 ghost use Rattle.acceptor.specs.inner.Noted.{noted};
 
@@ -66,6 +74,7 @@ impl Acceptor {
     /// the slot.
     pub fn reserve(&mut self, slot: &Slot) -> Result<(), AllocError>
         ensures same { (s : SlotName) → row_of self.new s ≡ row_of self.old s }
+        ensures rooms { HasRooms self.old self.new }
         ensures present { OnOk result (IsSome (row_at self.new slot.now)) }
         ensures succeeds { IsSome (row_at self.old slot.now) → IsOk result }
     {
@@ -77,6 +86,7 @@ impl Acceptor {
         ensures noted { OnOk result ((records : List declared_record)
             → StandsFor self.old records → StandsFor self.new (records ++ new.now ∷ [])) }
         ensures unchanged { OnErr result ((s : SlotName) → row_of self.new s ≡ row_of self.old s) }
+        ensures rooms { HasRooms self.old self.new }
         ensures succeeds { IsSome (row_at self.old new.now.slot) → IsOk result }
     {
         self.reserve(&new.slot)?;

@@ -18,45 +18,45 @@ abbrev pub SaysWithOrWithout : Owner → List Record → Record → List ℕ →
 SaysWithOrWithout owner records new bytes =
     Says owner bytes (Ok records) ⊎ Says owner bytes (Ok (records ++ new ∷ []))
 
--- a book that was refused a commit and didn't fail: as it was, so far as a read and a crash show
+-- a book that was refused a commit, though its device didn't fail: as it was, so far as a read and a
+-- crash show
 pub record IsUnchanged {C : Type 0} (device : C → Device) (old new : Volume C) : Type 0 where
   pub records : new.records ≡ old.records
   pub opened : new.needs_opening ≡ old.needs_opening
   pub bytes : (device new.cell).image ≡ (device old.cell).image
 
--- the fuse fires in one of two calls
+-- the fuse would fire in one of the next two calls
 abbrev pub fires_within_two : FuseState → Bool
 fires_within_two f = fires f || fires (next_fuse f)
 
--- the records to which the cell recovers after the fuse has fired: with the new one exactly if at
--- least as many bytes are kept as it has
+-- the records that a read says after the fuse has fired: with the new one exactly if at least as many
+-- bytes are kept as it has
 abbrev pub records_kept : FuseState → List Record → Record → List Record
 records_kept Clear records new = records
 records_kept (Burning f) records new = kept_records f.kept records new
 records_kept Stopped records new = records
 
--- what becomes of a commit by the fuse: whether it fires in one of the two calls, the append and
--- the
--- sync; the fuse after them; and the records to which the cell recovers where it has fired
+-- what becomes of a commit by the fuse: whether it fires in one of the two calls, the append and the
+-- sync; the fuse after them; and the records that a read says where it has fired
 pub record Outcome : Type 0 where
   pub fires : Bool
   pub next_fuse : FuseState
-  pub recovered : List Record
+  pub read_after : List Record
 
 abbrev pub commit_outcome : FuseState → List Record → Record → Outcome
 commit_outcome f records new = record {
   fires = fires_within_two f;
   next_fuse = next_fuse (next_fuse f);
-  recovered = records_kept f records new;
+  read_after = records_kept f records new;
 }
 
--- the commit came out so: it answers Device exactly where the fuse fires; a commit that is refused
--- for another reason leaves the fuse as it was
+-- the commit came out so: with Ok the fuse hasn't fired, with Device it has; a commit that is
+-- refused for another reason makes no call that counts, and leaves the fuse as it was
 abbrev pub CameOut : Outcome → Owner → Result (Unit {0}) CommitFault → (old new : Device)
     → Type 0
 CameOut o owner (Ok _) old new = (o.fires ≡ false) × (new.fuse ≡ Some o.next_fuse)
 CameOut o owner (Err faults.Device) old new =
     (o.fires ≡ true) × (new.fuse ≡ Some o.next_fuse)
-    × ReadSays owner new.image (Ok o.recovered)
+    × ReadSays owner new.image (Ok o.read_after)
 CameOut o owner (Err faults.Memory) old new = new.fuse ≡ old.fuse
 CameOut o owner (Err faults.NeedsOpen) old new = new.fuse ≡ old.fuse

@@ -132,8 +132,10 @@ impl<C: Cell> Book<C> {
         self.needs_opening
     }
 
-    /// Commits a record: appends it, and syncs. After Ok every crash leaves the cell with it, after
-    /// `Device` with it or without it, and the book needs opening.
+    /// Commits a record: appends it, and syncs. After Ok every crash leaves the cell with it, until
+    /// the next call on it. After `Device` a crash leaves it with it or without it, and the book
+    /// needs opening; after `Memory` and `NeedsOpen` all is as it was. Of bytes and crashes this is
+    /// promised where the cell's bytes are known, and so not of a file.
     pub fn commit(&mut self, new: Record) -> Result<(), CommitFault>
         ensures committed { OnOk result ((self.new.records ≡ self.old.records ++ new ∷ [])
             × (self.new.needs_opening ≡ false)) }

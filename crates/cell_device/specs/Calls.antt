@@ -1,5 +1,6 @@
--- What a call answers, and what it does. A call tries one thing, and does another where it answers
--- Ok: an append tries to append and appends; a sync tries nothing, and keeps what a read gives.
+-- What a call answers, and what it does. What it tries, and where it fails may have done in part, is
+-- one thing, and what it has done where it answers Ok another: an append tries to append, and has
+-- appended; a sync tries no change of the bytes, and has kept what a read gives.
 use Rattle.std.specs.Prelude.{◌≡◌, ◌≢◌, ◌⊎◌, ◌<◌, ◌≤◌, ◌-◌, ◌^◌, ℕ, List, true, false}
 use Rattle.std.specs.Prelude.{Option, Some, None, Result, Ok, Err, IsErrOf}
 use Rattle.cell_device.specs.declared.fault.CellFault.{CellFault}
@@ -11,8 +12,8 @@ use Rattle.cell_device.specs.Time.{Elapses}
 use Rattle.cell_device.specs.Devices as devices
 use Rattle.cell_device.specs.Fuses.{fires, next_fuse, next_image}
 
--- Ok: it is done. Memory: the image is as it was. Device: so it is, or a part of what was tried is
--- there
+-- Ok: it is done. Memory: the image is as it was. Device: the image is as it was, or it is what a
+-- failure leaves of what was tried
 abbrev pub Outcome : {T : Type 0} → Result T CellFault
     → (tried done : Image → Image) → Image → Option Image → Type 0
 Outcome (Ok x) tried done i new = new ≡ Some (done i)

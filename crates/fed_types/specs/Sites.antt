@@ -49,7 +49,7 @@ sites_to (suc n) = sites_to n ++ suc n ∷ []
 abbrev pub members_of : Membership → List ℕ
 members_of m = sites_to (count_of m)
 
--- the weight of a site, 0 where it is no member
+-- the weight of a site, by its number from 1 on; 0 where it is no member
 abbrev pub weight_of : Membership → ℕ → ℕ
 weight_of m site = slice_index m.weights (site - 1)
 

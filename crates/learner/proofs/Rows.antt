@@ -91,3 +91,8 @@ on_ok (Err e) p f = tt
 pub on_err : {T E P Q : Type 0} (r : Result T E) → OnErr r P → (P → Q) → OnErr r Q
 on_err (Ok x) p f = tt
 on_err (Err e) p f = f p
+
+-- what holds, holds of an Err
+pub err_of : {T E P : Type 0} (r : Result T E) → P → OnErr r P
+err_of (Ok x) p = tt
+err_of (Err e) p = p

@@ -14,9 +14,9 @@ ghost use Rattle.std.specs.Prelude.{
 };
 ghost use Rattle.fed_types.specs.Voters.{with_voter};
 ghost use Rattle.records.specs.declared.record.Record.{Record as declared_record};
-ghost use Rattle.records.specs.Words.{known_of};
+ghost use Rattle.records.specs.Words.{known_of, known_in as known_in_entry};
 ghost use Rattle.dgram.specs.declared.message.Message.{Message};
-ghost use Rattle.slot_table.specs.Rows.{row_at};
+ghost use Rattle.slot_table.specs.Rows.{row_at, HasRooms};
 ghost use Rattle.learner.specs.Learning.{with_vote, learned_from, learned_of_known};
 ghost use Rattle.learner.specs.Ledgers.{StandsFor, known_in, counted_in};
 
@@ -102,6 +102,13 @@ impl<Q: Quorums + Drop> Learner<Q> {
         ensures unchanged { IfOk result (λ o. IsSome o → self.new ≡ self.old) }
         ensures memory { OnErr result ((records : List declared_record) (heard : List Message)
             → StandsFor self.old.rows records heard → StandsFor self.new.rows records heard) }
+        // Memory can run out only where nothing is learned, and the vote still counts.
+        ensures no_memory { OnErr result ((records : List declared_record)
+            (heard : List Message) → StandsFor self.old.rows records heard
+            → (known_of slot.now records ≡ None)
+            × (learned_from (Q.quorum_system self.old.members) slot.now records heard from
+            (record { ballot = ballot; bag = bag }) ≡ None)) }
+        ensures rooms { HasRooms self.old.rows self.new.rows }
         ensures members { self.new.members ≡ self.old.members }
     {
         if self.known(slot).is_some() {
@@ -134,6 +141,7 @@ impl<Q: Quorums + Drop> Learner<Q> {
     pub fn reserve(&mut self, slot: &Slot) -> Result<(), AllocError>
         ensures same { (records : List declared_record) (heard : List Message)
             → StandsFor self.old.rows records heard → StandsFor self.new.rows records heard }
+        ensures rooms { HasRooms self.old.rows self.new.rows }
         ensures present { OnOk result (IsSome (row_at self.new.rows slot.now)) }
         ensures succeeds { IsSome (row_at self.old.rows slot.now) → IsOk result }
         ensures members { self.new.members ≡ self.old.members }
@@ -148,7 +156,10 @@ impl<Q: Quorums + Drop> Learner<Q> {
             → StandsFor self.new.rows (records ++ new.now ∷ []) heard) }
         ensures memory { OnErr result ((records : List declared_record) (heard : List Message)
             → StandsFor self.old.rows records heard → StandsFor self.new.rows records heard) }
+        // Memory is taken for a Known record alone, of a slot without room.
+        ensures no_memory { OnErr result (IsSome (known_in_entry new.now.body)) }
         ensures succeeds { IsSome (row_at self.old.rows new.now.slot) → IsOk result }
+        ensures rooms { HasRooms self.old.rows self.new.rows }
         ensures members { self.new.members ≡ self.old.members }
     {
         if let Entry::Known(bag) = new.body {

@@ -1,7 +1,7 @@
 //! What a learner does to the rows of slots.
 
 ghost use Rattle.std.specs.Prelude.{◌≡◌, Some, None, [], OnOk, OnErr, IsOk, IsSome};
-ghost use Rattle.slot_table.specs.Rows.{row_at, IsWith};
+ghost use Rattle.slot_table.specs.Rows.{row_at, IsWith, HasRooms};
 ghost use Rattle.learner.specs.Ledgers.{known_in, counted_in};
 ghost use Rattle.learner.specs.inner.Counts.{KnowsSame, CountsSame, IsCounted, first_known};
 ghost use Rattle.learner.specs.declared.row.Row.TheVariants as rows;
@@ -21,6 +21,7 @@ pub(crate) fn reserve(
 ) -> Result<(), AllocError>
     ensures known { KnowsSame table.old table.new }
     ensures counted { CountsSame table.old table.new }
+    ensures rooms { HasRooms table.old table.new }
     ensures present { OnOk result (IsSome (row_at table.new slot.now)) }
     ensures succeeds { IsSome (row_at table.old slot.now) → IsOk result }
 {
@@ -39,6 +40,7 @@ pub(crate) fn count(
     ensures known { KnowsSame table.old table.new }
     ensures ok { OnOk result (IsCounted table.old table.new slot.now vote.now voters.now) }
     ensures err { OnErr result (CountsSame table.old table.new) }
+    ensures rooms { HasRooms table.old table.new }
 {
     match table.get_mut(slot) {
         Some(row) => row.count(*vote, *voters),

@@ -1,4 +1,6 @@
-ghost use Rattle.std.specs.Prelude.{◌≡◌, [], OnOk, OnErr};
+ghost use Rattle.std.specs.Prelude.{◌≡◌, [], None, OnOk, OnErr};
+ghost use Rattle.std.specs.Map.{lookup};
+ghost use Rattle.dgram.specs.Heard.{same_vote};
 ghost use Rattle.fed_types.specs.declared.vote.Vote.{Vote as declared_vote};
 ghost use Rattle.learner.specs.Ledgers.{voters_for_vote, IsCountedWith};
 
@@ -7,8 +9,7 @@ use indexmap::IndexMap;
 use std::alloc::{AllocError, Global};
 use std::marker::Model;
 
-/// The sites that were heard to have cast each vote. A clause sees the votes and their voters, in
-/// the order in which they came.
+/// The sites that were heard to have cast each vote. A clause sees the votes and their voters.
 #[derive(Drop)]
 pub(crate) struct Votes {
     map: IndexMap<Vote, Voters>,
@@ -47,6 +48,7 @@ impl Votes {
     pub(crate) fn set(&mut self, vote: Vote, voters: Voters) -> Result<(), AllocError>
         ensures ok { OnOk result (IsCountedWith self.old self.new vote voters) }
         ensures err { OnErr result (self.new ≡ self.old) }
+        ensures memory { OnErr result (lookup (same_vote vote) self.old ≡ None) }
     {
         match self.map.insert(vote, voters) {
             Ok(_) => Ok(()),

@@ -33,7 +33,7 @@ shortest_record = 1 + slot_len 1 + shortest_entry
 abbrev pub longest_record : ℕ
 longest_record = 1 + slot_len longest_object + longest_entry
 
--- the kinds, in the order in which a slot's records come
+-- the kinds
 abbrev pub deposit_code : ℕ
 deposit_code = 1
 

@@ -1,6 +1,20 @@
 -- A row that is put in where there was none.
-use Rattle.std.proofs.Common.{◌≡◌, Bool, true, false, cond, refl, sym, ap, ◌∙◌, Option, None, Some,
-  IsSome, is_some}
+use Rattle.std.proofs.Common.{
+  ◌≡◌,
+  Bool,
+  true,
+  false,
+  cond,
+  refl,
+  sym,
+  ap,
+  ◌∙◌,
+  Option,
+  None,
+  Some,
+  IsSome,
+  is_some,
+}
 use Rattle.fed_types.specs.Slots.{SlotName, same_slot}
 use Rattle.fed_types.specs.Laws.Slots.{same_slot_decides}
 use Rattle.slot_table.specs.Rows.{Rows, row_at, row_or, row_of, IsWith, HasRoomFor, HasSameRows}

@@ -10,5 +10,5 @@ abbrev pub lends_row :
     (R : RattleType) → MutBor (Rows R.Denot) → SlotName → Option (MutBor R.Denot) → Fml
 lends_row R table slot row =
     LendsSo (the_row R) R table row
-        (λ new written. IsSome (row_at table.now slot) → IsWith table.now new slot written)
-        (λ new. new ≡ table.now)
+    (λ new written. IsSome (row_at table.now slot) → IsWith table.now new slot written)
+    (λ new. new ≡ table.now)

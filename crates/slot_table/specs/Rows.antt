@@ -1,9 +1,9 @@
 -- The rows of a table, by slot.
-use Rattle.std.specs.Prelude.{◌≡◌, List, Option, Some, None, if◌then◌else◌}
+use Rattle.std.specs.Prelude.{◌≡◌, List, Option, Some, None, IsSome, if◌then◌else◌}
 use Rattle.std.specs.Map.{lookup}
 use Rattle.fed_types.specs.Slots.{SlotName, same_slot}
 
--- the slots that have a row, in the order in which they came, and their rows
+-- the slots that have a row, and their rows
 abbrev pub Rows : Type 0 → Type 0
 Rows R = List (SlotName × R)
 
@@ -24,6 +24,10 @@ row_of empty rows slot = row_or empty (row_at rows slot)
 abbrev pub IsWith : {R : Type 0} → (old new : Rows R) → SlotName → R → Type 0
 IsWith old new slot row =
     (s : SlotName) → row_at new s ≡ (if same_slot slot s then Some row else row_at old s)
+
+-- a slot that had a row has one
+abbrev pub HasRooms : {R : Type 0} → (old new : Rows R) → Type 0
+HasRooms old new = (s : SlotName) → IsSome (row_at old s) → IsSome (row_at new s)
 
 -- no row is another
 abbrev pub HasSameRows : {R : Type 0} → (old new : Rows R) → Type 0

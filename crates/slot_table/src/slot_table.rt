@@ -3,7 +3,7 @@ ghost use Rattle.std.specs.Prelude.{◌≡◌, [], OnOk, OnErr, IsSome, IsOk};
 ghost use Rattle.std.specs.Option.{option_copied, option_copied_mut};
 ghost use Rattle.fed_types.specs.Slots.{SlotName};
 ghost use Rattle.slot_table.specs.Lends.{lends_row};
-ghost use Rattle.slot_table.specs.Rows.{row_at, row_of, HasRoomFor, HasSameRows};
+ghost use Rattle.slot_table.specs.Rows.{row_at, row_of, HasRoomFor, HasRooms, HasSameRows};
 
 use fed_types::Slot;
 use indexmap::IndexMap;
@@ -11,7 +11,7 @@ use std::alloc::{AllocError, Global};
 use std::marker::Model;
 
 /// A row for each slot that has one, found in constant time. A clause sees the slots and their
-/// rows, in the order in which they came.
+/// rows.
 #[derive(Drop)]
 pub struct SlotTable<R: Drop> {
     alloc: Global,
@@ -57,6 +57,7 @@ impl<R: Drop> SlotTable<R> {
         ensures present { OnOk result (IsSome (row_at self.new slot.now)) }
         ensures added { OnOk result (HasRoomFor empty self.old self.new slot.now) }
         ensures unchanged { OnErr result (HasSameRows self.old self.new) }
+        ensures rooms { HasRooms self.old self.new }
         ensures same { (s : SlotName) → row_of empty self.new s ≡ row_of empty self.old s }
         ensures succeeds { IsSome (row_at self.old slot.now) → IsOk result }
     {

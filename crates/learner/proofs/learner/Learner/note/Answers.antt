@@ -20,6 +20,8 @@ returns-in_default g c = record {
   noted = λ records heard stands. noted_other c.args.self.now.rows records heard c.args.new.now
       stands (says_none c.args.new.now.body c.in_default.not-Known);
   memory = tt;
+  no_memory = tt;
   succeeds = λ there i. true;
+  rooms = λ s there. there;
   members = λ i. c.args.self.now.members;
 }

@@ -4,16 +4,20 @@ use Rattle.slot_table.specs.Rows.{Rows, row_at}
 use Rattle.slot_table.proofs.slot_table.SlotTable.get_mut.Goals as goal
 
 pub returns : goal.returns
-returns g c =
-    ((refl, (λ w there s.
+returns g c = (
+  (
+    refl,
+    (λ w there s.
         ((c.get_mut.follows.holds w).3
-            (subst (λ (t : Rows g.row.R.Denot). IsSome (row_at t c.args.slot.now))
-                (sym c.self.view_is) there)).0 s
+        (subst (λ (t : Rows g.row.R.Denot). IsSome (row_at t c.args.slot.now))
+        (sym c.self.view_is) there)).0 s
         ∙ ap (λ (t : Rows g.row.R.Denot). cond (same_slot c.args.slot.now s) (Some w) (row_at t s))
-            c.self.view_is),
-    rw c.get_mut.follows.holds-at-none c.self.view_is),
-    record {
-      value = c.get_mut.ensures.value
-          ∙ ap (λ (t : Rows g.row.R.Denot). row_at t c.args.slot.now) c.self.view_is;
-      writes_back = tt
-    })
+        c.self.view_is),
+    rw c.get_mut.follows.holds-at-none c.self.view_is,
+  ),
+  record {
+    value = c.get_mut.ensures.value
+        ∙ ap (λ (t : Rows g.row.R.Denot). row_at t c.args.slot.now) c.self.view_is;
+    writes_back = tt;
+  },
+)
