@@ -6,4 +6,3 @@ pub mod Tables
 pub mod Stands
 pub mod Issued
 mod Examples
-pub mod Unanimous

@@ -14,7 +14,7 @@ use Rattle.records.specs.declared.record.Record.{Record}
 use Rattle.records.specs.Words.{with_one, if_some, entry_of, round_in, used_of, deposit_of}
 use Rattle.dgram.specs.declared.body.Body.{Body}
 use Rattle.dgram.specs.declared.message.Message.{Message}
-use Rattle.dgram.specs.Heard.{body_in, bodies_of, refused_round, floor_of}
+use Rattle.dgram.specs.Heard.{body_in, bodies_of, promise_in, refused_round, floor_of}
 use Rattle.slot_table.specs.Rows.{Rows, row_at, row_or, IsWith}
 use Rattle.proposer.specs.declared.round.Promise.{Promise}
 use Rattle.proposer.specs.declared.round.Round.{Round}
@@ -99,6 +99,30 @@ begun_stands old new slot ballot own records session under at stands owns =
     }))
     (λ s e. subst (λ (b : Option BallotNumber). Knows s records session.heard (session.current s) b (under.waiting s) (row_of old s))
     (sym (at_other slot s (Some ballot) under.begun e)) (stands s))
+
+-- the row that was put in is there
+pub put_present : (old new : Rows Row) (slot : SlotName) (row : Row) → IsWith old new slot row
+    → IsSome (row_at new slot)
+put_present old new slot row put =
+    subst IsSome (sym (put slot ∙ ap (λ (t : Bool). cond t (Some row) (row_at old slot)) ((same_slot_decides slot slot).1 refl))) refl
+
+-- ---- a message heard that is neither a promise nor a refusal: the site's other messages
+pub heard_stands : (rows : Rows Row) (m : Message)
+    (records : List Record) (session : Session) (under : UnderWay) → refused_round m.body ≡ None
+    → ((b : BallotNumber) → promise_in b m.body ≡ None) → StandsFor rows records session under
+    → StandsFor rows records (hears session m) under
+heard_stands rows m records session under refuses promises stands s =
+    heard_knows s records session.heard (session.current s) (under.begun s) (under.waiting s) m (row_of rows s) (row_of rows s) refl refl refl
+        (floor_same (same_slot m.slot s)) (no_promise (session.current s) (same_slot m.slot s) refl) (stands s)
+  where
+    floor_same : (t : Bool) → (row_of rows s).floor ≡ with_one max (row_of rows s).floor (if_some refused_round (cond t (Some m.body) None))
+    floor_same true = ap (with_one max (row_of rows s).floor) (sym refuses)
+    floor_same false = refl
+
+    no_promise : (c : Option Current) (t : Bool) → same_slot m.slot s ≡ t → IsNoPromise s c m
+    no_promise None t e = tt
+    no_promise (Some c) true e = ap (λ (x : Bool). if_some (promise_in c.ballot) (cond x (Some m.body) None)) e ∙ promises c.ballot
+    no_promise (Some c) false e = ap (λ (x : Bool). if_some (promise_in c.ballot) (cond x (Some m.body) None)) e
 
 -- ---- a refusal heard
 pub refused_stands : (old mid new : Rows Row) (slot : SlotName) (n from : ℕ)

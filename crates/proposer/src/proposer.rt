@@ -63,8 +63,9 @@ impl<Q: Quorums + Drop> Proposer<Q> {
     }
 
     /// Begins the slot's next ballot, to propose this bag, the site's deposit, where no vote stands
-    /// in the way. The ballot becomes current once its Round record is noted. `RoundsSpent` where
-    /// the greatest round was used or stood in the way; else `Memory` where an allocation fails.
+    /// in the way. The ballot becomes current once its Round record is noted, which takes no memory.
+    /// `RoundsSpent` where the greatest round was used or stood in the way; else `Memory` where an
+    /// allocation fails.
     pub fn begin(&mut self, slot: &Slot, own: BagId) -> Result<Ballot, ProposeFault>
         ensures answer { (records : List declared_record) (session : Session) (under : UnderWay)
             → StandsFor self.old.rows records session under → IsOrMemory result
@@ -78,6 +79,7 @@ impl<Q: Quorums + Drop> Proposer<Q> {
             → StandsFor self.old.rows records session under
             → deposit_of slot.now records ≡ Some own
             → StandsFor self.new.rows records session (begins under slot.now ballot)) }
+        ensures present { IfOk result (λ ballot. IsSome (row_at self.new.rows slot.now)) }
         ensures unchanged { OnErr result
             ((s : SlotName) → row_of self.new.rows s ≡ row_of self.old.rows s) }
         ensures whose { IsOfSameSite self.old self.new }
@@ -180,6 +182,7 @@ impl<Q: Quorums + Drop> Proposer<Q> {
     // Begins a round.
     fn begin_round(&mut self, slot: &Slot, round: Round) -> Result<(), AllocError>
         ensures begun { OnOk result (BeginsAt round self.old.rows self.new.rows slot.now) }
+        ensures present { OnOk result (IsSome (row_at self.new.rows slot.now)) }
         ensures unchanged { OnErr result
             ((s : SlotName) → row_of self.new.rows s ≡ row_of self.old.rows s) }
         ensures whose { IsOfSameSite self.old self.new }

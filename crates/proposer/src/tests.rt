@@ -1,8 +1,3 @@
-ghost use Rattle.std.specs.Prelude.{◌≡◌, ◌&&◌, [], ◌∷◌, refl};
-ghost use Rattle.std.proofs.lemmas.Bool.{and_parts, and_from};
-ghost use Rattle.fed_types.specs.Lists.{is_in, here, there};
-ghost use Rattle.fed_types.specs.Laws.Lists.{is_in_decides};
-
 use super::*;
 use fed_types::{BagId, Ballot, Members, Quorums, SiteNo, Slot, Vote, Voters};
 use records::{Entry, Record, Round};
@@ -189,7 +184,7 @@ struct Unanimous {
 }
 
 impl Quorums for Unanimous {
-    ghost use Rattle.proposer.proofs.Unanimous.{all_three, meet, grow};
+    ghost use Rattle.proposer.specs.inner.Unanimous.{all_three, meet, grow};
 
     ghost quorum_system = { λ p. all_three p.first p.second p.third };
 
