@@ -1,6 +1,7 @@
 -- What the definitions give of a few messages, by computation. Sites are 1 to 3 or 1 to 4, and a
 -- bag is a number.
-use Rattle.std.proofs.Common.{◌≡◌, ℕ, Bool, true, false, not, ◌&&◌, List, [], ◌∷◌, Option, None, Some, refl}
+use Rattle.std.proofs.Common.{◌≡◌, ℕ, Bool, true, false, not, ◌&&◌, List, [], ◌∷◌, Option, None}
+use Rattle.std.proofs.Common.{Some, refl}
 use Rattle.fed_types.specs.declared.bag_id.BagId.{BagId}
 use Rattle.fed_types.specs.declared.vote.Vote.{Vote}
 use Rattle.fed_types.specs.Ballots.{BallotNumber, same_ballot, ballot_cmp}
@@ -39,19 +40,23 @@ abbrev of_four : QuorumSystem
 of_four = quorums_of (record { federation = 7; weights = 1 ∷ 1 ∷ 1 ∷ 1 ∷ [] })
 
 -- the highest vote isn't the one that was named last; of equal ballots it is the first
-highest_first : highest_prior (from 2 (Some (vote 3 2 7)) ∷ from 1 (Some (vote 2 3 8)) ∷ []) ≡ Some (vote 3 2 7)
+highest_first : highest_prior (from 2 (Some (vote 3 2 7)) ∷ from 1 (Some (vote 2 3 8)) ∷ []) ≡ Some
+    (vote 3 2 7)
 unfolding highest_prior priors ballot_cmp
 highest_first = refl
 
-highest_last : highest_prior (from 2 (Some (vote 2 3 8)) ∷ from 3 None ∷ from 1 (Some (vote 3 2 7)) ∷ []) ≡ Some (vote 3 2 7)
+highest_last : highest_prior
+    (from 2 (Some (vote 2 3 8)) ∷ from 3 None ∷ from 1 (Some (vote 3 2 7)) ∷ []) ≡ Some (vote 3 2 7)
 unfolding highest_prior priors ballot_cmp
 highest_last = refl
 
-highest_by_site : highest_prior (from 2 (Some (vote 3 1 7)) ∷ from 1 (Some (vote 3 2 8)) ∷ []) ≡ Some (vote 3 2 8)
+highest_by_site : highest_prior (from 2 (Some (vote 3 1 7)) ∷ from 1 (Some (vote 3 2 8)) ∷ []) ≡
+    Some (vote 3 2 8)
 unfolding highest_prior priors ballot_cmp
 highest_by_site = refl
 
-highest_of_equal : highest_prior (from 2 (Some (vote 3 2 7)) ∷ from 1 (Some (vote 3 2 8)) ∷ []) ≡ Some (vote 3 2 7)
+highest_of_equal : highest_prior (from 2 (Some (vote 3 2 7)) ∷ from 1 (Some (vote 3 2 8)) ∷ []) ≡
+    Some (vote 3 2 7)
 unfolding highest_prior priors ballot_cmp
 highest_of_equal = refl
 
@@ -78,23 +83,29 @@ gathered_alone = refl
 
 -- the bag of the vote, once a second site promises; the first one's promise twice is no quorum
 proposes_the_vote :
-    (ready of_three (Some (bag 9)) a1 (Some current) heard (ballot 2 1) (from 1 None) ≡ Some (bag 7))
+    (ready of_three (Some (bag 9)) a1 (Some current) heard (ballot 2 1) (from 1 None) ≡ Some
+    (bag 7))
     × (ready of_three (Some (bag 9)) a1 (Some current) heard (ballot 2 1) (from 2 None) ≡ None)
-unfolding proposal gathered promises_for bodies_of same_slot promisers highest_prior priors is_in ballot_cmp sites_to
+unfolding proposal gathered promises_for bodies_of same_slot promisers highest_prior priors is_in
+    ballot_cmp sites_to
 proposes_the_vote = (refl, refl)
 
 -- a promise for another ballot, and one where none is current, give nothing
 stale :
     (ready of_three (Some (bag 9)) a1 (Some current) heard (ballot 1 1) (from 1 None) ≡ None)
     × (ready of_three (Some (bag 9)) a1 None heard (ballot 2 1) (from 1 None) ≡ None)
-unfolding proposal gathered promises_for bodies_of same_slot promisers highest_prior priors is_in ballot_cmp sites_to
+unfolding proposal gathered promises_for bodies_of same_slot promisers highest_prior priors is_in
+    ballot_cmp sites_to
 stale = (refl, refl)
 
--- half of four members isn't a quorum; three of them are, once, and then the own deposit is proposed
+-- half of four members isn't a quorum; three of them are, once, and then the own deposit is
+-- proposed
 of_an_even_membership :
     (proposal of_four (Some (bag 9)) (from 1 None ∷ []) (from 2 None) ≡ None)
-    × (proposal of_four (Some (bag 9)) (from 1 None ∷ from 2 None ∷ []) (from 4 None) ≡ Some (bag 9))
-    × (proposal of_four (Some (bag 9)) (from 1 None ∷ from 2 None ∷ from 4 None ∷ []) (from 3 None) ≡ None)
+    × (proposal of_four (Some (bag 9)) (from 1 None ∷ from 2 None ∷ []) (from 4 None) ≡ Some
+    (bag 9))
+    × (proposal of_four (Some (bag 9)) (from 1 None ∷ from 2 None ∷ from 4 None ∷ [])
+    (from 3 None) ≡ None)
 unfolding proposal promisers highest_prior priors is_in sites_to
 of_an_even_membership = (refl, refl, refl)
 

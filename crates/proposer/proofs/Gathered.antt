@@ -1,5 +1,6 @@
 -- What was gathered, and the floor, with one message more.
-use Rattle.std.proofs.Common.{◌≡◌, ◌≤◌, ℕ, max, Bool, true, false, cond, refl, sym, ap, ◌∙◌, List, [], ◌∷◌, ◌++◌, length, drop, Option, None, Some, append-nil}
+use Rattle.std.proofs.Common.{◌≡◌, ◌≤◌, ℕ, max, Bool, true, false, cond, refl, sym, ap, ◌∙◌, List}
+use Rattle.std.proofs.Common.{[], ◌∷◌, ◌++◌, length, drop, Option, None, Some, append-nil}
 use Rattle.std.specs.List.{fold, filter_map, cons_option}
 use Rattle.std.proofs.lemmas.List.Elements.{filter_map-append}
 use Rattle.std.proofs.lemmas.List.Sums.{fold-append}
@@ -9,7 +10,8 @@ use Rattle.fed_types.specs.Slots.{SlotName}
 use Rattle.records.specs.Words.{with_one, if_some}
 use Rattle.dgram.specs.declared.body.Body.{Body}
 use Rattle.dgram.specs.declared.message.Message.{Message}
-use Rattle.dgram.specs.Heard.{body_in, bodies_of, PromiseFrom, promise_in, promises_for, refused_round, floor_of}
+use Rattle.dgram.specs.Heard.{body_in, bodies_of, PromiseFrom, promise_in, promises_for}
+use Rattle.dgram.specs.Heard.{refused_round, floor_of}
 use Rattle.proposer.specs.Proposals.{Current, gathered}
 
 -- a list of what is there, or of nothing
@@ -37,7 +39,8 @@ promises-push b bodies None =
     ∙ sym (append-nil (filter_map (promise_in b) bodies))
 promises-push b bodies (Some body) =
     filter_map-append (promise_in b) bodies (body ∷ [])
-    ∙ ap (λ (ps : List PromiseFrom). filter_map (promise_in b) bodies ++ ps) (go (promise_in b body))
+    ∙ ap (λ (ps : List PromiseFrom). filter_map (promise_in b) bodies ++ ps)
+    (go (promise_in b body))
   where
     go : (o : Option PromiseFrom) → cons_option o [] ≡ one_of o
     go None = refl

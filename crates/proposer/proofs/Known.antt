@@ -1,5 +1,6 @@
 -- What a row knows stays so with a message more that is no promise for the current ballot.
-use Rattle.std.proofs.Common.{◌≡◌, ◌≤◌, ℕ, max, refl, sym, ap, subst, ◌∙◌, List, [], ◌∷◌, ◌++◌, length, Option, None, Some, append-nil, arith, length-append}
+use Rattle.std.proofs.Common.{◌≡◌, ◌≤◌, ℕ, max, refl, sym, ap, subst, ◌∙◌, List, [], ◌∷◌, ◌++◌}
+use Rattle.std.proofs.Common.{length, Option, None, Some, append-nil, arith, length-append}
 use Rattle.fed_types.specs.declared.bag_id.BagId.{BagId}
 use Rattle.fed_types.specs.Ballots.{BallotNumber}
 use Rattle.fed_types.specs.Lists.{is_in}
@@ -7,7 +8,8 @@ use Rattle.fed_types.specs.Slots.{SlotName}
 use Rattle.records.specs.declared.record.Record.{Record}
 use Rattle.records.specs.Words.{with_one, if_some, deposit_of}
 use Rattle.dgram.specs.declared.message.Message.{Message}
-use Rattle.dgram.specs.Heard.{body_in, bodies_of, PromiseFrom, promise_in, promisers, refused_round, floor_of}
+use Rattle.dgram.specs.Heard.{body_in, bodies_of, PromiseFrom, promise_in, promisers, refused_round}
+use Rattle.dgram.specs.Heard.{floor_of}
 use Rattle.proposer.specs.declared.round.Round.{Round}
 use Rattle.proposer.specs.declared.row.Row.{Row}
 use Rattle.proposer.specs.Proposals.{Current, gathered, highest_prior}
@@ -61,7 +63,8 @@ heard_knows slot records heard c b w m row next used begun current floor isnt h 
       ∙ ap (λ (n : ℕ). with_one max n (if_some refused_round (body_in slot m))) h.floor
       ∙ sym (floor-push slot heard m);
   begun = rw begun h.begun;
-  current = rw current (counts_same slot (deposit_of slot records) heard m c (current_in row) isnt h.current);
+  current = rw current (counts_same slot (deposit_of slot records) heard m c (current_in row) isnt
+      h.current);
   waiting = rw current h.waiting;
 }
 

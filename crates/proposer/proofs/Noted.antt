@@ -1,5 +1,6 @@
 -- One record more.
-use Rattle.std.proofs.Common.{◌≡◌, ◌≤◌, ℕ, max, Bool, true, false, cond, refl, sym, ap, subst, ◌∙◌, List, [], ◌∷◌, ◌++◌, length, drop, Option, None, Some, arith}
+use Rattle.std.proofs.Common.{◌≡◌, ◌≤◌, ℕ, max, Bool, true, false, cond, refl, sym, ap, subst, ◌∙◌}
+use Rattle.std.proofs.Common.{List, [], ◌∷◌, ◌++◌, length, drop, Option, None, Some, arith}
 use Rattle.std.specs.Prelude.{◌==◌, option_map, box_value}
 use Rattle.fed_types.specs.declared.bag_id.BagId.{BagId}
 use Rattle.fed_types.specs.Ballots.{BallotNumber}
@@ -8,7 +9,8 @@ use Rattle.fed_types.specs.Slots.{SlotName, same_slot}
 use Rattle.records.specs.declared.entry.Entry.{Entry}
 use Rattle.records.specs.declared.entry.Entry.TheVariants as entry
 use Rattle.records.specs.declared.record.Record.{Record}
-use Rattle.records.specs.Words.{earlier, with_one, if_some, entry_of, round_in, deposit_in, used_of, deposit_of}
+use Rattle.records.specs.Words.{earlier, with_one, if_some, entry_of, round_in, deposit_in, used_of}
+use Rattle.records.specs.Words.{deposit_of}
 use Rattle.records.proofs.Words.{used-push, deposit-push}
 use Rattle.dgram.specs.declared.message.Message.{Message}
 use Rattle.dgram.specs.Heard.{bodies_of, PromiseFrom, promises_for, promisers, priors}
@@ -16,7 +18,8 @@ use Rattle.proposer.specs.declared.round.Round.{Round}
 use Rattle.proposer.specs.declared.row.Row.{Row}
 use Rattle.proposer.specs.Proposals.{Current, gathered, highest_prior}
 use Rattle.proposer.specs.Sessions.{issued_by}
-use Rattle.proposer.specs.Rows.{fresh, Begins, BeginsFor, Counts, CountsFor, Knows, begun_in, current_in, waiting_in}
+use Rattle.proposer.specs.Rows.{fresh, Begins, BeginsFor, Counts, CountsFor, Knows, begun_in}
+use Rattle.proposer.specs.Rows.{current_in, waiting_in}
 use Rattle.proposer.specs.inner.Rows.{is_of_round, with_round}
 
 -- a deposit stays
@@ -87,7 +90,8 @@ unfolding highest_prior priors promisers
 fresh_counts slot own b heard round h = record {
   ballot = ap (λ (x : Round). x.ballot) h.is;
   voters = λ n. ap (λ (x : Round). is_in x.voters n) h.is
-      ∙ ap (λ (ps : List PromiseFrom). is_in (promisers ps) n) (sym (nothing_gathered slot b heard));
+      ∙ ap (λ (ps : List PromiseFrom). is_in (promisers ps) n)
+      (sym (nothing_gathered slot b heard));
   best = ap (λ (x : Round). x.best) h.is
       ∙ ap highest_prior (sym (nothing_gathered slot b heard));
   own = h.own;
@@ -108,7 +112,8 @@ issued_knows slot records r heard c b w row next used floor begun current h = re
       ∙ sym (used-push slot records r);
   floor = floor ∙ h.floor;
   begun = rw begun tt;
-  current = rw current (is_current (begun_in row) (begins_stays slot records r (Some b) (begun_in row) h.begun));
+  current = rw current (is_current (begun_in row)
+      (begins_stays slot records r (Some b) (begun_in row) h.begun));
   waiting = rw current (none_waits (begun_in row) h.begun);
 }
   where

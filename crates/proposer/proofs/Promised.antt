@@ -1,5 +1,6 @@
 -- One promise more.
-use Rattle.std.proofs.Common.{◌≡◌, ℕ, Bool, true, false, cond, not, ◌||◌, ◌&&◌, refl, sym, ap, subst, ◌∙◌, List, [], ◌∷◌, ◌++◌, length, Option, None, Some, arith}
+use Rattle.std.proofs.Common.{◌≡◌, ℕ, Bool, true, false, cond, not, ◌||◌, ◌&&◌, refl, sym, ap}
+use Rattle.std.proofs.Common.{subst, ◌∙◌, List, [], ◌∷◌, ◌++◌, length, Option, None, Some, arith}
 use Rattle.std.specs.Prelude.{◌==◌, fold, filter_map}
 use Rattle.std.specs.List.{cons_option}
 use Rattle.std.proofs.lemmas.List.Sums.{fold-append}
@@ -20,7 +21,8 @@ use Rattle.dgram.specs.Heard.{body_in, PromiseFrom, promise_in, promisers, prior
 use Rattle.dgram.proofs.Heard.{priors-append}
 use Rattle.proposer.specs.declared.round.Promise.{Promise}
 use Rattle.proposer.specs.declared.round.Round.{Round}
-use Rattle.proposer.specs.Proposals.{Current, gathered, highest_prior, bag_of, bag_or, completes, proposal, ready}
+use Rattle.proposer.specs.Proposals.{Current, gathered, highest_prior, bag_of, bag_or, completes}
+use Rattle.proposer.specs.Proposals.{proposal, ready}
 use Rattle.proposer.specs.Sessions.{promise_message}
 use Rattle.proposer.specs.Rows.{Counts, CountsFor, waiting_in}
 use Rattle.proposer.specs.inner.Rounds.{higher_prior, counted, is_ready, given_bag, after_promise}
@@ -48,12 +50,17 @@ highest-push : (ps : List PromiseFrom) (p : PromiseFrom)
 unfolding highest_prior priors
 highest-push ps p =
     ap (fold (higher (λ (v : Vote). v.ballot)) None) (priors-append ps (p ∷ []))
-    ∙ fold-append (higher (λ (v : Vote). v.ballot)) None (filter_map (λ (r : PromiseFrom). r.prior) ps) (cons_option p.prior [])
+    ∙ fold-append (higher (λ (v : Vote). v.ballot)) None
+    (filter_map (λ (r : PromiseFrom). r.prior) ps) (cons_option p.prior [])
     ∙ go p.prior
   where
     go : (o : Option Vote)
-        → fold (higher (λ (v : Vote). v.ballot)) (fold (higher (λ (v : Vote). v.ballot)) None (filter_map (λ (r : PromiseFrom). r.prior) ps)) (cons_option o [])
-        ≡ with_one (higher (λ (v : Vote). v.ballot)) (fold (higher (λ (v : Vote). v.ballot)) None (filter_map (λ (r : PromiseFrom). r.prior) ps)) o
+        → fold (higher (λ (v : Vote). v.ballot))
+        (fold (higher (λ (v : Vote). v.ballot)) None
+        (filter_map (λ (r : PromiseFrom). r.prior) ps)) (cons_option o [])
+        ≡ with_one (higher (λ (v : Vote). v.ballot))
+        (fold (higher (λ (v : Vote). v.ballot)) None
+        (filter_map (λ (r : PromiseFrom). r.prior) ps)) o
     go None = refl
     go (Some v) = refl
 
@@ -70,7 +77,8 @@ flip a b = go (same_ballot a b) (same_ballot b a) refl refl
     go true false e f = sym ((same_ballot_decides b a).1 (sym ((same_ballot_decides a b).0 e))) ∙ f
     go false true e f = sym e ∙ (same_ballot_decides a b).1 (sym ((same_ballot_decides b a).0 f))
 
-module _ (slot : SlotName) (from : ℕ) (ballot : BallotNumber) (prior : Option Vote) (own : Option BagId) (heard : List Message) where
+module _ (slot : SlotName) (from : ℕ) (ballot : BallotNumber) (prior : Option Vote)
+    (own : Option BagId) (heard : List Message) where
   abbrev m : Message
   m = promise_message slot from ballot prior
 
@@ -83,7 +91,8 @@ module _ (slot : SlotName) (from : ℕ) (ballot : BallotNumber) (prior : Option 
   -- what the message is for a ballot
   promise_is : (b : BallotNumber)
       → if_some (promise_in b) (body_in slot m) ≡ cond (same_ballot ballot b) (Some told) None
-  promise_is b = ap (λ (t : Bool). if_some (promise_in b) (cond t (Some m.body) None)) ((same_slot_decides slot slot).1 refl)
+  promise_is b = ap (λ (t : Bool). if_some (promise_in b) (cond t (Some m.body) None))
+      ((same_slot_decides slot slot).1 refl)
 
   gathered_more : (c : Current) (round : Round) → Counts slot own heard c round
       → same_ballot round.ballot ballot ≡ true
@@ -91,7 +100,9 @@ module _ (slot : SlotName) (from : ℕ) (ballot : BallotNumber) (prior : Option 
   gathered_more c round h same =
       gathered-push slot c heard m h.within
       ∙ ap (λ (o : Option PromiseFrom). gathered slot c heard ++ one_of o)
-      (promise_is c.ballot ∙ ap (λ (t : Bool). cond t (Some told) None) (flip ballot c.ballot ∙ ap (λ (b : BallotNumber). same_ballot b ballot) (sym h.ballot) ∙ same))
+      (promise_is c.ballot ∙ ap (λ (t : Bool). cond t (Some told) None)
+      (flip ballot c.ballot ∙ ap (λ (b : BallotNumber). same_ballot b ballot) (sym h.ballot)
+      ∙ same))
 
   pub counts_more : (c : Current) (round : Round) → Counts slot own heard c round
       → same_ballot round.ballot ballot ≡ true
@@ -119,13 +130,20 @@ module _ (slot : SlotName) (from : ℕ) (ballot : BallotNumber) (prior : Option 
       ≡ cond (is_ready q round p) (Some (bag_or (higher_prior round.best prior) round.own)) None
   unfolding proposal
   proposal_is q laws c round h =
-      ap (λ (t : Bool). cond (t && not (q.is_quorum (promisers (gathered slot c heard)))) (bag_of (highest_prior (gathered slot c heard ++ told ∷ [])) own) None)
-      (same_quorum q (promisers (gathered slot c heard ++ told ∷ [])) (with_voter round.voters from) laws
-      (λ n. promisers-push (gathered slot c heard) told n ∙ ap (λ (t : Bool). from == n || t) (sym (h.voters n)) ∙ sym (is_in-with_voter round.voters from n)))
-      ∙ ap (λ (t : Bool). cond (q.is_quorum (with_voter round.voters from) && not t) (bag_of (highest_prior (gathered slot c heard ++ told ∷ [])) own) None)
+      ap (λ (t : Bool). cond (t && not (q.is_quorum (promisers (gathered slot c heard))))
+      (bag_of (highest_prior (gathered slot c heard ++ told ∷ [])) own) None)
+      (same_quorum q (promisers (gathered slot c heard ++ told ∷ [])) (with_voter round.voters from)
+      laws
+      (λ n. promisers-push (gathered slot c heard) told n
+      ∙ ap (λ (t : Bool). from == n || t) (sym (h.voters n))
+      ∙ sym (is_in-with_voter round.voters from n)))
+      ∙ ap (λ (t : Bool). cond (q.is_quorum (with_voter round.voters from) && not t)
+      (bag_of (highest_prior (gathered slot c heard ++ told ∷ [])) own) None)
       (same_quorum q (promisers (gathered slot c heard)) round.voters laws (λ n. sym (h.voters n)))
       ∙ ap (λ (o : Option BagId). cond (is_ready q round p) o None)
-      (ap (λ (o : Option Vote). bag_of o own) (highest-push (gathered slot c heard) told ∙ ap (λ (o : Option Vote). higher_prior o prior) (sym h.best))
+      (ap (λ (o : Option Vote). bag_of o own)
+      (highest-push (gathered slot c heard) told
+      ∙ ap (λ (o : Option Vote). higher_prior o prior) (sym h.best))
       ∙ ap (bag_of (higher_prior round.best prior)) h.own
       ∙ bag_of_own (higher_prior round.best prior) round.own)
 
@@ -137,8 +155,10 @@ module _ (slot : SlotName) (from : ℕ) (ballot : BallotNumber) (prior : Option 
   gives_ready q laws None (Some round) h = absurd h
   gives_ready q laws (Some c) None h = absurd h
   gives_ready q laws (Some c) (Some round) h =
-      ap (λ (x : Option BagId). cond (same_ballot round.ballot ballot) x None) (sym (proposal_is q laws c round h))
-      ∙ ap (λ (b : BallotNumber). cond (same_ballot b ballot) (proposal q own (gathered slot c heard) told) None) h.ballot
+      ap (λ (x : Option BagId). cond (same_ballot round.ballot ballot) x None)
+      (sym (proposal_is q laws c round h))
+      ∙ ap (λ (b : BallotNumber). cond (same_ballot b ballot)
+      (proposal q own (gathered slot c heard) told) None) h.ballot
 
   -- what a row becomes, by whether it gives a bag
   abbrev pub After : Option Current → Option Message → Option Round → Option BagId → Type 0
@@ -151,17 +171,39 @@ module _ (slot : SlotName) (from : ℕ) (ballot : BallotNumber) (prior : Option 
   after_is q None w None h e = (h, e)
   after_is q None w (Some round) h e = absurd h
   after_is q (Some c) w None h e = absurd h
-  after_is q (Some c) w (Some round) h e = go (same_ballot round.ballot ballot) (is_ready q round p) refl
+  after_is q (Some c) w (Some round) h e = go (same_ballot round.ballot ballot) (is_ready q round p)
+      refl
     where
       go : (t u : Bool) → same_ballot round.ballot ballot ≡ t
           → After (Some c) w
-          (Some (cond t (cond u (record { ballot = round.ballot; own = round.own; voters = round.voters; best = round.best; waiting = Some p }) (counted round p)) round))
+          (Some (cond t (cond u (record {
+            ballot = round.ballot;
+            own = round.own;
+            voters =
+                round.voters;
+            best = round.best;
+            waiting = Some p;
+          }) (counted round p)) round))
           (cond t (cond u (Some (bag_or (higher_prior round.best prior) round.own)) None) None)
-      go true true same = (record { ballot = h.ballot; voters = h.voters; best = h.best; own = h.own; within = h.within }, ap (λ (b : BallotNumber). Some (promise_message slot from b prior)) ((same_ballot_decides round.ballot ballot).0 same))
+      go true true same = (
+        record {
+          ballot = h.ballot;
+          voters = h.voters;
+          best = h.best;
+          own =
+              h.own;
+          within = h.within;
+        },
+        ap
+            (λ (b : BallotNumber). Some (promise_message slot from b prior))
+            ((same_ballot_decides round.ballot ballot).0 same),
+      )
       go true false same = (counts_more c round h same, e)
       go false u differ = (
         counts_same slot own heard m (Some c) (Some round)
-            (promise_is c.ballot ∙ ap (λ (t : Bool). cond t (Some told) None) (flip ballot c.ballot ∙ ap (λ (b : BallotNumber). same_ballot b ballot) (sym h.ballot) ∙ differ))
+            (promise_is c.ballot ∙ ap (λ (t : Bool). cond t (Some told) None)
+            (flip ballot c.ballot ∙ ap (λ (b : BallotNumber). same_ballot b ballot)
+            (sym h.ballot) ∙ differ))
             h,
         e,
       )

@@ -1,5 +1,6 @@
 -- What each call makes of what the rows stand for.
-use Rattle.std.proofs.Common.{◌≡◌, ℕ, max, Bool, true, false, cond, refl, sym, ap, subst, ◌∙◌, List, [], ◌∷◌, ◌++◌, Option, None, Some, IsSome, arith}
+use Rattle.std.proofs.Common.{◌≡◌, ℕ, max, Bool, true, false, cond, refl, sym, ap, subst, ◌∙◌, List}
+use Rattle.std.proofs.Common.{[], ◌∷◌, ◌++◌, Option, None, Some, IsSome, arith}
 use Rattle.std.specs.Prelude.{◌==◌, option_map, box_value, Box}
 use Rattle.std.specs.declared.alloc.Global.{Global}
 use Rattle.fed_types.specs.declared.bag_id.BagId.{BagId}
@@ -20,10 +21,16 @@ use Rattle.proposer.specs.declared.round.Promise.{Promise}
 use Rattle.proposer.specs.declared.round.Round.{Round}
 use Rattle.proposer.specs.declared.row.Row.{Row}
 use Rattle.proposer.specs.Proposals.{Current, ballot_after, next_ballot, ready}
-use Rattle.proposer.specs.Sessions.{Session, UnderWay, new_session, nothing, at_slot, hears, issues, begins, waits, promise_message, refusal_message, heard_after, waiting_after, heard_if, of_round, issued_by, issued_if, under_way_if}
-use Rattle.proposer.specs.Rows.{empty_row, fresh, BeginsFor, Knows, StandsFor, row_of, begun_in, current_in, waiting_in}
+use Rattle.proposer.specs.Sessions.{Session, UnderWay, new_session, nothing, at_slot, hears, issues}
+use Rattle.proposer.specs.Sessions.{begins, waits, promise_message, refusal_message, heard_after}
+use Rattle.proposer.specs.Sessions.{waiting_after, heard_if, of_round, issued_by, issued_if}
+use Rattle.proposer.specs.Sessions.{under_way_if}
+use Rattle.proposer.specs.Rows.{empty_row, fresh, BeginsFor, Knows, StandsFor, row_of, begun_in}
+use Rattle.proposer.specs.Rows.{current_in, waiting_in}
 use Rattle.proposer.specs.inner.Rounds.{given_bag, after_promise}
-use Rattle.proposer.specs.inner.Rows.{OnlyAt, HeardPromise, HeardAt, IssuesWaiting, IssuesAt, BeginsRound, BeginsAt, with_begun, with_floor, is_of_round, with_round, noted_row}
+use Rattle.proposer.specs.inner.Rows.{OnlyAt, HeardPromise, HeardAt, IssuesWaiting, IssuesAt}
+use Rattle.proposer.specs.inner.Rows.{BeginsRound, BeginsAt, with_begun, with_floor, is_of_round}
+use Rattle.proposer.specs.inner.Rows.{with_round, noted_row}
 use Rattle.proposer.proofs.Gathered.{floor-push}
 use Rattle.proposer.proofs.Known.{IsNoPromise, heard_knows, other_knows}
 use Rattle.proposer.proofs.Promised.{gives_ready, After, after_is}
@@ -87,7 +94,8 @@ begun_stands old new slot ballot own records session under at stands owns =
     let h = stands slot in
     let now = at.1 in
     stands_at old new slot (row_of new slot) records session (begins under slot ballot) at.0
-    (subst (λ (b : Option BallotNumber). Knows slot records session.heard (session.current slot) b (under.waiting slot) (row_of new slot))
+    (subst (λ (b : Option BallotNumber). Knows slot records session.heard (session.current slot) b
+    (under.waiting slot) (row_of new slot))
     (sym (at_here slot (Some ballot) under.begun))
     (record {
       used = now.used ∙ h.used;
@@ -97,14 +105,16 @@ begun_stands old new slot ballot own records session under at stands owns =
       current = rw now.current h.current;
       waiting = rw now.current h.waiting;
     }))
-    (λ s e. subst (λ (b : Option BallotNumber). Knows s records session.heard (session.current s) b (under.waiting s) (row_of old s))
+    (λ s e. subst (λ (b : Option BallotNumber). Knows s records session.heard (session.current s) b
+    (under.waiting s) (row_of old s))
     (sym (at_other slot s (Some ballot) under.begun e)) (stands s))
 
 -- the row that was put in is there
 pub put_present : (old new : Rows Row) (slot : SlotName) (row : Row) → IsWith old new slot row
     → IsSome (row_at new slot)
 put_present old new slot row put =
-    subst IsSome (sym (put slot ∙ ap (λ (t : Bool). cond t (Some row) (row_at old slot)) ((same_slot_decides slot slot).1 refl))) refl
+    subst IsSome (sym (put slot ∙ ap (λ (t : Bool). cond t (Some row) (row_at old slot))
+    ((same_slot_decides slot slot).1 refl))) refl
 
 -- ---- a message heard that is neither a promise nor a refusal: the site's other messages
 pub heard_stands : (rows : Rows Row) (m : Message)
@@ -112,17 +122,23 @@ pub heard_stands : (rows : Rows Row) (m : Message)
     → ((b : BallotNumber) → promise_in b m.body ≡ None) → StandsFor rows records session under
     → StandsFor rows records (hears session m) under
 heard_stands rows m records session under refuses promises stands s =
-    heard_knows s records session.heard (session.current s) (under.begun s) (under.waiting s) m (row_of rows s) (row_of rows s) refl refl refl
-        (floor_same (same_slot m.slot s)) (no_promise (session.current s) (same_slot m.slot s) refl) (stands s)
+    heard_knows s records session.heard (session.current s) (under.begun s) (under.waiting s) m
+    (row_of rows s) (row_of rows s) refl refl refl
+    (floor_same (same_slot m.slot s)) (no_promise (session.current s) (same_slot m.slot s) refl)
+    (stands s)
   where
-    floor_same : (t : Bool) → (row_of rows s).floor ≡ with_one max (row_of rows s).floor (if_some refused_round (cond t (Some m.body) None))
+    floor_same : (t : Bool) → (row_of rows s).floor ≡ with_one max (row_of rows s).floor
+        (if_some refused_round (cond t (Some m.body) None))
     floor_same true = ap (with_one max (row_of rows s).floor) (sym refuses)
     floor_same false = refl
 
     no_promise : (c : Option Current) (t : Bool) → same_slot m.slot s ≡ t → IsNoPromise s c m
     no_promise None t e = tt
-    no_promise (Some c) true e = ap (λ (x : Bool). if_some (promise_in c.ballot) (cond x (Some m.body) None)) e ∙ promises c.ballot
-    no_promise (Some c) false e = ap (λ (x : Bool). if_some (promise_in c.ballot) (cond x (Some m.body) None)) e
+    no_promise (Some c) true e = ap
+        (λ (x : Bool). if_some (promise_in c.ballot) (cond x (Some m.body) None)) e
+        ∙ promises c.ballot
+    no_promise (Some c) false e = ap
+        (λ (x : Bool). if_some (promise_in c.ballot) (cond x (Some m.body) None)) e
 
 -- ---- a refusal heard
 pub refused_stands : (old mid new : Rows Row) (slot : SlotName) (n from : ℕ)
@@ -134,12 +150,17 @@ pub refused_stands : (old mid new : Rows Row) (slot : SlotName) (n from : ℕ)
 refused_stands old mid new slot n from asked standing records session under same put is stands =
     stands_at old new slot (with_floor (row_of mid slot) n) records (hears session m) under
     (puts_at old mid new slot (with_floor (row_of mid slot) n) same put)
-    (heard_knows slot records session.heard (session.current slot) (under.begun slot) (under.waiting slot) m (row_of old slot) (with_floor (row_of mid slot) n)
-    (ap (λ (r : Row). r.used) (same slot)) (ap (λ (r : Row). r.begun) (same slot)) (ap (λ (r : Row). r.current) (same slot))
-    ((λ i. max (same slot i).floor (is i)) ∙ sym (ap (λ (t : Bool). with_one max (row_of old slot).floor (if_some refused_round (cond t (Some m.body) None))) here))
+    (heard_knows slot records session.heard (session.current slot) (under.begun slot)
+    (under.waiting slot) m (row_of old slot) (with_floor (row_of mid slot) n)
+    (ap (λ (r : Row). r.used) (same slot)) (ap (λ (r : Row). r.begun) (same slot))
+    (ap (λ (r : Row). r.current) (same slot))
+    ((λ i. max (same slot i).floor (is i))
+    ∙ sym (ap (λ (t : Bool). with_one max (row_of old slot).floor
+    (if_some refused_round (cond t (Some m.body) None))) here))
     (no_promise (session.current slot))
     (stands slot))
-    (λ s e. other_knows s records session.heard (session.current s) (under.begun s) (under.waiting s) m (row_of old s) (says_nothing slot s m.body e) (stands s))
+    (λ s e. other_knows s records session.heard (session.current s) (under.begun s)
+    (under.waiting s) m (row_of old s) (says_nothing slot s m.body e) (stands s))
   where
     m : Message
     m = refusal_message slot from asked standing
@@ -147,7 +168,8 @@ refused_stands old mid new slot n from asked standing records session under same
     here : same_slot slot slot ≡ true
     here = (same_slot_decides slot slot).1 refl
 
-    no_promise : (c : Option Current) → IsNoPromise slot c (refusal_message slot from asked standing)
+    no_promise : (c : Option Current)
+        → IsNoPromise slot c (refusal_message slot from asked standing)
     no_promise None = tt
     no_promise (Some c) = rw here refl
 
@@ -178,7 +200,8 @@ pub heard_nowhere : (q : QuorumSystem) (ballot : BallotNumber) (p : Promise) (ol
 heard_nowhere q ballot p old new slot is e =
     let was : empty_row ≡ row_of old slot = ap (row_or empty_row) is in (
       stays_only old new slot e,
-      subst (λ (r : Rows Row). HeardPromise q ballot p (row_of old slot) (row_of r slot) None) (sym e)
+      subst (λ (r : Rows Row). HeardPromise q ballot p (row_of old slot) (row_of r slot) None)
+          (sym e)
           (subst (λ (r : Row). HeardPromise q ballot p r r None) was
           (record { used = refl; floor = refl; begun = refl; current = refl; bag = refl })),
     )
@@ -189,33 +212,49 @@ module _ (q : QuorumSystem) (laws : AreQuorums q) (slot : SlotName) (from : ℕ)
     (at : HeardAt q ballot (record { site = from; prior = prior }) old new slot given)
     (stands : StandsFor old records session under) where
   pub promise_ready :
-      given ≡ ready q (deposit_of slot records) slot (session.current slot) session.heard ballot (record { site = from; prior = prior })
+      given ≡ ready q (deposit_of slot records) slot (session.current slot) session.heard ballot
+      (record { site = from; prior = prior })
   promise_ready =
       (at.1).bag
-      ∙ gives_ready slot from ballot prior (deposit_of slot records) session.heard q laws (session.current slot) (current_in (row_of old slot)) (stands slot).current
+      ∙ gives_ready slot from ballot prior (deposit_of slot records) session.heard q laws
+      (session.current slot) (current_in (row_of old slot)) (stands slot).current
 
   pub promise_stands :
-      StandsFor new records (heard_after given session (promise_message slot from ballot prior)) (waiting_after given under (promise_message slot from ballot prior))
+      StandsFor new records (heard_after given session (promise_message slot from ballot prior))
+      (waiting_after given under (promise_message slot from ballot prior))
   promise_stands = go given after
     where
       m : Message
       m = promise_message slot from ballot prior
 
-      after : After slot from ballot prior (deposit_of slot records) session.heard (session.current slot) (under.waiting slot) (current_in (row_of new slot)) given
+      after : After slot from ballot prior (deposit_of slot records) session.heard
+          (session.current slot) (under.waiting slot) (current_in (row_of new slot)) given
       after =
           let h = stands slot in
-          subst (λ (o : Option Round). After slot from ballot prior (deposit_of slot records) session.heard (session.current slot) (under.waiting slot) o given) (sym (at.1).current)
-          (subst (After slot from ballot prior (deposit_of slot records) session.heard (session.current slot) (under.waiting slot) (after_promise q ballot (record { site = from; prior = prior }) (current_in (row_of old slot)))) (sym (at.1).bag)
-          (after_is slot from ballot prior (deposit_of slot records) session.heard q (session.current slot) (under.waiting slot) (current_in (row_of old slot)) h.current h.waiting))
+          subst (λ (o : Option Round). After slot from ballot prior (deposit_of slot records)
+          session.heard (session.current slot) (under.waiting slot) o given)
+          (sym (at.1).current)
+          (subst (After slot from ballot prior (deposit_of slot records) session.heard
+          (session.current slot) (under.waiting slot)
+          (after_promise q ballot (record { site = from; prior = prior })
+          (current_in (row_of old slot)))) (sym (at.1).bag)
+          (after_is slot from ballot prior (deposit_of slot records) session.heard q
+          (session.current slot) (under.waiting slot) (current_in (row_of old slot)) h.current
+          h.waiting))
 
-      floor_stays : floor_of (bodies_of slot (session.heard ++ m ∷ [])) ≡ floor_of (bodies_of slot session.heard)
+      floor_stays : floor_of (bodies_of slot (session.heard ++ m ∷ [])) ≡ floor_of
+          (bodies_of slot session.heard)
       floor_stays =
           floor-push slot session.heard m
-          ∙ ap (λ (t : Bool). with_one max (floor_of (bodies_of slot session.heard)) (if_some refused_round (cond t (Some m.body) None))) ((same_slot_decides slot slot).1 refl)
+          ∙ ap (λ (t : Bool). with_one max (floor_of (bodies_of slot session.heard))
+          (if_some refused_round (cond t (Some m.body) None)))
+          ((same_slot_decides slot slot).1 refl)
 
       go : (o : Option BagId)
-          → After slot from ballot prior (deposit_of slot records) session.heard (session.current slot) (under.waiting slot) (current_in (row_of new slot)) o
-          → StandsFor new records (heard_after o session (promise_message slot from ballot prior)) (waiting_after o under (promise_message slot from ballot prior))
+          → After slot from ballot prior (deposit_of slot records) session.heard
+          (session.current slot) (under.waiting slot) (current_in (row_of new slot)) o
+          → StandsFor new records (heard_after o session (promise_message slot from ballot prior))
+          (waiting_after o under (promise_message slot from ballot prior))
       go None k =
           let h = stands slot in
           stands_at old new slot (row_of new slot) records (hears session m) under at.0
@@ -226,11 +265,13 @@ module _ (q : QuorumSystem) (laws : AreQuorums q) (slot : SlotName) (from : ℕ)
             current = k.0;
             waiting = k.1;
           })
-          (λ s e. other_knows s records session.heard (session.current s) (under.begun s) (under.waiting s) m (row_of old s) (says_nothing slot s m.body e) (stands s))
+          (λ s e. other_knows s records session.heard (session.current s) (under.begun s)
+          (under.waiting s) m (row_of old s) (says_nothing slot s m.body e) (stands s))
       go (Some bag) k =
           let h = stands slot in
           stands_at old new slot (row_of new slot) records session (waits under slot (Some m)) at.0
-          (subst (λ (w : Option Message). Knows slot records session.heard (session.current slot) (under.begun slot) w (row_of new slot))
+          (subst (λ (w : Option Message). Knows slot records session.heard (session.current slot)
+          (under.begun slot) w (row_of new slot))
           (sym (at_here slot (Some m) under.waiting))
           (record {
             used = (at.1).used ∙ h.used;
@@ -239,5 +280,6 @@ module _ (q : QuorumSystem) (laws : AreQuorums q) (slot : SlotName) (from : ℕ)
             current = k.0;
             waiting = k.1;
           }))
-          (λ s e. subst (λ (w : Option Message). Knows s records session.heard (session.current s) (under.begun s) w (row_of old s))
+          (λ s e. subst (λ (w : Option Message). Knows s records session.heard (session.current s)
+          (under.begun s) w (row_of old s))
           (sym (at_other slot s (Some m) under.waiting e)) (stands s))

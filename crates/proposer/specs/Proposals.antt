@@ -60,7 +60,8 @@ completes q promises p =
 
 -- Phase 2 (a), 'if the proposer receives a response from a majority of acceptors': then a bag is
 -- proposed, once.
-unfoldable pub proposal : QuorumSystem → Option BagId → List PromiseFrom → PromiseFrom → Option BagId
+unfoldable pub proposal :
+    QuorumSystem → Option BagId → List PromiseFrom → PromiseFrom → Option BagId
 proposal q own promises p =
     if completes q promises p then bag_of (highest_prior (promises ++ p ∷ [])) own else None
 
@@ -71,4 +72,6 @@ abbrev pub ready :
     → BallotNumber → PromiseFrom → Option BagId
 ready q own slot None heard ballot p = None
 ready q own slot (Some current) heard ballot p =
-    if same_ballot current.ballot ballot then proposal q own (gathered slot current heard) p else None
+    if same_ballot current.ballot ballot
+    then proposal q own (gathered slot current heard) p
+    else None

@@ -1,5 +1,6 @@
 -- What a proposer knows of each slot.
-use Rattle.std.specs.Prelude.{◌≡◌, ◌≤◌, ℕ, List, [], length, Option, Some, None, box_value, option_map}
+use Rattle.std.specs.Prelude.{◌≡◌, ◌≤◌, ℕ, List, [], length, Option, Some, None, box_value}
+use Rattle.std.specs.Prelude.{option_map}
 use Rattle.fed_types.specs.declared.bag_id.BagId.{BagId}
 use Rattle.fed_types.specs.Ballots.{BallotNumber}
 use Rattle.fed_types.specs.Lists.{is_in}
@@ -83,7 +84,8 @@ abbrev pub waiting_in : SlotName → Option Round → Option Message
 waiting_in slot None = None
 waiting_in slot (Some round) = waiting_as slot round.ballot round.waiting
 
--- the row knows what records and messages say of the slot, its current ballot, and what is under way
+-- the row knows what records and messages say of the slot, its current ballot, and what is under
+-- way
 pub record Knows
     (slot : SlotName) (records : List Record) (heard : List Message) (c : Option Current)
     (next : Option BallotNumber) (m : Option Message) (row : Row)

@@ -34,7 +34,8 @@ abbrev pub hears : Session → Message → Session
 hears session m = record { heard = session.heard ++ m ∷ []; current = session.current }
 
 -- at this slot one thing is given, at others what was there
-abbrev pub at_slot : {X : Type 0} → SlotName → Option X → (SlotName → Option X) → SlotName → Option X
+abbrev pub at_slot :
+    {X : Type 0} → SlotName → Option X → (SlotName → Option X) → SlotName → Option X
 at_slot slot x others s = if same_slot slot s then x else others s
 
 -- this ballot is the slot's current one: no promise for it has been heard since

@@ -1,14 +1,19 @@
-ghost use Rattle.std.specs.Prelude.{◌≡◌, ℕ, max, ◌++◌, ◌∷◌, [], List, Some, None, Err, OnOk, OnErr, IfOk, IsOk, IsSome};
+ghost use Rattle.std.specs.Prelude.{◌≡◌, ℕ, max, ◌++◌, ◌∷◌, [], List, Some, None, Err};
+ghost use Rattle.std.specs.Prelude.{OnOk, OnErr, IfOk, IsOk, IsSome};
 ghost use Rattle.fed_types.specs.Ballots.{BallotNumber};
 ghost use Rattle.fed_types.specs.Slots.{SlotName};
 ghost use Rattle.records.specs.declared.record.Record.{Record as declared_record};
 ghost use Rattle.records.specs.Words.{deposit_of};
 ghost use Rattle.slot_table.specs.Rows.{row_at, IsWith};
 ghost use Rattle.proposer.specs.Proposals.{next_ballot, ready, ballot_after};
-ghost use Rattle.proposer.specs.Sessions.{Session, UnderWay, new_session, nothing, begins, hears, promise_message, refusal_message, heard_after, waiting_after, heard_if, waits, issued_by, issued_if, under_way_if};
+ghost use Rattle.proposer.specs.Sessions.{Session, UnderWay, new_session, nothing, begins};
+ghost use Rattle.proposer.specs.Sessions.{promise_message, heard_after, waiting_after};
+ghost use Rattle.proposer.specs.Sessions.{hears, refusal_message, heard_if, waits};
+ghost use Rattle.proposer.specs.Sessions.{issued_by, issued_if, under_way_if};
 ghost use Rattle.proposer.specs.Faults.{next_or_spent, IsOrMemory};
 ghost use Rattle.proposer.specs.Rows.{StandsFor, IsOfSameSite, row_of};
-ghost use Rattle.proposer.specs.inner.Rows.{BeginsAt, HeardAt, IssuesAt, with_begun, with_floor, noted_row};
+ghost use Rattle.proposer.specs.inner.Rows.{BeginsAt, HeardAt, IssuesAt};
+ghost use Rattle.proposer.specs.inner.Rows.{with_begun, with_floor, noted_row};
 
 use crate::fault::ProposeFault;
 use crate::round::{Promise, Round};
@@ -63,9 +68,9 @@ impl<Q: Quorums + Drop> Proposer<Q> {
     }
 
     /// Begins the slot's next ballot, to propose this bag, the site's deposit, where no vote stands
-    /// in the way. The ballot becomes current once its Round record is noted, which takes no memory.
-    /// `RoundsSpent` where the greatest round was used or stood in the way; else `Memory` where an
-    /// allocation fails.
+    /// in the way. The ballot becomes current once its Round record is noted, which takes no
+    /// memory. `RoundsSpent` where the greatest round was used or stood in the way; else `Memory`
+    /// where an allocation fails.
     pub fn begin(&mut self, slot: &Slot, own: BagId) -> Result<Ballot, ProposeFault>
         ensures answer { (records : List declared_record) (session : Session) (under : UnderWay)
             → StandsFor self.old.rows records session under → IsOrMemory result

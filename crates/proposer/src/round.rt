@@ -1,7 +1,8 @@
 ghost use Rattle.std.specs.Prelude.{◌≡◌, Some};
 ghost use Rattle.proposer.specs.Proposals.{bag_or};
 ghost use Rattle.proposer.specs.Rows.{fresh};
-ghost use Rattle.proposer.specs.inner.Rounds.{counted, higher_prior, becomes_quorum, round_after, bag_after, after_promise, given_bag, issued};
+ghost use Rattle.proposer.specs.inner.Rounds.{counted, higher_prior, becomes_quorum, issued};
+ghost use Rattle.proposer.specs.inner.Rounds.{round_after, bag_after, after_promise, given_bag};
 
 use fed_types::{BagId, Ballot, Quorums, SiteNo, Vote, Voters};
 
@@ -46,8 +47,10 @@ impl Round {
         ballot: Ballot,
         promise: Promise,
     ) -> Option<BagId>
-        ensures round { Some self.new ≡ after_promise (Q.quorum_system members.now) ballot promise (Some self.old) }
-        ensures bag { result ≡ given_bag (Q.quorum_system members.now) ballot promise (Some self.old) }
+        ensures round { Some self.new
+            ≡ after_promise (Q.quorum_system members.now) ballot promise (Some self.old) }
+        ensures bag { result
+            ≡ given_bag (Q.quorum_system members.now) ballot promise (Some self.old) }
     {
         if self.ballot == ballot {
             self.promise(members, promise)

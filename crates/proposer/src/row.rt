@@ -1,6 +1,5 @@
 ghost use Rattle.std.specs.Prelude.{◌≡◌, max, Some};
 ghost use Rattle.proposer.specs.Rows.{empty_row, begun_in};
-ghost use Rattle.proposer.specs.inner.Rounds.{given_bag};
 ghost use Rattle.proposer.specs.inner.Rows.{noted_row, is_of_round, HeardPromise, IssuesWaiting};
 
 use crate::round::{Promise, Round};
@@ -48,7 +47,8 @@ impl Row {
         ballot: Ballot,
         promise: Promise,
     ) -> Option<BagId>
-        ensures { HeardPromise (Q.quorum_system members.now) ballot promise self.old self.new result }
+        ensures { HeardPromise (Q.quorum_system members.now) ballot promise self.old self.new
+            result }
     {
         match &mut self.current {
             Some(round) => round.promise_for(members, ballot, promise),

@@ -61,7 +61,8 @@ noted_row row entry = with_round row (if_some round_in entry)
 
 -- in the rows only this slot's row hears it, and gives the bag
 abbrev pub HeardAt :
-    QuorumSystem → BallotNumber → Promise → (old new : tables.Rows Row) → SlotName → Option BagId → Type 0
+    QuorumSystem → BallotNumber → Promise → (old new : tables.Rows Row) → SlotName
+    → Option BagId → Type 0
 HeardAt q ballot p old new slot given =
     OnlyAt old new slot × HeardPromise q ballot p (row_of old slot) (row_of new slot) given
 

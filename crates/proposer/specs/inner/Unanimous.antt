@@ -12,17 +12,20 @@ all_three a b c = record {
 }
 
 pub meet : (a b c : ℕ) → QuorumsMeet (all_three a b c)
-meet a b c xs ys p q = (a, here refl, (is_in_decides xs a).0 (first xs p), (is_in_decides ys a).0 (first ys q))
+meet a b c xs ys p q =
+    (a, here refl, (is_in_decides xs a).0 (first xs p), (is_in_decides ys a).0 (first ys q))
   where
     first : (zs : List ℕ) → ((is_in zs a && is_in zs b) && is_in zs c) ≡ true → is_in zs a ≡ true
-    first zs h = (and_parts (is_in zs a) (is_in zs b) (and_parts (is_in zs a && is_in zs b) (is_in zs c) h).0).0
+    first zs h = (and_parts (is_in zs a) (is_in zs b)
+        (and_parts (is_in zs a && is_in zs b) (is_in zs c) h).0).0
 
 pub grow : (a b c : ℕ) → QuorumGrows (all_three a b c)
 grow a b c xs ys p more =
     let outer = and_parts (is_in xs a && is_in xs b) (is_in xs c) p in
     let inner = and_parts (is_in xs a) (is_in xs b) outer.0 in
     and_from (is_in ys a && is_in ys b) (is_in ys c)
-    (and_from (is_in ys a) (is_in ys b) (kept a (here refl) inner.0) (kept b (there (here refl)) inner.1))
+    (and_from (is_in ys a) (is_in ys b) (kept a (here refl) inner.0)
+    (kept b (there (here refl)) inner.1))
     (kept c (there (there (here refl))) outer.1)
   where
     kept : (n : ℕ) → Has n (a ∷ b ∷ c ∷ []) → is_in xs n ≡ true → is_in ys n ≡ true

@@ -7,5 +7,6 @@ pub returns-clause-noted : goal.returns-clause-noted
 returns-clause-noted g c records session under stands =
     noted_stands c.args.self.now.rows c.self.inside.table c.note_in.new.table c.args.new.now
     records session under
-    (λ s. ap (λ (p : Proposing g.row.Q.Denot). row_of p.rows s) c.self.view_is ∙ c.reserve.ensures.same s)
+    (λ s. ap (λ (p : Proposing g.row.Q.Denot). row_of p.rows s) c.self.view_is
+    ∙ c.reserve.ensures.same s)
     c.note_in.ensures stands
