@@ -21,11 +21,12 @@ use Rattle.dgram.specs.Heard.{body_in, PromiseFrom, promise_in, promisers, prior
 use Rattle.dgram.proofs.Heard.{priors-append}
 use Rattle.proposer.specs.declared.round.Promise.{Promise}
 use Rattle.proposer.specs.declared.round.Round.{Round}
-use Rattle.proposer.specs.Proposals.{Current, gathered, highest_prior, bag_of, bag_or, completes}
+use Rattle.proposer.specs.Proposals.{Current, gathered, highest_prior, bag_of, completes}
 use Rattle.proposer.specs.Proposals.{proposal, ready}
 use Rattle.proposer.specs.Sessions.{promise_message}
 use Rattle.proposer.specs.Rows.{Counts, CountsFor, waiting_in}
-use Rattle.proposer.specs.inner.Rounds.{higher_prior, counted, is_ready, given_bag, after_promise}
+use Rattle.proposer.specs.inner.Rounds.{bag_or, higher_prior, counted, is_ready, given_bag}
+use Rattle.proposer.specs.inner.Rounds.{after_promise}
 use Rattle.proposer.proofs.Gathered.{one_of, gathered-push}
 use Rattle.proposer.proofs.Known.{longer, counts_same}
 
@@ -82,25 +83,25 @@ module _ (slot : SlotName) (from : ℕ) (ballot : BallotNumber) (prior : Option 
   abbrev m : Message
   m = promise_message slot from ballot prior
 
-  abbrev told : PromiseFrom
-  told = record { site = from; prior = prior }
+  abbrev named : PromiseFrom
+  named = record { site = from; prior = prior }
 
   abbrev p : Promise
   p = record { site = from; prior = prior }
 
   -- what the message is for a ballot
   promise_is : (b : BallotNumber)
-      → if_some (promise_in b) (body_in slot m) ≡ cond (same_ballot ballot b) (Some told) None
+      → if_some (promise_in b) (body_in slot m) ≡ cond (same_ballot ballot b) (Some named) None
   promise_is b = ap (λ (t : Bool). if_some (promise_in b) (cond t (Some m.body) None))
       ((same_slot_decides slot slot).1 refl)
 
   gathered_more : (c : Current) (round : Round) → Counts slot own heard c round
       → same_ballot round.ballot ballot ≡ true
-      → gathered slot c (heard ++ m ∷ []) ≡ gathered slot c heard ++ told ∷ []
+      → gathered slot c (heard ++ m ∷ []) ≡ gathered slot c heard ++ named ∷ []
   gathered_more c round h same =
       gathered-push slot c heard m h.within
       ∙ ap (λ (o : Option PromiseFrom). gathered slot c heard ++ one_of o)
-      (promise_is c.ballot ∙ ap (λ (t : Bool). cond t (Some told) None)
+      (promise_is c.ballot ∙ ap (λ (t : Bool). cond t (Some named) None)
       (flip ballot c.ballot ∙ ap (λ (b : BallotNumber). same_ballot b ballot) (sym h.ballot)
       ∙ same))
 
@@ -114,10 +115,10 @@ module _ (slot : SlotName) (from : ℕ) (ballot : BallotNumber) (prior : Option 
         voters = λ n.
             is_in-with_voter round.voters from n
             ∙ ap (λ (t : Bool). from == n || t) (h.voters n)
-            ∙ sym (promisers-push (gathered slot c heard) told n)
+            ∙ sym (promisers-push (gathered slot c heard) named n)
             ∙ ap (λ (ps : List PromiseFrom). is_in (promisers ps) n) (sym more);
         best = ap (λ (o : Option Vote). higher_prior o prior) h.best
-            ∙ sym (highest-push (gathered slot c heard) told)
+            ∙ sym (highest-push (gathered slot c heard) named)
             ∙ ap highest_prior (sym more);
         own = h.own;
         within = let l = longer heard m in let o = h.within in omega (arith, l);
@@ -126,23 +127,24 @@ module _ (slot : SlotName) (from : ℕ) (ballot : BallotNumber) (prior : Option 
   -- the proposal, by the round
   proposal_is : (q : QuorumSystem) → AreQuorums q → (c : Current) (round : Round)
       → Counts slot own heard c round
-      → proposal q own (gathered slot c heard) told
+      → proposal q own (gathered slot c heard) named
       ≡ cond (is_ready q round p) (Some (bag_or (higher_prior round.best prior) round.own)) None
   unfolding proposal
   proposal_is q laws c round h =
       ap (λ (t : Bool). cond (t && not (q.is_quorum (promisers (gathered slot c heard))))
-      (bag_of (highest_prior (gathered slot c heard ++ told ∷ [])) own) None)
-      (same_quorum q (promisers (gathered slot c heard ++ told ∷ [])) (with_voter round.voters from)
+      (bag_of (highest_prior (gathered slot c heard ++ named ∷ [])) own) None)
+      (same_quorum q (promisers (gathered slot c heard ++ named ∷ []))
+      (with_voter round.voters from)
       laws
-      (λ n. promisers-push (gathered slot c heard) told n
+      (λ n. promisers-push (gathered slot c heard) named n
       ∙ ap (λ (t : Bool). from == n || t) (sym (h.voters n))
       ∙ sym (is_in-with_voter round.voters from n)))
       ∙ ap (λ (t : Bool). cond (q.is_quorum (with_voter round.voters from) && not t)
-      (bag_of (highest_prior (gathered slot c heard ++ told ∷ [])) own) None)
+      (bag_of (highest_prior (gathered slot c heard ++ named ∷ [])) own) None)
       (same_quorum q (promisers (gathered slot c heard)) round.voters laws (λ n. sym (h.voters n)))
       ∙ ap (λ (o : Option BagId). cond (is_ready q round p) o None)
       (ap (λ (o : Option Vote). bag_of o own)
-      (highest-push (gathered slot c heard) told
+      (highest-push (gathered slot c heard) named
       ∙ ap (λ (o : Option Vote). higher_prior o prior) (sym h.best))
       ∙ ap (bag_of (higher_prior round.best prior)) h.own
       ∙ bag_of_own (higher_prior round.best prior) round.own)
@@ -150,7 +152,7 @@ module _ (slot : SlotName) (from : ℕ) (ballot : BallotNumber) (prior : Option 
   -- the bag that a row gives is the one to propose
   pub gives_ready : (q : QuorumSystem) → AreQuorums q → (c : Option Current) (o : Option Round)
       → CountsFor slot own heard c o
-      → given_bag q ballot p o ≡ ready q own slot c heard ballot told
+      → given_bag q ballot p o ≡ ready q own slot c heard ballot named
   gives_ready q laws None None h = refl
   gives_ready q laws None (Some round) h = absurd h
   gives_ready q laws (Some c) None h = absurd h
@@ -158,7 +160,7 @@ module _ (slot : SlotName) (from : ℕ) (ballot : BallotNumber) (prior : Option 
       ap (λ (x : Option BagId). cond (same_ballot round.ballot ballot) x None)
       (sym (proposal_is q laws c round h))
       ∙ ap (λ (b : BallotNumber). cond (same_ballot b ballot)
-      (proposal q own (gathered slot c heard) told) None) h.ballot
+      (proposal q own (gathered slot c heard) named) None) h.ballot
 
   -- what a row becomes, by whether it gives a bag
   abbrev pub After : Option Current → Option Message → Option Round → Option BagId → Type 0
@@ -201,7 +203,7 @@ module _ (slot : SlotName) (from : ℕ) (ballot : BallotNumber) (prior : Option 
       go true false same = (counts_more c round h same, e)
       go false u differ = (
         counts_same slot own heard m (Some c) (Some round)
-            (promise_is c.ballot ∙ ap (λ (t : Bool). cond t (Some told) None)
+            (promise_is c.ballot ∙ ap (λ (t : Bool). cond t (Some named) None)
             (flip ballot c.ballot ∙ ap (λ (b : BallotNumber). same_ballot b ballot)
             (sym h.ballot) ∙ differ))
             h,

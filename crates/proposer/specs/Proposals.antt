@@ -42,24 +42,19 @@ gathered slot current heard =
 unfoldable pub highest_prior : List PromiseFrom → Option Vote
 highest_prior promises = highest (λ v. v.ballot) (priors promises)
 
--- P2c, the value: that of the highest-numbered proposal, 'or any value if the responses reported no
--- proposals': the site's own deposit
+-- P2c, the value: that of the highest-numbered proposal, 'or is any value if the responses reported
+-- no proposals': the site's own deposit
 abbrev pub bag_of : Option Vote → Option BagId → Option BagId
 bag_of None own = own
 bag_of (Some prior) own = Some prior.bag
-
--- the same where the deposit is known
-abbrev pub bag_or : Option Vote → BagId → BagId
-bag_or None own = own
-bag_or (Some prior) own = prior.bag
 
 -- with one promise more they are of a quorum, and without it they aren't
 abbrev pub completes : QuorumSystem → List PromiseFrom → PromiseFrom → Bool
 completes q promises p =
     q.is_quorum (promisers (promises ++ p ∷ [])) && not (q.is_quorum (promisers promises))
 
--- Phase 2 (a), 'if the proposer receives a response from a majority of acceptors': then a bag is
--- proposed, once.
+-- Phase 2 (a), 'if the proposer receives a response to its prepare requests (numbered n) from a
+-- majority of acceptors': then a bag is proposed, once.
 unfoldable pub proposal :
     QuorumSystem → Option BagId → List PromiseFrom → PromiseFrom → Option BagId
 proposal q own promises p =

@@ -1,8 +1,8 @@
 ghost use Rattle.std.specs.Prelude.{◌≡◌, Some};
-ghost use Rattle.proposer.specs.Proposals.{bag_or};
 ghost use Rattle.proposer.specs.Rows.{fresh};
 ghost use Rattle.proposer.specs.inner.Rounds.{counted, higher_prior, becomes_quorum, issued};
-ghost use Rattle.proposer.specs.inner.Rounds.{round_after, bag_after, after_promise, given_bag};
+ghost use Rattle.proposer.specs.inner.Rounds.{round_after, bag_or, bag_after, after_promise};
+ghost use Rattle.proposer.specs.inner.Rounds.{given_bag};
 
 use fed_types::{BagId, Ballot, Quorums, SiteNo, Vote, Voters};
 

@@ -8,7 +8,6 @@ use Rattle.fed_types.specs.Voters.{with_voter}
 use Rattle.records.specs.Words.{higher, with_one}
 use Rattle.proposer.specs.declared.round.Promise.{Promise}
 use Rattle.proposer.specs.declared.round.Round.{Round}
-use Rattle.proposer.specs.Proposals.{bag_or}
 
 -- the vote of the greater ballot, of equal ones the first
 abbrev pub higher_prior : Option Vote → Option Vote → Option Vote
@@ -37,6 +36,11 @@ with_waiting round p = record {
 -- a quorum, and none before
 abbrev pub becomes_quorum : QuorumSystem → (before voters : List ℕ) → Bool
 becomes_quorum q before voters = q.is_quorum voters && not (q.is_quorum before)
+
+-- the bag of the vote, or the site's own one
+abbrev pub bag_or : Option Vote → BagId → BagId
+bag_or None own = own
+bag_or (Some prior) own = prior.bag
 
 -- whether this promise makes the proposal ready
 abbrev pub is_ready : QuorumSystem → Round → Promise → Bool
