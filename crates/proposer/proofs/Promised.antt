@@ -1,0 +1,211 @@
+-- One promise more.
+use Rattle.std.proofs.Common.{◌≡◌, ℕ, Bool, true, false, cond, not, ◌||◌, ◌&&◌, refl, sym, ap}
+use Rattle.std.proofs.Common.{subst, ◌∙◌, List, [], ◌∷◌, ◌++◌, length, Option, None, Some, arith}
+use Rattle.std.specs.Prelude.{◌==◌, fold, filter_map}
+use Rattle.std.specs.List.{cons_option}
+use Rattle.std.proofs.lemmas.List.Sums.{fold-append}
+use Rattle.fed_types.specs.declared.bag_id.BagId.{BagId}
+use Rattle.fed_types.specs.declared.vote.Vote.{Vote}
+use Rattle.fed_types.specs.Ballots.{BallotNumber, same_ballot}
+use Rattle.fed_types.specs.Lists.{is_in}
+use Rattle.fed_types.specs.Quorums.{QuorumSystem, AreQuorums}
+use Rattle.fed_types.specs.Slots.{SlotName, same_slot}
+use Rattle.fed_types.specs.Voters.{with_voter}
+use Rattle.fed_types.specs.Laws.Ballots.{same_ballot_decides}
+use Rattle.fed_types.specs.Laws.Quorums.{same_quorum}
+use Rattle.fed_types.specs.Laws.Slots.{same_slot_decides}
+use Rattle.fed_types.specs.Laws.Voters.{is_in-with_voter}
+use Rattle.records.specs.Words.{higher, with_one, if_some}
+use Rattle.dgram.specs.declared.message.Message.{Message}
+use Rattle.dgram.specs.Heard.{body_in, PromiseFrom, promise_in, promisers, priors}
+use Rattle.dgram.proofs.Heard.{priors-append}
+use Rattle.proposer.specs.declared.round.Promise.{Promise}
+use Rattle.proposer.specs.declared.round.Round.{Round}
+use Rattle.proposer.specs.Proposals.{Current, gathered, highest_prior, bag_of, completes}
+use Rattle.proposer.specs.Proposals.{proposal, ready}
+use Rattle.proposer.specs.Sessions.{promise_message}
+use Rattle.proposer.specs.Rows.{Counts, CountsFor, waiting_in}
+use Rattle.proposer.specs.inner.Rounds.{bag_or, higher_prior, counted, is_ready, given_bag}
+use Rattle.proposer.specs.inner.Rounds.{after_promise}
+use Rattle.proposer.proofs.Gathered.{one_of, gathered-push}
+use Rattle.proposer.proofs.Known.{longer, counts_same}
+
+-- who promises, with one more
+promisers-push : (ps : List PromiseFrom) (p : PromiseFrom) (n : ℕ)
+    → is_in (promisers (ps ++ p ∷ [])) n ≡ (p.site == n || is_in (promisers ps) n)
+unfolding promisers is_in
+promisers-push [] p n = refl
+promisers-push (r ∷ ps) p n =
+    ap (λ (t : Bool). r.site == n || t) (promisers-push ps p n)
+    ∙ go (r.site == n) (p.site == n) (is_in (promisers ps) n)
+  where
+    go : (x y t : Bool) → (x || (y || t)) ≡ (y || (x || t))
+    go true true t = refl
+    go true false t = refl
+    go false true t = refl
+    go false false t = refl
+
+-- the highest vote, with one promise more
+highest-push : (ps : List PromiseFrom) (p : PromiseFrom)
+    → highest_prior (ps ++ p ∷ []) ≡ higher_prior (highest_prior ps) p.prior
+unfolding highest_prior priors
+highest-push ps p =
+    ap (fold (higher (λ (v : Vote). v.ballot)) None) (priors-append ps (p ∷ []))
+    ∙ fold-append (higher (λ (v : Vote). v.ballot)) None
+    (filter_map (λ (r : PromiseFrom). r.prior) ps) (cons_option p.prior [])
+    ∙ go p.prior
+  where
+    go : (o : Option Vote)
+        → fold (higher (λ (v : Vote). v.ballot))
+        (fold (higher (λ (v : Vote). v.ballot)) None
+        (filter_map (λ (r : PromiseFrom). r.prior) ps)) (cons_option o [])
+        ≡ with_one (higher (λ (v : Vote). v.ballot))
+        (fold (higher (λ (v : Vote). v.ballot)) None
+        (filter_map (λ (r : PromiseFrom). r.prior) ps)) o
+    go None = refl
+    go (Some v) = refl
+
+bag_of_own : (o : Option Vote) (own : BagId) → bag_of o (Some own) ≡ Some (bag_or o own)
+bag_of_own None own = refl
+bag_of_own (Some v) own = refl
+
+flip : (a b : BallotNumber) → same_ballot a b ≡ same_ballot b a
+flip a b = go (same_ballot a b) (same_ballot b a) refl refl
+  where
+    go : (s t : Bool) → same_ballot a b ≡ s → same_ballot b a ≡ t → s ≡ t
+    go true true e f = refl
+    go false false e f = refl
+    go true false e f = sym ((same_ballot_decides b a).1 (sym ((same_ballot_decides a b).0 e))) ∙ f
+    go false true e f = sym e ∙ (same_ballot_decides a b).1 (sym ((same_ballot_decides b a).0 f))
+
+module _ (slot : SlotName) (from : ℕ) (ballot : BallotNumber) (prior : Option Vote)
+    (own : Option BagId) (heard : List Message) where
+  abbrev m : Message
+  m = promise_message slot from ballot prior
+
+  abbrev named : PromiseFrom
+  named = record { site = from; prior = prior }
+
+  abbrev p : Promise
+  p = record { site = from; prior = prior }
+
+  -- what the message is for a ballot
+  promise_is : (b : BallotNumber)
+      → if_some (promise_in b) (body_in slot m) ≡ cond (same_ballot ballot b) (Some named) None
+  promise_is b = ap (λ (t : Bool). if_some (promise_in b) (cond t (Some m.body) None))
+      ((same_slot_decides slot slot).1 refl)
+
+  gathered_more : (c : Current) (round : Round) → Counts slot own heard c round
+      → same_ballot round.ballot ballot ≡ true
+      → gathered slot c (heard ++ m ∷ []) ≡ gathered slot c heard ++ named ∷ []
+  gathered_more c round h same =
+      gathered-push slot c heard m h.within
+      ∙ ap (λ (o : Option PromiseFrom). gathered slot c heard ++ one_of o)
+      (promise_is c.ballot ∙ ap (λ (t : Bool). cond t (Some named) None)
+      (flip ballot c.ballot ∙ ap (λ (b : BallotNumber). same_ballot b ballot) (sym h.ballot)
+      ∙ same))
+
+  pub counts_more : (c : Current) (round : Round) → Counts slot own heard c round
+      → same_ballot round.ballot ballot ≡ true
+      → Counts slot own (heard ++ m ∷ []) c (counted round p)
+  counts_more c round h same =
+      let more = gathered_more c round h same in
+      record {
+        ballot = h.ballot;
+        voters = λ n.
+            is_in-with_voter round.voters from n
+            ∙ ap (λ (t : Bool). from == n || t) (h.voters n)
+            ∙ sym (promisers-push (gathered slot c heard) named n)
+            ∙ ap (λ (ps : List PromiseFrom). is_in (promisers ps) n) (sym more);
+        best = ap (λ (o : Option Vote). higher_prior o prior) h.best
+            ∙ sym (highest-push (gathered slot c heard) named)
+            ∙ ap highest_prior (sym more);
+        own = h.own;
+        within = let l = longer heard m in let o = h.within in omega (arith, l);
+      }
+
+  -- the proposal, by the round
+  proposal_is : (q : QuorumSystem) → AreQuorums q → (c : Current) (round : Round)
+      → Counts slot own heard c round
+      → proposal q own (gathered slot c heard) named
+      ≡ cond (is_ready q round p) (Some (bag_or (higher_prior round.best prior) round.own)) None
+  unfolding proposal
+  proposal_is q laws c round h =
+      ap (λ (t : Bool). cond (t && not (q.is_quorum (promisers (gathered slot c heard))))
+      (bag_of (highest_prior (gathered slot c heard ++ named ∷ [])) own) None)
+      (same_quorum q (promisers (gathered slot c heard ++ named ∷ []))
+      (with_voter round.voters from)
+      laws
+      (λ n. promisers-push (gathered slot c heard) named n
+      ∙ ap (λ (t : Bool). from == n || t) (sym (h.voters n))
+      ∙ sym (is_in-with_voter round.voters from n)))
+      ∙ ap (λ (t : Bool). cond (q.is_quorum (with_voter round.voters from) && not t)
+      (bag_of (highest_prior (gathered slot c heard ++ named ∷ [])) own) None)
+      (same_quorum q (promisers (gathered slot c heard)) round.voters laws (λ n. sym (h.voters n)))
+      ∙ ap (λ (o : Option BagId). cond (is_ready q round p) o None)
+      (ap (λ (o : Option Vote). bag_of o own)
+      (highest-push (gathered slot c heard) named
+      ∙ ap (λ (o : Option Vote). higher_prior o prior) (sym h.best))
+      ∙ ap (bag_of (higher_prior round.best prior)) h.own
+      ∙ bag_of_own (higher_prior round.best prior) round.own)
+
+  -- the bag that a row gives is the one to propose
+  pub gives_ready : (q : QuorumSystem) → AreQuorums q → (c : Option Current) (o : Option Round)
+      → CountsFor slot own heard c o
+      → given_bag q ballot p o ≡ ready q own slot c heard ballot named
+  gives_ready q laws None None h = refl
+  gives_ready q laws None (Some round) h = absurd h
+  gives_ready q laws (Some c) None h = absurd h
+  gives_ready q laws (Some c) (Some round) h =
+      ap (λ (x : Option BagId). cond (same_ballot round.ballot ballot) x None)
+      (sym (proposal_is q laws c round h))
+      ∙ ap (λ (b : BallotNumber). cond (same_ballot b ballot)
+      (proposal q own (gathered slot c heard) named) None) h.ballot
+
+  -- what a row becomes, by whether it gives a bag
+  abbrev pub After : Option Current → Option Message → Option Round → Option BagId → Type 0
+  After c w o None = CountsFor slot own (heard ++ m ∷ []) c o × (waiting_in slot o ≡ w)
+  After c w o (Some bag) = CountsFor slot own heard c o × (waiting_in slot o ≡ Some m)
+
+  pub after_is : (q : QuorumSystem) (c : Option Current) (w : Option Message) (o : Option Round)
+      → CountsFor slot own heard c o → waiting_in slot o ≡ w
+      → After c w (after_promise q ballot p o) (given_bag q ballot p o)
+  after_is q None w None h e = (h, e)
+  after_is q None w (Some round) h e = absurd h
+  after_is q (Some c) w None h e = absurd h
+  after_is q (Some c) w (Some round) h e = go (same_ballot round.ballot ballot) (is_ready q round p)
+      refl
+    where
+      go : (t u : Bool) → same_ballot round.ballot ballot ≡ t
+          → After (Some c) w
+          (Some (cond t (cond u (record {
+            ballot = round.ballot;
+            own = round.own;
+            voters =
+                round.voters;
+            best = round.best;
+            waiting = Some p;
+          }) (counted round p)) round))
+          (cond t (cond u (Some (bag_or (higher_prior round.best prior) round.own)) None) None)
+      go true true same = (
+        record {
+          ballot = h.ballot;
+          voters = h.voters;
+          best = h.best;
+          own =
+              h.own;
+          within = h.within;
+        },
+        ap
+            (λ (b : BallotNumber). Some (promise_message slot from b prior))
+            ((same_ballot_decides round.ballot ballot).0 same),
+      )
+      go true false same = (counts_more c round h same, e)
+      go false u differ = (
+        counts_same slot own heard m (Some c) (Some round)
+            (promise_is c.ballot ∙ ap (λ (t : Bool). cond t (Some named) None)
+            (flip ballot c.ballot ∙ ap (λ (b : BallotNumber). same_ballot b ballot)
+            (sym h.ballot) ∙ differ))
+            h,
+        e,
+      )

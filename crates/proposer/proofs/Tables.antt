@@ -1,0 +1,72 @@
+-- From one slot's row to what is known of every slot.
+use Rattle.std.proofs.Common.{◌≡◌, Bool, true, false, cond, refl, sym, ap, subst, ◌∙◌, List, Option}
+use Rattle.std.proofs.Common.{None, Some}
+use Rattle.fed_types.specs.Ballots.{BallotNumber}
+use Rattle.fed_types.specs.Slots.{SlotName, same_slot}
+use Rattle.fed_types.specs.Laws.Slots.{same_slot_decides}
+use Rattle.records.specs.declared.record.Record.{Record}
+use Rattle.dgram.specs.declared.message.Message.{Message}
+use Rattle.slot_table.specs.Rows.{Rows, row_at, row_or, IsWith}
+use Rattle.proposer.specs.declared.row.Row.{Row}
+use Rattle.proposer.specs.Proposals.{Current}
+use Rattle.proposer.specs.Sessions.{Session, UnderWay}
+use Rattle.proposer.specs.Rows.{Knows, StandsFor, row_of, empty_row}
+use Rattle.proposer.specs.inner.Rows.{OnlyAt}
+
+-- one slot's row is this one, and the others are as before
+abbrev pub PutsAt : (old new : Rows Row) → SlotName → Row → Type 0
+PutsAt old new slot row = (s : SlotName) → row_of new s ≡ cond (same_slot slot s) row (row_of old s)
+
+-- the row that was put in
+pub row_there : (old new : Rows Row) (slot : SlotName) (row : Row) → PutsAt old new slot row
+    → row_of new slot ≡ row
+row_there old new slot row puts =
+    puts slot ∙ ap (λ (t : Bool). cond t row (row_of old slot))
+    ((same_slot_decides slot slot).1 refl)
+
+-- a row put into a table that says the same as another
+pub puts_at : (old mid new : Rows Row) (slot : SlotName) (row : Row)
+    → ((s : SlotName) → row_of mid s ≡ row_of old s) → IsWith mid new slot row
+    → PutsAt old new slot row
+puts_at old mid new slot row same put s = ap (row_or empty_row) (put s) ∙ go (same_slot slot s)
+  where
+    go : (t : Bool)
+        → row_or empty_row (cond t (Some row) (row_at mid s)) ≡ cond t row (row_of old s)
+    go true = refl
+    go false = same s
+
+pub only_at : (old new : Rows Row) (slot : SlotName) (row : Row) → PutsAt old new slot row
+    → OnlyAt old new slot
+only_at old new slot row puts s =
+    puts s ∙ ap (λ (r : Row). cond (same_slot slot s) r (row_of old s))
+    (sym (row_there old new slot row puts))
+
+-- what is known of the slot by its new row, and of each other slot by its old one
+pub stands_at : (old new : Rows Row) (slot : SlotName) (row : Row)
+    (records : List Record) (session : Session) (under : UnderWay) → PutsAt old new slot row
+    → Knows slot records session.heard (session.current slot) (under.begun slot)
+    (under.waiting slot) row
+    → ((s : SlotName) → same_slot slot s ≡ false
+    → Knows s records session.heard (session.current s) (under.begun s) (under.waiting s)
+    (row_of old s))
+    → StandsFor new records session under
+stands_at old new slot row records session under puts at others s =
+    subst (Knows s records session.heard (session.current s) (under.begun s) (under.waiting s))
+    (sym (puts s)) (go (same_slot slot s) refl)
+  where
+    go : (t : Bool) → same_slot slot s ≡ t
+        → Knows s records session.heard (session.current s) (under.begun s) (under.waiting s)
+        (cond t row (row_of old s))
+    go true e =
+        subst (λ (k : SlotName). Knows k records session.heard (session.current k) (under.begun k)
+        (under.waiting k) row)
+        ((same_slot_decides slot s).0 e) at
+    go false e = others s e
+
+-- tables that say the same
+pub same_stands : (old new : Rows Row) → ((s : SlotName) → row_of new s ≡ row_of old s)
+    → (records : List Record) (session : Session) (under : UnderWay)
+    → StandsFor old records session under → StandsFor new records session under
+same_stands old new same records session under stands s =
+    subst (Knows s records session.heard (session.current s) (under.begun s) (under.waiting s))
+    (sym (same s)) (stands s)

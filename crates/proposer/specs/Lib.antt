@@ -1,0 +1,5 @@
+pub mod Proposals
+pub mod Sessions
+pub mod Rows
+pub mod Faults
+pub mod inner

@@ -1,0 +1,104 @@
+-- What a proposer knows of each slot.
+use Rattle.std.specs.Prelude.{◌≡◌, ◌≤◌, ℕ, List, [], length, Option, Some, None, box_value}
+use Rattle.std.specs.Prelude.{option_map}
+use Rattle.fed_types.specs.declared.bag_id.BagId.{BagId}
+use Rattle.fed_types.specs.Ballots.{BallotNumber}
+use Rattle.fed_types.specs.Lists.{is_in}
+use Rattle.fed_types.specs.Slots.{SlotName}
+use Rattle.records.specs.declared.record.Record.{Record}
+use Rattle.records.specs.Words.{used_of, deposit_of}
+use Rattle.dgram.specs.declared.body.Body.TheVariants.{Promise}
+use Rattle.dgram.specs.declared.message.Message.{Message}
+use Rattle.dgram.specs.Heard.{bodies_of, floor_of, promisers}
+use Rattle.slot_table.specs.Rows as tables
+use Rattle.proposer.specs.declared.round.Promise.{Promise as Waiting}
+use Rattle.proposer.specs.declared.round.Round.{Round}
+use Rattle.proposer.specs.declared.row.Row.{Row}
+use Rattle.proposer.specs.Proposals.{Current, gathered, highest_prior}
+use Rattle.proposer.specs.Sessions.{Session, UnderWay}
+
+-- the membership, the own site, and the rows by slot
+pub record Proposing (M : Type 0) : Type 0 where
+  pub members : M
+  pub site : ℕ
+  pub rows : tables.Rows Row
+
+-- they are the same members and the same site's
+abbrev pub IsOfSameSite : {M : Type 0} → (old new : Proposing M) → Type 0
+IsOfSameSite old new = (new.members ≡ old.members) × (new.site ≡ old.site)
+
+-- of a slot without a row nothing was recorded or heard
+abbrev pub empty_row : Row
+empty_row = record { used = 0; floor = 0; begun = None; current = None }
+
+-- what is known of a slot
+abbrev pub row_of : tables.Rows Row → SlotName → Row
+row_of rows slot = tables.row_of empty_row rows slot
+
+-- the rounds of a row
+abbrev pub begun_in : Row → Option Round
+begun_in row = option_map box_value row.begun
+
+abbrev pub current_in : Row → Option Round
+current_in row = option_map box_value row.current
+
+-- a ballot that nobody has promised
+abbrev pub fresh : BallotNumber → BagId → Round
+fresh ballot own =
+    record { ballot = ballot; own = own; voters = []; best = None; waiting = None }
+
+-- the round of the ballot that was begun, with the site's deposit
+pub record Begins (deposit : Option BagId) (ballot : BallotNumber) (round : Round) : Type 0 where
+  pub is : round ≡ fresh ballot round.own
+  pub own : deposit ≡ Some round.own
+
+abbrev pub BeginsFor : Option BagId → Option BallotNumber → Option Round → Type 0
+BeginsFor own None None = Unit {0}
+BeginsFor own (Some ballot) (Some round) = Begins own ballot round
+BeginsFor own _ _ = ⊥
+
+-- the round of the current ballot: it counts the promises that were gathered
+pub record Counts
+    (slot : SlotName) (deposit : Option BagId) (heard : List Message) (c : Current)
+    (round : Round)
+    : Type 0 where
+  pub ballot : round.ballot ≡ c.ballot
+  pub voters : (n : ℕ) → is_in round.voters n ≡ is_in (promisers (gathered slot c heard)) n
+  pub best : round.best ≡ highest_prior (gathered slot c heard)
+  pub own : deposit ≡ Some round.own
+  pub within : c.since ≤ length heard
+
+abbrev pub CountsFor :
+    SlotName → Option BagId → List Message → Option Current → Option Round → Type 0
+CountsFor slot own heard None None = Unit {0}
+CountsFor slot own heard (Some c) (Some round) = Counts slot own heard c round
+CountsFor slot own heard _ _ = ⊥
+
+-- the promise that waits, as it was heard
+abbrev pub waiting_as : SlotName → BallotNumber → Option Waiting → Option Message
+waiting_as slot ballot None = None
+waiting_as slot ballot (Some p) =
+    Some (record { slot = slot; body = Promise p.site ballot p.prior })
+
+abbrev pub waiting_in : SlotName → Option Round → Option Message
+waiting_in slot None = None
+waiting_in slot (Some round) = waiting_as slot round.ballot round.waiting
+
+-- the row knows what records and messages say of the slot, its current ballot, and what is under
+-- way
+pub record Knows
+    (slot : SlotName) (records : List Record) (heard : List Message) (c : Option Current)
+    (next : Option BallotNumber) (m : Option Message) (row : Row)
+    : Type 0 where
+  pub used : row.used ≡ used_of slot records
+  pub floor : row.floor ≡ floor_of (bodies_of slot heard)
+  pub begun : BeginsFor (deposit_of slot records) next (begun_in row)
+  pub current : CountsFor slot (deposit_of slot records) heard c (current_in row)
+  pub waiting : waiting_in slot (current_in row) ≡ m
+
+-- so it is of every slot
+abbrev pub StandsFor : tables.Rows Row → List Record → Session → UnderWay → Type 0
+StandsFor rows records session under =
+    (slot : SlotName)
+    → Knows slot records session.heard (session.current slot) (under.begun slot)
+    (under.waiting slot) (row_of rows slot)

@@ -1,0 +1,98 @@
+-- What a proposer has of the time since its site was opened, and loses when the site goes down.
+use Rattle.std.specs.Prelude.{ℕ, ◌==◌, length, List, [], ◌∷◌, ◌++◌, Option, Some, None}
+use Rattle.std.specs.Prelude.{if◌then◌else◌}
+use Rattle.fed_types.specs.declared.bag_id.BagId.{BagId}
+use Rattle.fed_types.specs.declared.vote.Vote.{Vote}
+use Rattle.fed_types.specs.Ballots.{BallotNumber}
+use Rattle.fed_types.specs.Slots.{SlotName, same_slot}
+use Rattle.records.specs.declared.entry.Entry.{Entry}
+use Rattle.records.specs.declared.entry.Entry.TheVariants as entry
+use Rattle.records.specs.declared.record.Record.{Record}
+use Rattle.dgram.specs.declared.body.Body.TheVariants.{Promise, Refused}
+use Rattle.dgram.specs.declared.message.Message.{Message}
+use Rattle.proposer.specs.Proposals.{Current}
+
+-- the messages that were heard, and of each slot the current ballot
+pub record Session : Type 0 where
+  pub heard : List Message
+  pub current : SlotName → Option Current
+
+-- nothing was heard, and no ballot issued
+abbrev pub new_session : Session
+new_session = record { heard = []; current = λ slot. None }
+
+-- a promise, and a refusal, as messages
+abbrev pub promise_message : SlotName → ℕ → BallotNumber → Option Vote → Message
+promise_message slot from ballot prior = record { slot = slot; body = Promise from ballot prior }
+
+abbrev pub refusal_message : SlotName → ℕ → (asked standing : BallotNumber) → Message
+refusal_message slot from asked standing =
+    record { slot = slot; body = Refused from asked standing }
+
+-- one message more was heard
+abbrev pub hears : Session → Message → Session
+hears session m = record { heard = session.heard ++ m ∷ []; current = session.current }
+
+-- at this slot one thing is given, at others what was there
+abbrev pub at_slot :
+    {X : Type 0} → SlotName → Option X → (SlotName → Option X) → SlotName → Option X
+at_slot slot x others s = if same_slot slot s then x else others s
+
+-- this ballot is the slot's current one: no promise for it has been heard since
+abbrev pub issues : Session → SlotName → BallotNumber → Session
+issues session slot ballot = record {
+  heard = session.heard;
+  current = at_slot slot (Some (record { ballot = ballot; since = length session.heard }))
+      session.current;
+}
+
+-- What is under way, of each slot: a ballot that was begun, while its Round record isn't noted; and
+-- the promise that made a proposal ready, while the proposal isn't issued.
+pub record UnderWay : Type 0 where
+  pub begun : SlotName → Option BallotNumber
+  pub waiting : SlotName → Option Message
+
+-- nothing is
+abbrev pub nothing : UnderWay
+nothing = record { begun = λ slot. None; waiting = λ slot. None }
+
+-- a ballot is begun
+abbrev pub begins : UnderWay → SlotName → BallotNumber → UnderWay
+begins under slot ballot =
+    record { begun = at_slot slot (Some ballot) under.begun; waiting = under.waiting }
+
+-- this promise waits, or none does
+abbrev pub waits : UnderWay → SlotName → Option Message → UnderWay
+waits under slot m = record { begun = under.begun; waiting = at_slot slot m under.waiting }
+
+-- ---- a promise that gives a bag to propose waits, and one that gives none is heard
+abbrev pub heard_after : Option BagId → Session → Message → Session
+heard_after None session m = hears session m
+heard_after (Some bag) session m = session
+
+abbrev pub waiting_after : Option BagId → UnderWay → Message → UnderWay
+waiting_after None under m = under
+waiting_after (Some bag) under m = waits under m.slot (Some m)
+
+-- ---- what waits is heard once the proposal is issued
+abbrev pub heard_if : Session → Option Message → Session
+heard_if session None = session
+heard_if session (Some m) = hears session m
+
+-- ---- a Round record of the ballot that was begun makes it current, and no other record does
+abbrev pub of_round : Option BallotNumber → ℕ → Option BallotNumber
+of_round None round = None
+of_round (Some ballot) round = if ballot.round == round then Some ballot else None
+
+abbrev pub issued_by : Option BallotNumber → Entry → Option BallotNumber
+issued_by begun (entry.Round round) = of_round begun round
+issued_by begun _ = None
+
+abbrev pub issued_if : Session → SlotName → Option BallotNumber → Session
+issued_if session slot None = session
+issued_if session slot (Some ballot) = issues session slot ballot
+
+abbrev pub under_way_if : UnderWay → SlotName → Option BallotNumber → UnderWay
+under_way_if under slot None = under
+under_way_if under slot (Some ballot) =
+    record { begun = at_slot slot None under.begun; waiting = at_slot slot None under.waiting }

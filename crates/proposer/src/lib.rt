@@ -1,0 +1,14 @@
+//! A proposer of single-decree Paxos (Lamport, Paxos Made Simple, section 2.2) for every slot at
+//! once: its next ballot, and the bag that it proposes once a quorum has promised.
+#![tactic(auto)]
+
+mod fault;
+mod proposer;
+mod round;
+mod row;
+
+pub use fault::ProposeFault;
+pub use proposer::Proposer;
+
+#[cfg(test)]
+mod tests;

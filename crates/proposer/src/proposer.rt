@@ -1,0 +1,270 @@
+ghost use Rattle.std.specs.Prelude.{◌≡◌, ℕ, max, ◌++◌, ◌∷◌, [], List, Some, None, Err};
+ghost use Rattle.std.specs.Prelude.{OnOk, OnErr, IfOk, IsOk, IsSome};
+ghost use Rattle.fed_types.specs.Ballots.{BallotNumber};
+ghost use Rattle.fed_types.specs.Slots.{SlotName};
+ghost use Rattle.records.specs.declared.record.Record.{Record as declared_record};
+ghost use Rattle.records.specs.Words.{deposit_of};
+ghost use Rattle.slot_table.specs.Rows.{row_at, IsWith};
+ghost use Rattle.proposer.specs.Proposals.{next_ballot, ready, ballot_after};
+ghost use Rattle.proposer.specs.Sessions.{Session, UnderWay, new_session, nothing, begins};
+ghost use Rattle.proposer.specs.Sessions.{promise_message, heard_after, waiting_after};
+ghost use Rattle.proposer.specs.Sessions.{hears, refusal_message, heard_if, waits};
+ghost use Rattle.proposer.specs.Sessions.{issued_by, issued_if, under_way_if};
+ghost use Rattle.proposer.specs.Faults.{next_or_spent, IsOrMemory};
+ghost use Rattle.proposer.specs.Rows.{StandsFor, IsOfSameSite, row_of};
+ghost use Rattle.proposer.specs.inner.Rows.{BeginsAt, HeardAt, IssuesAt};
+ghost use Rattle.proposer.specs.inner.Rows.{with_begun, with_floor, noted_row};
+
+use crate::fault::ProposeFault;
+use crate::round::{Promise, Round};
+use crate::row::Row;
+use fed_types::{BagId, Ballot, Quorums, SiteNo, Slot, Vote};
+use records::Record;
+use slot_table::SlotTable;
+use std::alloc::{AllocError, Global};
+use std::marker::Model;
+
+/// A proposer of a site, by the quorums of its federation. A clause sees these, and its rows by
+/// slot.
+#[derive(Drop)]
+pub struct Proposer<Q: Quorums + Drop> {
+    alloc: Global,
+    members: Q,
+    site: SiteNo,
+    table: SlotTable<Row>,
+}
+
+impl<Q: Quorums + Drop> Model for Proposer<Q> {
+    ghost use Rattle.proposer.specs.Rows.{Proposing};
+
+    ghost Value = { Proposing Q };
+
+    ghost view = { λ p. record { members = p.members; site = p.site; rows = p.table } };
+}
+
+impl<Q: Quorums + Drop> Proposer<Q> {
+    /// A proposer that knows of no record and has heard nothing.
+    pub fn new(alloc: Global, members: Q, site: SiteNo) -> Proposer<Q>
+        ensures stands { StandsFor result.rows [] new_session nothing }
+        ensures whose { (result.members ≡ members) × (result.site ≡ site) }
+    {
+        Proposer {
+            alloc,
+            members,
+            site,
+            table: SlotTable::new(alloc),
+        }
+    }
+
+    /// Makes room for the slot, so that `note` of its records takes no memory. It says nothing of
+    /// the slot.
+    pub fn reserve(&mut self, slot: &Slot) -> Result<(), AllocError>
+        ensures same { (s : SlotName) → row_of self.new.rows s ≡ row_of self.old.rows s }
+        ensures present { OnOk result (IsSome (row_at self.new.rows slot.now)) }
+        ensures succeeds { IsSome (row_at self.old.rows slot.now) → IsOk result }
+        ensures whose { IsOfSameSite self.old self.new }
+    {
+        self.table.reserve(slot, Row::empty())
+    }
+
+    /// Begins the slot's next ballot, to propose this bag, the site's deposit, where no vote stands
+    /// in the way. The ballot becomes current once its Round record is noted, which takes no
+    /// memory. `RoundsSpent` where the greatest round was used or stood in the way; else `Memory`
+    /// where an allocation fails.
+    pub fn begin(&mut self, slot: &Slot, own: BagId) -> Result<Ballot, ProposeFault>
+        ensures answer { (records : List declared_record) (session : Session) (under : UnderWay)
+            → StandsFor self.old.rows records session under → IsOrMemory result
+            (next_or_spent (next_ballot self.old.site slot.now records session.heard)) }
+        ensures spent { (records : List declared_record) (session : Session) (under : UnderWay)
+            → StandsFor self.old.rows records session under
+            → next_ballot self.old.site slot.now records session.heard ≡ None
+            → result ≡ Err ProposeFault.RoundsSpent }
+        ensures begun { IfOk result (λ ballot.
+            (records : List declared_record) (session : Session) (under : UnderWay)
+            → StandsFor self.old.rows records session under
+            → deposit_of slot.now records ≡ Some own
+            → StandsFor self.new.rows records session (begins under slot.now ballot)) }
+        ensures present { IfOk result (λ ballot. IsSome (row_at self.new.rows slot.now)) }
+        ensures unchanged { OnErr result
+            ((s : SlotName) → row_of self.new.rows s ≡ row_of self.old.rows s) }
+        ensures whose { IsOfSameSite self.old self.new }
+    {
+        match self.next(slot) {
+            None => Err(ProposeFault::RoundsSpent),
+            Some(ballot) => match self.begin_round(slot, Round::new(ballot, own)) {
+                Ok(()) => Ok(ballot),
+                Err(_) => Err(ProposeFault::Memory),
+            },
+        }
+    }
+
+    /// Hears a promise, and gives the bag to propose exactly when it makes the proposal ready. Then
+    /// the promise waits, and counts once `issued` is called. It takes no memory.
+    pub fn promise(
+        &mut self,
+        from: SiteNo,
+        slot: &Slot,
+        ballot: Ballot,
+        prior: Option<Vote>,
+    ) -> Option<BagId>
+        ensures ready { (records : List declared_record) (session : Session) (under : UnderWay)
+            → StandsFor self.old.rows records session under
+            → result ≡ ready (Q.quorum_system self.old.members) (deposit_of slot.now records)
+            slot.now (session.current slot.now) session.heard ballot
+            (record { site = from; prior = prior }) }
+        ensures heard { (records : List declared_record) (session : Session) (under : UnderWay)
+            → StandsFor self.old.rows records session under
+            → StandsFor self.new.rows records
+            (heard_after result session (promise_message slot.now from ballot prior))
+            (waiting_after result under (promise_message slot.now from ballot prior)) }
+        ensures whose { IsOfSameSite self.old self.new }
+    {
+        let promise = Promise { site: from, prior };
+        promise_in(&mut self.table, &self.members, slot, ballot, promise)
+    }
+
+    /// The proposal that became ready is sent: the promise that waits counts from now on, if one
+    /// waits. It takes no memory.
+    pub fn issued(&mut self, slot: &Slot)
+        ensures heard { (records : List declared_record) (session : Session) (under : UnderWay)
+            → StandsFor self.old.rows records session under
+            → StandsFor self.new.rows records (heard_if session (under.waiting slot.now))
+            (waits under slot.now None) }
+        ensures whose { IsOfSameSite self.old self.new }
+    {
+        issue_in(&mut self.table, slot);
+    }
+
+    /// Hears a refusal, which raises the slot's next round.
+    pub fn refused(&mut self, slot: &Slot, standing: Ballot) -> Result<(), AllocError>
+        ensures heard { OnOk result ((from : ℕ) (asked : BallotNumber)
+            (records : List declared_record) (session : Session) (under : UnderWay)
+            → StandsFor self.old.rows records session under
+            → StandsFor self.new.rows records
+            (hears session (refusal_message slot.now from asked standing)) under) }
+        ensures unchanged { OnErr result
+            ((s : SlotName) → row_of self.new.rows s ≡ row_of self.old.rows s) }
+        ensures succeeds { IsSome (row_at self.old.rows slot.now) → IsOk result }
+        ensures whose { IsOfSameSite self.old self.new }
+    {
+        self.reserve(slot)?;
+        refuse_in(&mut self.table, slot, standing.round());
+        Ok(())
+    }
+
+    /// Takes note of a record that was committed. The Round of a ballot that was begun makes it
+    /// current, and no older promise counts any more.
+    pub fn note(&mut self, new: &Record) -> Result<(), AllocError>
+        ensures noted { OnOk result (
+            (records : List declared_record) (session : Session) (under : UnderWay)
+            → StandsFor self.old.rows records session under
+            → StandsFor self.new.rows (records ++ new.now ∷ [])
+            (issued_if session new.now.slot
+            (issued_by (under.begun new.now.slot) new.now.body))
+            (under_way_if under new.now.slot
+            (issued_by (under.begun new.now.slot) new.now.body))) }
+        ensures unchanged { OnErr result
+            ((s : SlotName) → row_of self.new.rows s ≡ row_of self.old.rows s) }
+        ensures succeeds { IsSome (row_at self.old.rows new.now.slot) → IsOk result }
+        ensures whose { IsOfSameSite self.old self.new }
+    {
+        self.reserve(&new.slot)?;
+        note_in(&mut self.table, new);
+        Ok(())
+    }
+
+    // The slot's next ballot, while rounds are left.
+    fn next(&self, slot: &Slot) -> Option<Ballot>
+        ensures { result ≡ ballot_after self.now.site
+            (max (row_of self.now.rows slot.now).used (row_of self.now.rows slot.now).floor) }
+    {
+        match self.table.get(slot) {
+            Some(row) => ballot_after(row.last_round(), self.site),
+            None => ballot_after(0, self.site),
+        }
+    }
+
+    // Begins a round.
+    fn begin_round(&mut self, slot: &Slot, round: Round) -> Result<(), AllocError>
+        ensures begun { OnOk result (BeginsAt round self.old.rows self.new.rows slot.now) }
+        ensures present { OnOk result (IsSome (row_at self.new.rows slot.now)) }
+        ensures unchanged { OnErr result
+            ((s : SlotName) → row_of self.new.rows s ≡ row_of self.old.rows s) }
+        ensures whose { IsOfSameSite self.old self.new }
+    {
+        let round = Box::new(self.alloc, round)?;
+        self.reserve(slot)?;
+        begin_in(&mut self.table, slot, round);
+        Ok(())
+    }
+}
+
+// The ballot of the round after this one, while rounds are left.
+fn ballot_after(last: u32, site: SiteNo) -> Option<Ballot>
+    ensures { result ≡ ballot_after site last }
+{
+    if last == u32::MAX {
+        return None;
+    }
+    Ballot::new(last + 1, site).ok()
+}
+
+// Begins a round in the slot's row.
+fn begin_in(table: &mut SlotTable<Row>, slot: &Slot, round: Box<Round>)
+    requires { IsSome (row_at table.old slot.now) }
+    ensures { IsWith table.old table.new slot.now
+        (with_begun (row_of table.old slot.now) round) }
+{
+    if let Some(row) = table.get_mut(slot) {
+        row.begun = Some(round);
+    }
+}
+
+// Raises the floor of the slot's row.
+fn refuse_in(table: &mut SlotTable<Row>, slot: &Slot, round: u32)
+    requires { IsSome (row_at table.old slot.now) }
+    ensures { IsWith table.old table.new slot.now
+        (with_floor (row_of table.old slot.now) round) }
+{
+    if let Some(row) = table.get_mut(slot) {
+        row.floor = row.floor.max(round);
+    }
+}
+
+// Takes note of a record in the row of its slot.
+fn note_in(table: &mut SlotTable<Row>, new: &Record)
+    requires { IsSome (row_at table.old new.now.slot) }
+    ensures { IsWith table.old table.new new.now.slot
+        (noted_row (row_of table.old new.now.slot) (Some new.now.body)) }
+{
+    if let Some(row) = table.get_mut(&new.slot) {
+        row.note(&new.body);
+    }
+}
+
+// Hears a promise in the slot's row. A slot without one has no current ballot.
+fn promise_in<Q: Quorums>(
+    table: &mut SlotTable<Row>,
+    members: &Q,
+    slot: &Slot,
+    ballot: Ballot,
+    promise: Promise,
+) -> Option<BagId>
+    ensures { HeardAt (Q.quorum_system members.now) ballot promise table.old table.new slot.now
+        result }
+{
+    match table.get_mut(slot) {
+        Some(row) => row.promise(members, ballot, promise),
+        None => None,
+    }
+}
+
+// Counts what waits in the slot's row.
+fn issue_in(table: &mut SlotTable<Row>, slot: &Slot)
+    ensures { IssuesAt table.old table.new slot.now }
+{
+    match table.get_mut(slot) {
+        Some(row) => row.issued(),
+        None => {}
+    }
+}

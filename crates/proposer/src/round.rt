@@ -1,0 +1,131 @@
+ghost use Rattle.std.specs.Prelude.{◌≡◌, Some};
+ghost use Rattle.proposer.specs.Rows.{fresh};
+ghost use Rattle.proposer.specs.inner.Rounds.{counted, higher_prior, becomes_quorum, issued};
+ghost use Rattle.proposer.specs.inner.Rounds.{round_after, bag_or, bag_after, after_promise};
+ghost use Rattle.proposer.specs.inner.Rounds.{given_bag};
+
+use fed_types::{BagId, Ballot, Quorums, SiteNo, Vote, Voters};
+
+/// A promise: the site that gives it, and the vote that it names.
+#[derive(Clone, Copy, Debug)]
+pub(crate) struct Promise {
+    pub(crate) site: SiteNo,
+    pub(crate) prior: Option<Vote>,
+}
+
+/// What was gathered for a ballot: the sites that promised it, and the highest of the votes that
+/// they named.
+#[derive(Clone, Copy, Debug)]
+pub(crate) struct Round {
+    pub(crate) ballot: Ballot,
+    /// The bag that is proposed where no vote was named.
+    own: BagId,
+    voters: Voters,
+    best: Option<Vote>,
+    /// The promise that made the proposal ready, until the proposal is issued.
+    pub(crate) waiting: Option<Promise>,
+}
+
+impl Round {
+    /// A ballot that nobody has promised.
+    pub(crate) fn new(ballot: Ballot, own: BagId) -> Round
+        ensures { result ≡ fresh ballot own }
+    {
+        Round {
+            ballot,
+            own,
+            voters: Voters::new(),
+            best: None,
+            waiting: None,
+        }
+    }
+
+    /// Hears a promise: only one for this ballot counts.
+    pub(crate) fn promise_for<Q: Quorums>(
+        &mut self,
+        members: &Q,
+        ballot: Ballot,
+        promise: Promise,
+    ) -> Option<BagId>
+        ensures round { Some self.new
+            ≡ after_promise (Q.quorum_system members.now) ballot promise (Some self.old) }
+        ensures bag { result
+            ≡ given_bag (Q.quorum_system members.now) ballot promise (Some self.old) }
+    {
+        if self.ballot == ballot {
+            self.promise(members, promise)
+        } else {
+            None
+        }
+    }
+
+    /// Hears a promise of the ballot: it counts, unless it makes the proposal ready; then it waits,
+    /// and this is the bag to propose.
+    pub(crate) fn promise<Q: Quorums>(&mut self, members: &Q, promise: Promise) -> Option<BagId>
+        ensures bag { result ≡ bag_after (Q.quorum_system members.now) self.old promise }
+        ensures round { self.new ≡ round_after (Q.quorum_system members.now) self.old promise }
+    {
+        let more = counted(*self, &promise);
+        if becomes_quorum(members, self.voters, more.voters) {
+            self.waiting = Some(promise);
+            return Some(bag_or(more.best, more.own));
+        }
+        *self = more;
+        None
+    }
+
+    /// The promise that waits counts from now on, if one waits.
+    pub(crate) fn issued(&mut self)
+        ensures { self.new ≡ issued self.old }
+    {
+        if let Some(promise) = self.waiting {
+            *self = counted(*self, &promise);
+            self.waiting = None;
+        }
+    }
+}
+
+// With one promise more.
+fn counted(round: Round, promise: &Promise) -> Round
+    ensures { result ≡ counted round promise.now }
+{
+    let mut voters = round.voters;
+    voters.add(promise.site);
+    Round {
+        ballot: round.ballot,
+        own: round.own,
+        voters,
+        best: higher(round.best, promise.prior),
+        waiting: round.waiting,
+    }
+}
+
+// Whether these voters are a quorum, and without the last one they weren't.
+fn becomes_quorum<Q: Quorums>(members: &Q, before: Voters, voters: Voters) -> bool
+    ensures { result ≡ becomes_quorum (Q.quorum_system members.now) before voters }
+{
+    members.is_quorum(&voters) && !members.is_quorum(&before)
+}
+
+// The vote of the greater ballot; of equal ballots the first.
+fn higher(best: Option<Vote>, prior: Option<Vote>) -> Option<Vote>
+    ensures { result ≡ higher_prior best prior }
+{
+    match prior {
+        Some(vote) => match best {
+            Some(best) if best.ballot >= vote.ballot => Some(best),
+            _ => Some(vote),
+        },
+        None => best,
+    }
+}
+
+// The bag of the vote, or the own one.
+fn bag_or(best: Option<Vote>, own: BagId) -> BagId
+    ensures { result ≡ bag_or best own }
+{
+    match best {
+        Some(vote) => vote.bag,
+        None => own,
+    }
+}

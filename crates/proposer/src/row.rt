@@ -1,0 +1,90 @@
+ghost use Rattle.std.specs.Prelude.{◌≡◌, max, Some};
+ghost use Rattle.proposer.specs.Rows.{empty_row, begun_in};
+ghost use Rattle.proposer.specs.inner.Rows.{noted_row, is_of_round, HeardPromise, IssuesWaiting};
+
+use crate::round::{Promise, Round};
+use fed_types::{BagId, Ballot, Quorums};
+use records::Entry;
+
+/// What a proposer knows of a slot. Its rounds are boxed, so that a slot that was only asked about
+/// takes a few words.
+#[derive(Drop)]
+pub(crate) struct Row {
+    /// The greatest round that the site has used.
+    used: u32,
+    /// The greatest round that stood in the way of one of its ballots.
+    pub(crate) floor: u32,
+    /// The ballot that was begun, until its record is noted.
+    pub(crate) begun: Option<Box<Round>>,
+    /// The current ballot.
+    current: Option<Box<Round>>,
+}
+
+impl Row {
+    /// Of a slot of which nothing is known.
+    pub(crate) fn empty() -> Row
+        ensures { result ≡ empty_row }
+    {
+        Row {
+            used: 0,
+            floor: 0,
+            begun: None,
+            current: None,
+        }
+    }
+
+    /// The greater of the round that was used and the one that stood in the way.
+    pub(crate) fn last_round(&self) -> u32
+        ensures { result ≡ max self.now.used self.now.floor }
+    {
+        self.used.max(self.floor)
+    }
+
+    /// Hears a promise: only one for the current ballot counts.
+    pub(crate) fn promise<Q: Quorums>(
+        &mut self,
+        members: &Q,
+        ballot: Ballot,
+        promise: Promise,
+    ) -> Option<BagId>
+        ensures { HeardPromise (Q.quorum_system members.now) ballot promise self.old self.new
+            result }
+    {
+        match &mut self.current {
+            Some(round) => round.promise_for(members, ballot, promise),
+            None => None,
+        }
+    }
+
+    /// The promise that waits counts from now on, if one waits.
+    pub(crate) fn issued(&mut self)
+        ensures { IssuesWaiting self.old self.new }
+    {
+        if let Some(round) = &mut self.current {
+            round.issued();
+        }
+    }
+
+    /// Takes note of an entry: the ballot that was begun becomes current with its Round.
+    pub(crate) fn note(&mut self, entry: &Entry)
+        ensures { self.new ≡ noted_row self.old (Some entry.now) }
+    {
+        let Entry::Round(round) = *entry else {
+            return;
+        };
+        self.used = self.used.max(round.number());
+        if self.has_begun(round.number()) {
+            self.current = self.begun.take();
+        }
+    }
+
+    // Whether a ballot of this round was begun.
+    fn has_begun(&self, number: u32) -> bool
+        ensures { result ≡ is_of_round number (begun_in self.now) }
+    {
+        match &self.begun {
+            Some(begun) => begun.ballot.round() == number,
+            None => false,
+        }
+    }
+}
