@@ -106,6 +106,16 @@ begins (File t path content) = refl
 begins (Deposit s t slot) = refl
 begins (Query s slot) = refl
 
+-- nor does a federation's line
+begins_federation : (m : Membership)
+    → (eqb (length (federation_words m)) 0
+    || eqb (get_or (join_with_byte 32 (federation_words m)) 0 0) 35) ≡ false
+unfolding federation_words
+begins_federation m =
+    let some : eqb (length (federation_words m)) 0 ≡ false =
+    ne_eqb (length (federation_words m)) 0 (λ e. omega (arith, e)) in
+    rw some refl
+
 -- the line of a command
 pub later_line-command : (command : Command) → RoundTrips command
     → later_line (join_with_byte 32 (words_for command)) ≡ Some (Some command)
@@ -162,7 +172,7 @@ plan_of-schedule_text plan federation are =
     let line = join_with_byte 32 (federation_words plan.members) in
     let rest = flat_map printed_line plan.lines in
     let words = words_of-join (federation_words plan.members) federation.words in
-    let isnt : is_skipped line ≡ false = rw words refl in
+    let isnt : is_skipped line ≡ false = rw (words, begins_federation plan.members) refl in
     ap (λ (t : List ℕ). plan_after 0 (lines t))
     (append_assoc (replicate plan.skipped 10) (federation_line plan.members) rest)
     ∙ plan_after-blank plan.skipped 0 (federation_line plan.members ++ rest)
