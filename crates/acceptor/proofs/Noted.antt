@@ -1,5 +1,6 @@
 -- One more record in the rows of an acceptor.
-use Rattle.std.proofs.Common.{◌≡◌, Bool, true, false, cond, sym, ap, ◌∙◌, refl, List, [], ◌∷◌, ◌++◌, Option, None, Some}
+use Rattle.std.proofs.Common.{◌≡◌, Bool, true, false, cond, sym, ap, ◌∙◌, refl, List, [], ◌∷◌,
+  ◌++◌, Option, None, Some}
 use Rattle.fed_types.specs.Slots.{SlotName, same_slot}
 use Rattle.fed_types.specs.Laws.Slots.{same_slot_decides}
 use Rattle.records.specs.declared.entry.Entry.{Entry}

@@ -19,4 +19,5 @@ row_of table slot = row_or_empty (row_at table slot)
 abbrev pub StandsFor : Rows Row → List Record → Type 0
 StandsFor table records =
     (slot : SlotName)
-    → row_of table slot ≡ record { promised = promised_of slot records; vote = vote_of slot records }
+    → row_of table slot
+    ≡ record { promised = promised_of slot records; vote = vote_of slot records }

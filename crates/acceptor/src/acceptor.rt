@@ -2,7 +2,8 @@ ghost use Rattle.std.specs.Prelude.{◌≡◌, ◌++◌, ◌∷◌, [], List, So
 ghost use Rattle.fed_types.specs.Slots.{SlotName};
 ghost use Rattle.records.specs.declared.record.Record.{Record as declared_record};
 ghost use Rattle.slot_table.specs.Rows.{row_at, IsWith};
-ghost use Rattle.acceptor.specs.Decisions.{on_prepare, on_accept, refuses, on_new_accept, is_vote, is_in_ballot, prepare_decision, accept_decision};
+ghost use Rattle.acceptor.specs.Decisions.{on_prepare, on_accept, refuses, on_new_accept, is_vote,
+    is_in_ballot, prepare_decision, accept_decision};
 ghost use Rattle.acceptor.specs.Rows.{StandsFor, row_of};
 ghost use Rattle.acceptor.specs.inner.Noted.{noted};
 

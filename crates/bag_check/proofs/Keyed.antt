@@ -1,5 +1,6 @@
 -- Maps and sets whose keys are texts, one key on.
-use Rattle.std.proofs.Common.{◌≡◌, ℕ, ◌+◌, ◌<◌, Bool, true, false, ◌||◌, cond, List, [], ◌∷◌, ◌++◌, length, take, get_or, Option, Some, None, refl, sym, ap, ◌∙◌}
+use Rattle.std.proofs.Common.{◌≡◌, ℕ, ◌+◌, ◌<◌, Bool, true, false, ◌||◌, cond, List, [], ◌∷◌, ◌++◌}
+use Rattle.std.proofs.Common.{length, take, get_or, Option, Some, None, refl, sym, ap, ◌∙◌}
 use Rattle.std.specs.Prelude.{is_some}
 use Rattle.std.specs.Borrow.{Bor}
 use Rattle.std.specs.BTreeMap as tree
@@ -25,9 +26,12 @@ abbrev pub has_text : List ℕ → BTreeSet (Bor (List ℕ)) → Bool
 has_text q s = sorted.contains_by (λ k. slice_cmp nat_cmp q k.now) s
 
 -- a key that was put in is found beside what was
-pub has_text-inserted : (w : Bor (List ℕ)) (s n : BTreeSet (Bor (List ℕ))) → sorted.UpdatesBy (λ x y. slice_cmp nat_cmp x.now y.now) (λ k. slice_cmp nat_cmp w.now k.now) s n true
+pub has_text-inserted : (w : Bor (List ℕ)) (s n : BTreeSet (Bor (List ℕ)))
+    → sorted.UpdatesBy (λ x y. slice_cmp nat_cmp x.now y.now)
+    (λ k. slice_cmp nat_cmp w.now k.now) s n true
     → (q : List ℕ) → has_text q n ≡ (bytes_eq w.now q || has_text q s)
-has_text-inserted w s n h q = h.0 (record { ref_ptr = (0, 0); now = q }) ∙ go (is_eq (slice_cmp nat_cmp w.now q)) (bytes_eq w.now q) (is_eq-slice_cmp w.now q)
+has_text-inserted w s n h q = h.0 (record { ref_ptr = (0, 0); now = q })
+    ∙ go (is_eq (slice_cmp nat_cmp w.now q)) (bytes_eq w.now q) (is_eq-slice_cmp w.now q)
   where
     go : (a b : Bool) → a ≡ b → cond a true (has_text q s) ≡ (b || has_text q s)
     go true true e = refl
@@ -45,31 +49,49 @@ or_none None = refl
 or_none (Some file) = refl
 
 -- a file that was put in at a path where there was none
-pub at_text-put : (path : List ℕ) (file : Bor FileFact) (m n : BTreeMap (Bor (List ℕ)) (Bor FileFact))
-    → tree.UpdatesBy (λ x y. slice_cmp nat_cmp x.now y.now) (λ k. slice_cmp nat_cmp path k.now) m n (Some file)
+pub at_text-put : (path : List ℕ) (file : Bor FileFact)
+    (m n : BTreeMap (Bor (List ℕ)) (Bor FileFact))
+    → tree.UpdatesBy (λ x y. slice_cmp nat_cmp x.now y.now) (λ k. slice_cmp nat_cmp path k.now) m n
+    (Some file)
     → is_some (tree.get_by (λ k. slice_cmp nat_cmp path k.now) m) ≡ false
-    → (q : List ℕ) → at_text q n ≡ option_or (at_text q m) (cond (bytes_eq path q) (Some file.now) None)
-at_text-put path file m n h absent q = ap option_copied (btree_map_updates_str path m n (Some file) h q) ∙ go (bytes_eq path q) refl
+    → (q : List ℕ) → at_text q n ≡ option_or (at_text q m)
+    (cond (bytes_eq path q) (Some file.now) None)
+at_text-put path file m n h absent q =
+    ap option_copied (btree_map_updates_str path m n (Some file) h q) ∙ go (bytes_eq path q) refl
   where
-    go : (b : Bool) → bytes_eq path q ≡ b → option_copied (cond b (Some file) (tree.get_by (λ k. slice_cmp nat_cmp q k.now) m)) ≡ option_or (at_text q m) (cond b (Some file.now) None)
-    go true e = rw (copied_none (tree.get_by (λ k. slice_cmp nat_cmp q k.now) m) (rw ((bytes_eq-Decides path q).0 e) at absent)) refl
+    go : (b : Bool) → bytes_eq path q ≡ b
+        → option_copied (cond b (Some file) (tree.get_by (λ k. slice_cmp nat_cmp q k.now) m))
+        ≡ option_or (at_text q m) (cond b (Some file.now) None)
+    go true e =
+        rw (copied_none (tree.get_by (λ k. slice_cmp nat_cmp q k.now) m)
+        (rw ((bytes_eq-Decides path q).0 e) at absent)) refl
     go false e = sym (or_none (at_text q m))
 
 -- a file that is left out where its path has one
-pub at_text-kept : (path : List ℕ) (file : FileFact) (m : BTreeMap (Bor (List ℕ)) (Bor FileFact)) → is_some (tree.get_by (λ k. slice_cmp nat_cmp path k.now) m) ≡ true
+pub at_text-kept : (path : List ℕ) (file : FileFact) (m : BTreeMap (Bor (List ℕ)) (Bor FileFact))
+    → is_some (tree.get_by (λ k. slice_cmp nat_cmp path k.now) m) ≡ true
     → (q : List ℕ) → at_text q m ≡ option_or (at_text q m) (cond (bytes_eq path q) (Some file) None)
 at_text-kept path file m present q = go (bytes_eq path q) refl
   where
-    some_or : (o : Option (Bor FileFact)) (p : Option FileFact) → is_some o ≡ true → option_copied o ≡ option_or (option_copied o) p
+    some_or : (o : Option (Bor FileFact)) (p : Option FileFact) → is_some o ≡ true
+        → option_copied o ≡ option_or (option_copied o) p
     some_or None p h = cc
     some_or (Some file) p h = refl
 
-    go : (b : Bool) → bytes_eq path q ≡ b → at_text q m ≡ option_or (at_text q m) (cond b (Some file) None)
-    go true e = some_or (tree.get_by (λ k. slice_cmp nat_cmp q k.now) m) (Some file) (rw ((bytes_eq-Decides path q).0 e) at present)
+    go : (b : Bool) → bytes_eq path q ≡ b
+        → at_text q m ≡ option_or (at_text q m) (cond b (Some file) None)
+    go true e =
+        some_or (tree.get_by (λ k. slice_cmp nat_cmp q k.now) m) (Some file)
+        (rw ((bytes_eq-Decides path q).0 e) at present)
     go false e = sym (or_none (at_text q m))
 
 -- the first file of a path, one file on
-pub file_at_next : (q : List ℕ) (files : List FileFact) (place : ℕ) (file : FileFact) → place < length files → file ≡ get_or files place file
-    → option_or (file_at q (take place files)) (cond (bytes_eq file.path q) (Some file) None) ≡ file_at q (take (place + 1) files)
+pub file_at_next : (q : List ℕ) (files : List FileFact) (place : ℕ) (file : FileFact)
+    → place < length files → file ≡ get_or files place file
+    → option_or (file_at q (take place files)) (cond (bytes_eq file.path q) (Some file) None)
+    ≡ file_at q (take (place + 1) files)
 file_at_next q files place file within is =
-    sym (ap (file_at q) (take_more files place file within ∙ ap (λ f. take place files ++ f ∷ []) (sym is)) ∙ find-append (λ (f : FileFact). bytes_eq f.path q) (take place files) (file ∷ []))
+    sym
+    (ap (file_at q) (take_more files place file within
+    ∙ ap (λ f. take place files ++ f ∷ []) (sym is))
+    ∙ find-append (λ (f : FileFact). bytes_eq f.path q) (take place files) (file ∷ []))

@@ -1,5 +1,7 @@
 -- Reading manifests, one manifest on.
-use Rattle.std.proofs.Common.{◌≡◌, ℕ, ◌+◌, ◌<◌, ◌||◌, List, [], ◌∷◌, ◌++◌, length, take, drop, get_or, Some, None, Result, Ok, Err, refl, sym, ap, ◌∙◌, append_assoc, append-nil, subst}
+use Rattle.std.proofs.Common.{◌≡◌, ℕ, ◌+◌, ◌<◌, ◌||◌, List, [], ◌∷◌, ◌++◌, length, take, drop}
+use Rattle.std.proofs.Common.{get_or, Some, None, Result, Ok, Err, refl, sym, ap, ◌∙◌, append_assoc}
+use Rattle.std.proofs.Common.{append-nil, subst}
 use Rattle.std.specs.List.{flat_map}
 use Rattle.std.specs.Result.{IsErrAnd, IfErr}
 use Rattle.std.proofs.Math.Bool.{or-true}
@@ -9,19 +11,24 @@ use Rattle.std.proofs.lemmas.List.Folds.{list_any-append}
 use Rattle.bag_text.specs.declared.algorithm.Algorithm.{Algorithm}
 use Rattle.bag_text.specs.ListedFile.{ListedFile}
 use Rattle.bag_text.specs.Reading.{entries_of}
-use Rattle.bag_tree.specs.Facts.{FileFact, TreeFacts}
+use Rattle.bag_tree.specs.Facts.{FileFact}
 use Rattle.bag_check.specs.declared.fault.BagFault.{BagFault}
 use Rattle.bag_check.specs.declared.fault.BagFault.TheVariants.{MalformedLine, Memory}
 use Rattle.bag_check.specs.declared.manifests.Kind.{Kind}
 use Rattle.bag_check.specs.declared.manifests.Kind.TheVariants.{Payload, Tag}
-use Rattle.bag_check.specs.Manifests.{Manifest, text_at, manifest_name, manifest_at, manifests_of_kind, manifests_of, algorithms, is_malformed, entries}
-use Rattle.bag_check.specs.Order.{Listed, listed_in, listings, some_malformed, Reads, FailsToRead}
+use Rattle.bag_check.specs.Manifests.{Manifest, text_at, manifest_name, manifest_at}
+use Rattle.bag_check.specs.Manifests.{manifests_of_kind, manifests_of, algorithms, is_malformed}
+use Rattle.bag_check.specs.Manifests.{entries}
+use Rattle.bag_check.specs.inner.Order.{Listed, listed_in, listings, some_malformed, Reads}
+use Rattle.bag_check.specs.inner.Order.{FailsToRead}
 
 listings-append : (a b : List Manifest) → listings (a ++ b) ≡ listings a ++ listings b
 unfolding listings
-listings-append a b = flat_map-append (λ (m : Manifest). listed_in m.kind m.algorithm (entries m)) a b
+listings-append a b =
+    flat_map-append (λ (m : Manifest). listed_in m.kind m.algorithm (entries m)) a b
 
-some_malformed-append : (a b : List Manifest) → some_malformed (a ++ b) ≡ (some_malformed a || some_malformed b)
+some_malformed-append : (a b : List Manifest)
+    → some_malformed (a ++ b) ≡ (some_malformed a || some_malformed b)
 unfolding some_malformed
 some_malformed-append a b = list_any-append (λ (m : Manifest). is_malformed (entries m)) a b
 
@@ -29,21 +36,28 @@ pub reads_none : (before : List Listed) → Reads [] before before
 unfolding some_malformed listings
 reads_none before = (refl, sym (append-nil before))
 
-pub reads_both : (a b : List Manifest) (before between after : List Listed) → Reads a before between → Reads b between after → Reads (a ++ b) before after
+pub reads_both : (a b : List Manifest) (before between after : List Listed) → Reads a before between
+    → Reads b between after → Reads (a ++ b) before after
 reads_both a b before between after (sound, found) (sound_too, more) = (
   some_malformed-append a b ∙ (ap (λ t. t || some_malformed b) sound ∙ sound_too),
-  more ∙ (ap (λ x. x ++ listings b) found ∙ (append_assoc before (listings a) (listings b) ∙ ap (λ x. before ++ x) (sym (listings-append a b)))),
+  more
+      ∙ (ap (λ x. x ++ listings b) found
+      ∙ (append_assoc before (listings a) (listings b)
+      ∙ ap (λ x. before ++ x) (sym (listings-append a b)))),
 )
 
 -- reading fails where reading a part fails
-pub fails_first : (a b : List Manifest) (fault : BagFault) → FailsToRead a fault → FailsToRead (a ++ b) fault
+pub fails_first : (a b : List Manifest) (fault : BagFault) → FailsToRead a fault
+    → FailsToRead (a ++ b) fault
 fails_first a b Memory h = tt
 fails_first a b MalformedLine h = some_malformed-append a b ∙ ap (λ t. t || some_malformed b) h
 fails_first a b fault h = absurd h
 
-pub fails_second : (a b : List Manifest) (fault : BagFault) → FailsToRead b fault → FailsToRead (a ++ b) fault
+pub fails_second : (a b : List Manifest) (fault : BagFault) → FailsToRead b fault
+    → FailsToRead (a ++ b) fault
 fails_second a b Memory h = tt
-fails_second a b MalformedLine h = some_malformed-append a b ∙ (ap (λ t. some_malformed a || t) h ∙ or-true (some_malformed a))
+fails_second a b MalformedLine h =
+    some_malformed-append a b ∙ (ap (λ t. some_malformed a || t) h ∙ or-true (some_malformed a))
 fails_second a b fault h = absurd h
 
 -- ---- the algorithms of one kind
@@ -51,76 +65,104 @@ fails_second a b fault h = absurd h
 abbrev pub manifests_by : Kind → List FileFact → List Algorithm → List Manifest
 manifests_by kind files = flat_map (λ algorithm. manifest_at kind algorithm files)
 
-module _ (kind : Kind) (files : List FileFact) (all : List Algorithm) (place : ℕ) (other : Algorithm) (within : place < length all) where
+module _ (kind : Kind) (files : List FileFact) (all : List Algorithm) (place : ℕ)
+    (other : Algorithm) (within : place < length all) where
   abbrev algorithm : Algorithm
   algorithm = get_or all place other
 
-  next : manifests_by kind files (take (place + 1) all) ≡ manifests_by kind files (take place all) ++ manifest_at kind algorithm files
+  next : manifests_by kind files (take (place + 1) all)
+      ≡ manifests_by kind files (take place all) ++ manifest_at kind algorithm files
   next = ap (manifests_by kind files) (take_more all place other within)
-      ∙ (flat_map-append (λ (a : Algorithm). manifest_at kind a files) (take place all) (algorithm ∷ [])
-      ∙ ap (λ x. manifests_by kind files (take place all) ++ x) (append-nil (manifest_at kind algorithm files)))
+      ∙ (flat_map-append (λ (a : Algorithm). manifest_at kind a files) (take place all)
+      (algorithm ∷ [])
+      ∙ ap (λ x. manifests_by kind files (take place all) ++ x)
+      (append-nil (manifest_at kind algorithm files)))
 
-  pub read_next : (before between after : List Listed) → Reads (manifests_by kind files (take place all)) before between → Reads (manifest_at kind algorithm files) between after
+  pub read_next : (before between after : List Listed)
+      → Reads (manifests_by kind files (take place all)) before between
+      → Reads (manifest_at kind algorithm files) between after
       → Reads (manifests_by kind files (take (place + 1) all)) before after
   read_next before between after so_far now =
       let P : List Manifest → Type 0 = λ ms. Reads ms before after in
-      subst P (sym next) (reads_both (manifests_by kind files (take place all)) (manifest_at kind algorithm files) before between after so_far now)
+      subst P (sym next) (reads_both (manifests_by kind files (take place all))
+      (manifest_at kind algorithm files) before between after so_far now)
 
-  pub fails_here : (fault : BagFault) → FailsToRead (manifest_at kind algorithm files) fault → FailsToRead (manifests_by kind files all) fault
+  pub fails_here : (fault : BagFault) → FailsToRead (manifest_at kind algorithm files) fault
+      → FailsToRead (manifests_by kind files all) fault
   fails_here fault h =
       let P : List Manifest → Type 0 = λ ms. FailsToRead ms fault in
       let Q : List Algorithm → Type 0 = λ some. FailsToRead (manifests_by kind files some) fault in
-      let upto : FailsToRead (manifests_by kind files (take (place + 1) all)) fault = subst P (sym next) (fails_second (manifests_by kind files (take place all)) (manifest_at kind algorithm files) fault h) in
+      let upto : FailsToRead (manifests_by kind files (take (place + 1) all)) fault =
+      subst P (sym next) (fails_second (manifests_by kind files (take place all))
+      (manifest_at kind algorithm files) fault h) in
       subst Q (take-append-drop (place + 1) all)
-      (subst P (sym (flat_map-append (λ (a : Algorithm). manifest_at kind a files) (take (place + 1) all) (drop (place + 1) all)))
-      (fails_first (manifests_by kind files (take (place + 1) all)) (manifests_by kind files (drop (place + 1) all)) fault upto))
+      (subst P
+      (sym (flat_map-append (λ (a : Algorithm). manifest_at kind a files) (take (place + 1) all)
+      (drop (place + 1) all)))
+      (fails_first (manifests_by kind files (take (place + 1) all))
+      (manifests_by kind files (drop (place + 1) all)) fault upto))
 
-pub of_kind : (kind : Kind) (files : List FileFact) → manifests_of_kind kind files ≡ manifests_by kind files algorithms
+pub of_kind : (kind : Kind) (files : List FileFact)
+    → manifests_of_kind kind files ≡ manifests_by kind files algorithms
 unfolding manifests_of_kind
 of_kind kind files = refl
 
-pub of_both : (facts : TreeFacts) → manifests_of facts ≡ manifests_of_kind Payload facts.files ++ manifests_of_kind Tag facts.files
+pub of_both : (files : List FileFact)
+    → manifests_of files ≡ manifests_of_kind Payload files ++ manifests_of_kind Tag files
 unfolding manifests_of
-of_both facts = ap (λ x. manifests_of_kind Payload facts.files ++ x) (append-nil (manifests_of_kind Tag facts.files))
+of_both files =
+    ap (λ x. manifests_of_kind Payload files ++ x) (append-nil (manifests_of_kind Tag files))
 
-pub reads_kinds : (facts : TreeFacts) (files files_too : List FileFact) (empty between after : List Listed) → files ≡ facts.files → files_too ≡ facts.files → empty ≡ []
-    → Reads (manifests_of_kind Payload files) empty between → Reads (manifests_of_kind Tag files_too) between after → Reads (manifests_of facts) [] after
-reads_kinds facts files files_too empty between after same same_too none payload tags =
+pub reads_kinds : (files : List FileFact) (empty between after : List Listed) → empty ≡ []
+    → Reads (manifests_of_kind Payload files) empty between
+    → Reads (manifests_of_kind Tag files) between after
+    → Reads (manifests_of files) [] after
+reads_kinds files empty between after none payload tags =
     let P : List Manifest → Type 0 = λ ms. Reads ms [] after in
-    let F : List FileFact → Type 0 = λ fs. Reads (manifests_of_kind Payload fs) [] between in
-    let E : List Listed → Type 0 = λ before. Reads (manifests_of_kind Payload files) before between in
-    let G : List FileFact → Type 0 = λ fs. Reads (manifests_of_kind Tag fs) between after in
-    subst P (sym (of_both facts)) (reads_both (manifests_of_kind Payload facts.files) (manifests_of_kind Tag facts.files) [] between after (subst F same (subst E none payload)) (subst G same_too tags))
+    let E : List Listed → Type 0 =
+    λ before. Reads (manifests_of_kind Payload files) before between in
+    subst P (sym (of_both files))
+    (reads_both (manifests_of_kind Payload files) (manifests_of_kind Tag files) [] between after
+    (subst E none payload) tags)
 
-pub fails_payload : (facts : TreeFacts) (files : List FileFact) (fault : BagFault) → files ≡ facts.files → FailsToRead (manifests_of_kind Payload files) fault → FailsToRead (manifests_of facts) fault
-fails_payload facts files fault same h =
+pub fails_payload : (files : List FileFact) (fault : BagFault)
+    → FailsToRead (manifests_of_kind Payload files) fault → FailsToRead (manifests_of files) fault
+fails_payload files fault h =
     let P : List Manifest → Type 0 = λ ms. FailsToRead ms fault in
-    let F : List FileFact → Type 0 = λ fs. FailsToRead (manifests_of_kind Payload fs) fault in
-    subst P (sym (of_both facts)) (fails_first (manifests_of_kind Payload facts.files) (manifests_of_kind Tag facts.files) fault (subst F same h))
+    subst P (sym (of_both files))
+    (fails_first (manifests_of_kind Payload files) (manifests_of_kind Tag files) fault h)
 
-pub fails_tag : (facts : TreeFacts) (files : List FileFact) (fault : BagFault) → files ≡ facts.files → FailsToRead (manifests_of_kind Tag files) fault → FailsToRead (manifests_of facts) fault
-fails_tag facts files fault same h =
+pub fails_tag : (files : List FileFact) (fault : BagFault)
+    → FailsToRead (manifests_of_kind Tag files) fault → FailsToRead (manifests_of files) fault
+fails_tag files fault h =
     let P : List Manifest → Type 0 = λ ms. FailsToRead ms fault in
-    let F : List FileFact → Type 0 = λ fs. FailsToRead (manifests_of_kind Tag fs) fault in
-    subst P (sym (of_both facts)) (fails_second (manifests_of_kind Payload facts.files) (manifests_of_kind Tag facts.files) fault (subst F same h))
+    subst P (sym (of_both files))
+    (fails_second (manifests_of_kind Payload files) (manifests_of_kind Tag files) fault h)
 
 -- an error that a `?` hands on
-pub handed_on : {X : Type 0} (answer : Result X BagFault) (fault : BagFault) (P : BagFault → Type 0) → IsErrAnd answer (λ other. other ≡ fault) → P fault → IfErr answer P
+pub handed_on : {X : Type 0} (answer : Result X BagFault) (fault : BagFault) (P : BagFault → Type 0)
+    → IsErrAnd answer (λ other. other ≡ fault) → P fault → IfErr answer P
 handed_on (Ok x) fault P is h = absurd is
 handed_on (Err other) fault P is h = subst P (sym is) h
 
 -- ---- one manifest
 
-pub no_manifest : (kind : Kind) (algorithm : Algorithm) (files : List FileFact) (before : List Listed) → text_at (manifest_name kind algorithm) files ≡ None → Reads (manifest_at kind algorithm files) before before
+pub no_manifest : (kind : Kind) (algorithm : Algorithm) (files : List FileFact)
+    (before : List Listed) → text_at (manifest_name kind algorithm) files ≡ None
+    → Reads (manifest_at kind algorithm files) before before
 unfolding manifest_at
 no_manifest kind algorithm files before h = rw h (reads_none before)
 
-module _ (kind : Kind) (algorithm : Algorithm) (files : List FileFact) (text : List ℕ) (there : text_at (manifest_name kind algorithm) files ≡ Some text) where
-  pub one_read : (found : List ListedFile) (before : List Listed) → entries_of algorithm text ≡ Ok found
-      → Reads (manifest_at kind algorithm files) before (before ++ record { kind = kind; algorithm = algorithm; files = found } ∷ [])
+module _ (kind : Kind) (algorithm : Algorithm) (files : List FileFact) (text : List ℕ)
+    (there : text_at (manifest_name kind algorithm) files ≡ Some text) where
+  pub one_read : (found : List ListedFile) (before : List Listed)
+      → entries_of algorithm text ≡ Ok found
+      → Reads (manifest_at kind algorithm files) before
+      (before ++ record { kind = kind; algorithm = algorithm; files = found } ∷ [])
   unfolding manifest_at some_malformed listings
   one_read found before read = rw there (rw read (refl, refl))
 
-  pub one_malformed : (line : ℕ) → entries_of algorithm text ≡ Err line → FailsToRead (manifest_at kind algorithm files) MalformedLine
+  pub one_malformed : (line : ℕ) → entries_of algorithm text ≡ Err line
+      → FailsToRead (manifest_at kind algorithm files) MalformedLine
   unfolding manifest_at some_malformed
   one_malformed line read = rw there (rw read refl)

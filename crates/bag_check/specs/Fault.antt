@@ -1,7 +1,14 @@
--- The numbers of the faults of bags.
-use Rattle.std.specs.Prelude.{ℕ}
+-- The numbers of the faults of bags, and when a call answers one.
+use Rattle.std.specs.Prelude.{◌≡◌, ℕ, Result, Ok, Err}
 use Rattle.bag_check.specs.declared.fault.BagFault.{BagFault}
-use Rattle.bag_check.specs.declared.fault.BagFault.TheVariants.{NoDeclaration, BadDeclaration, UnsupportedVersion, UnsupportedEncoding, HasFetch, NoPayloadFolder, NoSha512Manifest, UnknownAlgorithm, MalformedLine, UnsafePath, DuplicateEntry, MissingFile, UnlistedFile, WrongDigest, Memory}
+use Rattle.bag_check.specs.declared.fault.BagFault.TheVariants.{NoDeclaration, BadDeclaration}
+use Rattle.bag_check.specs.declared.fault.BagFault.TheVariants.{UnsupportedVersion}
+use Rattle.bag_check.specs.declared.fault.BagFault.TheVariants.{UnsupportedEncoding}
+use Rattle.bag_check.specs.declared.fault.BagFault.TheVariants.{HasFetch, NoPayloadFolder}
+use Rattle.bag_check.specs.declared.fault.BagFault.TheVariants.{NoSha512Manifest, UnknownAlgorithm}
+use Rattle.bag_check.specs.declared.fault.BagFault.TheVariants.{MalformedLine, UnsafePath}
+use Rattle.bag_check.specs.declared.fault.BagFault.TheVariants.{DuplicateEntry, MissingFile}
+use Rattle.bag_check.specs.declared.fault.BagFault.TheVariants.{UnlistedFile, WrongDigest, Memory}
 
 abbrev pub number_of : BagFault → ℕ
 number_of NoDeclaration = 1
@@ -19,3 +26,9 @@ number_of MissingFile = 12
 number_of UnlistedFile = 13
 number_of WrongDigest = 14
 number_of Memory = 15
+
+-- the answer is the wanted one, or memory ran out
+abbrev pub IsOrMemory : {T : Type 0} → Result T BagFault → Result T BagFault → Type 0
+IsOrMemory (Ok value) wanted = wanted ≡ Ok value
+IsOrMemory (Err Memory) wanted = Unit {0}
+IsOrMemory (Err fault) wanted = wanted ≡ Err fault

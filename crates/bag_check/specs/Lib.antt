@@ -2,4 +2,4 @@ pub mod Fault
 pub mod Manifests
 pub mod Check
 pub mod Valid
-pub mod Order
+pub mod inner

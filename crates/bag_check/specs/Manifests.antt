@@ -1,5 +1,7 @@
 -- The manifests of a tree of files, and what they list (RFC 8493, 2.1.3 and 2.2.1).
-use Rattle.std.specs.Prelude.{ℕ, Bool, true, false, not, ◌&&◌, ◌==◌, List, [], ◌∷◌, ◌++◌, length, Option, Some, None, unwrap_or, is_some, Result, Ok, Err, codes}
+use Rattle.std.specs.Prelude.{ℕ, Bool, true, false, not, ◌&&◌, ◌==◌, codes}
+use Rattle.std.specs.Prelude.{List, [], ◌∷◌, ◌++◌, length}
+use Rattle.std.specs.Prelude.{Option, Some, None, unwrap_or, is_some, Result, Ok, Err}
 use Rattle.std.specs.List.{list_any, find, flat_map}
 use Rattle.std.specs.Option.{option_map}
 use Rattle.std.specs.Str.{bytes_eq}
@@ -9,7 +11,7 @@ use Rattle.bag_text.specs.Algorithms.{algorithm_name}
 use Rattle.bag_text.specs.ListedFile.{ListedFile}
 use Rattle.bag_text.specs.Reading.{entries_of}
 use Rattle.bag_tree.specs.Path.{parts_of, is_text_named}
-use Rattle.bag_tree.specs.Facts.{FileFact, TreeFacts}
+use Rattle.bag_tree.specs.Facts.{FileFact}
 use Rattle.bag_check.specs.declared.manifests.Kind.{Kind}
 use Rattle.bag_check.specs.declared.manifests.Kind.TheVariants.{Payload, Tag}
 
@@ -21,18 +23,19 @@ file_at path files = find (λ file. bytes_eq file.path path) files
 abbrev pub has_file : List ℕ → List FileFact → Bool
 has_file path files = is_some (file_at path files)
 
--- The bytes of the text of this path, where there is one. The facts of a file of such a name always have its bytes: `FileFacts` keeps that.
+-- The bytes of the text of this path, where there is one. The facts of a file of such a name always
+-- have its bytes: `FileFacts` keeps that.
 abbrev pub text_at : List ℕ → List FileFact → Option (List ℕ)
 text_at path files = option_map (λ file. unwrap_or file.text []) (file_at path files)
 
 -- what the names of manifests of this kind begin with
-abbrev pub front_of : Kind → List ℕ
-front_of Payload = codes "manifest-"
-front_of Tag = codes "tagmanifest-"
+abbrev pub prefix_of : Kind → List ℕ
+prefix_of Payload = codes "manifest-"
+prefix_of Tag = codes "tagmanifest-"
 
 -- the name of the manifest, as `manifest-sha512.txt` or `tagmanifest-md5.txt`
 unfoldable pub manifest_name : Kind → Algorithm → List ℕ
-manifest_name kind algorithm = front_of kind ++ algorithm_name algorithm ++ codes ".txt"
+manifest_name kind algorithm = prefix_of kind ++ algorithm_name algorithm ++ codes ".txt"
 
 abbrev pub kinds : List Kind
 kinds = Payload ∷ Tag ∷ []
@@ -46,11 +49,13 @@ sha512_manifest = manifest_name Payload Sha512
 
 -- the path is that of a manifest, of any algorithm or none: a file at the tree's own level
 unfoldable pub is_manifest : List ℕ → Bool
-is_manifest path = length (parts_of path) == 1 && list_any (λ kind. is_text_named (front_of kind) path) kinds
+is_manifest path =
+    length (parts_of path) == 1 && list_any (λ kind. is_text_named (prefix_of kind) path) kinds
 
 -- the path is that of a manifest of this kind, of an algorithm that is read
 unfoldable pub is_known_of_kind : Kind → List ℕ → Bool
-is_known_of_kind kind path = list_any (λ algorithm. bytes_eq path (manifest_name kind algorithm)) algorithms
+is_known_of_kind kind path =
+    list_any (λ algorithm. bytes_eq path (manifest_name kind algorithm)) algorithms
 
 -- the path is that of a manifest of an algorithm that is read
 unfoldable pub is_known_manifest : List ℕ → Bool
@@ -69,32 +74,34 @@ pub record Manifest : Type 0 where
 -- the manifest, where its text is there
 abbrev pub manifest_in : Kind → Algorithm → Option (List ℕ) → List Manifest
 manifest_in kind algorithm None = []
-manifest_in kind algorithm (Some text) = record { kind = kind; algorithm = algorithm; text = text } ∷ []
+manifest_in kind algorithm (Some text) =
+    record { kind = kind; algorithm = algorithm; text = text } ∷ []
 
 -- the manifest of this kind and algorithm, where there is one
 unfoldable pub manifest_at : Kind → Algorithm → List FileFact → List Manifest
-manifest_at kind algorithm files = manifest_in kind algorithm (text_at (manifest_name kind algorithm) files)
+manifest_at kind algorithm files =
+    manifest_in kind algorithm (text_at (manifest_name kind algorithm) files)
 
 -- the manifests of this kind, of every algorithm that is read
 unfoldable pub manifests_of_kind : Kind → List FileFact → List Manifest
 manifests_of_kind kind files = flat_map (λ algorithm. manifest_at kind algorithm files) algorithms
 
--- the manifests of the tree, of every kind and algorithm that is read
-unfoldable pub manifests_of : TreeFacts → List Manifest
-manifests_of facts = flat_map (λ kind. manifests_of_kind kind facts.files) kinds
+-- the manifests among these files, of every kind and algorithm that is read
+unfoldable pub manifests_of : List FileFact → List Manifest
+manifests_of files = flat_map (λ kind. manifests_of_kind kind files) kinds
 
--- every line of the manifest has its form, and what it lists passes this test
+-- every line of the manifest is well-formed, and what it lists passes this test
 abbrev pub passes : (List ListedFile → Bool) → Result (List ListedFile) ℕ → Bool
 passes test (Ok entries) = test entries
 passes test (Err line) = false
 
--- a line of the manifest doesn't have its form
+-- a line of the manifest is malformed
 abbrev pub is_malformed : Result (List ListedFile) ℕ → Bool
 is_malformed (Ok entries) = false
 is_malformed (Err line) = true
 
--- What the manifest lists, or the number of its first malformed line. It lists exactly what it is related to by
--- `IsManifest`: `manifest_law` of bag_text says so.
+-- What the manifest lists, or the number of its first malformed line. It lists exactly what it is
+-- related to by `IsManifest`: `manifest_law` of bag_text says so.
 abbrev pub entries : Manifest → Result (List ListedFile) ℕ
 entries manifest = entries_of manifest.algorithm manifest.text
 

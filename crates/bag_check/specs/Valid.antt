@@ -1,8 +1,8 @@
--- When a tree of files is a valid bag (RFC 8493, 2 and 3), in this project's profile of it, in sets
--- and relations; no fault is named here. `valid_law` says that the trees which are valid so are those
--- in which no fault holds. The profile refuses some bags that RFC 8493 allows (Check.antt names them),
--- and asks less of a tag manifest: that what it lists is there, outside the payload's folder, and has
--- its digests.
+-- When a tree of files is a valid bag (RFC 8493, 2 and 3), in this project's profile of it, in
+-- sets and relations; no fault is named here. `valid_law` says that the trees which are valid so
+-- are those in which no fault holds. The profile refuses some bags that RFC 8493 allows (Check.antt
+-- names them), and asks less of a tag manifest: that what it lists exists, outside the payload's
+-- folder, and has its digests.
 use Rattle.std.specs.Prelude.{◌≡◌, ◌≢◌, ◌⊎◌, ◌↔◌, ℕ, List, ◌++◌, map, codes, Some}
 use Rattle.std.specs.Prelude.{IsTrue, Contains, All, AllPairs}
 use Rattle.std.specs.Str.{str_to_ascii_lowercase}
@@ -15,7 +15,7 @@ use Rattle.bag_digest.specs.Digests.{digest_by}
 use Rattle.bag_tree.specs.Facts.{FileFact, TreeFacts}
 use Rattle.bag_check.specs.declared.manifests.Kind.{Kind}
 use Rattle.bag_check.specs.declared.manifests.Kind.TheVariants.{Payload, Tag}
-use Rattle.bag_check.specs.Manifests.{file_at, text_at, front_of, manifest_name, sha512_manifest}
+use Rattle.bag_check.specs.Manifests.{file_at, text_at, prefix_of, manifest_name, sha512_manifest}
 
 -- ---- the files of a tree: a map from paths to files. Of two with one path, the first is meant.
 
@@ -56,12 +56,13 @@ IsDeclared facts =
 -- `manifest-`, or `tagmanifest-`, and then any text or none and `.txt`, at the tree's own level
 abbrev pub IsManifestName : List ℕ → Type 0
 IsManifestName path =
-    (kind : Kind) × (name : List ℕ) × (path ≡ front_of kind ++ (name ++ codes ".txt"))
+    (kind : Kind) × (name : List ℕ) × (path ≡ prefix_of kind ++ (name ++ codes ".txt"))
     × ¬ (Contains path slash)
 
 -- the name of a manifest of one of the four algorithms
 abbrev pub IsReadManifestName : List ℕ → Type 0
-IsReadManifestName path = (kind : Kind) × (algorithm : Algorithm) × (path ≡ manifest_name kind algorithm)
+IsReadManifestName path =
+    (kind : Kind) × (algorithm : Algorithm) × (path ≡ manifest_name kind algorithm)
 
 -- The paths that a payload manifest lists are those of the payload's files, each once. Those that
 -- a tag manifest lists are paths of tag files.

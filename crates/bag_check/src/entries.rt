@@ -6,19 +6,20 @@ ghost use Rattle.std.specs.BTreeSet.{contains_by};
 ghost use Rattle.bag_tree.specs.Path.{is_payload};
 ghost use Rattle.bag_check.specs.Manifests.{is_listed};
 ghost use Rattle.bag_check.specs.Check.{is_astray, is_wrong, repeats, is_unlisted};
-ghost use Rattle.bag_check.specs.Order.{fault_of_listings, has_astray, has_repeat, has_missing, has_unlisted, has_wrong};
+ghost use Rattle.bag_check.specs.inner.Order.{fault_of_listings, has_astray, has_repeat};
+ghost use Rattle.bag_check.specs.inner.Order.{has_missing, has_unlisted, has_wrong};
 
-use crate::by_path::FilesByPath;
 use crate::fault::BagFault;
+use crate::files_by_path::FilesByPath;
+use crate::listing::Listing;
 use crate::manifests::Kind;
-use crate::reading::Listing;
 use bag_text::{Algorithm, Entry};
 use bag_tree::{FileFacts, has_unsafe_part, is_payload};
 use std::alloc::{AllocError, Global};
 use std::collections::BTreeSet;
 
 /// The first fault of what the manifests list. Each is asked of all manifests before the next one.
-#[tactic(auto, unfolding(crate::specs::Order::fault_of_listings))]
+#[tactic(auto, unfolding(crate::specs::inner::Order::fault_of_listings))]
 pub(crate) fn fault_of_listings(
     alloc: Global,
     listings: &[Listing],

@@ -25,7 +25,7 @@ pub enum BagFault {
     /// There is a `fetch.txt`.
     #[error("there is a fetch.txt")]
     HasFetch,
-    /// The payload's folder `data` doesn't stand.
+    /// The payload's folder `data` doesn't exist.
     #[error("there is no payload folder")]
     NoPayloadFolder,
     /// There is no `manifest-sha512.txt`.
@@ -52,13 +52,13 @@ pub enum BagFault {
     /// A listed digest isn't that of its file.
     #[error("a file has another digest than the listed one")]
     WrongDigest,
-    /// A growth was refused.
+    /// Memory ran out.
     #[error("out of memory")]
     Memory,
 }
 
 impl BagFault {
-    /// The number that stands for the fault in what the program prints and sends.
+    /// The number of the fault in what the program prints and sends.
     pub fn number(self) -> u8
         ensures { result ≡ number_of self }
     {

@@ -1,6 +1,6 @@
 //! Laws of bags, over every tree, each as the contract of a function that does nothing.
 
-ghost use Rattle.std.specs.Prelude.{◌≡◌, ◌↔◌, Ok, None, false};
+ghost use Rattle.std.specs.Prelude.{◌≡◌, ◌↔◌, Ok, false};
 ghost use Rattle.bag_tree.specs.Facts.{TreeFacts};
 ghost use Rattle.bag_check.specs.declared.fault.BagFault.{BagFault};
 ghost use Rattle.bag_check.specs.Check.{holds, check_of, identity_of};

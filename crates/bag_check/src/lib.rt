@@ -1,17 +1,18 @@
-//! Whether a tree of files is a valid bag, of which identity, and if it isn't, why (RFC 8493, within the limits that `BagFault` names).
+//! Whether a tree of files is a valid bag, of which identity, and if it isn't, why (RFC 8493,
+//! within the limits that `BagFault` names).
 #![tactic(auto)]
 
-mod by_path;
-mod checking;
-mod declared;
+mod check_bag;
 mod entries;
 mod fault;
+mod files_by_path;
 mod law;
-mod lookups;
+mod listing;
 mod manifests;
-mod reading;
+mod read_manifests;
+mod tag_files;
 
-pub use checking::check;
+pub use check_bag::check;
 pub use fault::BagFault;
 pub use law::valid_law;
 

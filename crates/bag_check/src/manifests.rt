@@ -1,6 +1,7 @@
-ghost use Rattle.std.specs.Prelude.{◌≡◌, ◌==◌, length};
+ghost use Rattle.std.specs.Prelude.{◌≡◌};
 
 use bag_text::Algorithm;
+use bag_tree::{is_text_named, part_count};
 
 /// The kinds of manifests (RFC 8493, 2.1.3 and 2.2.1).
 #[derive(Clone, Copy, Debug)]
@@ -20,11 +21,11 @@ pub(crate) const ALGORITHMS: [Algorithm; 4] = [
 ];
 
 impl Kind {
-    ghost use Rattle.bag_check.specs.Manifests.{front_of, manifest_name};
+    ghost use Rattle.bag_check.specs.Manifests.{prefix_of, manifest_name};
 
     /// What the names of manifests of this kind begin with.
-    fn front(self) -> &'static [u8]
-        ensures { result.now ≡ front_of self }
+    fn prefix(self) -> &'static [u8]
+        ensures { result.now ≡ prefix_of self }
     {
         match self {
             Kind::Payload => b"manifest-",
@@ -34,56 +35,45 @@ impl Kind {
 
     /// The name of the manifest of this kind and algorithm.
     #[tactic(auto, unfolding(crate::specs::Manifests::manifest_name))]
-    pub(crate) fn manifest_name(self, algorithm: Algorithm) -> &'static [u8]
+    pub(crate) fn manifest_name(self, algorithm: Algorithm) -> &'static str
         ensures { result.now ≡ manifest_name self algorithm }
     {
         match (self, algorithm) {
-            (Kind::Payload, Algorithm::Md5) => b"manifest-md5.txt",
-            (Kind::Payload, Algorithm::Sha1) => b"manifest-sha1.txt",
-            (Kind::Payload, Algorithm::Sha256) => b"manifest-sha256.txt",
-            (Kind::Payload, Algorithm::Sha512) => b"manifest-sha512.txt",
-            (Kind::Tag, Algorithm::Md5) => b"tagmanifest-md5.txt",
-            (Kind::Tag, Algorithm::Sha1) => b"tagmanifest-sha1.txt",
-            (Kind::Tag, Algorithm::Sha256) => b"tagmanifest-sha256.txt",
-            (Kind::Tag, Algorithm::Sha512) => b"tagmanifest-sha512.txt",
+            (Kind::Payload, Algorithm::Md5) => "manifest-md5.txt",
+            (Kind::Payload, Algorithm::Sha1) => "manifest-sha1.txt",
+            (Kind::Payload, Algorithm::Sha256) => "manifest-sha256.txt",
+            (Kind::Payload, Algorithm::Sha512) => "manifest-sha512.txt",
+            (Kind::Tag, Algorithm::Md5) => "tagmanifest-md5.txt",
+            (Kind::Tag, Algorithm::Sha1) => "tagmanifest-sha1.txt",
+            (Kind::Tag, Algorithm::Sha256) => "tagmanifest-sha256.txt",
+            (Kind::Tag, Algorithm::Sha512) => "tagmanifest-sha512.txt",
         }
     }
 }
 
-ghost use Rattle.bag_tree.specs.Path.{parts_of, is_text_named};
 ghost use Rattle.bag_check.specs.Manifests.{is_manifest, is_known_of_kind, is_known_manifest};
 
 /// Whether a path is that of a manifest, of whichever algorithm: a file at the bag's own level.
 #[tactic(auto, using(crate::proofs::Bools::or_false), unfolding(crate::specs::Manifests::is_manifest))]
-pub(crate) fn is_manifest(path: &[u8]) -> bool
+pub(crate) fn is_manifest(path: &str) -> bool
     ensures { result ≡ is_manifest path.now }
 {
-    is_at_top(path)
-        && (is_text_named(Kind::Payload.front(), path) || is_text_named(Kind::Tag.front(), path))
-}
-
-fn is_at_top(path: &[u8]) -> bool
-    ensures { result ≡ (length (parts_of path.now) == 1) }
-{
-    path.split(|byte| *byte == b'/').count() == 1
-}
-
-fn is_text_named(front: &[u8], path: &[u8]) -> bool
-    ensures { result ≡ is_text_named front.now path.now }
-{
-    path.starts_with(front) && path.ends_with(b".txt")
+    let bytes = path.as_bytes();
+    part_count(bytes) == 1
+        && (is_text_named(Kind::Payload.prefix(), bytes)
+            || is_text_named(Kind::Tag.prefix(), bytes))
 }
 
 /// Whether a path is that of a manifest that is read.
 #[tactic(auto, using(crate::proofs::Bools::or_false), unfolding(crate::specs::Manifests::is_known_manifest))]
-pub(crate) fn is_known_manifest(path: &[u8]) -> bool
+pub(crate) fn is_known_manifest(path: &str) -> bool
     ensures { result ≡ is_known_manifest path.now }
 {
     is_known_of_kind(Kind::Payload, path) || is_known_of_kind(Kind::Tag, path)
 }
 
 #[tactic(auto, using(crate::proofs::Bools::or_false), unfolding(crate::specs::Manifests::is_known_of_kind))]
-fn is_known_of_kind(kind: Kind, path: &[u8]) -> bool
+fn is_known_of_kind(kind: Kind, path: &str) -> bool
     ensures { result ≡ is_known_of_kind kind path.now }
 {
     path == kind.manifest_name(Algorithm::Md5)

@@ -17,8 +17,8 @@ const SHA1: &str = "a9993e364706816aba3e25717850c26c9cd0d89d";
 
 const SHA256: &str = "ba7816bf8f01cfea414140de5dae2223b00361a396177a9cb410ff61f20015ad";
 
-const SHA512: &str =
-    "DDAF35A193617ABACC417349AE20413112E6FA4E89A97EA20A9EEEE64B55D39A2192992A274FC1A836BA3C23A3FEEBBD454D4423643CE80E2A9AC94FA54CA49F";
+const SHA512: &str = "DDAF35A193617ABACC417349AE20413112E6FA4E89A97EA20A9EEEE64B55D39A\
+    2192992A274FC1A836BA3C23A3FEEBBD454D4423643CE80E2A9AC94FA54CA49F";
 
 /// The MD5 of no bytes (RFC 1321), in hex, and their SHA-512 (FIPS 180-4).
 const MD5_OF_NOTHING: &str = "d41d8cd98f00b204e9800998ecf8427e";
@@ -33,7 +33,7 @@ const NOTHING: [u8; 64] = [
 /// A file's path and its bytes.
 type Named<'a> = (&'a str, &'a [u8]);
 
-/// The tree of these files, where `data` stands.
+/// The tree of these files, where `data` exists.
 fn tree_of(alloc: Global, files: &[Named<'_>]) -> Result<Tree, Fail> {
     let mut tree = Tree::new(alloc);
     tree.add_folder();

@@ -1,3 +1,3 @@
-pub mod Files
+pub mod Pieces
 pub mod Folders
 pub mod inner

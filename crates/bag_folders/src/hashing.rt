@@ -3,7 +3,7 @@ ghost use Rattle.std.specs.Prelude.{IfOk, OnOk, OnErr};
 ghost use Rattle.bag_tree.specs.Facts.{fact_of_file};
 ghost use Rattle.bag_tree.specs.Fault.{RefusesFor};
 ghost use Rattle.bag_tree.specs.Tree.{longest_text, fault_of_text};
-ghost use Rattle.bag_folders.specs.Files.{with_piece};
+ghost use Rattle.bag_folders.specs.Pieces.{with_piece};
 
 use bag_digest::Digester;
 use bag_tree::{FileFacts, LONGEST_TEXT, TreeFault, is_read_text};

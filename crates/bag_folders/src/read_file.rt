@@ -2,7 +2,7 @@ ghost use Rattle.std.specs.Prelude.{◌≡◌, OnOk, IfOk, IfErr, IfSome, IsErrO
 ghost use Rattle.std.specs.Io.KnownBytes.{IsAtEnd};
 ghost use Rattle.bag_tree.specs.Facts.{fact_of_file};
 ghost use Rattle.bag_tree.specs.Tree.{fault_of_text};
-ghost use Rattle.bag_folders.specs.Files.{IsReadFault, most_reads};
+ghost use Rattle.bag_folders.specs.Pieces.{IsReadFault, most_reads};
 
 use crate::hashing::Hashing;
 use bag_tree::{FileFacts, TreeFault};

@@ -1,14 +1,17 @@
--- Spaces and tabs in front of a text and at its end, one byte after the other.
-use Rattle.std.proofs.Common.{◌≡◌, ℕ, Bool, true, false, cond, ◌&&◌, List, [], ◌∷◌, ◌++◌, length, refl, sym, ap, ◌∙◌, arith}
+-- Spaces and tabs at the start of a text and at its end, one byte after the other.
+use Rattle.std.proofs.Common.{◌≡◌, ℕ, Bool, true, false, cond, ◌&&◌, List, [], ◌∷◌, ◌++◌, length}
+use Rattle.std.proofs.Common.{refl, sym, ap, ◌∙◌, arith}
 use Rattle.std.specs.List.{list_all}
 use Rattle.bag_text.specs.Blanks.{is_blank}
 use Rattle.bag_text.specs.Reading.{skip_blanks, trim_blanks}
 
-pub skip_blanks-more : (text : List ℕ) (byte : ℕ) (rest : List ℕ) → text ≡ byte ∷ rest → is_blank byte ≡ true → skip_blanks text ≡ skip_blanks rest
+pub skip_blanks-more : (text : List ℕ) (byte : ℕ) (rest : List ℕ) → text ≡ byte ∷ rest
+    → is_blank byte ≡ true → skip_blanks text ≡ skip_blanks rest
 unfolding skip_blanks
 skip_blanks-more text byte rest e h = rw (e, h) refl
 
-pub skip_blanks-stops : (text : List ℕ) (byte : ℕ) (rest : List ℕ) → text ≡ byte ∷ rest → is_blank byte ≡ false → skip_blanks text ≡ text
+pub skip_blanks-stops : (text : List ℕ) (byte : ℕ) (rest : List ℕ) → text ≡ byte ∷ rest
+    → is_blank byte ≡ false → skip_blanks text ≡ text
 unfolding skip_blanks
 skip_blanks-stops text byte rest e h = rw (e, h) refl
 
@@ -18,37 +21,46 @@ skip_blanks-none [] h = refl
 skip_blanks-none (byte ∷ rest) h = absurd (omega arith)
 
 -- a blank at the end
-all_blank-push : (front : List ℕ) (byte : ℕ) → is_blank byte ≡ true → list_all is_blank (front ++ (byte ∷ [])) ≡ list_all is_blank front
+all_blank-push : (front : List ℕ) (byte : ℕ) → is_blank byte ≡ true
+    → list_all is_blank (front ++ (byte ∷ [])) ≡ list_all is_blank front
 all_blank-push [] byte h = rw h refl
 all_blank-push (x ∷ front) byte h = ap (λ (t : Bool). is_blank x && t) (all_blank-push front byte h)
 
 -- another byte at the end
-all_blank-other : (front : List ℕ) (byte : ℕ) → is_blank byte ≡ false → list_all is_blank (front ++ (byte ∷ [])) ≡ false
+all_blank-other : (front : List ℕ) (byte : ℕ) → is_blank byte ≡ false
+    → list_all is_blank (front ++ (byte ∷ [])) ≡ false
 all_blank-other [] byte h = rw h refl
-all_blank-other (x ∷ front) byte h = ap (λ (t : Bool). is_blank x && t) (all_blank-other front byte h) ∙ go (is_blank x)
+all_blank-other (x ∷ front) byte h =
+    ap (λ (t : Bool). is_blank x && t) (all_blank-other front byte h) ∙ go (is_blank x)
   where
     go : (b : Bool) → (b && false) ≡ false
     go true = refl
     go false = refl
 
-trim_blanks-push : (front : List ℕ) (byte : ℕ) → is_blank byte ≡ true → trim_blanks (front ++ (byte ∷ [])) ≡ trim_blanks front
+trim_blanks-push : (front : List ℕ) (byte : ℕ) → is_blank byte ≡ true
+    → trim_blanks (front ++ (byte ∷ [])) ≡ trim_blanks front
 unfolding trim_blanks
 trim_blanks-push [] byte h = rw h refl
-trim_blanks-push (x ∷ front) byte h = rw (all_blank-push front byte h, trim_blanks-push front byte h) refl
+trim_blanks-push (x ∷ front) byte h =
+    rw (all_blank-push front byte h, trim_blanks-push front byte h) refl
 
-trim_blanks-other : (front : List ℕ) (byte : ℕ) → is_blank byte ≡ false → trim_blanks (front ++ (byte ∷ [])) ≡ front ++ (byte ∷ [])
+trim_blanks-other : (front : List ℕ) (byte : ℕ) → is_blank byte ≡ false
+    → trim_blanks (front ++ (byte ∷ [])) ≡ front ++ (byte ∷ [])
 unfolding trim_blanks
 trim_blanks-other [] byte h = rw h refl
-trim_blanks-other (x ∷ front) byte h = rw (all_blank-other front byte h, trim_blanks-other front byte h) (go (is_blank x))
+trim_blanks-other (x ∷ front) byte h =
+    rw (all_blank-other front byte h, trim_blanks-other front byte h) (go (is_blank x))
   where
     go : (b : Bool) → cond (b && false) [] (x ∷ (front ++ (byte ∷ []))) ≡ x ∷ (front ++ (byte ∷ []))
     go true = refl
     go false = refl
 
-pub trim_blanks-more : (text front : List ℕ) (byte : ℕ) → text ≡ front ++ (byte ∷ []) → is_blank byte ≡ true → trim_blanks text ≡ trim_blanks front
+pub trim_blanks-more : (text front : List ℕ) (byte : ℕ) → text ≡ front ++ (byte ∷ [])
+    → is_blank byte ≡ true → trim_blanks text ≡ trim_blanks front
 trim_blanks-more text front byte e h = ap trim_blanks e ∙ trim_blanks-push front byte h
 
-pub trim_blanks-stops : (text front : List ℕ) (byte : ℕ) → text ≡ front ++ (byte ∷ []) → is_blank byte ≡ false → trim_blanks text ≡ text
+pub trim_blanks-stops : (text front : List ℕ) (byte : ℕ) → text ≡ front ++ (byte ∷ [])
+    → is_blank byte ≡ false → trim_blanks text ≡ text
 trim_blanks-stops text front byte e h = ap trim_blanks e ∙ trim_blanks-other front byte h ∙ sym e
 
 pub trim_blanks-none : (text : List ℕ) → length text ≡ 0 → trim_blanks text ≡ text

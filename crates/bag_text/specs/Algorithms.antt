@@ -10,7 +10,7 @@ digest_len Sha1 = 20
 digest_len Sha256 = 32
 digest_len Sha512 = 64
 
--- the hex digits that spell it
+-- its hex digits
 abbrev pub hex_len : Algorithm → ℕ
 hex_len algorithm = 2 * digest_len algorithm
 

@@ -1,4 +1,4 @@
--- Spaces and tabs, which stand between the parts of a line.
+-- Spaces and tabs, which separate the parts of a line.
 use Rattle.std.specs.Prelude.{ℕ, ◌<◌, Bool, false, not, ◌==◌, ◌||◌, List, [], ◌∷◌, length, IsTrue}
 use Rattle.std.specs.List.{list_all}
 

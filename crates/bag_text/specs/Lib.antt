@@ -1,6 +1,5 @@
 pub mod Algorithms
 pub mod Fault
-pub mod Examples
 pub mod Lines
 pub mod Blanks
 pub mod Declarations
@@ -8,3 +7,4 @@ pub mod Paths
 pub mod ListedFile
 pub mod Manifests
 pub mod Reading
+pub mod inner

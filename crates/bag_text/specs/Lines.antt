@@ -15,13 +15,10 @@ abbrev pub starts_with_line_feed : List ℕ → Bool
 starts_with_line_feed [] = false
 starts_with_line_feed (byte ∷ rest) = byte == line_feed
 
-abbrev pub starts_with_line_end : List ℕ → Bool
-starts_with_line_end [] = false
-starts_with_line_end (byte ∷ rest) = is_line_end byte
-
--- The lines in order, without their ends. A CR in front of LF is a part of that one end; any other CR, and
--- any LF, ends a line. Any other byte stands in front of the first line of what comes after it, and is a line
--- by itself where nothing does.
+-- The lines in order, without their ends. A CR before LF is a part of that one end; any other CR,
+-- and
+-- any LF, ends a line. Any other byte is the first of the first line of what comes after it, and a
+-- line by itself where nothing does.
 unfoldable pub lines_of : List ℕ → List (List ℕ)
 lines_of [] = []
 lines_of (byte ∷ rest) =

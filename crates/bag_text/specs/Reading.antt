@@ -1,5 +1,7 @@
--- The same texts as functions, which say what is read, or the number of the first faulty line.
-use Rattle.std.specs.Prelude.{◌≡◌, ℕ, ◌+◌, Bool, ◌==◌, ◌&&◌, nat_lt, not, if◌then◌else◌, List, [], ◌∷◌, length, take, drop, Option, Some, None, option_and_then, Result, Ok, Err}
+-- The same texts as functions, which say what is read, or the number of the first malformed line.
+use Rattle.std.specs.Prelude.{◌≡◌, ℕ, ◌+◌, Bool, ◌==◌, ◌&&◌, nat_lt, not, if◌then◌else◌, List, []}
+use Rattle.std.specs.Prelude.{◌∷◌, length, take, drop, Option, Some, None, option_and_then, Result}
+use Rattle.std.specs.Prelude.{Ok, Err}
 use Rattle.std.specs.Option.{option_map}
 use Rattle.std.specs.Result.{result_ok}
 use Rattle.std.specs.List.{list_all, before_first, after_first}
@@ -7,36 +9,26 @@ use Rattle.std.specs.Char.{is_ascii_digit}
 use Rattle.std.specs.Str.{is_utf8, bytes_eq}
 use Rattle.hex.specs.Hex.{decode_of}
 use Rattle.bag_text.specs.declared.algorithm.Algorithm.{Algorithm}
-use Rattle.bag_text.specs.declared.fault.TextFault.{TextFault}
-use Rattle.bag_text.specs.declared.fault.TextFault.TheVariants.{Malformed, Memory}
 use Rattle.bag_text.specs.Algorithms.{hex_len}
 use Rattle.bag_text.specs.Lines.{lines_of}
 use Rattle.bag_text.specs.Blanks.{is_blank}
 use Rattle.bag_text.specs.Declarations.{version_label, encoding_label, full_stop, is_visible}
-use Rattle.bag_text.specs.Paths.{escaped_byte, path_of}
+use Rattle.bag_text.specs.Paths.{path_of}
 use Rattle.bag_text.specs.ListedFile.{ListedFile}
-
--- what was returned, seen by view, is what reading gives, unless memory ran out
-abbrev pub FailsAs : {Y : Type 0} → TextFault → Result Y ℕ → Type 0
-FailsAs Memory read = Unit {0}
-FailsAs (Malformed line) read = read ≡ Err line
-
-abbrev pub Gives : {X Y : Type 0} → (X → Y) → Result X TextFault → Result Y ℕ → Type 0
-Gives view (Ok found) read = read ≡ Ok (view found)
-Gives view (Err fault) read = FailsAs fault read
 
 -- ---- parts of a line
 
--- the text without the spaces and tabs in front, and without those at its end
+-- the text without the spaces and tabs at its start, and without those at its end
 unfoldable pub skip_blanks : List ℕ → List ℕ
 skip_blanks [] = []
 skip_blanks (byte ∷ rest) = if is_blank byte then skip_blanks rest else byte ∷ rest
 
 unfoldable pub trim_blanks : List ℕ → List ℕ
 trim_blanks [] = []
-trim_blanks (byte ∷ rest) = if is_blank byte && list_all is_blank rest then [] else byte ∷ trim_blanks rest
+trim_blanks (byte ∷ rest) =
+    if is_blank byte && list_all is_blank rest then [] else byte ∷ trim_blanks rest
 
--- what stands behind the spaces and tabs in front, of which there has to be one
+-- what comes after the spaces and tabs at the start, of which there has to be one
 abbrev pub after_gap : List ℕ → Option (List ℕ)
 after_gap [] = None
 after_gap (byte ∷ rest) = if is_blank byte then Some (skip_blanks rest) else None
@@ -47,14 +39,17 @@ abbrev pub is_number : List ℕ → Bool
 is_number digits = not (length digits == 0) && list_all is_ascii_digit digits
 
 abbrev pub is_version : List ℕ → Bool
-is_version value = is_number (before_first (λ byte. byte == full_stop) value) && is_number (after_first (λ byte. byte == full_stop) value)
+is_version value = is_number (before_first (λ byte. byte == full_stop) value)
+    && is_number (after_first (λ byte. byte == full_stop) value)
 
 abbrev pub is_encoding_name : List ℕ → Bool
 is_encoding_name value = not (length value == 0) && list_all is_visible value
 
 -- the value of the field of this label, where the line is one
 unfoldable pub field_value : List ℕ → List ℕ → Option (List ℕ)
-field_value label line = if bytes_eq (take (length label) line) label then option_map trim_blanks (after_gap (drop (length label) line)) else None
+field_value label line =
+    if bytes_eq (take (length label) line) label then option_map trim_blanks
+    (after_gap (drop (length label) line)) else None
 
 -- the value, where it passes the test
 abbrev pub checked : (List ℕ → Bool) → Option (List ℕ) → Option (List ℕ)
@@ -67,7 +62,7 @@ version_in line = checked is_version (field_value version_label line)
 unfoldable pub encoding_in : List ℕ → Option (List ℕ)
 encoding_in line = checked is_encoding_name (field_value encoding_label line)
 
--- the version and the encoding that the lines tell, or the number of the first faulty line
+-- the version and the encoding that the lines declare, or the number of the first malformed line
 abbrev pub ended : List ℕ → List ℕ → List (List ℕ) → Result (List ℕ × List ℕ) ℕ
 ended version encoding [] = Ok (version, encoding)
 ended version encoding (third ∷ others) = Err 3
@@ -93,20 +88,13 @@ declaration_of text = declared_by (lines_of text)
 
 -- ---- manifests
 
--- the path as it is written, behind a gap
+-- the path as it is written, after a gap
 abbrev pub unless_empty : List ℕ → Option (List ℕ)
 unless_empty [] = None
 unless_empty (byte ∷ rest) = Some (byte ∷ rest)
 
 abbrev pub written_path : List ℕ → Option (List ℕ)
 written_path rest = option_and_then unless_empty (after_gap rest)
-
--- what the escape in front stands for, where there is one
-abbrev pub escape_at : List ℕ → Option ℕ
-escape_at [] = None
-escape_at (a ∷ []) = None
-escape_at (a ∷ b ∷ []) = None
-escape_at (a ∷ b ∷ c ∷ rest) = escaped_byte a b c
 
 -- a path that is text
 abbrev pub path_in : List ℕ → Option (List ℕ)
@@ -116,11 +104,13 @@ path_in written = if is_utf8 (path_of written) then Some (path_of written) else 
 unfoldable pub file_in : Algorithm → List ℕ → Option ListedFile
 file_in algorithm line =
     if nat_lt (length line) (hex_len algorithm) then None
-    else option_and_then (λ digest. option_and_then (λ written. option_map (λ path. record { digest = digest; path = path }) (path_in written))
+    else option_and_then
+    (λ digest. option_and_then
+    (λ written. option_map (λ path. record { digest = digest; path = path }) (path_in written))
     (written_path (drop (hex_len algorithm) line)))
     (result_ok (decode_of (take (hex_len algorithm) line)))
 
--- the file in front of those that are read behind it
+-- the file before those that are read after it
 abbrev pub onto : ListedFile → Result (List ListedFile) ℕ → Result (List ListedFile) ℕ
 onto file (Ok files) = Ok (file ∷ files)
 onto file (Err line) = Err line
@@ -129,7 +119,8 @@ abbrev pub onto_or : Option ListedFile → ℕ → Result (List ListedFile) ℕ 
 onto_or None number others = Err number
 onto_or (Some file) number others = onto file others
 
--- the files that the lines list, the first of which has this number, or the number of the first malformed line
+-- the files that the lines list, the first of which has this number, or the number of the first
+-- malformed line
 unfoldable pub files_from : Algorithm → ℕ → List (List ℕ) → Result (List ListedFile) ℕ
 files_from algorithm number [] = Ok []
 files_from algorithm number (line ∷ lines) =

@@ -24,14 +24,14 @@ impl Algorithm {
         }
     }
 
-    /// How many hex digits spell a digest.
+    /// How many hex digits a digest has.
     pub fn hex_len(self) -> usize
         ensures { result ≡ hex_len self }
     {
         2 * self.digest_len()
     }
 
-    /// The name as it stands in a manifest's file name, in lower case.
+    /// The name as a manifest's file name has it, in lower case.
     pub fn name(self) -> &'static str
         ensures { result.now ≡ algorithm_name self }
     {

@@ -1,4 +1,4 @@
-/// What a bag's declaration, `bagit.txt`, tells (RFC 8493, 2.1.1): the bytes as they stand there.
+/// What a bag's declaration, `bagit.txt`, says (RFC 8493, 2.1.1): its bytes as they are.
 #[derive(Clone, Copy, Debug)]
 pub struct Declaration<'a> {
     /// The version, such as `1.0`.

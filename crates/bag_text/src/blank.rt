@@ -17,7 +17,7 @@ pub(crate) fn is_blank_line(line: &[u8]) -> bool
     line.iter().all(|byte| is_blank(*byte))
 }
 
-/// What stands behind one or more spaces and tabs, or nothing where there is none in front.
+/// What comes after one or more spaces and tabs; nothing where there is none at the start.
 pub(crate) fn after_gap(text: &[u8]) -> Option<&[u8]>
     ensures { option_copied result ≡ after_gap text.now }
 {

@@ -14,7 +14,7 @@ pub struct Entry {
 impl Model for Entry {
     ghost Value = { ListedFile };
 
-    ghost view = { λ entry. record { digest = entry.digest.items; path = string_bytes entry.path } };
+    ghost view = { λ it. record { digest = it.digest.items; path = string_bytes it.path } };
 }
 
 impl Entry {

@@ -8,7 +8,7 @@ use thiserror::Error;
 /// Why a text wasn't read.
 #[derive(Debug, Drop, Error)]
 pub enum TextFault {
-    /// The line of this number, counted from 1, isn't of its form, is missing, or is one too many.
+    /// The line of this number, counted from 1, isn't well-formed, is missing, or is one too many.
     #[error("line {0} is malformed")]
     Malformed(usize),
     /// There was no memory for what was read.

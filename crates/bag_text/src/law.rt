@@ -1,4 +1,4 @@
-//! Laws of the texts, over every text. Each stands as the contract of a function that does nothing.
+//! Laws of the texts, over every text. Each is the contract of a function that does nothing.
 
 ghost use Rattle.std.specs.Prelude.{◌≡◌, ◌↔◌, ℕ, List, length, All, Ok, Err};
 ghost use Rattle.std.specs.Str.{IsUtf8};
@@ -22,10 +22,11 @@ pub fn manifest_law()
         → IsManifest algorithm text files → IsManifest algorithm text others → files ≡ others }
 {}
 
-/// A listed digest has the bytes of a digest of the manifest's algorithm, and a listed path is text.
+/// A listed digest has the bytes of a digest of the manifest's algorithm; a listed path is text.
 pub fn listed_law()
     ensures digests { (algorithm : Algorithm) (text : List ℕ) (files : List ListedFile)
-        → IsManifest algorithm text files → All (λ file. length file.digest ≡ digest_len algorithm) files }
+        → IsManifest algorithm text files
+        → All (λ file. length file.digest ≡ digest_len algorithm) files }
     ensures paths { (algorithm : Algorithm) (text : List ℕ) (files : List ListedFile)
         → IsManifest algorithm text files → All (λ file. IsUtf8 file.path) files }
 {}

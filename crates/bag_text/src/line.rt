@@ -1,6 +1,8 @@
-ghost use Rattle.std.specs.Prelude.{◌≡◌, ◌≢◌, ◌<◌, List, [], ◌∷◌, map, length, IfOk, IsTrue, IsOkUnless};
+ghost use Rattle.std.specs.Prelude.{◌≡◌, ◌≢◌, ◌<◌, List, [], ◌∷◌, map, length};
+ghost use Rattle.std.specs.Prelude.{IfOk, IsTrue, IsOkUnless};
 ghost use Rattle.std.specs.List.{position};
-ghost use Rattle.bag_text.specs.Lines.{is_line_end, starts_with_line_end, lines_of};
+ghost use Rattle.bag_text.specs.Lines.{is_line_end, lines_of};
+ghost use Rattle.bag_text.specs.inner.Starts.{starts_with_line_end};
 
 use crate::fault::TextFault;
 use std::alloc::Global;
@@ -22,7 +24,7 @@ pub fn lines(alloc: Global, text: &[u8]) -> Result<Vec<&[u8]>, TextFault>
     Ok(found)
 }
 
-/// The first line of a text that isn't empty, without its end, and what stands after that end.
+/// The first line of a text that isn't empty, without its end, and what comes after that end.
 pub(crate) fn first_line(text: &[u8]) -> (&[u8], &[u8])
     requires { text.now ≢ [] }
     ensures lines { lines_of text.now ≡ result.0.now ∷ lines_of result.1.now }

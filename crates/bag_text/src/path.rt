@@ -2,7 +2,8 @@ ghost use Rattle.std.specs.Prelude.{◌≡◌, ◌∷◌, ◌<◌, [], length, I
 ghost use Rattle.std.specs.Option.{option_map};
 ghost use Rattle.std.specs.String.{string_bytes};
 ghost use Rattle.bag_text.specs.Paths.{unescaped, without_star, without_dot_slash};
-ghost use Rattle.bag_text.specs.Reading.{path_in, escape_at};
+ghost use Rattle.bag_text.specs.Reading.{path_in};
+ghost use Rattle.bag_text.specs.inner.Starts.{escape_at};
 
 use std::alloc::{AllocError, Global};
 
@@ -17,7 +18,7 @@ pub(crate) fn path_in(alloc: Global, written: &[u8]) -> Result<Option<String>, A
     }
 }
 
-// Some tools put a star in front of the path of a file that they read as binary.
+// Some tools put a star before the path of a file that they read as binary.
 fn without_star(written: &[u8]) -> &[u8]
     ensures { result.now ≡ without_star written.now }
 {
@@ -48,7 +49,7 @@ fn unescaped(alloc: Global, written: &[u8]) -> Result<Vec<u8>, AllocError>
     Ok(path)
 }
 
-/// The first byte that the text stands for, and the text behind it.
+/// The first byte that the text stands for, and the text after it.
 fn next_byte(text: &[u8]) -> Option<(u8, &[u8])>
     ensures value { MatchOption result (text.now ≡ [])
         (λ found. unescaped text.now ≡ found.0 ∷ unescaped found.1.now) }
@@ -61,7 +62,7 @@ fn next_byte(text: &[u8]) -> Option<(u8, &[u8])>
     }
 }
 
-/// What the escape in front stands for, if there is one: LF, CR or the percent sign.
+/// What the escape at the start stands for, if there is one: LF, CR or the percent sign.
 fn escape_in(text: &[u8]) -> Option<u8>
     ensures { result ≡ escape_at text.now }
 {

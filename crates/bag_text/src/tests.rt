@@ -5,8 +5,8 @@ ghost use Rattle.bag_text.specs.Declarations.{IsDeclaration, IsDeclarationFault}
 ghost use Rattle.bag_text.specs.ListedFile.{ListedFile};
 ghost use Rattle.bag_text.specs.Manifests.{IsManifest, IsFirstMalformed};
 ghost use Rattle.bag_text.specs.Paths.{escaped, unescaped};
-ghost use Rattle.bag_text.specs.Examples.{digest_of_abc, manifest_of_abc, malformed_manifest};
-ghost use Rattle.bag_text.specs.Examples.{declaration_1_0, declaration_of_one_line};
+ghost use Rattle.bag_text.specs.inner.Examples.{digest_of_abc, manifest_of_abc, malformed_manifest};
+ghost use Rattle.bag_text.specs.inner.Examples.{declaration_1_0, declaration_of_one_line};
 
 use super::*;
 use std::alloc::Global;
@@ -17,7 +17,7 @@ const MD5_OF_ABC: &[u8] = b"900150983cd24fb0d6963f7d28e17f72";
 const SHA512_OF_ABC: &str = "DDAF35A193617ABACC417349AE20413112E6FA4E89A97EA20A9EEEE64B55D39A\
 2192992A274FC1A836BA3C23A3FEEBBD454D4423643CE80E2A9AC94FA54CA49F";
 
-// Each line that was found is told with a bar behind it.
+// Each line that was found is printed with a bar after it.
 #[test]
 fn splits_lines(rt: HostRuntime) -> Result<(), Fail> {
     for (text, wanted) in [
@@ -257,9 +257,9 @@ fn tells_the_first_malformed_line(rt: HostRuntime) -> Result<(), Fail> {
             Err(TextFault::Malformed(found)) => assert_eq!(rt; found, line, "of {rest:?}"),
             _ => panic!(rt; "{rest:?} is malformed"),
         }
-        // A line more in front counts.
-        let behind = text_of_line(alloc, &good, &text)?;
-        match manifest(alloc, Algorithm::Md5, &behind) {
+        // A line more before it counts.
+        let later = text_of_line(alloc, &good, &text)?;
+        match manifest(alloc, Algorithm::Md5, &later) {
             Err(TextFault::Malformed(found)) => assert_eq!(rt; found, line + 1, "of {rest:?}"),
             _ => panic!(rt; "{rest:?} is malformed"),
         }

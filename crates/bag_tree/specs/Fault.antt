@@ -1,7 +1,9 @@
 -- The numbers of the faults of trees, and when a call answers one.
 use Rattle.std.specs.Prelude.{◌≡◌, ℕ, Option, Some, None, Result, Ok, Err}
 use Rattle.bag_tree.specs.declared.fault.TreeFault.{TreeFault}
-use Rattle.bag_tree.specs.declared.fault.TreeFault.TheVariants.{Listing, NotAFile, TooDeep, TooMany, TextTooLong, Device, Memory, BadPath}
+use Rattle.bag_tree.specs.declared.fault.TreeFault.TheVariants.{Listing, NotAFile, TooDeep, TooMany}
+use Rattle.bag_tree.specs.declared.fault.TreeFault.TheVariants.{TextTooLong, Device, Memory}
+use Rattle.bag_tree.specs.declared.fault.TreeFault.TheVariants.{BadPath}
 
 abbrev pub number_of : TreeFault → ℕ
 number_of Listing = 1

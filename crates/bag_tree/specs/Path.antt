@@ -1,5 +1,7 @@
--- Paths: bytes of UTF-8 with parts between slashes (RFC 8493, 2.1.3: relative to the bag's own folder).
-use Rattle.std.specs.Prelude.{ℕ, Bool, true, false, ◌&&◌, ◌||◌, ◌==◌, List, [], ◌∷◌, ◌++◌, codes, length}
+-- Paths: bytes of UTF-8 with parts between slashes (RFC 8493, 2.1.3: relative to the bag's own
+-- folder).
+use Rattle.std.specs.Prelude.{ℕ, Bool, true, false, ◌&&◌, ◌||◌, ◌==◌, List, [], ◌∷◌, ◌++◌, codes}
+use Rattle.std.specs.Prelude.{length}
 use Rattle.std.specs.List.{slice_split, starts_with, ends_with, list_any}
 use Rattle.std.specs.Str.{bytes_eq}
 

@@ -11,18 +11,18 @@ use Rattle.bag_tree.specs.Path.{is_read_text}
 
 -- ---- the limits
 
--- The most parts of a path: collections are seldom nested deeper, and the path of a file below a
--- folder then fits in what systems take, 4,096 bytes, where its parts have 127 bytes.
+-- The most parts of a path. Collections are seldom nested deeper; and 32 parts of 127 bytes, with
+-- their slashes, are the 4,095 bytes that a system takes as a path.
 abbrev pub deepest_path : ℕ
 deepest_path = 32
 
--- The most files of a tree: what a checker keeps of each, its path and 180 bytes of digests, then
+-- The most files of a tree. What a checker keeps of each, its path and 132 bytes of digests, then
 -- fits in some tens of megabytes.
 abbrev pub most_files : ℕ
 most_files = 100000
 
--- The most bytes of a text that describes a bag, 64 MiB, since such texts alone are held whole: a
--- manifest of that many files has 670 bytes a line.
+-- The most bytes of a text that describes a bag, 64 MiB, since such texts alone are held whole. A
+-- manifest of that many files has room for 671 bytes a line.
 abbrev pub longest_text : ℕ
 longest_text = 67108864
 

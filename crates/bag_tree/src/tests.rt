@@ -28,7 +28,7 @@ fn facts_of_a_small_tree(rt: HostRuntime) -> Result<(), Fail> {
 }
 
 #[test]
-fn an_added_folder_stands(rt: HostRuntime) {
+fn an_added_folder_exists(rt: HostRuntime) {
     let mut tree = Tree::new(rt.alloc());
     tree.add_folder();
     assert!(rt; tree.payload_exists());

@@ -1,8 +1,8 @@
 pub mod Moments
-pub mod Told
-pub mod Mending
+pub mod AtRest
+pub mod Repairs
 pub mod Alike
-pub mod Burning
-pub mod Entries
+pub mod Fuses
+pub mod Commits
 pub mod Refused
 pub mod Reopened

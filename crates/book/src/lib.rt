@@ -1,16 +1,16 @@
 //! The book of a site: its records, in a cell that a crash cannot split.
 #![tactic(auto)]
 
+mod append;
 mod book;
 mod fault;
 mod law;
 mod opening;
-mod writing;
 
 pub use book::Book;
-pub use fault::CommitFault;
+pub use fault::{CommitFault, OpenFault};
 pub use law::{append_is_atomic, wrong_orders_are_refused};
-pub use records::{Entry, OpenFault, Record, Round};
+pub use records::{Entry, Owner, Record, Round};
 
 #[cfg(test)]
 mod tests;

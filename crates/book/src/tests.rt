@@ -8,7 +8,7 @@ use std::test::Fail;
 
 // The journal of site 1 of federation 7: round 1 and a promise of ballot (1, 1), both for version 1
 // of the object `a`.
-const WORKED: &str =
+const JOURNAL: &str =
     "42504a31000000000000000701000b0201610000000100000001000c030161000000010000000101";
 
 // The same with a second record of a length that no record has, and of another federation.
@@ -56,7 +56,7 @@ fn open(
     let (Ok(members), Ok(site)) = (Members::new(7, 3), SiteNo::new(site)) else {
         return Err((cell, OpenFault::Memory));
     };
-    Book::open(alloc, cell, members, site)
+    Book::open(alloc, cell, Owner { members, site })
 }
 
 // The book of site 1 in this cell.
@@ -68,7 +68,7 @@ fn opened(alloc: Global, cell: MemoryCell) -> Result<Book<MemoryCell>, Fail> {
 }
 
 // What the records say, a letter each.
-fn told(alloc: Global, records: &[Record]) -> Result<String, Fail> {
+fn letters(alloc: Global, records: &[Record]) -> Result<String, Fail> {
     let mut text = String::new(alloc);
     for entry in records {
         text.push(match entry.body {
@@ -85,7 +85,7 @@ fn told(alloc: Global, records: &[Record]) -> Result<String, Fail> {
 // A book of this cell says this, and the cell then has so many bytes.
 fn says(alloc: Global, cell: MemoryCell, want: &str, size: usize) -> Result<(), Fail> {
     let book = opened(alloc, cell)?;
-    let text = told(alloc, book.records())?;
+    let text = letters(alloc, book.records())?;
     if text.as_str() != want {
         return Err(Fail::from(format!(in alloc; "{text} where {want} is wanted")?));
     }
@@ -98,7 +98,7 @@ fn says(alloc: Global, cell: MemoryCell, want: &str, size: usize) -> Result<(), 
 }
 
 #[test]
-fn a_journal_is_opened_and_mended(rt: HostRuntime) -> Result<(), Fail> {
+fn a_journal_is_opened_and_repaired(rt: HostRuntime) -> Result<(), Fail> {
     let alloc = rt.alloc();
     for (digits, want, size) in [
         (0, "", 13),
@@ -112,7 +112,7 @@ fn a_journal_is_opened_and_mended(rt: HostRuntime) -> Result<(), Fail> {
         (78, "R", 26),
         (80, "RP", 40),
     ] {
-        says(alloc, cell(alloc, &WORKED[..digits])?, want, size)?;
+        says(alloc, cell(alloc, &JOURNAL[..digits])?, want, size)?;
     }
     let book = opened(alloc, cell(alloc, "")?)?;
     let cell = book.close();
@@ -124,7 +124,7 @@ fn a_journal_is_opened_and_mended(rt: HostRuntime) -> Result<(), Fail> {
 fn a_refused_journal_is_left_as_it_was(rt: HostRuntime) -> Result<(), Fail> {
     let alloc = rt.alloc();
     for (digits, site, want) in [
-        (WORKED, 2, OpenFault::OtherSite),
+        (JOURNAL, 2, OpenFault::OtherSite),
         (DAMAGED, 1, OpenFault::Damaged(26)),
         (STRANGE, 1, OpenFault::OtherFederation),
     ] {
@@ -143,11 +143,11 @@ fn a_refused_journal_is_left_as_it_was(rt: HostRuntime) -> Result<(), Fail> {
 #[test]
 fn a_record_is_committed(rt: HostRuntime) -> Result<(), Fail> {
     let alloc = rt.alloc();
-    let mut book = opened(alloc, cell(alloc, WORKED)?)?;
+    let mut book = opened(alloc, cell(alloc, JOURNAL)?)?;
     book.commit(vote(alloc)?)?;
-    assert_eq!(rt; told(alloc, book.records())?.as_str(), "RPV");
+    assert_eq!(rt; letters(alloc, book.records())?.as_str(), "RPV");
     let cell = book.close();
-    let mut want = hex::decode(alloc, WORKED)?;
+    let mut want = hex::decode(alloc, JOURNAL)?;
     want.extend_from_slice(&hex::decode(alloc, "004c040161000000010000000101")?)?;
     want.extend_from_slice(&[0xaa; 64])?;
     assert_eq!(rt; cell.bytes(), want.as_slice());
@@ -158,12 +158,12 @@ fn a_record_is_committed(rt: HostRuntime) -> Result<(), Fail> {
 fn committed_and_restarted(
     alloc: Global,
     book: Book<MemoryCell>,
-    entry: Record,
+    new: Record,
 ) -> Result<Book<MemoryCell>, Fail>
-    ensures { IfOk result (λ after. after.records ≡ book.records ++ entry ∷ []) }
+    ensures { IfOk result (λ after. after.records ≡ book.records ++ new ∷ []) }
 {
     let mut book = book;
-    book.commit(entry)?;
+    book.commit(new)?;
     match book.restart(alloc) {
         Ok(after) => Ok(after),
         Err((_, fault)) => Err(Fail::from(fault.to_string(alloc)?)),
@@ -173,9 +173,9 @@ fn committed_and_restarted(
 #[test]
 fn a_book_outlives_a_restart(rt: HostRuntime) -> Result<(), Fail> {
     let alloc = rt.alloc();
-    let book = opened(alloc, cell(alloc, WORKED)?)?;
+    let book = opened(alloc, cell(alloc, JOURNAL)?)?;
     let book = committed_and_restarted(alloc, book, vote(alloc)?)?;
-    assert_eq!(rt; told(alloc, book.records())?.as_str(), "RPV");
+    assert_eq!(rt; letters(alloc, book.records())?.as_str(), "RPV");
     assert_eq!(rt; book.members(), Members::new(7, 3)?);
     assert_eq!(rt; book.site(), SiteNo::new(1)?);
     let cell = book.close();
@@ -186,7 +186,7 @@ fn a_book_outlives_a_restart(rt: HostRuntime) -> Result<(), Fail> {
 }
 
 // A record at its greatest size, 277 bytes: a vote for an object of 200 bytes. It goes again and
-// again into one book, which then tells all of them, and so does the book that is opened after it.
+// again into one book, which then has all of them, and so has the book that is opened after it.
 #[test]
 fn thousands_of_commits(rt: HostRuntime) -> Result<(), Fail> {
     let alloc = rt.alloc();
@@ -213,20 +213,19 @@ fn thousands_of_commits(rt: HostRuntime) -> Result<(), Fail> {
     Ok(())
 }
 
-// Of each call of a commit that fails, with each number of bytes kept: the record is there whole or
-// not at all.
+// Of each call of a commit that fails, with each number of bytes kept: the commit is atomic.
 #[test]
-fn a_commit_that_fails_is_whole_or_not_at_all(rt: HostRuntime) -> Result<(), Fail> {
+fn a_commit_that_fails_is_atomic(rt: HostRuntime) -> Result<(), Fail> {
     let alloc = rt.alloc();
     for how in [How::Fail, How::Stop] {
         for call in [1, 2] {
             for kept in 0..=VOTE_SIZE {
-                let mut book = opened(alloc, cell(alloc, WORKED)?)?;
+                let mut book = opened(alloc, cell(alloc, JOURNAL)?)?;
                 book.set_fuse(Some(Fuse { call, how, kept }));
                 assert_eq!(rt; book.commit(vote(alloc)?), Err(CommitFault::Device));
                 assert!(rt; book.needs_opening());
                 assert_eq!(rt; book.commit(vote(alloc)?), Err(CommitFault::NeedsOpen));
-                assert_eq!(rt; told(alloc, book.records())?.as_str(), "RP");
+                assert_eq!(rt; letters(alloc, book.records())?.as_str(), "RP");
                 let mut cell = book.close();
                 assert_eq!(rt; cell.bytes().len(), 40 + kept);
                 if how == How::Stop {
@@ -244,7 +243,7 @@ fn a_commit_that_fails_is_whole_or_not_at_all(rt: HostRuntime) -> Result<(), Fai
 #[test]
 fn a_book_goes_on_after_a_failure(rt: HostRuntime) -> Result<(), Fail> {
     let alloc = rt.alloc();
-    let mut book = opened(alloc, cell(alloc, WORKED)?)?;
+    let mut book = opened(alloc, cell(alloc, JOURNAL)?)?;
     let fuse = Fuse {
         call: 2,
         how: How::Fail,
@@ -253,7 +252,7 @@ fn a_book_goes_on_after_a_failure(rt: HostRuntime) -> Result<(), Fail> {
     book.set_fuse(Some(fuse));
     assert_eq!(rt; book.commit(vote(alloc)?), Err(CommitFault::Device));
     let mut book = opened(alloc, book.close())?;
-    assert_eq!(rt; told(alloc, book.records())?.as_str(), "RP");
+    assert_eq!(rt; letters(alloc, book.records())?.as_str(), "RP");
     book.commit(vote(alloc)?)?;
     says(alloc, book.close(), "RPV", 40 + VOTE_SIZE)
 }
@@ -262,7 +261,7 @@ fn a_book_goes_on_after_a_failure(rt: HostRuntime) -> Result<(), Fail> {
 #[test]
 fn a_later_fuse_leaves_a_commit_alone(rt: HostRuntime) -> Result<(), Fail> {
     let alloc = rt.alloc();
-    let mut book = opened(alloc, cell(alloc, WORKED)?)?;
+    let mut book = opened(alloc, cell(alloc, JOURNAL)?)?;
     let fuse = Fuse {
         call: 3,
         how: How::Stop,
@@ -276,17 +275,17 @@ fn a_later_fuse_leaves_a_commit_alone(rt: HostRuntime) -> Result<(), Fail> {
     says(alloc, cell, "RPV", 40 + VOTE_SIZE)
 }
 
-// A stop within a commit, and a start: the record is there whole, or it isn't.
+// A stop within a commit, and a start: the commit is atomic.
 #[test]
 fn a_restart_after_a_failed_commit(rt: HostRuntime) -> Result<(), Fail> {
     let alloc = rt.alloc();
     for (kept, want) in [(0, "RP"), (VOTE_SIZE - 1, "RP"), (VOTE_SIZE, "RPV")] {
-        let mut book = opened(alloc, cell(alloc, WORKED)?)?;
+        let mut book = opened(alloc, cell(alloc, JOURNAL)?)?;
         let how = How::Stop;
         book.set_fuse(Some(Fuse { call: 1, how, kept }));
         assert_eq!(rt; book.commit(vote(alloc)?), Err(CommitFault::Device));
         match book.restart(alloc) {
-            Ok(book) => assert_eq!(rt; told(alloc, book.records())?.as_str(), want),
+            Ok(book) => assert_eq!(rt; letters(alloc, book.records())?.as_str(), want),
             Err((_, fault)) => return Err(Fail::from(fault.to_string(alloc)?)),
         }
     }
@@ -294,7 +293,7 @@ fn a_restart_after_a_failed_commit(rt: HostRuntime) -> Result<(), Fail> {
 }
 
 // Each call of an opening fails, with each number of bytes kept: opened again, the records are the
-// same. A torn end is cut and a header completed, each between two syncs.
+// same. A torn tail is cut and a header completed, each between two syncs.
 #[test]
 fn an_opening_that_fails_loses_nothing(rt: HostRuntime) -> Result<(), Fail> {
     let alloc = rt.alloc();
@@ -302,7 +301,7 @@ fn an_opening_that_fails_loses_nothing(rt: HostRuntime) -> Result<(), Fail> {
         for how in [How::Fail, How::Stop] {
             for call in 1..=calls {
                 for kept in 0..=14 {
-                    let mut broken = cell(alloc, &WORKED[..digits])?;
+                    let mut broken = cell(alloc, &JOURNAL[..digits])?;
                     broken.set_fuse(Some(Fuse { call, how, kept }));
                     match open(alloc, broken, 1) {
                         Ok(_) => return Err(Fail::from("it opens")),
@@ -316,7 +315,7 @@ fn an_opening_that_fails_loses_nothing(rt: HostRuntime) -> Result<(), Fail> {
                     }
                 }
             }
-            let mut sound = cell(alloc, &WORKED[..digits])?;
+            let mut sound = cell(alloc, &JOURNAL[..digits])?;
             sound.set_fuse(Some(Fuse {
                 call: calls + 1,
                 how,
@@ -334,6 +333,15 @@ fn faults_have_numbers(rt: HostRuntime) {
         (CommitFault::Device, 1),
         (CommitFault::Memory, 2),
         (CommitFault::NeedsOpen, 3),
+    ] {
+        assert_eq!(rt; fault.number(), number);
+    }
+    for (fault, number) in [
+        (OpenFault::OtherFederation, 1),
+        (OpenFault::OtherSite, 2),
+        (OpenFault::Damaged(26), 3),
+        (OpenFault::Device, 4),
+        (OpenFault::Memory, 5),
     ] {
         assert_eq!(rt; fault.number(), number);
     }

@@ -56,11 +56,13 @@ most_failures = 2 ^ 64 - 1
 abbrev pub HasGrown : ℕ → ℕ → Type 0
 HasGrown before now = (before < now) ⊎ (most_failures ≤ before)
 
--- Device is answered exactly where the device failed, and no failure is answered as anything else
-pub record HasCause {T : Type 0} (before now : ℕ) (result : Result T CellFault) : Type 0 where
+-- The fault for a failure of the device is answered exactly where the device failed, by the count
+-- of its failures; no failure is answered as anything else.
+pub record HasCause {T E : Type 0} (device : E) (before now : ℕ) (result : Result T E) : Type 0
+    where
   pub later : before ≤ now
-  pub failed : IsErrOf result Device → HasGrown before now
-  pub same : ¬ IsErrOf result Device → now ≡ before
+  pub failed : IsErrOf result device → HasGrown before now
+  pub same : ¬ IsErrOf result device → now ≡ before
 
 -- what a read gives, where the bytes are known
 abbrev pub IsRead : Option Image → List ℕ → Type 0
@@ -73,4 +75,4 @@ pub record Calls {T : Type 0} (tried done : Image → Image) (old new : devices.
   pub bytes : Turns result tried done old.image new.image
   pub fuse : Follows result tried done old.fuse new.fuse old.image new.image
   pub time : Elapses old.moment new.moment old.left_since new.left_since (MayLeave new.image)
-  pub cause : HasCause old.failures new.failures result
+  pub cause : HasCause Device old.failures new.failures result

@@ -82,7 +82,7 @@ impl FileCell {
     /// Cuts the file back, where that is still to be done.
     fn begin(&mut self) -> Result<(), CellFault>
         ensures device { IfErr result (λ fault. fault ≡ Device) }
-        ensures cause { HasCause (failures_of self.old) (failures_of self.new) result }
+        ensures cause { HasCause Device (failures_of self.old) (failures_of self.new) result }
     {
         match self.state {
             State::Sound => Ok(()),

@@ -91,7 +91,7 @@ impl MemoryCell {
         ensures outcome { StopsAt (fuse_of self.old) result }
         ensures fuse { fuse_of self.new ≡ fuse_of self.old }
         ensures medium { IsSameMedium self.old self.new }
-        ensures cause { HasCause (failures_of self.old) (failures_of self.new) result }
+        ensures cause { HasCause Device (failures_of self.old) (failures_of self.new) result }
     {
         if let FuseState::Stopped = self.fuse {
             return self.fail();
@@ -107,7 +107,7 @@ impl MemoryCell {
         ensures bytes { image_of self.new
             ≡ next_image (fuse_of self.old) same_image same_image (image_of self.old) }
         ensures time { IsSameMoment self.old self.new }
-        ensures cause { HasCause (failures_of self.old) (failures_of self.new) result }
+        ensures cause { HasCause Device (failures_of self.old) (failures_of self.new) result }
     {
         let fuse = self.fuse;
         self.fuse = fuse.next();
@@ -125,7 +125,7 @@ impl MemoryCell {
         ensures outcome { result ≡ Err Device }
         ensures fuse { fuse_of self.new ≡ fuse_of self.old }
         ensures medium { IsSameMedium self.old self.new }
-        ensures cause { HasCause (failures_of self.old) (failures_of self.new) result }
+        ensures cause { HasCause Device (failures_of self.old) (failures_of self.new) result }
     {
         self.failures = self.failures.saturating_add(1);
         Err(CellFault::Device)

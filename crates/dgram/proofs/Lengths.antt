@@ -1,30 +1,32 @@
 -- How many bytes a datagram has.
-use Rattle.std.proofs.Common.{◌≡◌, ℕ, ◌+◌, ◌≤◌, List, ◌∷◌, ◌++◌, length, Option, Some, None, refl, arith, length-append}
+use Rattle.std.proofs.Common.{◌≡◌, ℕ, ◌+◌, ◌≤◌, List, ◌∷◌, ◌++◌, length, Option, Some, None, refl}
+use Rattle.std.proofs.Common.{arith, length-append}
 use Rattle.std.specs.Int.{w16, w32, to_be_bytes}
-use Rattle.fed_types.specs.declared.bag_id.BagId.{BagId}
 use Rattle.fed_types.specs.Ballots.{BallotNumber}
 use Rattle.fed_types.specs.Slots.{SlotName}
-use Rattle.fields.specs.Values.{IsSlot, IsBag}
-use Rattle.fields.specs.Spelling.{ballot_bytes, bag_bytes, vote_bytes, slot_bytes}
+use Rattle.fed_types.specs.Values.{IsSlot, IsVote}
+use Rattle.fields.specs.Encoding.{ballot_bytes, bag_bytes, vote_bytes, slot_bytes}
 use Rattle.dgram.specs.Numbers.{LONGEST_DATAGRAM, LONGEST_PATH}
-use Rattle.dgram.specs.declared.body.PriorVote.{PriorVote}
+use Rattle.fed_types.specs.declared.vote.Vote.{Vote}
 use Rattle.dgram.specs.declared.body.Body.{Body}
-use Rattle.dgram.specs.declared.body.Body.TheVariants.{Prepare, Promise, Accept, Accepted, Refused, Ask, Known, Deposit, Query, DepositReply, QueryReply}
+use Rattle.dgram.specs.declared.body.Body.TheVariants.{Prepare, Promise, Accept, Accepted, Refused}
+use Rattle.dgram.specs.declared.body.Body.TheVariants.{Ask, Known, Deposit, Query, DepositReply}
+use Rattle.dgram.specs.declared.body.Body.TheVariants.{QueryReply}
 use Rattle.dgram.specs.declared.message.Message.{Message}
 use Rattle.dgram.specs.Messages.{IsPrior, IsBody, IsMessage}
-use Rattle.dgram.specs.Layout.{kind_code, body_kind, body_from, from_byte, prior_bytes, body_bytes, front_bytes, datagram_of}
+use Rattle.dgram.specs.Encoding.{kind_of, body_from, from_byte, prior_bytes, body_bytes}
+use Rattle.dgram.specs.Encoding.{front_bytes, datagram_of}
 use Rattle.dgram.proofs.Codes.{deposit_again, query_again}
 
 ballot_length : (b : BallotNumber) → length (ballot_bytes b) ≡ 5
 ballot_length b = refl
 
-vote_length : (ballot : BallotNumber) (bag : BagId) → IsBag bag
-    → length (vote_bytes ballot bag) ≡ 69
-vote_length ballot bag h = omega (arith, h, length-append (ballot_bytes ballot) (bag_bytes bag))
+vote_length : (v : Vote) → IsVote v → length (vote_bytes v) ≡ 69
+vote_length v h = omega (arith, h.1, length-append (ballot_bytes v.ballot) (bag_bytes v.bag))
 
-prior_length : (o : Option PriorVote) → IsPrior o → length (prior_bytes o) ≤ 70
+prior_length : (o : Option Vote) → IsPrior o → length (prior_bytes o) ≤ 70
 prior_length None h = omega arith
-prior_length (Some v) h = omega (arith, vote_length v.ballot v.bag h.1)
+prior_length (Some v) h = omega (arith, vote_length v h)
 
 slot_length : (s : SlotName) → IsSlot s → length (slot_bytes s) ≤ 205
 slot_length s h = omega (arith, h.0.0.1, length-append s.object (to_be_bytes w32 s.version))
@@ -33,8 +35,8 @@ body_length : (b : Body) → IsBody b → length (body_bytes b) ≤ 2 + LONGEST_
 body_length (Prepare ballot) h = omega arith
 body_length (Promise from ballot prior) h =
     omega (arith, prior_length prior h.2, length-append (ballot_bytes ballot) (prior_bytes prior))
-body_length (Accept ballot bag) h = omega (arith, vote_length ballot bag h.1)
-body_length (Accepted from ballot bag) h = omega (arith, vote_length ballot bag h.2)
+body_length (Accept vote) h = omega (arith, vote_length vote h)
+body_length (Accepted from vote) h = omega (arith, vote_length vote h.1)
 body_length (Refused from asked standing) h = omega arith
 body_length (Ask from) h = omega arith
 body_length (Known from bag) h = omega (arith, h.1)
@@ -47,7 +49,7 @@ body_length (QueryReply from answer) h = omega (arith, (query_again answer h.1).
 pub no_longer : (federation : ℕ) (m : Message) → IsMessage m
     → length (datagram_of federation m) ≤ LONGEST_DATAGRAM
 no_longer federation m h =
-    let front : List ℕ = front_bytes federation (kind_code (body_kind m.body)) in
+    let front : List ℕ = front_bytes federation (kind_of m.body) in
     let rest : List ℕ = from_byte (body_from m.body) ∷ (slot_bytes m.slot ++ body_bytes m.body) in
     omega (
       arith,

@@ -1,5 +1,8 @@
 pub mod Parts
 pub mod Codes
 pub mod Bodies
-pub mod Whole
 pub mod Lengths
+pub mod Whole
+pub mod MessageOf
+pub mod Heard
+pub mod Examples

@@ -1,5 +1,7 @@
--- A whole datagram is read as it is written.
-use Rattle.std.proofs.Common.{◌≡◌, ℕ, ◌-◌, ◌≤◌, inl, inr, eqb, ◌↔◌, List, [], ◌∷◌, ◌++◌, length, get_or, take, drop, Option, Some, None, Result, Ok, Err, refl, sym, ap, subst, ◌∙◌, arith}
+-- A datagram is decoded as it is encoded.
+use Rattle.std.proofs.Common.{◌≡◌, ℕ, ◌-◌, ◌≤◌, inl, inr, eqb, ◌↔◌, List, [], ◌∷◌, ◌++◌, length}
+use Rattle.std.proofs.Common.{get_or, take, drop, Option, Some, None, Result, Ok, Err, refl, sym}
+use Rattle.std.proofs.Common.{ap, subst, ◌∙◌, arith}
 use Rattle.std.specs.Prelude.{IsErrOf, IsSome}
 use Rattle.std.specs.Result.{IsErrAnd}
 use Rattle.std.specs.Int.{w64, to_be_bytes}
@@ -8,26 +10,25 @@ use Rattle.std.proofs.lemmas.List.{append-nil, nil_from_length, take-append-drop
 use Rattle.std.proofs.Math.Seq.{take-length}
 use Rattle.fields.specs.declared.fault.FieldFault.{FieldFault}
 use Rattle.fields.specs.declared.fault.FieldFault.TheVariants as field_faults
-use Rattle.fields.specs.Spelling.{slot_bytes}
-use Rattle.fields.specs.Reading.{◌>>=◌, Fails, byte_at, slot_at}
-use Rattle.fields.proofs.Bytes.{IsBytes, IsBytes-back, bind_some, some_is, in_test, not_some}
+use Rattle.fields.specs.Encoding.{slot_bytes}
+use Rattle.fields.specs.Decoding.{◌>>=◌, Fails, byte_at, slot_at}
+use Rattle.fields.proofs.Bytes.{IsBytes, IsBytes-rest, bind_some, some_is, in_test, not_some}
 use Rattle.fields.proofs.Fields.{byte_read, slot_read}
 use Rattle.dgram.specs.Numbers.{MAGIC, LAYOUT, FRONT}
 use Rattle.dgram.specs.declared.fault.DgramFault.{DgramFault}
 use Rattle.dgram.specs.declared.fault.DgramFault.TheVariants as faults
 use Rattle.fed_types.specs.Slots.{SlotName}
-use Rattle.dgram.specs.declared.kind.Kind.{Kind}
 use Rattle.dgram.specs.declared.body.Body.{Body}
 use Rattle.dgram.specs.declared.message.Message.{Message}
-use Rattle.dgram.specs.Faults.{fault_of_field}
+use Rattle.dgram.specs.Faults.{fault_of_field, IsOrMemory}
 use Rattle.dgram.specs.Messages.{IsMessage}
-use Rattle.dgram.specs.Layout.{kind_code, body_kind, body_from, from_byte, body_bytes, front_bytes, datagram_of}
-use Rattle.dgram.specs.Reading.{kind_of, body_at, ended, last_body_at, message_at}
-use Rattle.dgram.specs.Decoded.{IsOurs, IsDatagramOf, IsDatagram, IsMalformed, IsOkOrMemory}
-use Rattle.dgram.proofs.Codes.{kind_is, kind_again}
+use Rattle.dgram.specs.Encoding.{kind_of, body_from, from_byte, body_bytes, front_bytes}
+use Rattle.dgram.specs.Encoding.{datagram_of}
+use Rattle.dgram.specs.Decoding.{body_at, ended, last_body_at, message_at}
+use Rattle.dgram.specs.Decoded.{IsOurs, IsDatagramOf, IsDatagram, IsMalformed}
 use Rattle.dgram.proofs.Bodies.{body_taken, body_again}
 
--- all behind the federation
+-- all after the federation
 abbrev pub rest_of : Message → List ℕ
 rest_of m = from_byte (body_from m.body) ∷ (slot_bytes m.slot ++ body_bytes m.body)
 
@@ -35,26 +36,25 @@ rest_of m = from_byte (body_from m.body) ∷ (slot_bytes m.slot ++ body_bytes m.
 abbrev whole : SlotName → Body → Option Message
 whole slot body = Some (record { slot = slot; body = body })
 
-abbrev from_body : Kind → ℕ → SlotName × List ℕ → Option Message
+abbrev from_body : ℕ → ℕ → SlotName × List ℕ → Option Message
 from_body kind from slot = last_body_at kind from slot.1 >>= λ body. whole slot.0 body
 
-abbrev from_sender : Kind → ℕ × List ℕ → Option Message
+abbrev from_sender : ℕ → ℕ × List ℕ → Option Message
 from_sender kind from = slot_at from.1 >>= λ slot. from_body kind from.0 slot
 
 -- the message was read from these bytes, and this kind's byte
 abbrev pub IsTaken : ℕ → List ℕ → Message → Type 0
 IsTaken code bytes m =
-    (code ≡ kind_code (body_kind m.body)) × (bytes ≡ rest_of m) × IsMessage m
+    (code ≡ kind_of m.body) × (bytes ≡ rest_of m) × IsMessage m
 
 pub message_taken : (code : ℕ) (bytes : List ℕ) (m : Message) → IsBytes bytes
     → message_at code bytes ≡ Some m → IsTaken code bytes m
 unfolding message_at
 message_taken code bytes m fits e =
-    let k = bind_some (kind_of code) (λ kind. byte_at bytes >>= λ from. from_sender kind from) m e in
-    let f = bind_some (byte_at bytes) (λ from. from_sender k.0 from) m k.2 in
-    let s = bind_some (slot_at f.0.1) (λ slot. from_body k.0 f.0.0 slot) m f.2 in
-    let l = bind_some (last_body_at k.0 f.0.0 s.0.1) (λ body. whole s.0.0 body) m s.2 in
-    let b = bind_some (body_at k.0 f.0.0 s.0.1) ended l.0 l.1 in
+    let f = bind_some (byte_at bytes) (λ from. from_sender code from) m e in
+    let s = bind_some (slot_at f.0.1) (λ slot. from_body code f.0.0 slot) m f.2 in
+    let l = bind_some (last_body_at code f.0.0 s.0.1) (λ body. whole s.0.0 body) m s.2 in
+    let b = bind_some (body_at code f.0.0 s.0.1) ended l.0 l.1 in
     let g = in_test (eqb (length b.0.1) 0) (Some b.0.0) l.0 b.2 in
     let read : Message = record { slot = s.0.0; body = l.0 } in
     let made : Message = record { slot = s.0.0; body = b.0.0 } in
@@ -63,7 +63,7 @@ message_taken code bytes m fits e =
     let none : b.0.1 ≡ [] = nil_from_length b.0.1 (eqb-true _ _ g.0) in
     let tf = byte_read.taken bytes f.0.0 f.0.1 fits f.1 in
     let ts = slot_read.taken f.0.1 s.0.0 s.0.1 tf.0.rest_fits s.1 in
-    let tb = body_taken k.0 f.0.0 s.0.1 b.0.0 b.0.1 ts.0.rest_fits b.1 in
+    let tb = body_taken code f.0.0 s.0.1 b.0.0 b.0.1 ts.0.rest_fits b.1 in
     let body : List ℕ = body_bytes b.0.0 in
     let last : s.0.1 ≡ body =
     tb.0.parts ∙ ap (λ (xs : List ℕ). body ++ xs) none ∙ append-nil body in
@@ -72,24 +72,28 @@ message_taken code bytes m fits e =
     let all : bytes ≡ rest_of made =
     tf.0.parts ∙ ap (λ (xs : List ℕ). f.0.0 ∷ xs) middle
     ∙ ap (λ (n : ℕ). n ∷ (slot_bytes s.0.0 ++ body)) tb.2 in
-    let kind : code ≡ kind_code (body_kind b.0.0) = kind_is code k.0 k.1 ∙ ap kind_code tb.1 in
-    subst (IsTaken code bytes) same (kind, all, (ts.1, tb.3))
+    subst (IsTaken code bytes) same (tb.1, all, (ts.1, tb.3))
 
-pub message_again : (m : Message) → IsMessage m → message_at (kind_code (body_kind m.body)) (rest_of m) ≡ Some m
+pub message_again : (m : Message) → IsMessage m → message_at (kind_of m.body) (rest_of m) ≡ Some m
 unfolding message_at
 message_again m h =
-    let b : body_at (body_kind m.body) (from_byte (body_from m.body)) (body_bytes m.body) ≡ Some (m.body, []) = ap (body_at (body_kind m.body) (from_byte (body_from m.body))) (sym (append-nil (body_bytes m.body))) ∙ body_again m.body [] h.1 in
-    rw (kind_again (body_kind m.body), slot_read.again m.slot (body_bytes m.body) h.0, b) refl
+    let read = body_at (kind_of m.body) (from_byte (body_from m.body)) in
+    let b : read (body_bytes m.body) ≡ Some (m.body, []) =
+    ap read (sym (append-nil (body_bytes m.body))) ∙ body_again m.body [] h.1 in
+    rw (slot_read.again m.slot (body_bytes m.body) h.0, b) refl
 
 -- the bytes up to the sender's
-pub front_parts : (federation : ℕ) (bytes : List ℕ) → FRONT ≤ length bytes → IsOurs federation bytes → bytes ≡ front_bytes federation (get_or bytes 3 0) ++ drop 12 bytes
+pub front_parts : (federation : ℕ) (bytes : List ℕ) → FRONT ≤ length bytes → IsOurs federation bytes
+    → bytes ≡ front_bytes federation (get_or bytes 3 0) ++ drop 12 bytes
 front_parts federation [] long ours = absurd (omega (arith, long))
 front_parts federation (a ∷ []) long ours = absurd (omega (arith, long))
 front_parts federation (a ∷ b ∷ []) long ours = absurd (omega (arith, long))
 front_parts federation (a ∷ b ∷ c ∷ []) long ours = absurd (omega (arith, long))
 front_parts federation (a ∷ b ∷ c ∷ k ∷ rest) long ours =
-    let behind : rest ≡ to_be_bytes w64 federation ++ drop 8 rest = sym (take-append-drop 8 rest) ∙ ap (λ (xs : List ℕ). xs ++ drop 8 rest) ours.1 in
-    ap (λ (xs : List ℕ). xs ++ (k ∷ rest)) ours.0 ∙ ap (λ (xs : List ℕ). MAGIC ++ (LAYOUT ∷ (k ∷ xs))) behind
+    let after : rest ≡ to_be_bytes w64 federation ++ drop 8 rest =
+    sym (take-append-drop 8 rest) ∙ ap (λ (xs : List ℕ). xs ++ drop 8 rest) ours.1 in
+    ap (λ (xs : List ℕ). xs ++ (k ∷ rest)) ours.0
+    ∙ ap (λ (xs : List ℕ). MAGIC ++ (LAYOUT ∷ (k ∷ xs))) after
 
 -- what reading gives of the bytes after the front
 abbrev pub read_of : List ℕ → Option Message
@@ -103,14 +107,15 @@ read_is bytes =
     ap (message_at (get_or bytes 3 0)) same
 
 pub is_found : (federation : ℕ) (bytes : List ℕ) (m : Message) → IsBytes bytes
-    → FRONT ≤ length bytes → IsOurs federation bytes → read_of bytes ≡ Some m → IsDatagramOf federation bytes m
+    → FRONT ≤ length bytes → IsOurs federation bytes → read_of bytes ≡ Some m
+    → IsDatagramOf federation bytes m
 is_found federation bytes m fits long ours given =
     let parts = front_parts federation bytes long ours in
     let front = front_bytes federation (get_or bytes 3 0) in
     let back : IsBytes (drop 12 bytes) =
-    IsBytes-back front (drop 12 bytes) (subst IsBytes parts fits) in
+    IsBytes-rest front (drop 12 bytes) (subst IsBytes parts fits) in
     let t = message_taken (get_or bytes 3 0) (drop 12 bytes) m back (sym (read_is bytes) ∙ given) in
-    let kind = kind_code (body_kind m.body) in
+    let kind = kind_of m.body in
     let e : bytes ≡ datagram_of federation m =
     parts ∙ ap (λ (k : ℕ). front_bytes federation k ++ drop 12 bytes) t.0
     ∙ ap (λ (xs : List ℕ). front_bytes federation kind ++ xs) t.1 in
@@ -136,7 +141,7 @@ is_read federation bytes m h =
 
 -- where a message was read
 pub ok_only : (federation : ℕ) (bytes : List ℕ) (x : Message) → read_of bytes ≡ Some x
-    → (m : Message) → IsDatagramOf federation bytes m → IsOkOrMemory (Ok x) m
+    → (m : Message) → IsDatagramOf federation bytes m → IsOrMemory (Ok x) (Ok m)
 ok_only federation bytes x given m h =
     let P : Message → Result Message DgramFault = λ y. Ok y in
     inl (ap P (some_is x m (sym given ∙ is_read federation bytes m h)))
@@ -167,12 +172,12 @@ pub faulted : (bytes : List ℕ) (f : FieldFault) (r : Result Message DgramFault
     → Fails f (read_of bytes)
     → (IsErrOf {T = Message} (Err f) field_faults.Memory → IsSome (read_of bytes))
     → IsErrAnd r (λ d. d ≡ fault_of_field f) → Faulted bytes f r
-faulted bytes f r gives memory told =
+faulted bytes f r gives memory given =
     let P : FieldFault → Result Message FieldFault = λ y. Err y in
-    record { gives = gives; memory = λ e. memory (ap P e); answer = answer_of f r told }
+    record { gives = gives; memory = λ e. memory (ap P e); answer = answer_of f r given }
 
 pub err_only : (federation : ℕ) (bytes : List ℕ) (f : FieldFault) (r : Result Message DgramFault)
-    → Faulted bytes f r → (m : Message) → IsDatagramOf federation bytes m → IsOkOrMemory r m
+    → Faulted bytes f r → (m : Message) → IsDatagramOf federation bytes m → IsOrMemory r (Ok m)
 err_only federation bytes field_faults.Malformed r h m d =
     absurd (not_some (read_of bytes) m h.gives (is_read federation bytes m d))
 err_only federation bytes field_faults.Memory r h m d = inr h.answer
@@ -181,12 +186,13 @@ pub err_memory : (federation : ℕ) (bytes : List ℕ) (f : FieldFault) (r : Res
     → IsBytes bytes → FRONT ≤ length bytes → IsOurs federation bytes → Faulted bytes f r
     → IsErrOf r faults.Memory → IsDatagram federation bytes
 err_memory federation bytes field_faults.Malformed r fits long ours h e =
-    let told = h.answer in absurd cc
+    let given = h.answer in absurd cc
 err_memory federation bytes field_faults.Memory r fits long ours h e =
     some_found federation bytes fits long ours (h.memory refl)
 
 pub err_malformed : (federation : ℕ) (bytes : List ℕ) (f : FieldFault)
-    (r : Result Message DgramFault) → IsBytes bytes → FRONT ≤ length bytes → IsOurs federation bytes → Faulted bytes f r
+    (r : Result Message DgramFault) → IsBytes bytes → FRONT ≤ length bytes → IsOurs federation bytes
+    → Faulted bytes f r
     → IsErrOf r faults.Malformed ↔ IsMalformed federation bytes
 err_malformed federation bytes field_faults.Malformed r fits long ours h = (
   λ e. inr (
@@ -198,7 +204,7 @@ err_malformed federation bytes field_faults.Malformed r fits long ours h = (
 )
 err_malformed federation bytes field_faults.Memory r fits long ours h =
     let found = some_found federation bytes fits long ours (h.memory refl) in
-    let told = h.answer in (
+    let given = h.answer in (
       λ e. absurd cc,
       λ bad. elim bad [
         | inl short ↦ absurd (omega (arith, short, long))
@@ -207,7 +213,9 @@ err_malformed federation bytes field_faults.Memory r fits long ours h =
     )
 
 -- two messages that have one datagram
-pub same_message : (federation : ℕ) (a b : Message) → IsMessage a → IsMessage b → datagram_of federation a ≡ datagram_of federation b → a ≡ b
+pub same_message : (federation : ℕ) (a b : Message) → IsMessage a → IsMessage b
+    → datagram_of federation a ≡ datagram_of federation b → a ≡ b
 same_message federation a b h h' e =
-    let read : message_at (kind_code (body_kind a.body)) (rest_of a) ≡ message_at (kind_code (body_kind b.body)) (rest_of b) = ap (λ (xs : List ℕ). message_at (get_or xs 3 0) (drop 12 xs)) e in
+    let read : message_at (kind_of a.body) (rest_of a) ≡ message_at (kind_of b.body) (rest_of b) =
+    ap (λ (xs : List ℕ). message_at (get_or xs 3 0) (drop 12 xs)) e in
     some_is a b (sym (message_again a h) ∙ read ∙ message_again b h')

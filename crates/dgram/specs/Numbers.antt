@@ -1,6 +1,6 @@
 -- The numbers of the layout, as docs/FORMATS.md has them: code with another is refused.
 use Rattle.std.specs.Prelude.{ℕ, ◌+◌, List, [], ◌∷◌, replicate}
-use Rattle.fields.specs.Numbers.{LONGEST_OBJECT}
+use Rattle.fed_types.specs.Limits.{bag_len, longest_object}
 
 -- the bytes with which every datagram begins, B P
 abbrev pub MAGIC : List ℕ
@@ -12,33 +12,36 @@ LAYOUT = 1
 
 -- the bytes before the sender: magic, layout, kind and federation
 abbrev pub FRONT : ℕ
-FRONT = 12
+FRONT = 2 + 1 + 1 + 8
 
 -- the sender's byte where no site sends
 abbrev pub NO_SITE : ℕ
 NO_SITE = 0
 
--- what is written for a bag where none is named: zeros
+-- what is in a bag's place where none is named: zeros
 abbrev pub NO_BAG : List ℕ
-NO_BAG = replicate 64 0
+NO_BAG = replicate bag_len 0
 
--- the most bytes of a folder's path; the fewest is 1
+-- the most bytes of a folder's path, so that a datagram stays far below the 1500 bytes of an
+-- Ethernet frame; the fewest is 1
 abbrev pub LONGEST_PATH : ℕ
 LONGEST_PATH = 400
 
--- the most bytes of a datagram: that of a deposit with the longest object and the longest path
+-- the most bytes of a datagram: that of a deposit with the longest object and the longest path.
+-- After the front it has the sender, the slot (a length, the object and the version) and the path
+-- with its length
 abbrev pub LONGEST_DATAGRAM : ℕ
-LONGEST_DATAGRAM = FRONT + 1 + (1 + LONGEST_OBJECT + 4) + (2 + LONGEST_PATH)
+LONGEST_DATAGRAM = FRONT + 1 + (1 + longest_object + 4) + (2 + LONGEST_PATH)
 
--- the greatest number of a fault in reading a folder; the least is 1
+-- the greatest number of a fault in reading a folder: there are so many; the least is 1
 abbrev pub GREATEST_TREE_FAULT : ℕ
 GREATEST_TREE_FAULT = 6
 
--- the greatest number of a bag's fault; the least is 1
+-- the greatest number of a bag's fault: there are so many; the least is 1
 abbrev pub GREATEST_BAG_FAULT : ℕ
 GREATEST_BAG_FAULT = 14
 
--- the kinds
+-- the bytes of the kinds: 1 to 7 between sites, 16 and 17 from clients, 32 and 33 to clients
 abbrev pub PREPARE : ℕ
 PREPARE = 1
 

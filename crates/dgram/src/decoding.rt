@@ -1,13 +1,13 @@
-ghost use Rattle.std.specs.Prelude.{◌↔◌, ◌≤◌, length, IsTrue, IsSome, IsErrOf, IfOk};
-ghost use Rattle.fields.specs.Reading.{Gives};
-ghost use Rattle.dgram.specs.Reading.{message_at};
+ghost use Rattle.std.specs.Prelude.{◌↔◌, ◌≤◌, length, Ok, IsTrue, IsSome, IsErrOf, IfOk};
+ghost use Rattle.fields.specs.Decoding.{Gives};
+ghost use Rattle.dgram.specs.Decoding.{message_at};
 ghost use Rattle.dgram.specs.Decoded.{IsOurs, IsAnothers, IsDatagramOf, IsDatagram};
-ghost use Rattle.dgram.specs.Decoded.{IsMalformed, IsOkOrMemory};
+ghost use Rattle.dgram.specs.Decoded.{IsMalformed, message_of, Decodes};
+ghost use Rattle.dgram.specs.Faults.{IsOrMemory};
 ghost use Rattle.dgram.specs.declared.message.Message as declared;
 
-use crate::bodies_read::read_last_body;
+use crate::decode_body::read_last_body;
 use crate::fault::DgramFault;
-use crate::kind::Kind;
 use crate::layout::{FRONT, LAYOUT, MAGIC};
 use crate::message::Message;
 use fields::{FieldFault, Reader};
@@ -23,14 +23,11 @@ fn is_ours(federation: u64, bytes: &[u8]) -> bool
 }
 
 // The message of the kind of this byte, from its sender's byte on. Memory is taken last.
-#[tactic(auto, unfolding(crate::specs::Reading::message_at))]
+#[tactic(auto, unfolding(crate::specs::Decoding::message_at))]
 fn read_message(alloc: Global, kind: u8, bytes: &[u8]) -> Result<Message, FieldFault>
     ensures gives { Gives (λ m. m) result (message_at kind bytes.now) }
     ensures memory { IsErrOf result FieldFault.Memory → IsSome (message_at kind bytes.now) }
 {
-    let Some(kind) = Kind::of(kind) else {
-        return Err(FieldFault::Malformed);
-    };
     let mut reader = Reader::new(bytes);
     let from = reader.byte()?;
     let slot = reader.slot_ref()?;
@@ -44,11 +41,13 @@ fn read_message(alloc: Global, kind: u8, bytes: &[u8]) -> Result<Message, FieldF
 /// federation. Else `Malformed` where they are no message's datagram. `Memory` only where they are
 /// one.
 pub fn decode(alloc: Global, federation: u64, bytes: &[u8]) -> Result<Message, DgramFault>
+    // The definitions' message of the bytes, unless memory runs out.
+    ensures message { Decodes result (message_of federation bytes.now) }
     // What is read has these bytes.
     ensures found { IfOk result (λ m. IsDatagramOf federation bytes.now m) }
     // What has these bytes is read, unless memory runs out.
     ensures only { (m : declared.Message) → IsDatagramOf federation bytes.now m
-        → IsOkOrMemory result m }
+        → IsOrMemory result (Ok m) }
     ensures not_ours { IsErrOf result DgramFault.NotOurs ↔ IsAnothers federation bytes.now }
     ensures malformed { IsErrOf result DgramFault.Malformed ↔ IsMalformed federation bytes.now }
     ensures memory { IsErrOf result DgramFault.Memory → IsDatagram federation bytes.now }

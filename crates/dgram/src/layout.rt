@@ -1,5 +1,7 @@
 //! The numbers of the datagrams' layout.
 
+use fed_types::BAG_BYTES;
+
 /// The two bytes with which every datagram begins.
 pub const MAGIC: [u8; 2] = [0x42, 0x50];
 
@@ -12,8 +14,8 @@ pub(crate) const FRONT: usize = 12;
 /// The sender's byte where no site sends.
 pub(crate) const NO_SITE: u8 = 0;
 
-/// What stands for a bag where none is named.
-pub(crate) const NO_BAG: [u8; 64] = [0; 64];
+/// What is in a bag's place where none is named.
+pub(crate) const NO_BAG: [u8; BAG_BYTES] = [0; BAG_BYTES];
 
 /// The most bytes that a folder's path can have; the fewest is 1.
 pub const LONGEST_PATH: usize = 400;

@@ -1,5 +1,6 @@
 -- Steps of a sum over the sites 1 to n.
-use Rattle.std.specs.Prelude.{◌≡◌, ℕ, zero, suc, ◌+◌, ◌-◌, ◌≤◌, Bool, true, false, List, [], ◌∷◌, ◌++◌, refl}
+use Rattle.std.specs.Prelude.{◌≡◌, ℕ, zero, suc, ◌+◌, ◌-◌, ◌≤◌, Bool, true, false, List, [], ◌∷◌}
+use Rattle.std.specs.Prelude.{◌++◌, refl}
 use Rattle.std.specs.List.{filter, sum_by}
 use Rattle.std.proofs.Common.{arith, sym, append-nil}
 use Rattle.std.proofs.lemmas.List.Elements.{filter-append}

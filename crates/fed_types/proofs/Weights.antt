@@ -1,10 +1,12 @@
 -- The weights of members in a slice and in the array that keeps them.
-use Rattle.std.specs.Prelude.{◌≡◌, ℕ, ◌<◌, ◌≤◌, ◌-◌, ◌==◌, false, List, ◌++◌, length, take, drop, replicate, slice_index, refl}
+use Rattle.std.specs.Prelude.{◌≡◌, ℕ, ◌<◌, ◌≤◌, ◌-◌, ◌==◌, false, List, ◌++◌, length, take, drop}
+use Rattle.std.specs.Prelude.{replicate, slice_index, refl}
 use Rattle.std.specs.List.{All, Contains, list_any}
 use Rattle.std.proofs.Common.{arith, sym, ap, ◌∙◌, inl, inr, eq-eqb, length-append}
 use Rattle.std.proofs.Math.Seq.{drop-append_seam}
 use Rattle.std.proofs.lemmas.Bool.{cases_eq, false≢true}
-use Rattle.std.proofs.lemmas.List.{length-replicate, length-drop, drop-replicate, take-replicate, take_at, get_or-replicate}
+use Rattle.std.proofs.lemmas.List.{length-replicate, length-drop, drop-replicate, take-replicate}
+use Rattle.std.proofs.lemmas.List.{take_at, get_or-replicate}
 use Rattle.std.proofs.lemmas.List.Elements.{All-from_get_or}
 use Rattle.std.proofs.lemmas.List.Folds.{list_any_at}
 use Rattle.fed_types.specs.Sites.{IsMemberCount, IsWeight}
@@ -15,7 +17,9 @@ positive : (ws : List ℕ) (i : ℕ) → list_any (λ y. y == 0) ws ≡ false �
     → 1 ≤ slice_index ws i
 positive ws i none l =
     elim (cases_eq (slice_index ws i) 0) [
-      | inl zero ↦ absurd (false≢true (sym none ∙ list_any_at (λ y. y == 0) ws i 0 l (eq-eqb (slice_index ws i) 0 zero)))
+      | inl zero ↦
+          let found = list_any_at (λ y. y == 0) ws i 0 l (eq-eqb (slice_index ws i) 0 zero) in
+          absurd (false≢true (sym none ∙ found))
       | inr differ ↦ omega arith
     ]
 
@@ -60,5 +64,7 @@ ones n l = take-replicate n room 1 l
 -- they have no 0
 pub no_zero : (n : ℕ) → ¬ Contains {X = ℕ} (replicate n 1) 0
 no_zero n found =
-    let one = get_or-replicate {A = ℕ} n found.0 1 0 (rw (length-replicate {A = ℕ} n 1) at found.1) in
+    let one =
+    get_or-replicate {A = ℕ} n found.0 1 0
+    (rw (length-replicate {A = ℕ} n 1) at found.1) in
     absurd (omega (arith, one, found.2))

@@ -1,7 +1,9 @@
 -- The numbers of the faults.
 use Rattle.std.specs.Prelude.{ℕ}
 use Rattle.fed_types.specs.declared.type_fault.TypeFault.{TypeFault}
-use Rattle.fed_types.specs.declared.type_fault.TypeFault.TheVariants.{BadCount, BadSite, BadObject, ZeroVersion, ZeroRound, BadWeight}
+use Rattle.fed_types.specs.declared.type_fault.TypeFault.TheVariants.{BadCount, BadSite}
+use Rattle.fed_types.specs.declared.type_fault.TypeFault.TheVariants.{BadObject, ZeroVersion}
+use Rattle.fed_types.specs.declared.type_fault.TypeFault.TheVariants.{ZeroRound, BadWeight}
 
 -- the number of a fault
 abbrev pub fault_number : TypeFault → ℕ

@@ -3,6 +3,6 @@ pub mod Bags
 pub mod Ballots
 pub mod Lists
 pub mod Quorums
+pub mod Sites
 pub mod Slots
 pub mod Voters
-pub mod Words

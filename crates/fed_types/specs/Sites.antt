@@ -1,6 +1,6 @@
 -- Site numbers, and the members of a federation with their weights.
 use Rattle.std.specs.Prelude.{ℕ, zero, suc, ◌-◌, ◌≤◌, List, [], ◌∷◌, ◌++◌, length, slice_index}
-use Rattle.std.specs.List.{All, sum_by}
+use Rattle.std.specs.List.{All, Contains, sum_by}
 use Rattle.fed_types.specs.Limits.{greatest_site, greatest_weight, most_members}
 
 -- a site's number is 1 to the greatest
@@ -11,6 +11,10 @@ IsSiteNumber n = (1 ≤ n) × (n ≤ greatest_site)
 pub record Membership : Type 0 where
   pub federation : ℕ
   pub weights : List ℕ
+
+-- the federation of this number with members of these weights
+abbrev pub membership_of : ℕ → List ℕ → Membership
+membership_of federation weights = record { federation = federation; weights = weights }
 
 -- how many members there are
 abbrev pub count_of : Membership → ℕ
@@ -24,9 +28,17 @@ IsMemberCount n = (1 ≤ n) × (n ≤ most_members)
 abbrev pub IsWeight : ℕ → Type 0
 IsWeight w = (1 ≤ w) × (w ≤ greatest_weight)
 
+-- there are as many weights as a federation may have members
+abbrev pub CountFits : List ℕ → Type 0
+CountFits weights = IsMemberCount (length weights)
+
+-- there are, and one of them is 0
+abbrev pub HasZeroWeight : List ℕ → Type 0
+HasZeroWeight weights = CountFits weights × Contains weights 0
+
 -- the weights of a federation's members
 abbrev pub AreWeights : List ℕ → Type 0
-AreWeights weights = IsMemberCount (length weights) × All IsWeight weights
+AreWeights weights = CountFits weights × All IsWeight weights
 
 -- the sites 1 to n, ascending
 unfoldable pub sites_to : ℕ → List ℕ

@@ -11,6 +11,10 @@ pub record SlotName : Type 0 where
 abbrev pub IsObjectName : List ℕ → Type 0
 IsObjectName bytes = (1 ≤ length bytes) × (length bytes ≤ longest_object)
 
+-- the slot of this object and version
+abbrev pub slot_name : List ℕ → ℕ → SlotName
+slot_name object version = record { object = object; version = version }
+
 -- what is true of every slot
 abbrev pub IsSlotName : SlotName → Type 0
 IsSlotName s = IsObjectName s.object × (1 ≤ s.version)

@@ -3,7 +3,8 @@ ghost use Rattle.std.specs.Ordering.{as_partial_cmp};
 ghost use Rattle.std.specs.Prelude.{refl};
 ghost use Rattle.fed_types.specs.Ballots.{ballot_cmp};
 ghost use Rattle.fed_types.specs.Limits.{greatest_round};
-ghost use Rattle.fed_types.specs.Laws.Ballots.{ballot_cmp_total, ballot_cmp_partial, ballot_eq_ties};
+ghost use Rattle.fed_types.specs.Laws.Ballots.{ballot_cmp_total, ballot_cmp_partial};
+ghost use Rattle.fed_types.specs.Laws.Ballots.{ballot_eq_ties};
 
 use crate::site_no::SiteNo;
 use crate::type_fault::TypeFault;
@@ -12,7 +13,7 @@ use std::marker::Model;
 
 /// A ballot: a round, at least 1, and the site that proposes in it. Ballots are ordered by round,
 /// and within a round by site. A clause sees a `BallotNumber`.
-#[derive(Clone, Copy, Debug, PartialEq, Eq)]
+#[derive(Clone, Copy, Debug, PartialEq, Eq, Hash)]
 pub struct Ballot {
     round: u32,
     site: SiteNo,

@@ -1,13 +1,8 @@
 //! Laws of the names, each as the contract of a function that does nothing.
 
 ghost use Rattle.std.specs.Prelude.{◌≡◌};
-ghost use Rattle.fed_types.specs.Limits.{
-  bag_len,
-  greatest_site,
-  greatest_weight,
-  longest_object,
-  most_members,
-};
+ghost use Rattle.fed_types.specs.Limits.{bag_len, greatest_site, greatest_weight, longest_object};
+ghost use Rattle.fed_types.specs.Limits.{most_members};
 ghost use Rattle.fed_types.specs.Sites.{IsSiteNumber};
 ghost use Rattle.fed_types.specs.Values.{IsBag, IsBallot, IsMembership, IsSlot, IsVote};
 

@@ -1,26 +1,10 @@
-ghost use Rattle.std.specs.Prelude.{
-  ◌≡◌,
-  ◌≤◌,
-  ◌↔◌,
-  ℕ,
-  length,
-  replicate,
-  IsTrue,
-  IsOk,
-  IfOk,
-  IsErrOf,
-};
+ghost use Rattle.std.specs.Prelude.{◌≡◌, ◌≤◌, ◌↔◌, ℕ, length, replicate, IsTrue, IsOk, IfOk};
+ghost use Rattle.std.specs.Prelude.{IsErrOf};
 ghost use Rattle.std.specs.List.{Contains};
 ghost use Rattle.fed_types.specs.Lists.{is_in};
-ghost use Rattle.fed_types.specs.Sites.{
-  AreWeights,
-  IsMemberCount,
-  IsSiteNumber,
-  count_of,
-  members_of,
-  weight_of,
-  weight_sum,
-};
+ghost use Rattle.fed_types.specs.Sites.{AreWeights, CountFits, HasZeroWeight, IsMemberCount};
+ghost use Rattle.fed_types.specs.Sites.{IsSiteNumber, count_of, members_of, membership_of};
+ghost use Rattle.fed_types.specs.Sites.{weight_of, weight_sum};
 
 use crate::limits::MOST_MEMBERS;
 use crate::site_no::SiteNo;
@@ -42,20 +26,27 @@ pub struct Members {
 
 impl Model for Members {
     ghost use Rattle.std.specs.Prelude.{length, take};
-    ghost use Rattle.std.specs.List.{All};
-    ghost use Rattle.fed_types.specs.Sites.{Membership, IsMemberCount, IsWeight};
-    ghost use Rattle.fed_types.specs.inner.Padded.{IsPadded, padded};
+    ghost use Rattle.fed_types.specs.Sites.{Membership};
+    ghost use Rattle.fed_types.specs.inner.Padded.{AreKept, padded};
     ghost use Rattle.fed_types.specs.inner.PaddedLaws.{given_back};
 
     ghost Value = { Membership };
 
     ghost view = { λ m. record { federation = m.federation; weights = take m.count m.weights } };
 
-    ghost invariant = { λ m. IsMemberCount m.count × All IsWeight (take m.count m.weights) × IsPadded m.count m.weights };
+    ghost invariant = { λ m. AreKept m.count m.weights };
 
-    ghost inverse = { λ m. record { federation = m.federation; count = length m.weights; weights = padded m.weights } };
+    ghost inverse = { λ m. record {
+      federation = m.federation;
+      count = length m.weights;
+      weights = padded m.weights;
+    } };
 
-    ghost inverse_ok = { λ m h. given_back (λ c ws. record { federation = m.federation; count = c; weights = ws }) m.count m.weights h.0.1 h.2 };
+    ghost inverse_ok = { λ m h. given_back (λ c ws. record {
+      federation = m.federation;
+      count = c;
+      weights = ws;
+    }) m.count m.weights h.0.1 h.2 };
 }
 
 impl Members {
@@ -63,7 +54,7 @@ impl Members {
     /// where `count` is not 1 to `MOST_MEMBERS`.
     pub fn new(federation: u64, count: u8) -> Result<Members, TypeFault>
         ensures ok { IsOk result ↔ IsMemberCount count }
-        ensures value { IfOk result (λ m. m ≡ record { federation = federation; weights = replicate count 1 }) }
+        ensures value { IfOk result (λ m. m ≡ membership_of federation (replicate count 1)) }
         ensures bad_count { IsErrOf result TypeFault.BadCount ↔ ¬ IsMemberCount count }
     {
         if MOST_MEMBERS < count {
@@ -76,10 +67,10 @@ impl Members {
     /// The federation of this number whose sites, from site 1 on, have these weights. `BadCount`
     /// where there are not 1 to `MOST_MEMBERS` weights, else `BadWeight` where a weight is 0.
     pub fn weighted(federation: u64, weights: &[u8]) -> Result<Members, TypeFault>
-        ensures ok { IsOk result ↔ (IsMemberCount (length weights.now) × ¬ Contains weights.now 0) }
-        ensures value { IfOk result (λ m. m ≡ record { federation = federation; weights = weights.now }) }
-        ensures bad_count { IsErrOf result TypeFault.BadCount ↔ ¬ IsMemberCount (length weights.now) }
-        ensures bad_weight { IsErrOf result TypeFault.BadWeight ↔ (IsMemberCount (length weights.now) × Contains weights.now 0) }
+        ensures ok { IsOk result ↔ (CountFits weights.now × ¬ Contains weights.now 0) }
+        ensures value { IfOk result (λ m. m ≡ membership_of federation weights.now) }
+        ensures bad_count { IsErrOf result TypeFault.BadCount ↔ ¬ CountFits weights.now }
+        ensures bad_weight { IsErrOf result TypeFault.BadWeight ↔ HasZeroWeight weights.now }
     {
         if weights.is_empty() || ROOM < weights.len() {
             return Err(TypeFault::BadCount);

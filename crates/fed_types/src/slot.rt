@@ -1,7 +1,7 @@
 ghost use Rattle.std.specs.Prelude.{◌≡◌, ◌≤◌, ◌↔◌, ◌++◌, length, string_bytes, IsOk, IfOk, IsErrOf};
 ghost use Rattle.std.specs.Hash as fed;
 ghost use Rattle.fed_types.specs.Limits.{greatest_version};
-ghost use Rattle.fed_types.specs.Slots.{IsObjectName, same_slot};
+ghost use Rattle.fed_types.specs.Slots.{IsObjectName, same_slot, slot_name};
 ghost use Rattle.fed_types.specs.Laws.Slots.{same_slot_laws, same_slot_equivalence, same_slot_hash};
 
 use crate::limits::LONGEST_OBJECT;
@@ -20,13 +20,13 @@ pub struct Slot {
 
 impl Model for Slot {
     ghost use Rattle.std.specs.Prelude.{string_bytes};
-    ghost use Rattle.fed_types.specs.Slots.{SlotName, IsSlotName};
+    ghost use Rattle.fed_types.specs.Slots.{SlotName, IsSlotName, slot_name};
 
     ghost Value = { SlotName };
 
     ghost view = { λ s. record { object = string_bytes s.object; version = s.version } };
 
-    ghost invariant = { λ s. IsSlotName (record { object = string_bytes s.object; version = s.version }) };
+    ghost invariant = { λ s. IsSlotName (slot_name (string_bytes s.object) s.version) };
 }
 
 impl Slot {
@@ -34,7 +34,7 @@ impl Slot {
     /// `LONGEST_OBJECT` bytes, else `ZeroVersion` where the version is 0.
     pub fn new(object: String, version: u32) -> Result<Slot, TypeFault>
         ensures ok { IsOk result ↔ (IsObjectName (string_bytes object) × (1 ≤ version)) }
-        ensures value { IfOk result (λ s. s ≡ record { object = string_bytes object; version = version }) }
+        ensures value { IfOk result (λ s. s ≡ slot_name (string_bytes object) version) }
         ensures greatest { IfOk result (λ s. s.version ≤ greatest_version) }
         ensures bad_object { IsErrOf result TypeFault.BadObject ↔ ¬ IsObjectName (string_bytes object) }
         ensures zero_version { IsErrOf result TypeFault.ZeroVersion ↔ (IsObjectName (string_bytes object) × (version ≡ 0)) }

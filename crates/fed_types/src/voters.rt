@@ -20,7 +20,7 @@ impl Model for Voters {
     ghost use Rattle.std.specs.Prelude.{ℕ, List, ◌<◌, ◌^◌};
     ghost use Rattle.std.proofs.Common.{ap};
     ghost use Rattle.fed_types.specs.inner.Words.{bits_below, word_of};
-    ghost use Rattle.fed_types.specs.Laws.Words.{word_of-bits_below};
+    ghost use Rattle.fed_types.specs.inner.WordLaws.{word_of-bits_below};
 
     ghost Value = { List ℕ };
 

@@ -2,7 +2,7 @@
 
 use crate::fault::Fault;
 use book::{Entry, Record};
-use fed_types::{BagId, Ballot, SiteNo, Slot};
+use fed_types::{BagId, Ballot, SiteNo, Slot, Vote};
 use std::alloc::Global;
 
 /// The federation of all that the program makes.
@@ -32,10 +32,10 @@ pub fn slot(alloc: Global) -> Result<Slot, Fault> {
 pub fn vote(alloc: Global) -> Result<Record, Fault> {
     Ok(Record {
         slot: slot(alloc)?,
-        body: Entry::Vote {
+        body: Entry::Vote(Vote {
             ballot: Ballot::new(1, site()?)?,
             bag: BagId([0xaa; 64]),
-        },
+        }),
     })
 }
 

@@ -2,7 +2,7 @@
 
 use crate::example::vote;
 use crate::fault::Fault;
-use crate::opening::{members, opening_line};
+use crate::opening::{opening_line, owner};
 use crate::records_text::records_text;
 use book::{Book, CommitFault};
 use cell_device::FileCell;
@@ -16,7 +16,7 @@ pub fn opened_line(rt: &HostRuntime, path: &str, site: SiteNo) -> Result<String,
 
 /// The book of the site's journal in this file.
 pub fn open_book(rt: &HostRuntime, path: &str, site: SiteNo) -> Result<Book<FileCell>, Fault> {
-    match Book::open(rt.alloc(), FileCell::open(rt, path)?, members()?, site) {
+    match Book::open(rt.alloc(), FileCell::open(rt, path)?, owner(site)?) {
         Ok(book) => Ok(book),
         Err((_cell, fault)) => Err(fault.into()),
     }

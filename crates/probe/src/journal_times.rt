@@ -3,7 +3,7 @@
 use crate::example::{site, slot, vote};
 use crate::fault::Fault;
 use crate::files::open_book;
-use crate::opening::members;
+use crate::opening::owner;
 use book::{Entry, Record, Round};
 use cell_device::{Cell, FileCell};
 use records::header;
@@ -30,7 +30,7 @@ pub fn filled_line(rt: &HostRuntime, path: &str, count: u32) -> Result<String, F
     let alloc = rt.alloc();
     let bytes = rounds(alloc, count)?;
     let mut cell = FileCell::open(rt, path)?;
-    cell.append(&header(members()?.federation(), site()?))?;
+    cell.append(&header(owner(site()?)?))?;
     cell.append(bytes.as_slice())?;
     cell.sync()?;
     let total = bytes.len();

@@ -1,7 +1,7 @@
 //! Messages in words.
 
-use dgram::{Body, DepositAnswer, Message, PriorVote, QueryAnswer};
-use fed_types::{BagId, Ballot};
+use dgram::{Body, DepositAnswer, Message, QueryAnswer};
+use fed_types::{BagId, Ballot, Vote};
 use std::alloc::{AllocError, Global};
 
 /// What a message says, its bags in hex.
@@ -41,16 +41,10 @@ fn push_body(alloc: Global, text: &mut String, body: &Body) -> Result<(), AllocE
             push_ballot(text, *ballot)?;
             match prior {
                 None => text.push_str(", no vote"),
-                Some(PriorVote { ballot, bag }) => {
-                    push_ballot(text, *ballot)?;
-                    push_bag(alloc, text, bag)
-                }
+                Some(vote) => push_vote(alloc, text, vote),
             }
         }
-        Body::Accept { ballot, bag } | Body::Accepted { ballot, bag, .. } => {
-            push_ballot(text, *ballot)?;
-            push_bag(alloc, text, bag)
-        }
+        Body::Accept { vote } | Body::Accepted { vote, .. } => push_vote(alloc, text, vote),
         Body::Refused {
             asked,
             standing,
@@ -68,6 +62,11 @@ fn push_body(alloc: Global, text: &mut String, body: &Body) -> Result<(), AllocE
         Body::DepositReply { answer, .. } => push_deposit_answer(alloc, text, answer),
         Body::QueryReply { answer, .. } => push_query_answer(alloc, text, answer),
     }
+}
+
+fn push_vote(alloc: Global, text: &mut String, vote: &Vote) -> Result<(), AllocError> {
+    push_ballot(text, vote.ballot)?;
+    push_bag(alloc, text, &vote.bag)
 }
 
 fn push_ballot(text: &mut String, ballot: Ballot) -> Result<(), AllocError> {

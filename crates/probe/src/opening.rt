@@ -3,19 +3,22 @@
 use crate::example::FEDERATION;
 use crate::fault::Fault;
 use crate::records_text::records_text;
-use book::{Book, OpenFault};
+use book::{Book, OpenFault, Owner};
 use cell_device::Cell;
 use fed_types::{MOST_MEMBERS, Members, SiteNo};
 use std::alloc::Global;
 
-/// The federation of the example, with as many members as there can be.
-pub fn members() -> Result<Members, Fault> {
-    Ok(Members::new(FEDERATION, MOST_MEMBERS)?)
+/// The owner of this site's journal, in a federation of as many members as there can be.
+pub fn owner(site: SiteNo) -> Result<Owner, Fault> {
+    Ok(Owner {
+        members: Members::new(FEDERATION, MOST_MEMBERS)?,
+        site,
+    })
 }
 
 /// The records of this site's cell, or the fault, and its bytes after it was opened.
 pub fn opening_line<C: Cell + Drop>(alloc: Global, cell: C, site: SiteNo) -> Result<String, Fault> {
-    match Book::open(alloc, cell, members()?, site) {
+    match Book::open(alloc, cell, owner(site)?) {
         Ok(book) => book_line(alloc, book),
         Err((_cell, OpenFault::Memory)) => Err(Fault::Memory),
         Err((cell, fault)) => {

@@ -3,7 +3,7 @@
 
 use crate::example::{CELL, RECORDS, site, vote, whole_line};
 use crate::fault::Fault;
-use crate::opening::{book_line, members};
+use crate::opening::{book_line, owner};
 use crate::records_text::records_text;
 use book::{Book, CommitFault, OpenFault};
 use cell_device::MemoryCell;
@@ -12,11 +12,11 @@ use std::alloc::Global;
 /// The records and the bytes after the Vote.
 pub fn voted_line(alloc: Global) -> Result<String, Fault> {
     let cell = MemoryCell::new(alloc, hex::decode(alloc, CELL)?);
-    match Book::open(alloc, cell, members()?, site()?) {
+    match Book::open(alloc, cell, owner(site()?)?) {
         Ok(book) => committed_line(alloc, book),
         Err((cell, OpenFault::Memory)) => {
             check(hex::encode(alloc, cell.bytes())?.as_str() == CELL)?;
-            let Ok(book) = Book::open(alloc, cell, members()?, site()?) else {
+            let Ok(book) = Book::open(alloc, cell, owner(site()?)?) else {
                 return Err(Fault::Wrong);
             };
             check_whole(alloc, committed_line(alloc, book)?.as_str())?;

@@ -27,7 +27,7 @@ fn push_entry(text: &mut String, entry: &Entry) -> Result<(), AllocError> {
             write!(text, "Round{number}")
         }
         Entry::Promise(ballot) => push_ballot(text, "Promise", *ballot),
-        Entry::Vote { ballot, .. } => push_ballot(text, "Vote", *ballot),
+        Entry::Vote(vote) => push_ballot(text, "Vote", vote.ballot),
         Entry::Known(_) => text.push_str("Known"),
     }
 }

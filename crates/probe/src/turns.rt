@@ -3,7 +3,7 @@
 
 use crate::fault::Fault;
 use crate::files::commit_word;
-use crate::opening::members;
+use crate::opening::owner;
 use crate::records_text::records_text;
 use book::Book;
 use cell_device::FileCell;
@@ -55,7 +55,7 @@ fn cell_of(journal: Journal) -> FileCell {
 
 /// The journal in the cell, and its records or the fault.
 fn open(alloc: Global, cell: FileCell, site: SiteNo) -> Result<(Journal, String), Fault> {
-    match Book::open(alloc, cell, members()?, site) {
+    match Book::open(alloc, cell, owner(site)?) {
         Ok(book) => {
             let said = records_text(alloc, book.records())?;
             Ok((Journal::Opened(book), said))

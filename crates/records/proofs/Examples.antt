@@ -38,21 +38,28 @@ at slot body = record { slot = slot; body = body }
 -- the records of the examples: of a1 all kinds, of a2 a Round and greater ballots, of b1 a Promise
 abbrev records : List Record
 records =
-    at a2 (entry.Promise (ballot 9 1)) ∷ at a1 (entry.Deposit (bag 1)) ∷ at a1 (entry.Promise (ballot 2 1)) ∷ at a1 (vote (ballot 2 1) (bag 1)) ∷ at a1 (vote (ballot 2 1) (bag 2))
-    ∷ at b1 (entry.Promise (ballot 1 4)) ∷ at a2 (vote (ballot 9 1) (bag 7)) ∷ at a1 (entry.Round 3) ∷ at a1 (vote (ballot 2 3) (bag 3)) ∷ at a1 (entry.Round 1) ∷ at a1 (vote (ballot 1 15) (bag 4))
-    ∷ at a1 (entry.Deposit (bag 5)) ∷ at a2 (entry.Round 8) ∷ at a1 (entry.Known (bag 3)) ∷ at a1 (entry.Known (bag 6)) ∷ []
+    at a2 (entry.Promise (ballot 9 1)) ∷ at a1 (entry.Deposit (bag 1))
+    ∷ at a1 (entry.Promise (ballot 2 1)) ∷ at a1 (vote (ballot 2 1) (bag 1))
+    ∷ at a1 (vote (ballot 2 1) (bag 2))
+    ∷ at b1 (entry.Promise (ballot 1 4)) ∷ at a2 (vote (ballot 9 1) (bag 7)) ∷ at a1 (entry.Round 3)
+    ∷ at a1 (vote (ballot 2 3) (bag 3)) ∷ at a1 (entry.Round 1) ∷ at a1 (vote (ballot 1 15) (bag 4))
+    ∷ at a1 (entry.Deposit (bag 5)) ∷ at a2 (entry.Round 8) ∷ at a1 (entry.Known (bag 3))
+    ∷ at a1 (entry.Known (bag 6)) ∷ []
 
 -- the greatest ballot that is promised, also where only a Vote names it
 promised_by_a_vote : promised_of a1 records ≡ Some (ballot 2 3)
 unfolding promised_of same_slot ballot_cmp
 promised_by_a_vote = refl
 
-promised_of_others : (promised_of a2 records ≡ Some (ballot 9 1)) × (promised_of b1 records ≡ Some (ballot 1 4))
+promised_of_others : (promised_of a2 records ≡ Some (ballot 9 1))
+    × (promised_of b1 records ≡ Some (ballot 1 4))
 unfolding promised_of same_slot ballot_cmp
 promised_of_others = (refl, refl)
 
 -- a Promise above the votes
-promised_above : promised_of a1 (at a1 (vote (ballot 2 3) (bag 3)) ∷ at a1 (entry.Promise (ballot 3 1)) ∷ at a1 (entry.Promise (ballot 2 15)) ∷ []) ≡ Some (ballot 3 1)
+promised_above : promised_of a1 (at a1 (vote (ballot 2 3) (bag 3))
+    ∷ at a1 (entry.Promise (ballot 3 1)) ∷ at a1 (entry.Promise (ballot 2 15)) ∷ [])
+    ≡ Some (ballot 3 1)
 unfolding promised_of same_slot ballot_cmp
 promised_above = refl
 
@@ -62,7 +69,8 @@ unfolding vote_of same_slot ballot_cmp
 the_greatest_vote = refl
 
 -- of two votes of one ballot the first
-the_first_vote : vote_of a1 (at a1 (vote (ballot 2 1) (bag 1)) ∷ at a1 (vote (ballot 2 1) (bag 2)) ∷ []) ≡ Some (cast (ballot 2 1) (bag 1))
+the_first_vote : vote_of a1 (at a1 (vote (ballot 2 1) (bag 1)) ∷ at a1 (vote (ballot 2 1) (bag 2))
+    ∷ []) ≡ Some (cast (ballot 2 1) (bag 1))
 unfolding vote_of same_slot ballot_cmp
 the_first_vote = refl
 
@@ -87,7 +95,8 @@ unfolding known_of same_slot
 the_first_known = (refl, refl)
 
 -- of no records nothing
-of_none : (promised_of a1 [] ≡ None) × (vote_of a1 [] ≡ None) × (used_of a1 [] ≡ 0) × (deposit_of a1 [] ≡ None) × (known_of a1 [] ≡ None)
+of_none : (promised_of a1 [] ≡ None) × (vote_of a1 [] ≡ None) × (used_of a1 [] ≡ 0)
+    × (deposit_of a1 [] ≡ None) × (known_of a1 [] ≡ None)
 unfolding promised_of vote_of used_of deposit_of known_of
 of_none = (refl, refl, refl, refl, refl)
 

@@ -1,5 +1,7 @@
 -- All bytes say something.
-use Rattle.std.proofs.Common.{◌≡◌, ◌≢◌, ◌⊎◌, ℕ, zero, suc, ◌<◌, ◌≤◌, ◌+◌, Bool, true, false, List, [], ◌∷◌, ◌++◌, length, take, drop, get_or, Option, Some, None, Ok, Err, refl, sym, ap, subst, ◌∙◌, arith, inl, inr, append_assoc}
+use Rattle.std.proofs.Common.{◌≡◌, ◌≢◌, ◌⊎◌, ℕ, zero, suc, ◌<◌, ◌≤◌, ◌+◌, Bool, true, false, List}
+use Rattle.std.proofs.Common.{[], ◌∷◌, ◌++◌, length, take, drop, get_or, Option, Some, None, Ok}
+use Rattle.std.proofs.Common.{Err, refl, sym, ap, subst, ◌∙◌, arith, inl, inr, append_assoc}
 use Rattle.std.specs.Prelude.{bytes_eq}
 use Rattle.std.specs.List.{AllByRecursion}
 use Rattle.std.specs.Int.{w64, to_be_bytes}
@@ -47,7 +49,8 @@ record Next (bytes : List ℕ) : Type 0 where
   shorter : length rest < length bytes
 
 -- as many bytes as a record's length says are a record or none
-content_or_none : (bytes : List ℕ) → IsBytes bytes → 2 ≤ length bytes → 2 + length_field bytes ≤ length bytes → IsNoRecord bytes ⊎ Next bytes
+content_or_none : (bytes : List ℕ) → IsBytes bytes → 2 ≤ length bytes
+    → 2 + length_field bytes ≤ length bytes → IsNoRecord bytes ⊎ Next bytes
 content_or_none bytes fits two long = by (content_at (take n (rest_of bytes))) refl
   where
     n : ℕ
@@ -56,10 +59,12 @@ content_or_none bytes fits two long = by (content_at (take n (rest_of bytes))) r
     enough : n ≤ length (rest_of bytes)
     enough = omega (arith, two, long, ap length (rest_is bytes), length-drop 2 bytes)
 
-    by : (o : Option Record) → content_at (take n (rest_of bytes)) ≡ o → IsNoRecord bytes ⊎ Next bytes
+    by : (o : Option Record) → content_at (take n (rest_of bytes)) ≡ o
+        → IsNoRecord bytes ⊎ Next bytes
     by None is = inl (step_none bytes n two refl enough is)
     by (Some r) is =
-        let step : IsStep bytes (steps.Whole r (2 + n)) = step_whole bytes n r fits two refl enough is in
+        let step : IsStep bytes (steps.Whole r (2 + n)) =
+        step_whole bytes n r fits two refl enough is in
         let behind = drop (2 + n) bytes in
         inr (record {
           first = r;
@@ -75,7 +80,8 @@ what_is_next [] fits = inl (inl refl)
 what_is_next (a ∷ []) fits = inl (inr (inl refl))
 what_is_next (a ∷ b ∷ more) fits = by (a ∷ b ∷ more) fits (omega arith)
   where
-    by : (bytes : List ℕ) → IsBytes bytes → 2 ≤ length bytes → IsEnd bytes ⊎ (IsNoRecord bytes ⊎ Next bytes)
+    by : (bytes : List ℕ) → IsBytes bytes → 2 ≤ length bytes
+        → IsEnd bytes ⊎ (IsNoRecord bytes ⊎ Next bytes)
     by bytes fits two = elim (cases_lt (length_field bytes) shortest_record) [
       | inl low ↦ inr (inl (two, inl (λ fine. omega (arith, fine.0, low))))
       | inr least ↦ elim (cases_lt longest_record (length_field bytes)) [
@@ -105,7 +111,8 @@ read_more bytes next more = record {
   records = next.first ∷ more.records;
   rest = more.rest;
   whole = (next.is, more.whole);
-  parts = next.parts ∙ ap (λ (b : List ℕ). record_bytes next.first ++ b) more.parts ∙ sym (append_assoc (record_bytes next.first) (records_bytes more.records) more.rest);
+  parts = next.parts ∙ ap (λ (b : List ℕ). record_bytes next.first ++ b) more.parts
+      ∙ sym (append_assoc (record_bytes next.first) (records_bytes more.records) more.rest);
   ends = more.ends;
 }
 
@@ -121,44 +128,56 @@ walk (suc n) bytes le fits = elim (what_is_next bytes fits) [
   | inl end ↦ read_none bytes (inl end)
   | inr more ↦ elim more [
     | inl none ↦ read_none bytes (inr none)
-    | inr next ↦ read_more bytes next (walk n next.rest (omega (arith, le, next.shorter)) (IsBytes-rest (record_bytes next.first) next.rest (subst IsBytes next.parts fits)))
+    | inr next ↦ read_more bytes next (walk n next.rest (omega (arith, le, next.shorter))
+        (IsBytes-rest (record_bytes next.first) next.rest (subst IsBytes next.parts fits)))
   ]
 ]
 
 module _ (owner : Owner) (bytes : List ℕ) where
   -- records follow the header, and an end or no record
-  body_says : take header_len bytes ≡ header_bytes owner → Read (drop header_len bytes) → (said : Said) × Says owner bytes said
+  body_says : take header_len bytes ≡ header_bytes owner → Read (drop header_len bytes)
+      → (said : Said) × Says owner bytes said
   body_says header read = by read.ends
     where
       text : bytes ≡ journal_text owner read.records ++ read.rest
       text =
-          sym (take-append-drop header_len bytes) ∙ ap (λ (b : List ℕ). b ++ drop header_len bytes) header ∙ ap (λ (b : List ℕ). header_bytes owner ++ b) read.parts
+          sym (take-append-drop header_len bytes)
+          ∙ ap (λ (b : List ℕ). b ++ drop header_len bytes) header
+          ∙ ap (λ (b : List ℕ). header_bytes owner ++ b) read.parts
           ∙ sym (append_assoc (header_bytes owner) (records_bytes read.records) read.rest)
 
       by : IsEnd read.rest ⊎ IsNoRecord read.rest → (said : Said) × Says owner bytes said
       by (inl end) = (Ok read.records, (read.whole, inr (read.rest, text, end)))
-      by (inr none) = (Err (faults.Damaged (length (journal_text owner read.records))), inr (read.records, read.rest, read.whole, text, refl, none))
+      by (inr none) = (
+        Err (faults.Damaged (length (journal_text owner read.records))),
+        inr (read.records, read.rest, read.whole, text, refl, none),
+      )
 
   -- with a whole header
   long_says : IsBytes bytes → header_len ≤ length bytes → (said : Said) × Says owner bytes said
   long_says fits long = elim (same_or_other (take 4 bytes) magic) [
     | inr other ↦ (Err (faults.Damaged 0), inl (refl, inr (long, other)))
-    | inl magic ↦ elim (same_or_other (take 8 (drop 4 bytes)) (to_be_bytes w64 owner.members.federation)) [
-      | inr other ↦ (Err faults.OtherFederation, (long, magic, other))
-      | inl ours ↦ elim (cases_eq (get_or bytes 12 0) owner.site) [
-        | inr other ↦ (Err faults.OtherSite, (long, magic, ours, other))
-        | inl here ↦
-            let behind : IsBytes (drop header_len bytes) = IsBytes-rest (take header_len bytes) (drop header_len bytes) (subst IsBytes (sym (take-append-drop header_len bytes)) fits) in
-            body_says (header_whole owner bytes long (magic, ours, here)) (walk (length (drop header_len bytes)) (drop header_len bytes) (omega arith) behind)
-      ]
-    ]
+    | inl magic ↦
+        elim (same_or_other (take 8 (drop 4 bytes)) (to_be_bytes w64 owner.members.federation)) [
+          | inr other ↦ (Err faults.OtherFederation, (long, magic, other))
+          | inl ours ↦ elim (cases_eq (get_or bytes 12 0) owner.site) [
+            | inr other ↦ (Err faults.OtherSite, (long, magic, ours, other))
+            | inl here ↦
+                let behind : IsBytes (drop header_len bytes) =
+                IsBytes-rest (take header_len bytes) (drop header_len bytes)
+                (subst IsBytes (sym (take-append-drop header_len bytes)) fits) in
+                body_says (header_whole owner bytes long (magic, ours, here))
+                (walk (length (drop header_len bytes)) (drop header_len bytes) (omega arith) behind)
+          ]
+        ]
   ]
 
   -- with fewer bytes than a header
   short_says : length bytes < header_len → (said : Said) × Says owner bytes said
   short_says short = elim (same_or_other bytes (take (length bytes) (header_bytes owner))) [
     | inl front ↦ (Ok [], (tt, inl (refl, new_from owner bytes short front)))
-    | inr other ↦ (Err (faults.Damaged 0), inl (refl, inl (short, λ new. other (new_prefix owner bytes new))))
+    | inr other ↦
+        (Err (faults.Damaged 0), inl (refl, inl (short, λ new. other (new_prefix owner bytes new))))
   ]
 
   pub all_say : AllByRecursion (λ (b : ℕ). b < 256) bytes → (said : Said) × Says owner bytes said

@@ -1,7 +1,8 @@
 -- The faults of reading a journal, and their numbers.
 use Rattle.std.specs.Prelude.{◌≡◌, ◌⊎◌, ℕ, List, Result, Err}
 use Rattle.records.specs.declared.fault.JournalFault.{JournalFault}
-use Rattle.records.specs.declared.fault.JournalFault.TheVariants.{OtherFederation, OtherSite, Damaged, Memory}
+use Rattle.records.specs.declared.fault.JournalFault.TheVariants.{OtherFederation, OtherSite}
+use Rattle.records.specs.declared.fault.JournalFault.TheVariants.{Damaged, Memory}
 use Rattle.records.specs.declared.record.Record.{Record}
 
 -- the number that a fault prints; 4 is a device's
@@ -12,5 +13,6 @@ fault_number (Damaged place) = 3
 fault_number Memory = 5
 
 -- an answer is what is wanted, or memory ran out
-abbrev pub IsOrMemory : Result (List Record) JournalFault → Result (List Record) JournalFault → Type 0
+abbrev pub IsOrMemory : Result (List Record) JournalFault → Result (List Record) JournalFault
+    → Type 0
 IsOrMemory answer wanted = (answer ≡ wanted) ⊎ (answer ≡ Err Memory)

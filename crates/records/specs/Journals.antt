@@ -1,5 +1,6 @@
 -- What bytes say as the journal of their owner: its records, or why they are none.
-use Rattle.std.specs.Prelude.{◌≡◌, ◌≢◌, ◌⊎◌, ◌≤◌, ◌<◌, ◌+◌, ℕ, List, [], ◌++◌, length, take, drop, get_or, Result, Ok, Err}
+use Rattle.std.specs.Prelude.{◌≡◌, ◌≢◌, ◌⊎◌, ◌≤◌, ◌<◌, ◌+◌, ℕ, List, [], ◌++◌, length, take, drop}
+use Rattle.std.specs.Prelude.{get_or, Result, Ok, Err}
 use Rattle.std.specs.Int.{w16, w64, to_be_bytes, from_be_bytes}
 use Rattle.records.specs.Numbers.{magic, header_len, shortest_record, longest_record}
 use Rattle.records.specs.declared.fault.JournalFault.{JournalFault}

@@ -2,7 +2,8 @@
 use Rattle.std.specs.Prelude.{ℕ, List, [], ◌∷◌, ◌++◌, length}
 use Rattle.std.specs.Int.{w16, w32, w64, to_be_bytes}
 use Rattle.fields.specs.Encoding.{bag_bytes, ballot_bytes, vote_bytes, slot_bytes}
-use Rattle.records.specs.Numbers.{magic, deposit_code, round_code, promise_code, vote_code, known_code}
+use Rattle.records.specs.Numbers.{magic, deposit_code, round_code, promise_code, vote_code}
+use Rattle.records.specs.Numbers.{known_code}
 use Rattle.records.specs.declared.entry.Entry.{Entry}
 use Rattle.records.specs.declared.entry.Entry.TheVariants.{Deposit, Round, Promise, Vote, Known}
 use Rattle.records.specs.declared.owner.Owner.{Owner}

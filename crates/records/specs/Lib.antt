@@ -5,5 +5,6 @@ pub mod Records
 pub mod Texts
 pub mod Journals
 pub mod Words
+pub mod Bounds
 pub mod Answers
 pub mod inner

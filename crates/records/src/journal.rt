@@ -4,7 +4,8 @@ ghost use Rattle.records.specs.declared.record.Record.{Record as declared_record
 ghost use Rattle.records.specs.Answers.{IsReading, HasTextEnd, records_read};
 ghost use Rattle.records.specs.Faults.{IsOrMemory};
 ghost use Rattle.records.specs.Journals.{IsNew, Says};
-ghost use Rattle.records.specs.inner.Steps.{IsStep, IsSized, IsFound, HeaderSays, HasRecords, ReadsRecords};
+ghost use Rattle.records.specs.inner.Steps.{IsStep, IsSized, IsFound, HeaderSays, HasRecords};
+ghost use Rattle.records.specs.inner.Steps.{ReadsRecords};
 
 use crate::decode::{is_record, read_record};
 use crate::encode::header;

@@ -342,6 +342,8 @@ fn faults_have_numbers(rt: HostRuntime) -> Result<(), Fail> {
     texts_say_their_records();
     no_records();
     one_more_record();
+    records_are_bounded();
+    each_word_is_of_a_record();
     layout_numbers();
     Ok(())
 }

@@ -1,5 +1,5 @@
 ghost use Rattle.std.specs.Prelude.{◌≡◌, ◌≤◌, length, OnOk, IfOk, Result};
-ghost use Rattle.bag_check.specs.Check.{Checks};
+ghost use Rattle.bag_check.specs.Fault.{IsOrMemory};
 ghost use Rattle.bag_check.specs.declared.fault.BagFault.{BagFault};
 ghost use Rattle.fed_types.specs.declared.bag_id.BagId.{BagId};
 
@@ -217,7 +217,7 @@ impl Federation {
         requires low { 1 ≤ site }
         requires high { site ≤ length self.old.sites }
         ensures { OnOk result
-            ((found : Result BagId BagFault) → Checks found checked
+            ((found : Result BagId BagFault) → IsOrMemory checked found
             → self.new ≡ on_checked self.old site tree slot.now found) }
     {
         match checked {

@@ -1,5 +1,6 @@
 -- A row that is put in where there was none.
-use Rattle.std.proofs.Common.{◌≡◌, Bool, true, false, cond, refl, sym, ap, ◌∙◌, Option, None, Some, IsSome, is_some}
+use Rattle.std.proofs.Common.{◌≡◌, Bool, true, false, cond, refl, sym, ap, ◌∙◌, Option, None, Some,
+  IsSome, is_some}
 use Rattle.fed_types.specs.Slots.{SlotName, same_slot}
 use Rattle.fed_types.specs.Laws.Slots.{same_slot_decides}
 use Rattle.slot_table.specs.Rows.{Rows, row_at, row_or, row_of, IsWith, HasRoomFor, HasSameRows}
@@ -11,24 +12,32 @@ module _ {R : Type 0} (empty : R) where
   some_row None there = absurd (cc there)
 
   -- a table in which the slot has a row has room for it
-  pub has_room : (rows : Rows R) (slot : SlotName) → IsSome (row_at rows slot) → HasRoomFor empty rows rows slot
+  pub has_room : (rows : Rows R) (slot : SlotName) → IsSome (row_at rows slot)
+      → HasRoomFor empty rows rows slot
   has_room rows slot there s = go (same_slot slot s) refl
     where
-      go : (t : Bool) → same_slot slot s ≡ t → row_at rows s ≡ cond t (Some (row_of empty rows slot)) (row_at rows s)
-      go true e = ap (row_at rows) (sym ((same_slot_decides slot s).0 e)) ∙ some_row (row_at rows slot) there
+      go : (t : Bool) → same_slot slot s ≡ t → row_at rows s
+          ≡ cond t (Some (row_of empty rows slot)) (row_at rows s)
+      go true e = ap (row_at rows) (sym ((same_slot_decides slot s).0 e))
+          ∙ some_row (row_at rows slot) there
       go false e = refl
 
   -- a table with room for a slot says the same of each
-  pub room_same : (old new : Rows R) (slot : SlotName) → HasRoomFor empty old new slot → (s : SlotName) → row_of empty new s ≡ row_of empty old s
+  pub room_same : (old new : Rows R) (slot : SlotName) → HasRoomFor empty old new slot
+      → (s : SlotName) → row_of empty new s ≡ row_of empty old s
   room_same old new slot room s = ap (row_or empty) (room s) ∙ go (same_slot slot s) refl
     where
-      go : (t : Bool) → same_slot slot s ≡ t → row_or empty (cond t (Some (row_of empty old slot)) (row_at old s)) ≡ row_of empty old s
+      go : (t : Bool) → same_slot slot s ≡ t
+          → row_or empty (cond t (Some (row_of empty old slot)) (row_at old s)) ≡ row_of empty old s
       go true e = ap (row_of empty old) ((same_slot_decides slot s).0 e)
       go false e = refl
 
   -- the empty row, put in for a slot without one
-  pub put_room : (old new : Rows R) (slot : SlotName) → row_at old slot ≡ None → IsWith old new slot empty → HasRoomFor empty old new slot
-  put_room old new slot none put s = put s ∙ ap (λ (o : Option R). cond (same_slot slot s) (Some (row_or empty o)) (row_at old s)) (sym none)
+  pub put_room : (old new : Rows R) (slot : SlotName) → row_at old slot ≡ None
+      → IsWith old new slot empty → HasRoomFor empty old new slot
+  put_room old new slot none put s = put s
+      ∙ ap (λ (o : Option R). cond (same_slot slot s) (Some (row_or empty o)) (row_at old s))
+      (sym none)
 
 -- what isn't there is nothing
 pub none_from : {A : Type 0} (o : Option A) → is_some o ≡ false → o ≡ None

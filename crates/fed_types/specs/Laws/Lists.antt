@@ -1,26 +1,30 @@
--- What stands in a list, by the fact and by the test.
-use Rattle.std.specs.Prelude.{◌≡◌, ℕ, zero, suc, ◌≤◌, true, false, ◌||◌, ◌==◌, List, [], ◌∷◌, ◌++◌, ◌⊎◌, Decides, nat_le, refl}
-use Rattle.std.proofs.Common.{sym, ap, ◌∙◌, inl, inr, arith, eq-eqb}
+-- What stands in a list, by the fact `Has` and by the test `is_in`.
+use Rattle.std.specs.Prelude.{◌≡◌, ℕ, zero, suc, true, false, ◌||◌, ◌==◌, List, [], ◌∷◌, ◌++◌, ◌⊎◌}
+use Rattle.std.specs.Prelude.{Option, Some, None, Decides, take, drop, map, refl}
+use Rattle.std.specs.List.{cons_option, filter_map, fold}
+use Rattle.std.proofs.Common.{sym, ap, ◌∙◌, inl, inr, eq-eqb, append-nil, append_assoc}
 use Rattle.std.proofs.Math.Bool.{or_assoc}
-use Rattle.std.proofs.lemmas.Bool.{eqb-true, leb-true, le-leb, or_cases, or_left, or_right, false≢true, cases_eq}
-use Rattle.std.proofs.lemmas.Bool.Decides.{same_from_decides, Decides-like}
+use Rattle.std.proofs.lemmas.Bool.{eqb-true, or_cases, or_left, or_right, false≢true}
 use Rattle.fed_types.specs.Lists.{Has, here, there, is_in}
-use Rattle.fed_types.specs.Sites.{sites_to}
 
--- the test passes for what stands in the list
+-- ---- the test
+-- it passes for what stands in the list
 passes : {n : ℕ} {xs : List ℕ} → Has n xs → is_in xs n ≡ true
 unfolding is_in
 passes {n} (here {y} {ys} e) = or_left (y == n) (is_in ys n) (eq-eqb y n e)
 passes {n} (there {y} {ys} h) = or_right (y == n) (is_in ys n) (passes h)
 
--- what passes the test stands in the list
+-- what passes it stands in the list
 stands : (xs : List ℕ) (n : ℕ) → is_in xs n ≡ true → Has n xs
 unfolding is_in
 stands [] n e = absurd (false≢true e)
 stands (x ∷ xs) n e =
-    elim (or_cases (x == n) (is_in xs n) e) [ inl p ↦ here (eqb-true x n p) | inr p ↦ there (stands xs n p) ]
+    elim (or_cases (x == n) (is_in xs n) e) [
+      | inl p ↦ here (eqb-true x n p)
+      | inr p ↦ there (stands xs n p)
+    ]
 
--- the test passes exactly for what stands in the list
+-- it passes exactly for what stands in the list
 pub is_in_decides : (xs : List ℕ) (n : ℕ) → Decides (is_in xs n) (Has n xs)
 is_in_decides xs n = (stands xs n, λ h. passes h)
 
@@ -33,54 +37,98 @@ is_in-nil n = refl
 pub is_in-append : (xs ys : List ℕ) (n : ℕ) → is_in (xs ++ ys) n ≡ (is_in xs n || is_in ys n)
 unfolding is_in
 is_in-append [] ys n = refl
-is_in-append (x ∷ xs) ys n = ap (λ b. x == n || b) (is_in-append xs ys n) ∙ sym (or_assoc (x == n) (is_in xs n) (is_in ys n))
+is_in-append (x ∷ xs) ys n =
+    ap (λ b. x == n || b) (is_in-append xs ys n)
+    ∙ sym (or_assoc (x == n) (is_in xs n) (is_in ys n))
 
--- what stands in the first list stands in both
-pub Has-append_left : {X : Type 0} (x : X) (xs ys : List X) → Has x xs → Has x (xs ++ ys)
-Has-append_left x [] ys h = elim h [ ]
-Has-append_left x (z ∷ zs) ys (here e) = here e
-Has-append_left x (z ∷ zs) ys (there h) = there (Has-append_left x zs ys h)
+-- ---- lists of no and of one element
+pub has_none : {X : Type 0} {x : X} → ¬ Has x []
+has_none h = elim h [ ]
 
--- what stands in the second list stands in both
-pub Has-append_right : {X : Type 0} (x : X) (xs ys : List X) → Has x ys → Has x (xs ++ ys)
-Has-append_right x [] ys h = h
-Has-append_right x (z ∷ zs) ys h = there (Has-append_right x zs ys h)
+pub has_one : {X : Type 0} {x y : X} → Has x (y ∷ []) → y ≡ x
+has_one (here e) = e
+has_one (there h) = absurd (has_none h)
 
--- what stands in both lists stands in one of them
-pub Has-append_cases : {X : Type 0} (x : X) (xs ys : List X) → Has x (xs ++ ys) → Has x xs ⊎ Has x ys
-Has-append_cases x [] ys h = inr h
-Has-append_cases x (z ∷ zs) ys (here e) = inl (here e)
-Has-append_cases x (z ∷ zs) ys (there h) =
-    elim (Has-append_cases x zs ys h) [ inl p ↦ inl (there p) | inr p ↦ inr p ]
+-- ---- two lists one after the other
+-- what stands in the first
+pub has_left : {X : Type 0} {x : X} {xs : List X} (ys : List X) → Has x xs → Has x (xs ++ ys)
+has_left ys (here e) = here e
+has_left ys (there h) = there (has_left ys h)
 
--- one element alone stands in a list of one
-pub Has-one : {X : Type 0} (x y : X) → Has x (y ∷ []) → y ≡ x
-Has-one x y (here e) = e
-Has-one x y (there h) = elim h [ ]
+-- what stands in the second
+pub has_right : {X : Type 0} {x : X} (xs : List X) {ys : List X} → Has x ys → Has x (xs ++ ys)
+has_right [] h = h
+has_right (y ∷ xs) h = there (has_right xs h)
 
--- what stands in the list 1 to k is from 1 to k
-pub Has-sites_to : (k n : ℕ) → Has n (sites_to k) → (1 ≤ n) × (n ≤ k)
-unfolding sites_to
-Has-sites_to zero n h = elim h [ ]
-Has-sites_to (suc k) n h =
-    elim (Has-append_cases n (sites_to k) (suc k ∷ []) h) [
-      | inl p ↦ let within = Has-sites_to k n p in (within.0, omega arith)
-      | inr p ↦ let same = Has-one n (suc k) p in (omega arith, omega arith)
-    ]
+-- what stands in both stands in one of them
+pub has_cases : {X : Type 0} {x : X} (xs ys : List X) → Has x (xs ++ ys) → Has x xs ⊎ Has x ys
+has_cases [] ys h = inr h
+has_cases (y ∷ xs) ys (here e) = inl (here e)
+has_cases (y ∷ xs) ys (there h) = elim (has_cases xs ys h) [ inl k ↦ inl (there k) | inr k ↦ inr k ]
 
--- each number from 1 to k stands in the list 1 to k
-pub sites_to-has : (k n : ℕ) → 1 ≤ n → n ≤ k → Has n (sites_to k)
-unfolding sites_to
-sites_to-has zero n low high = absurd (omega arith)
-sites_to-has (suc k) n low high =
-    elim (cases_eq n (suc k)) [
-      | inl same ↦ Has-append_right n (sites_to k) (suc k ∷ []) (here (sym same))
-      | inr differ ↦ Has-append_left n (sites_to k) (suc k ∷ []) (sites_to-has k n low (omega arith))
-    ]
+-- ---- a part of a list
+pub has_take : {X : Type 0} {x : X} (n : ℕ) (xs : List X) → Has x (take n xs) → Has x xs
+has_take zero xs h = absurd (has_none h)
+has_take (suc n) [] h = h
+has_take (suc n) (y ∷ xs) (here e) = here e
+has_take (suc n) (y ∷ xs) (there h) = there (has_take n xs h)
 
--- the test of a member
-pub is_in-sites_to : (k n : ℕ) → 1 ≤ n → is_in (sites_to k) n ≡ nat_le n k
-is_in-sites_to k n low =
-    same_from_decides (is_in (sites_to k) n) (nat_le n k)
-    (Decides-like {P = Has n (sites_to k)} {Q = n ≤ k} (is_in (sites_to k) n) (λ h. (Has-sites_to k n h).1) (λ h. sites_to-has k n low h) (is_in_decides (sites_to k) n))
-    (leb-true n k, le-leb n k)
+pub has_drop : {X : Type 0} {x : X} (n : ℕ) (xs : List X) → Has x (drop n xs) → Has x xs
+has_drop zero xs h = h
+has_drop (suc n) [] h = h
+has_drop (suc n) (y ∷ xs) h = there (has_drop n xs h)
+
+-- ---- the images of a list's elements
+pub has_map : {X Y : Type 0} (f : X → Y) {y : Y} (xs : List X) → Has y (map f xs)
+    → (x : X) × Has x xs × (f x ≡ y)
+has_map f [] h = absurd (has_none h)
+has_map f (x ∷ xs) (here e) = (x, here refl, e)
+has_map f (x ∷ xs) (there h) = let r = has_map f xs h in (r.0, there r.1, r.2)
+
+pub map_has : {X Y : Type 0} (f : X → Y) {x : X} {xs : List X} → Has x xs → Has (f x) (map f xs)
+map_has f (here e) = here (ap f e)
+map_has f (there h) = there (map_has f h)
+
+-- ---- what some elements give
+kept_in : {Y : Type 0} {y : Y} {ys : List Y} (o : Option Y) → Has y ys → Has y (cons_option o ys)
+kept_in None k = k
+kept_in (Some w) k = there k
+
+pub filter_map_has : {X Y : Type 0} (f : X → Option Y) (x : X) (y : Y) (xs : List X)
+    → Has x xs → f x ≡ Some y → Has y (filter_map f xs)
+filter_map_has f x y [] h g = absurd (has_none h)
+filter_map_has f x y (z ∷ xs) (here e) g = rw (e, g) (here refl)
+filter_map_has f x y (z ∷ xs) (there h) g = kept_in (f z) (filter_map_has f x y xs h g)
+
+-- an element gives y
+abbrev Gives : {X Y : Type 0} → (X → Option Y) → Y → List X → Type 0
+Gives {X} f y xs = (x : X) × Has x xs × (f x ≡ Some y)
+
+gives_later : {X Y : Type 0} (f : X → Option Y) (y : Y) (z : X) (xs : List X)
+    → Gives f y xs → Gives f y (z ∷ xs)
+gives_later f y z xs r = (r.0, there r.1, r.2)
+
+-- the first element, by what it gives
+gives_more : {X Y : Type 0} (f : X → Option Y) (y : Y) (z : X) (xs : List X) (ys : List Y)
+    (o : Option Y) → f z ≡ o → (Has y ys → Gives f y xs) → Has y (cons_option o ys)
+    → Gives f y (z ∷ xs)
+gives_more f y z xs ys None g before k = gives_later f y z xs (before k)
+gives_more f y z xs ys (Some w) g before (here e) = (z, here refl, g ∙ ap Some e)
+gives_more f y z xs ys (Some w) g before (there k) = gives_later f y z xs (before k)
+
+pub has_filter_map : {X Y : Type 0} (f : X → Option Y) (y : Y) (xs : List X)
+    → Has y (filter_map f xs) → (x : X) × Has x xs × (f x ≡ Some y)
+has_filter_map f y [] h = absurd (has_none h)
+has_filter_map f y (z ∷ xs) h =
+    gives_more f y z xs (filter_map f xs) (f z) refl (λ k. has_filter_map f y xs k) h
+
+-- ---- what a fold keeps, as its list grows at the end
+module _ {A B : Type 0} (f : B → A → B) (P : List A → B → Type 0)
+    (step : (xs : List A) (x : A) (b : B) → P xs b → P (xs ++ x ∷ []) (f b x)) where
+  fold_from : (done : List A) (b : B) (xs : List A) → P done b → P (done ++ xs) (fold f b xs)
+  fold_from done b [] h = rw append-nil h
+  fold_from done b (x ∷ xs) h =
+      rw append_assoc at (fold_from (done ++ x ∷ []) (f b x) xs (step done x b h))
+
+  pub fold_keeps : (b : B) (xs : List A) → P [] b → P xs (fold f b xs)
+  fold_keeps b xs h = fold_from [] b xs h

@@ -1,5 +1,6 @@
 -- Quorums meet, and they grow: of one federation, by the weights of its members.
-use Rattle.std.specs.Prelude.{◌≡◌, ℕ, zero, suc, ◌+◌, ◌*◌, ◌<◌, ◌≤◌, true, false, Bool, List, [], ◌∷◌, cond, refl}
+use Rattle.std.specs.Prelude.{◌≡◌, ℕ, ◌+◌, ◌*◌, ◌<◌, ◌≤◌, true, false, Bool, List, [], ◌∷◌}
+use Rattle.std.specs.Prelude.{cond, refl}
 use Rattle.std.specs.List.{filter, sum_by}
 use Rattle.std.proofs.Common.{arith, lt-ltb, sym, ◌∙◌}
 use Rattle.std.proofs.lemmas.Bool.{ltb-true, false≢true}
@@ -49,7 +50,9 @@ both f p q [] h = absurd (omega (arith, among_none f p, among_none f q))
 both f p q (n ∷ ns) h =
     both_more p q n (f n) (sum_by f ns) (among f p ns) (among f q ns) ns (p n) (q n) refl refl
     (both f p q ns)
-    (omega (arith, sum_by-cons f n ns, among_more f p n ns (p n) refl, among_more f q n ns (q n) refl))
+    (let first = among_more f p n ns (p n) refl in
+    let second = among_more f q n ns (q n) refl in
+    omega (arith, sum_by-cons f n ns))
 
 -- one element more counts in the second sum where it counts in the first
 no_less_more : (w a b : ℕ) (s t : Bool) → (s ≡ true → t ≡ true) → a ≤ b

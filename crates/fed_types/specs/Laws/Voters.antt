@@ -21,7 +21,7 @@ with_voter-before : (x n : ℕ) (xs : List ℕ) → n < x → with_voter (x ∷ 
 unfolding with_voter
 with_voter-before x n xs l = rw (ne_eqb x n (λ e. omega arith), lt-ltb n x l)
 
--- it goes behind the first one
+-- it goes after the first one
 with_voter-later : (x n : ℕ) (xs : List ℕ) → x < n → with_voter (x ∷ xs) n ≡ x ∷ with_voter xs n
 unfolding with_voter
 with_voter-later x n xs l = rw (ne_eqb x n (λ e. omega arith), le-ltb n x (omega arith))
@@ -48,23 +48,30 @@ pub is_in-with_voter : (xs : List ℕ) (n m : ℕ) → is_in (with_voter xs n) m
 is_in-with_voter [] n m = rw (with_voter-none n) (is_in-cons n [] m)
 is_in-with_voter (x ∷ xs) n m =
     elim (cases_order x n) [
-      | inl same ↦ rw (← same, with_voter-first x xs, is_in-cons x xs m) (or_again (x == m) (is_in xs m))
+      | inl same ↦
+          rw (← same, with_voter-first x xs, is_in-cons x xs m) (or_again (x == m) (is_in xs m))
       | inr differ ↦ elim differ [
-        | inl less ↦ rw (with_voter-later x n xs less, is_in-cons x xs m, is_in-cons x (with_voter xs n) m, is_in-with_voter xs n m) (or_exchange (x == m) (n == m) (is_in xs m))
+        | inl less ↦
+            rw (with_voter-later x n xs less, is_in-cons x xs m, is_in-cons x (with_voter xs n) m)
+            (rw (is_in-with_voter xs n m) (or_exchange (x == m) (n == m) (is_in xs m)))
         | inr more ↦ rw (with_voter-before x n xs more) (is_in-cons n (x ∷ xs) m)
       ]
     ]
 
 -- ---- a voter and the last one
 -- a voter goes before a greater last one
-pub with_voter-push : (xs : List ℕ) (n last : ℕ) → n < last → with_voter (xs ++ last ∷ []) n ≡ with_voter xs n ++ last ∷ []
+pub with_voter-push : (xs : List ℕ) (n last : ℕ) → n < last
+    → with_voter (xs ++ last ∷ []) n ≡ with_voter xs n ++ last ∷ []
 with_voter-push [] n last l = rw (with_voter-none n) (with_voter-before last n [] l)
 with_voter-push (x ∷ xs) n last l =
     elim (cases_order x n) [
       | inl same ↦ rw (← same, with_voter-first x xs, with_voter-first x (xs ++ last ∷ []))
       | inr differ ↦ elim differ [
-        | inl less ↦ rw (with_voter-later x n xs less, with_voter-later x n (xs ++ last ∷ []) less, with_voter-push xs n last l)
-        | inr more ↦ rw (with_voter-before x n xs more, with_voter-before x n (xs ++ last ∷ []) more)
+        | inl less ↦
+            rw (with_voter-later x n xs less, with_voter-later x n (xs ++ last ∷ []) less)
+            (rw (with_voter-push xs n last l))
+        | inr more ↦
+            rw (with_voter-before x n xs more, with_voter-before x n (xs ++ last ∷ []) more)
       ]
     ]
 
@@ -79,11 +86,14 @@ with_voter-last [] n h = with_voter-none n
 with_voter-last (x ∷ xs) n h = rw (with_voter-later x n xs h.0, with_voter-last xs n h.1)
 
 -- a voter that is the last one changes nothing
-pub with_voter-last_again : (xs : List ℕ) (n : ℕ) → AllBelow xs n → with_voter (xs ++ n ∷ []) n ≡ xs ++ n ∷ []
+pub with_voter-last_again : (xs : List ℕ) (n : ℕ) → AllBelow xs n
+    → with_voter (xs ++ n ∷ []) n ≡ xs ++ n ∷ []
 with_voter-last_again [] n h = with_voter-first n []
-with_voter-last_again (x ∷ xs) n h = rw (with_voter-later x n (xs ++ n ∷ []) h.0, with_voter-last_again xs n h.1)
+with_voter-last_again (x ∷ xs) n h =
+    rw (with_voter-later x n (xs ++ n ∷ []) h.0, with_voter-last_again xs n h.1)
 
 -- all voters stand in the list with one more
-pub Has-with_voter : (xs : List ℕ) (n m : ℕ) → Has m xs → Has m (with_voter xs n)
-Has-with_voter xs n m h =
-    (is_in_decides (with_voter xs n) m).0 (is_in-with_voter xs n m ∙ or_right (n == m) (is_in xs m) ((is_in_decides xs m).1 h))
+pub has_with_voter : {m : ℕ} (xs : List ℕ) (n : ℕ) → Has m xs → Has m (with_voter xs n)
+has_with_voter {m} xs n h =
+    let more = or_right (n == m) (is_in xs m) ((is_in_decides xs m).1 h) in
+    (is_in_decides (with_voter xs n) m).0 (is_in-with_voter xs n m ∙ more)

@@ -1,5 +1,5 @@
 -- The weights of a federation's members, from the array that keeps them, and back.
-use Rattle.std.specs.Prelude.{◌≡◌, ℕ, zero, suc, ◌≤◌, ◌-◌, List, [], ◌∷◌, ◌++◌, length, take, drop, replicate, slice_index, refl}
+use Rattle.std.specs.Prelude.{◌≡◌, ℕ, ◌≤◌, ◌-◌, List, ◌++◌, length, take, drop, replicate}
 use Rattle.std.proofs.Common.{arith, ◌∙◌, sym, ap}
 use Rattle.std.proofs.lemmas.List.{take-append-drop, length-take-le}
 use Rattle.fed_types.specs.inner.Padded.{IsPadded, padded, room}
@@ -18,16 +18,3 @@ pub given_back : {A : Type 0} (made : ℕ → List ℕ → A) (count : ℕ) (byt
 given_back made count bytes most h =
     let known = length-take-le count bytes (omega (arith, h.0)) in
     rw (padded_again count bytes most h, known)
-
--- a read past the weights gives 0
-zeros : (n i : ℕ) → slice_index (replicate n 0) i ≡ 0
-zeros zero i = refl
-zeros (suc n) zero = refl
-zeros (suc n) (suc i) = zeros n i
-
--- a read of the array reads the weights
-pub read_padded : (weights : List ℕ) (n i : ℕ)
-    → slice_index (weights ++ replicate n 0) i ≡ slice_index weights i
-read_padded [] n i = zeros n i
-read_padded (w ∷ ws) n zero = refl
-read_padded (w ∷ ws) n (suc i) = read_padded ws n i

@@ -1,5 +1,6 @@
 -- What the steps of reading a journal answer.
-use Rattle.std.specs.Prelude.{◌≡◌, ◌≤◌, ◌+◌, ℕ, List, ◌++◌, length, take, drop, get_or, Result, Ok, Err}
+use Rattle.std.specs.Prelude.{◌≡◌, ◌≤◌, ◌+◌, ℕ, List, ◌++◌, length, take, drop, get_or, Result, Ok}
+use Rattle.std.specs.Prelude.{Err}
 use Rattle.std.specs.Int.{w64, to_be_bytes}
 use Rattle.records.specs.Numbers.{magic, header_len}
 use Rattle.records.specs.declared.fault.JournalFault.{JournalFault}
@@ -13,7 +14,8 @@ use Rattle.records.specs.declared.journal.Find.TheVariants as finds
 use Rattle.records.specs.declared.owner.Owner.{Owner}
 use Rattle.records.specs.Layout.{record_bytes, records_bytes}
 use Rattle.records.specs.Records.{IsRecord, AreRecords}
-use Rattle.records.specs.Journals.{length_field, federation_field, IsEnd, IsNoRecord, IsOfOtherFederation, IsOfOtherSite, HasNoHeader}
+use Rattle.records.specs.Journals.{length_field, federation_field, IsEnd, IsNoRecord}
+use Rattle.records.specs.Journals.{IsOfOtherFederation, IsOfOtherSite, HasNoHeader}
 
 -- what comes next: an end, a record, or none
 abbrev pub IsStep : List ℕ → Step → Type 0

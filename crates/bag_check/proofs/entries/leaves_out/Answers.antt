@@ -9,5 +9,7 @@ use Rattle.bag_check.proofs.entries.leaves_out.Goals as goal
 pub returns : goal.returns
 returns c =
     let each = c.in_ok-listed.ensures in
-    c.some_outside.ensures ∙ same_any (λ (f : FileFact). is_payload f.path && not (has_text f.path c.in_ok-listed.listed)) (is_unlisted c.args.entries.now)
+    c.some_outside.ensures ∙ same_any
+    (λ (f : FileFact). is_payload f.path && not (has_text f.path c.in_ok-listed.listed))
+    (is_unlisted c.args.entries.now)
     (λ f. ap (λ t. is_payload f.path && not t) (each f.path)) c.args.files.now

@@ -11,4 +11,6 @@ loop-entry-preserved c = λ q.
     has_text-inserted c.path.result before c.insert.new.self c.in_ok-insert.ensures.updates q
     ∙ (ap (λ p. bytes_eq p q || has_text q before) c.path.ensures
     ∙ (ap (λ t. bytes_eq entry.path q || t) (c.loop-entry.invariant q)
-    ∙ sym (listed_next c.args.entries.now c.loop-entry.entry-index entry c.loop-entry-test.true c.entry-item.is q)))
+    ∙ sym
+    (listed_next c.args.entries.now c.loop-entry.entry-index entry c.loop-entry-test.true
+    c.entry-item.is q)))

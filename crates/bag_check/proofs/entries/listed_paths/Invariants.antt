@@ -5,4 +5,5 @@ use Rattle.bag_check.proofs.entries.listed_paths.Given as goal
 
 -- the set has the paths that were listed so far
 abbrev pub invariant-loop-entry : goal.invariant-loop-entry
-invariant-loop-entry l = (q : List ℕ) → has_text q l.listed ≡ is_listed q (take l.entry-index l.entries)
+invariant-loop-entry l = (q : List ℕ)
+    → has_text q l.listed ≡ is_listed q (take l.entry-index l.entries)

@@ -1,5 +1,6 @@
 use Rattle.bag_check.specs.Check.{identity_of}
-use Rattle.bag_check.proofs.ValidLaws.{faultless_valid, valid_faultless, valid_checked, checked_valid}
+use Rattle.bag_check.proofs.ValidLaws.{faultless_valid, valid_faultless, valid_checked}
+use Rattle.bag_check.proofs.ValidLaws.{checked_valid}
 use Rattle.bag_check.proofs.law.valid_law.Goals as goal
 
 pub returns-clause-faultless : goal.returns-clause-faultless

@@ -7,7 +7,10 @@ use Rattle.bag_text.proofs.line.after_end.Goals as goal
 pub returns-in-Some-clause-lines : goal.returns-in-Some-clause-lines
 returns-in-Some-clause-lines c =
     let found = c.in-Some.ensures.cases in
-    lines_of-both c.args.ended.now found.0 ∙ ap (λ (rest : List ℕ). [] ∷ lines_of rest) (sym found.1)
+    lines_of-both c.args.ended.now found.0
+    ∙ ap (λ (rest : List ℕ). [] ∷ lines_of rest) (sym found.1)
 
 pub returns-in-None-clause-lines : goal.returns-in-None-clause-lines
-returns-in-None-clause-lines c = rw (take_rest c.args.ended.now 1) (lines_of-end c.args.ended.now c.requires c.in-None.ensures.cases)
+returns-in-None-clause-lines c =
+    rw (take_rest c.args.ended.now 1)
+    (lines_of-end c.args.ended.now c.requires c.in-None.ensures.cases)

@@ -1,5 +1,5 @@
 use Rattle.bag_text.specs.declared.algorithm.Algorithm.TheVariants.{Md5}
-use Rattle.bag_text.specs.Examples.{manifest_of_abc}
+use Rattle.bag_text.specs.inner.Examples.{manifest_of_abc}
 use Rattle.bag_text.proofs.tests.digests_have_16_bytes.Goals as goal
 
 pub returns : goal.returns

@@ -1,6 +1,6 @@
 use Rattle.std.proofs.Common.{refl}
 use Rattle.bag_text.specs.declared.algorithm.Algorithm.TheVariants.{Md5}
-use Rattle.bag_text.specs.Examples.{malformed_manifest}
+use Rattle.bag_text.specs.inner.Examples.{malformed_manifest}
 use Rattle.bag_text.specs.Lines.{lines_of}
 use Rattle.bag_text.specs.Reading.{file_in, files_from}
 use Rattle.bag_text.proofs.tests.is_malformed_in_line_2.Goals as goal

@@ -7,5 +7,6 @@ use Rattle.bag_tree.proofs.path.has_unsafe_part.Goals as goal
 pub returns : goal.returns
 returns c =
     any_from_yields_List is_unsafe_part _ _ _ c.any.ensures.ran
-    (YieldsList-from_slice_split _ _ c.args.path.now c.split.ensures.rest c.split.ensures.done c.split.ensures.closure (λ x r q k. search (rules, tests)))
+    (YieldsList-from_slice_split _ _ c.args.path.now c.split.ensures.rest c.split.ensures.done
+    c.split.ensures.closure (λ x r q k. search (rules, tests)))
     (λ x b q k. search (rules, tests))

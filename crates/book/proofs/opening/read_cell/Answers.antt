@@ -1,65 +1,63 @@
-use Rattle.std.proofs.Common.{Option, List, ℕ, Ok, subst}
-use Rattle.cell_device.specs.Images.{Image}
-use Rattle.book.specs.Volumes.{IfTold}
-use Rattle.book.specs.Opened.{LeavesAlike}
+use Rattle.std.proofs.Common.{List, ℕ, Ok, sym, subst}
 use Rattle.records.specs.Journals.{Says}
-use Rattle.records.specs.Layout.{cell_text}
-use Rattle.book.proofs.Entries.{rest_only}
-use Rattle.book.proofs.Moments.{started, goes_on, joined}
-use Rattle.book.proofs.Alike.{said_seen, old_leaves, load_leaves, load_sync_leaves, mend_leaves}
+use Rattle.book.proofs.Commits.{leaves_text}
+use Rattle.book.proofs.Alike.{said_seen, answered, synced, repaired}
 use Rattle.book.proofs.opening.read_cell.Goals as goal
 
-pub returns-in-Err-sync-clause-any_moment : goal.returns-in-Err-sync-clause-any_moment
-returns-in-Err-sync-clause-any_moment g c =
-    let device = g.C.Cell.device in
-    let image : g.row.C.Denot → Option Image = λ cell. (device cell).image in
-    let only = g.met.C.Cell.only_now in
-    let old = c.args.cell.now in
-    let P = LeavesAlike c.args.federation c.args.site (image old) in
-    let records = c.in_ok-journal.journal.records.items in
-    let said = said_seen c.args.federation c.args.site (image old) c.in-Ok.bytes.items records c.in-Ok.ensures.read (subst (λ (b : List ℕ). Says c.args.federation c.args.site b (Ok records)) c.deref.ensures.value c.in_ok-journal.ensures.told) in
-    let first = started device only old P (old_leaves c.args.federation c.args.site (image old)) in
-    let read = goes_on device only old old c.load.new.self P first c.load.ensures.does.time (load_leaves c.args.federation c.args.site c.load.result (image old) (image c.load.new.self) c.load.ensures.does.bytes) in
-    let synced = goes_on device only old c.load.new.self c.sync.new.self P read c.sync.ensures.does.time
-    (load_sync_leaves c.args.federation c.args.site c.in-Ok.bytes c.sync.result (image old) (image c.load.new.self) (image c.sync.new.self) records c.in-Ok.ensures.does.bytes c.sync.ensures.does.bytes said) in
-    synced
+pub returns-in_err-journal-clause-only : goal.returns-in_err-journal-clause-only
+returns-in_err-journal-clause-only g c = λ said.
+    let read = c.in_ok-bytes in
+    answered c.args.owner (g.C.Cell.device c.args.cell.now).image read.bytes.items
+    c.in_err-journal.field-0.0 c.from_residual-in_err-journal.result read.ensures.read
+    (λ other says. c.in_err-journal.ensures.only other
+    (subst (λ (b : List ℕ). Says c.args.owner b other) (sym c.deref.ensures.value) says))
+    c.from_residual-in_err-journal.ensures.1 said
 
-pub returns-in-Err-mend-clause-any_moment : goal.returns-in-Err-mend-clause-any_moment
-returns-in-Err-mend-clause-any_moment g c =
+pub returns-clause-records : goal.returns-clause-records
+returns-clause-records g c =
+    said_seen c.args.owner (g.C.Cell.device c.args.cell.now).image c.in_ok-bytes.bytes.items
+    c.deref.result.now c.in_ok-journal.journal.records.items c.in_ok-bytes.ensures.read
+    c.deref.ensures.value c.in_ok-journal.ensures.said
+
+pub returns-clause-durable : goal.returns-clause-durable
+returns-clause-durable g c =
+    leaves_text c.args.owner c.in_ok-journal.journal.records.items
+    (g.C.Cell.device c.repair.new.cell).image c.in_ok-repair.ensures.repaired
+
+pub returns-in_err-sync-clause-any_moment : goal.returns-in_err-sync-clause-any_moment
+returns-in_err-sync-clause-any_moment g c =
     let device = g.C.Cell.device in
-    let image : g.row.C.Denot → Option Image = λ cell. (device cell).image in
-    let only = g.met.C.Cell.only_now in
-    let old = c.args.cell.now in
-    let P = LeavesAlike c.args.federation c.args.site (image old) in
     let records = c.in_ok-journal.journal.records.items in
-    let said = said_seen c.args.federation c.args.site (image old) c.in-Ok.bytes.items records c.in-Ok.ensures.read (subst (λ (b : List ℕ). Says c.args.federation c.args.site b (Ok records)) c.deref.ensures.value c.in_ok-journal.ensures.told) in
-    let first = started device only old P (old_leaves c.args.federation c.args.site (image old)) in
-    let read = goes_on device only old old c.load.new.self P first c.load.ensures.does.time (load_leaves c.args.federation c.args.site c.load.result (image old) (image c.load.new.self) c.load.ensures.does.bytes) in
-    let synced = goes_on device only old c.load.new.self c.sync.new.self P read c.sync.ensures.does.time
-    (load_sync_leaves c.args.federation c.args.site c.in-Ok.bytes c.sync.result (image old) (image c.load.new.self) (image c.sync.new.self) records c.in-Ok.ensures.does.bytes c.sync.ensures.does.bytes said) in
-    joined device only old c.sync.new.self c.mend.new.cell P (λ b. IfTold (image c.sync.new.self) (λ i. Says c.args.federation c.args.site b (Ok records))) synced c.mend.ensures.any_moment
-    (mend_leaves c.args.federation c.args.site c.in-Ok.bytes c.in_default.field-0 (image old) (image c.load.new.self) (image c.sync.new.self) records c.in-Ok.ensures.does.bytes c.in_default.ensures.does.bytes said)
+    let read = c.in_ok-bytes in
+    let said = said_seen c.args.owner (device c.args.cell.now).image read.bytes.items
+    c.deref.result.now records read.ensures.read c.deref.ensures.value
+    c.in_ok-journal.ensures.said in
+    synced c.args.owner device g.met.C.Cell.only_now c.args.cell.now read.bytes c.sync.result
+    c.load.new.self c.sync.new.self records said read.ensures.does.bytes c.load.ensures.does.time
+    c.sync.ensures.does.bytes c.sync.ensures.does.time
+
+pub returns-in_err-repair-clause-any_moment : goal.returns-in_err-repair-clause-any_moment
+returns-in_err-repair-clause-any_moment g c =
+    let device = g.C.Cell.device in
+    let records = c.in_ok-journal.journal.records.items in
+    let read = c.in_ok-bytes in
+    let said = said_seen c.args.owner (device c.args.cell.now).image read.bytes.items
+    c.deref.result.now records read.ensures.read c.deref.ensures.value
+    c.in_ok-journal.ensures.said in
+    repaired c.args.owner device g.met.C.Cell.only_now c.args.cell.now read.bytes
+    c.in_ok-sync.field-0 c.load.new.self c.sync.new.self c.repair.new.cell records said
+    read.ensures.does.bytes c.load.ensures.does.time c.in_ok-sync.ensures.does.bytes
+    c.sync.ensures.does.time c.repair.ensures.any_moment
 
 pub returns-clause-any_moment : goal.returns-clause-any_moment
 returns-clause-any_moment g c =
     let device = g.C.Cell.device in
-    let image : g.row.C.Denot → Option Image = λ cell. (device cell).image in
-    let only = g.met.C.Cell.only_now in
-    let old = c.args.cell.now in
-    let P = LeavesAlike c.args.federation c.args.site (image old) in
     let records = c.in_ok-journal.journal.records.items in
-    let said = said_seen c.args.federation c.args.site (image old) c.in-Ok.bytes.items records c.in-Ok.ensures.read (subst (λ (b : List ℕ). Says c.args.federation c.args.site b (Ok records)) c.deref.ensures.value c.in_ok-journal.ensures.told) in
-    let first = started device only old P (old_leaves c.args.federation c.args.site (image old)) in
-    let read = goes_on device only old old c.load.new.self P first c.load.ensures.does.time (load_leaves c.args.federation c.args.site c.load.result (image old) (image c.load.new.self) c.load.ensures.does.bytes) in
-    let synced = goes_on device only old c.load.new.self c.sync.new.self P read c.sync.ensures.does.time
-    (load_sync_leaves c.args.federation c.args.site c.in-Ok.bytes c.sync.result (image old) (image c.load.new.self) (image c.sync.new.self) records c.in-Ok.ensures.does.bytes c.sync.ensures.does.bytes said) in
-    joined device only old c.sync.new.self c.mend.new.cell P (λ b. IfTold (image c.sync.new.self) (λ i. Says c.args.federation c.args.site b (Ok records))) synced c.mend.ensures.any_moment
-    (mend_leaves c.args.federation c.args.site c.in-Ok.bytes c.in_default.field-0 (image old) (image c.load.new.self) (image c.sync.new.self) records c.in-Ok.ensures.does.bytes c.in_default.ensures.does.bytes said)
-
-pub returns-clause-durable : goal.returns-clause-durable
-returns-clause-durable g c = rest_only (cell_text c.args.federation c.args.site c.in_ok-journal.journal.records.items) (g.C.Cell.device c.mend.new.cell).image c.in_default-mend.ensures.mended
-
-pub returns-clause-records : goal.returns-clause-records
-returns-clause-records g c =
-    let records = c.in_ok-journal.journal.records.items in
-    said_seen c.args.federation c.args.site (g.C.Cell.device c.args.cell.now).image c.in-Ok.bytes.items records c.in-Ok.ensures.read (subst (λ (b : List ℕ). Says c.args.federation c.args.site b (Ok records)) c.deref.ensures.value c.in_ok-journal.ensures.told)
+    let read = c.in_ok-bytes in
+    let said = said_seen c.args.owner (device c.args.cell.now).image read.bytes.items
+    c.deref.result.now records read.ensures.read c.deref.ensures.value
+    c.in_ok-journal.ensures.said in
+    repaired c.args.owner device g.met.C.Cell.only_now c.args.cell.now read.bytes
+    c.in_ok-sync.field-0 c.load.new.self c.sync.new.self c.repair.new.cell records said
+    read.ensures.does.bytes c.load.ensures.does.time c.in_ok-sync.ensures.does.bytes
+    c.sync.ensures.does.time c.repair.ensures.any_moment

@@ -8,6 +8,6 @@ use Rattle.acceptor.proofs.acceptor.Acceptor.note.Goals as goal
 pub returns-clause-noted : goal.returns-clause-noted
 returns-clause-noted c records stands =
     noted_stands c.self.inside.table c.note_in.new.table c.args.new.now c.note_in.ensures records
-        (same_stands c.args.self.now c.self.inside.table
-            (λ slot. ap (λ (t : Rows Row). row_of t slot) c.self.view_is ∙ c.reserve.ensures.same slot)
-            records stands)
+    (same_stands c.args.self.now c.self.inside.table
+    (λ slot. ap (λ (t : Rows Row). row_of t slot) c.self.view_is ∙ c.reserve.ensures.same slot)
+    records stands)

@@ -1,5 +1,5 @@
 use Rattle.std.proofs.Common.{arith, length}
-use Rattle.fed_types.specs.Laws.Lists.{is_in-sites_to}
+use Rattle.fed_types.specs.Laws.Sites.{is_in-sites_to}
 use Rattle.fed_types.proofs.members.Members.has.Goals as goal
 
 pub returns-clause-member : goal.returns-clause-member

@@ -1,13 +1,13 @@
-use Rattle.std.proofs.Common.{◌≡◌, ◌≤◌, ◌↔◌, ℕ, List, length, take, replicate, IsOk, IfOk, IsErrOf, arith, sym, subst, ap, ◌∙◌}
+use Rattle.std.proofs.Common.{◌≡◌, ◌≤◌, ◌↔◌, ℕ, List, length, take, replicate, IsOk, IfOk, IsErrOf}
+use Rattle.std.proofs.Common.{arith, sym, subst, ap, ◌∙◌}
 use Rattle.std.specs.List.{Contains}
 use Rattle.std.proofs.lemmas.List.{length-replicate}
 use Rattle.fed_types.specs.declared.type_fault.TypeFault.TheVariants.{BadCount}
-use Rattle.fed_types.specs.Sites.{IsMemberCount, Membership}
+use Rattle.fed_types.specs.Sites.{IsMemberCount, membership_of}
 use Rattle.fed_types.specs.inner.Padded.{room}
 use Rattle.fed_types.proofs.Weights.{ones, no_zero}
 use Rattle.fed_types.proofs.members.Members.new.Goals as goal
 
--- the weights that are passed on
 pub returns-clause-ok : goal.returns-clause-ok
 returns-clause-ok c =
     let fits : c.from.result ≤ room = omega (arith, c.from.ensures) in
@@ -27,13 +27,15 @@ returns-clause-value c =
     let fits : c.from.result ≤ room = omega (arith, c.from.ensures) in
     let same : take {A = ℕ} c.from.result (replicate room 1) ≡ replicate c.args.count 1 =
     ones c.from.result fits ∙ ap (λ (n : ℕ). replicate {A = ℕ} n 1) c.from.ensures in
-    let made : List ℕ → Membership = λ ws. record { federation = c.args.federation; weights = ws } in
-    subst (λ (ws : List ℕ). IfOk c.weighted.result (λ m. m ≡ made ws)) same c.weighted.ensures.value
+    subst (λ (ws : List ℕ). IfOk c.weighted.result (λ m. m ≡ membership_of c.args.federation ws))
+        same
+    c.weighted.ensures.value
 
 pub returns-clause-bad_count : goal.returns-clause-bad_count
 returns-clause-bad_count c =
     let fits : c.from.result ≤ room = omega (arith, c.from.ensures) in
     let counts : length (take {A = ℕ} c.from.result (replicate room 1)) ≡ c.args.count =
-    ap length (ones c.from.result fits) ∙ (length-replicate {A = ℕ} c.from.result 1 ∙ c.from.ensures) in
+    ap length (ones c.from.result fits)
+    ∙ (length-replicate {A = ℕ} c.from.result 1 ∙ c.from.ensures) in
     subst (λ (n : ℕ). IsErrOf c.weighted.result BadCount ↔ ¬ IsMemberCount n) counts
     c.weighted.ensures.bad_count

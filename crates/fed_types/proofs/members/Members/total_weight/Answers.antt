@@ -18,7 +18,9 @@ loop-number-preserved c =
 
 pub returns-2 : goal.returns-2
 returns-2 c =
-    let all : c.loop-number.number ≡ count_of c.args.self = omega (arith, c.count-number-end.ensures.value) in
-    subst (λ (n : ℕ). c.loop-number.total + c.from-total.result ≡ sum_by (weight_of c.args.self) (sites_to n)) all (
+    let all : c.loop-number.number ≡ count_of c.args.self =
+    omega (arith, c.count-number-end.ensures.value) in
+    subst (λ (n : ℕ). c.loop-number.total + c.from-total.result
+    ≡ sum_by (weight_of c.args.self) (sites_to n)) all (
     sum_next (weight_of c.args.self) c.loop-number.number c.loop-number.total c.from-total.result
     (omega arith) c.loop-number.invariant.0 (omega arith))

@@ -5,7 +5,8 @@ use Rattle.fed_types.proofs.members.Members.weighted.Goals as goal
 
 pub invariant_of-result : goal.invariant_of-result
 invariant_of-result c =
-    let some : 1 ≤ length c.args.weights.now = grind (arith, nat_tests, c.is_empty.ensures, c.if-is_empty.false) in
+    let some : 1 ≤ length c.args.weights.now =
+    grind (arith, nat_tests, c.is_empty.ensures, c.if-is_empty.false) in
     rw c.copy_from_slice.ensures.after (
     made_weights c.args.weights.now (some, omega arith)
     (are_weights c.args.weights.now (λ k. omega (arith, c.type_inv.weights k))

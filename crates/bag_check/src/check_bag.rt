@@ -1,0 +1,61 @@
+ghost use Rattle.std.specs.Prelude.{◌≡◌, [], unwrap_or, IfOk, MatchResult};
+ghost use Rattle.sha2.specs.Sha512.{sha512};
+ghost use Rattle.bag_check.specs.Manifests.{text_at, sha512_manifest};
+ghost use Rattle.bag_check.specs.Check.{check_of, identity_of};
+ghost use Rattle.bag_check.specs.Fault.{IsOrMemory};
+ghost use Rattle.bag_check.specs.Valid.{IsValid};
+
+use crate::entries::fault_of_listings;
+use crate::fault::BagFault;
+use crate::files_by_path::FilesByPath;
+use crate::manifests::Kind;
+use crate::read_manifests::listings;
+use crate::tag_files::fault_of_tag_files;
+use bag_text::Algorithm;
+use bag_tree::Facts;
+use fed_types::BagId;
+use sha2::{Digest, Sha512};
+use std::alloc::Global;
+
+/// The identity of the bag that these are the facts of, or the first fault that holds, in the order
+/// of their numbers (RFC 8493, 3). `Memory` is answered only where memory ran out.
+pub fn check(alloc: Global, facts: &Facts) -> Result<BagId, BagFault>
+    // What has an identity is a valid bag, as the standard says it, in this project's profile.
+    ensures valid { IfOk result (λ bag. IsValid facts.now × (bag ≡ identity_of facts.now)) }
+    // A valid bag has its identity, unless memory runs out.
+    ensures only { IsValid facts.now → MatchResult result (λ bag. bag ≡ identity_of facts.now)
+        (λ fault. fault ≡ BagFault.Memory) }
+    // The same as a function, with the fault where there is one.
+    ensures exact { IsOrMemory result (check_of facts.now) }
+{
+    identity_or_fault(alloc, facts)
+}
+
+fn identity_or_fault(alloc: Global, facts: &Facts) -> Result<BagId, BagFault>
+    ensures { IsOrMemory result (check_of facts.now) }
+{
+    let files = FilesByPath::new(alloc, facts.files())?;
+    if let Some(fault) = fault_of_tag_files(&files, facts.payload_exists()) {
+        return Err(fault);
+    }
+    let listings = listings(alloc, &files)?;
+    if let Some(fault) = fault_of_listings(alloc, listings.as_slice(), &files)? {
+        return Err(fault);
+    }
+    Ok(identity(&files))
+}
+
+/// The SHA-512 of the bytes of `manifest-sha512.txt`, as they are.
+fn identity(files: &FilesByPath<'_>) -> BagId
+    ensures { result ≡ record { 0 = sha512 (unwrap_or (text_at sha512_manifest files.now) []) } }
+{
+    BagId(Sha512::digest(sha512_manifest(files)))
+}
+
+/// The bytes of `manifest-sha512.txt`, or none where there is no such file.
+fn sha512_manifest<'a>(files: &FilesByPath<'a>) -> &'a [u8]
+    ensures { result.now ≡ unwrap_or (text_at sha512_manifest files.now) [] }
+{
+    let text = files.text_at(Kind::Payload.manifest_name(Algorithm::Sha512));
+    text.unwrap_or(&[])
+}

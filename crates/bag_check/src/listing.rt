@@ -1,0 +1,60 @@
+ghost use Rattle.std.specs.Prelude.{◌≡◌};
+
+use crate::manifests::Kind;
+use bag_text::{Algorithm, Entry};
+use std::marker::Model;
+
+/// What a manifest lists, every line of which is well-formed.
+#[derive(Drop)]
+pub(crate) struct Listing {
+    kind: Kind,
+    algorithm: Algorithm,
+    entries: Vec<Entry>,
+}
+
+impl Model for Listing {
+    ghost use Rattle.bag_check.specs.inner.Order.{Listed};
+
+    ghost Value = { Listed };
+
+    ghost view = { λ l. record {
+      kind = l.kind;
+      algorithm = l.algorithm;
+      files = l.entries.items;
+    } };
+}
+
+impl Listing {
+    /// A manifest of this kind and algorithm lists these files.
+    pub(crate) fn new(kind: Kind, algorithm: Algorithm, entries: Vec<Entry>) -> Listing
+        ensures { result ≡ record {
+          kind = kind;
+          algorithm = algorithm;
+          files = entries.items;
+        } }
+    {
+        Listing {
+            kind,
+            algorithm,
+            entries,
+        }
+    }
+
+    pub(crate) fn kind(&self) -> Kind
+        ensures { result ≡ self.now.kind }
+    {
+        self.kind
+    }
+
+    pub(crate) fn algorithm(&self) -> Algorithm
+        ensures { result ≡ self.now.algorithm }
+    {
+        self.algorithm
+    }
+
+    pub(crate) fn entries(&self) -> &[Entry]
+        ensures { result.now ≡ self.now.files }
+    {
+        self.entries.as_slice()
+    }
+}

@@ -1,0 +1,93 @@
+-- Rows that say the same.
+use Rattle.std.proofs.Common.{◌≡◌, ℕ, ◌&&◌, Bool, true, false, cond, List, [], Option, Some, None}
+use Rattle.std.proofs.Common.{Result, Ok, Err, refl, sym, ap, ◌∙◌}
+use Rattle.std.specs.Prelude.{OnOk, OnErr}
+use Rattle.fed_types.specs.declared.vote.Vote.{Vote}
+use Rattle.fed_types.specs.Slots.{SlotName, same_slot}
+use Rattle.fed_types.specs.Laws.Slots.{same_slot_decides}
+use Rattle.dgram.specs.Heard.{same_vote}
+use Rattle.slot_table.specs.Rows.{Rows, row_at, row_or, row_of, IsWith}
+use Rattle.learner.specs.declared.row.Row.{Row}
+use Rattle.learner.specs.declared.row.Row.TheVariants as rows
+use Rattle.learner.specs.Ledgers.{known_in, counted_in}
+use Rattle.learner.specs.inner.Counts.{KnowsSame, CountsSame, IsRowCounted, IsCounted}
+
+-- the row of a slot of which nothing was heard
+abbrev pub unheard : Row
+unheard = rows.Heard []
+
+-- what a slot without a row says is what an empty row says
+known_or : (found : Option Row) → known_in found ≡ known_in (Some (row_or unheard found))
+known_or None = refl
+known_or (Some row) = refl
+
+counted_or : (found : Option Row) (vote : Vote)
+    → counted_in found vote ≡ counted_in (Some (row_or unheard found)) vote
+counted_or None vote = refl
+counted_or (Some row) vote = refl
+
+-- so rows that are the same but for empty ones say the same
+pub knows_same : (old new : Rows Row)
+    → ((s : SlotName) → row_of unheard new s ≡ row_of unheard old s) → KnowsSame old new
+knows_same old new same s =
+    known_or (row_at new s) ∙ ap (λ (row : Row). known_in (Some row)) (same s)
+    ∙ sym (known_or (row_at old s))
+
+pub counts_same : (old new : Rows Row)
+    → ((s : SlotName) → row_of unheard new s ≡ row_of unheard old s) → CountsSame old new
+counts_same old new same s v =
+    counted_or (row_at new s) v ∙ ap (λ (row : Row). counted_in (Some row) v) (same s)
+    ∙ sym (counted_or (row_at old s) v)
+
+-- ---- one row is put in place of another
+
+module _ (old new : Rows Row) (slot : SlotName) (before after : Row)
+    (put : IsWith old new slot after) (there : row_at old slot ≡ Some before) where
+  -- what the words of a row say of a slot's row, whether it is this slot or another
+  words_put : {W : Type 0} (word : Option Row → W) (s : SlotName) (new_word : W)
+      → (slot ≡ s → word (Some after) ≡ new_word)
+      → (same_slot slot s ≡ false → word (row_at old s) ≡ new_word)
+      → word (row_at new s) ≡ new_word
+  words_put word s new_word same other = ap word (put s) ∙ go (same_slot slot s) refl
+    where
+      go : (t : Bool) → same_slot slot s ≡ t
+          → word (cond t (Some after) (row_at old s)) ≡ new_word
+      go true e = same ((same_slot_decides slot s).0 e)
+      go false e = other e
+
+  old_row : (s : SlotName) → slot ≡ s → row_at old s ≡ Some before
+  old_row s same = ap (row_at old) (sym same) ∙ there
+
+  pub knows_put : known_in (Some after) ≡ known_in (Some before) → KnowsSame old new
+  knows_put known s =
+      words_put known_in s (known_in (row_at old s))
+          (λ same. known ∙ ap known_in (sym (old_row s same))) (λ other. refl)
+
+  pub counts_put : (vote : Vote) (voters : List ℕ) → IsRowCounted before after vote voters
+      → IsCounted old new slot vote voters
+  counts_put vote voters counted s v =
+      words_put (λ found. counted_in found v) s
+          (cond (same_slot slot s && same_vote vote v) voters (counted_in (row_at old s) v))
+          (λ same. counted v
+              ∙ ap (λ (found : Option Row). cond (same_vote vote v) voters (counted_in found v))
+                  (sym (old_row s same))
+              ∙ ap (λ (t : Bool). cond (t && same_vote vote v) voters (counted_in (row_at old s) v))
+                  (sym ((same_slot_decides slot s).1 same)))
+          (λ other. ap (λ (t : Bool). cond (t && same_vote vote v) voters
+              (counted_in (row_at old s) v)) (sym other))
+
+  pub counts_kept : after ≡ before → CountsSame old new
+  counts_kept is s v =
+      words_put (λ found. counted_in found v) s (counted_in (row_at old s) v)
+          (λ same. ap (λ (row : Row). counted_in (Some row) v) is
+              ∙ ap (λ (found : Option Row). counted_in found v) (sym (old_row s same)))
+          (λ other. refl)
+
+-- what follows of an Ok, and of an Err
+pub on_ok : {T E P Q : Type 0} (r : Result T E) → OnOk r P → (P → Q) → OnOk r Q
+on_ok (Ok x) p f = f p
+on_ok (Err e) p f = tt
+
+pub on_err : {T E P Q : Type 0} (r : Result T E) → OnErr r P → (P → Q) → OnErr r Q
+on_err (Ok x) p f = tt
+on_err (Err e) p f = f p

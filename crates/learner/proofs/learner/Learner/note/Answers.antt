@@ -1,0 +1,25 @@
+use Rattle.std.proofs.Common.{◌≡◌, ◌∙◌, true, sym, ap, subst}
+use Rattle.slot_table.specs.Rows.{Rows}
+use Rattle.learner.specs.declared.row.Row.{Row}
+use Rattle.learner.specs.Ledgers.{Ledger, StandsFor}
+use Rattle.learner.proofs.Hearing.{same_stands}
+use Rattle.learner.proofs.Noting.{noted_known, noted_other, says_none}
+use Rattle.learner.proofs.learner.Learner.note.Goals as goal
+
+pub returns-in_ok-reserve-clause-noted : goal.returns-in_ok-reserve-clause-noted
+returns-in_ok-reserve-clause-noted g c records heard stands =
+    noted_known c.reserve.new.table records heard c.args.new.now
+        (same_stands c.self.inside.table c.reserve.new.table c.reserve.ensures.known
+            c.reserve.ensures.counted records heard
+            (subst (λ (l : Ledger g.row.Q.Denot). StandsFor l.rows records heard)
+                (sym c.self.view_is) stands))
+        c.settle.new.table c.in-Known.bag c.in-Known.is c.settle.ensures
+
+pub returns-in_default : goal.returns-in_default
+returns-in_default g c = record {
+  noted = λ records heard stands. noted_other c.args.self.now.rows records heard c.args.new.now
+      stands (says_none c.args.new.now.body c.in_default.not-Known);
+  memory = tt;
+  succeeds = λ there i. true;
+  members = λ i. c.args.self.now.members;
+}

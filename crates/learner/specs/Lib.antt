@@ -1,0 +1,3 @@
+pub mod Learning
+pub mod Ledgers
+pub mod inner

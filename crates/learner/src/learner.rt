@@ -1,0 +1,148 @@
+ghost use Rattle.std.specs.Prelude.{◌≡◌, ◌++◌, ◌∷◌, [], List, None, Option, OnOk, OnErr, IfOk,
+    IsOk, IsSome};
+ghost use Rattle.fed_types.specs.Voters.{with_voter};
+ghost use Rattle.records.specs.declared.record.Record.{Record as declared_record};
+ghost use Rattle.records.specs.Words.{known_of};
+ghost use Rattle.dgram.specs.declared.message.Message.{Message};
+ghost use Rattle.slot_table.specs.Rows.{row_at};
+ghost use Rattle.learner.specs.Learning.{with_vote, learned_from, learned_of_known};
+ghost use Rattle.learner.specs.Ledgers.{StandsFor, known_in, counted_in};
+
+use crate::row::Row;
+use crate::table::{count, reserve, settle};
+use fed_types::{BagId, Ballot, Quorums, SiteNo, Slot, Vote, Voters};
+use records::{Entry, Record};
+use slot_table::SlotTable;
+use std::alloc::{AllocError, Global};
+use std::marker::Model;
+
+/// A learner. It is made for no records, hears of votes, and takes note of each record that the
+/// site has committed. A clause sees a `Ledger`.
+#[derive(Drop)]
+pub struct Learner<Q: Quorums + Drop> {
+    alloc: Global,
+    members: Q,
+    table: SlotTable<Row>,
+}
+
+impl<Q: Quorums + Drop> Model for Learner<Q> {
+    ghost use Rattle.learner.specs.Ledgers.{Ledger};
+
+    ghost Value = { Ledger Q };
+
+    ghost view = { λ l. record { members = l.members; rows = l.table } };
+}
+
+impl<Q: Quorums + Drop> Learner<Q> {
+    /// A learner without records that has heard nothing.
+    #[tactic(auto, unfolding(records::specs::Words::known_of, dgram::specs::Heard::voters_for, dgram::specs::Heard::bodies_of))]
+    pub fn new(alloc: Global, members: Q) -> Learner<Q>
+        ensures stands { StandsFor result.rows [] [] }
+        ensures members { result.members ≡ members }
+    {
+        Learner {
+            alloc,
+            members,
+            table: SlotTable::new(alloc),
+        }
+    }
+
+    /// The known bag of the slot, if a Known record of it was noted. It takes no memory.
+    pub fn known(&self, slot: &Slot) -> Option<BagId>
+        ensures row { result ≡ known_in (row_at self.now.rows slot.now) }
+        ensures known { (records : List declared_record) (heard : List Message)
+            → StandsFor self.now.rows records heard → result ≡ known_of slot.now records }
+    {
+        match self.table.get(slot) {
+            Some(Row::Known(bag)) => Some(*bag),
+            _ => None,
+        }
+    }
+
+    /// What is learned from a site that knows this bag. It takes no memory.
+    pub fn told(&self, slot: &Slot, bag: BagId) -> Option<BagId>
+        ensures { (records : List declared_record) (heard : List Message)
+            → StandsFor self.now.rows records heard → result ≡ learned_of_known slot.now records bag }
+    {
+        match self.known(slot) {
+            None => Some(bag),
+            Some(_) => None,
+        }
+    }
+
+    /// Hears that a site, a member, has cast a vote. Gives the bag that is learned by it; then
+    /// nothing changes, and the Known record settles the slot once it is noted.
+    pub fn accepted(
+        &mut self,
+        from: SiteNo,
+        slot: &Slot,
+        ballot: Ballot,
+        bag: BagId,
+    ) -> Result<Option<BagId>, AllocError>
+        ensures learned { IfOk result (λ o. (records : List declared_record)
+            (heard : List Message) → StandsFor self.old.rows records heard
+            → o ≡ learned_from (Q.quorum_system self.old.members) slot.now records heard from
+                (record { ballot = ballot; bag = bag })) }
+        ensures heard { IfOk result (λ o. o ≡ None → (records : List declared_record)
+            (heard : List Message) → StandsFor self.old.rows records heard
+            → StandsFor self.new.rows records (with_vote heard slot.now from
+                (record { ballot = ballot; bag = bag }))) }
+        ensures unchanged { IfOk result (λ o. IsSome o → self.new ≡ self.old) }
+        ensures memory { OnErr result ((records : List declared_record) (heard : List Message)
+            → StandsFor self.old.rows records heard → StandsFor self.new.rows records heard) }
+        ensures members { self.new.members ≡ self.old.members }
+    {
+        if self.known(slot).is_some() {
+            return Ok(None);
+        }
+        let vote = Vote { ballot, bag };
+        let voters = self.counted_with(from, slot, &vote);
+        if self.members.is_quorum(&voters) {
+            return Ok(Some(bag));
+        }
+        reserve(self.alloc, &mut self.table, slot)?;
+        count(&mut self.table, slot, &vote, &voters)?;
+        Ok(None)
+    }
+
+    // The sites counted for a vote, with this one.
+    fn counted_with(&self, from: SiteNo, slot: &Slot, vote: &Vote) -> Voters
+        ensures { result ≡ with_voter (counted_in (row_at self.now.rows slot.now) vote.now) from }
+    {
+        let mut voters = match self.table.get(slot) {
+            Some(row) => row.counted(vote),
+            None => Voters::new(),
+        };
+        voters.add(from);
+        voters
+    }
+
+    /// Makes room for the slot, so that `note` of its records takes no memory. It says nothing of
+    /// the slot.
+    pub fn reserve(&mut self, slot: &Slot) -> Result<(), AllocError>
+        ensures same { (records : List declared_record) (heard : List Message)
+            → StandsFor self.old.rows records heard → StandsFor self.new.rows records heard }
+        ensures present { OnOk result (IsSome (row_at self.new.rows slot.now)) }
+        ensures succeeds { IsSome (row_at self.old.rows slot.now) → IsOk result }
+        ensures members { self.new.members ≡ self.old.members }
+    {
+        reserve(self.alloc, &mut self.table, slot)
+    }
+
+    /// Takes note of a record that was committed.
+    pub fn note(&mut self, new: &Record) -> Result<(), AllocError>
+        ensures noted { OnOk result ((records : List declared_record) (heard : List Message)
+            → StandsFor self.old.rows records heard
+            → StandsFor self.new.rows (records ++ new.now ∷ []) heard) }
+        ensures memory { OnErr result ((records : List declared_record) (heard : List Message)
+            → StandsFor self.old.rows records heard → StandsFor self.new.rows records heard) }
+        ensures succeeds { IsSome (row_at self.old.rows new.now.slot) → IsOk result }
+        ensures members { self.new.members ≡ self.old.members }
+    {
+        if let Entry::Known(bag) = new.body {
+            reserve(self.alloc, &mut self.table, &new.slot)?;
+            settle(&mut self.table, &new.slot, bag);
+        }
+        Ok(())
+    }
+}
