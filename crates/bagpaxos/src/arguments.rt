@@ -14,6 +14,8 @@ const RUN_ABOUT: &str =
 
 const RUN_EXAMPLE: &str = "A schedule is a text of commands, one a line:
   federation F N        the sites 1 to N of federation F; this command comes first, once
+  federation F N W1 .. WN
+                        the same, with the weights of the sites; else each has the weight 1
   tree T                declares an empty tree of files
   folder T              makes the tree's payload folder `data` stand
   file T PATH HEX       adds a file, its bytes in hex (`-` for none)

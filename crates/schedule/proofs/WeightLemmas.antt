@@ -2,7 +2,7 @@
 use Rattle.std.proofs.Common.{◌≡◌, ℕ, ◌≤◌, Bool, true, false, cond, eqb, List, [], ◌∷◌, ◌++◌, length}
 use Rattle.std.proofs.Common.{map, replicate, Option, Some, None, refl, sym, ap, ◌∙◌, append_assoc}
 use Rattle.std.proofs.Common.{◌+◌, ◌<◌, Bor, get_or, take, drop, slice_set, subst, All, arith}
-use Rattle.std.specs.Prelude.{¬, codes}
+use Rattle.std.specs.Prelude.{codes}
 use Rattle.std.specs.List.{AllByRecursion, Contains, flat_map, join_with_byte, list_all}
 use Rattle.std.specs.Option.{option_map}
 use Rattle.std.specs.Fmt.{decimal}
@@ -182,19 +182,17 @@ AreSoFar-none words weights room = record {
 }
 
 -- what is left of the words at one of them
-rest_at : (words : List (Bor (List ℕ))) (place : ℕ) (word : Bor (List ℕ)) → place < length words
-    → word ≡ get_or words place word
-    → map (λ w. w.now) (drop place words) ≡ word.now ∷ map (λ w. w.now) (drop (place + 1) words)
-rest_at words place word within is =
-    at_drop_more (map (λ w. w.now)) words place word within
-    ∙ ap (λ (w : Bor (List ℕ)). w.now ∷ map (λ v. v.now) (drop (place + 1) words)) (sym is)
+rest_at : (words : List (Bor (List ℕ))) (place : ℕ) (d : Bor (List ℕ)) → place < length words
+    → map (λ w. w.now) (drop place words)
+    ≡ (get_or words place d).now ∷ map (λ w. w.now) (drop (place + 1) words)
+rest_at words place d within = at_drop_more (map (λ w. w.now)) words place d within
 
 pub AreSoFar-more : (words : List (Bor (List ℕ))) (place : ℕ) (weights : List ℕ)
-    (word : Bor (List ℕ)) (w : ℕ) → place < length words → length words ≤ 63
-    → word ≡ get_or words place word → number_in 1 greatest_weight word.now ≡ Some w
+    (d : Bor (List ℕ)) (w : ℕ) → place < length words → length words ≤ 63
+    → number_in 1 greatest_weight (get_or words place d).now ≡ Some w
     → IsWeight w → AreSoFar words place weights
     → AreSoFar words (place + 1) (slice_set weights place w)
-AreSoFar-more words place weights word w within most is found weight are =
+AreSoFar-more words place weights d w within most found weight are =
     let more : take (place + 1) (slice_set weights place w) ≡ take place weights ++ w ∷ [] =
     take_more_set weights place w (omega (arith, within, most, are.room)) in
     record {
@@ -203,22 +201,22 @@ AreSoFar-more words place weights word w within most is found weight are =
       each = subst (All IsWeight) (sym more) (All-push IsWeight (take place weights) w are.each weight);
       so_far = are.so_far
           ∙ ap (λ ls. option_map (λ ws. take place weights ++ ws) (weights_in ls))
-          (rest_at words place word within is)
-          ∙ weights_in-more (take place weights) word.now
+          (rest_at words place d within)
+          ∙ weights_in-more (take place weights) (get_or words place d).now
           (map (λ v. v.now) (drop (place + 1) words)) w found
           ∙ ap (λ front. option_map (λ ws. front ++ ws)
           (weights_in (map (λ v. v.now) (drop (place + 1) words)))) (sym more);
     }
 
 pub AreSoFar-fault : (words : List (Bor (List ℕ))) (place : ℕ) (weights : List ℕ)
-    (word : Bor (List ℕ)) → place < length words → word ≡ get_or words place word
-    → number_in 1 greatest_weight word.now ≡ None → AreSoFar words place weights
+    (d : Bor (List ℕ)) → place < length words
+    → number_in 1 greatest_weight (get_or words place d).now ≡ None → AreSoFar words place weights
     → weights_in (map (λ v. v.now) words) ≡ None
-AreSoFar-fault words place weights word within is found are =
+AreSoFar-fault words place weights d within found are =
     are.so_far
     ∙ ap (λ ls. option_map (λ ws. take place weights ++ ws) (weights_in ls))
-    (rest_at words place word within is)
-    ∙ weights_in-fault (take place weights) word.now
+    (rest_at words place d within)
+    ∙ weights_in-fault (take place weights) (get_or words place d).now
     (map (λ v. v.now) (drop (place + 1) words)) found
 
 -- no word is left

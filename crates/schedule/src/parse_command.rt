@@ -7,9 +7,9 @@ ghost use Rattle.schedule.specs.Commands.{file_command, deposit_command, query_c
 
 use crate::command::Command;
 use crate::value::{
-    parse_content, parse_number, parse_path, parse_site, parse_slot, parse_tree_no,
+    parse_content, parse_number, parse_path, parse_site, parse_slot, parse_tree_no, parse_weight,
 };
-use fed_types::{GREATEST_WEIGHT, MOST_MEMBERS, Members};
+use fed_types::{MOST_MEMBERS, Members};
 use std::alloc::{AllocError, Global};
 
 // Room for the weights of as many members as a federation can have.
@@ -55,8 +55,7 @@ fn parse_weights(federation: u64, words: &[&[u8]]) -> Option<Members>
 {
     let mut weights = [0; ROOM];
     for (place, word) in words.iter().enumerate() {
-        let weight = parse_number(1, u64::from(GREATEST_WEIGHT), word)?;
-        weights[place] = weight as u8;
+        weights[place] = parse_weight(word)?;
     }
     weighted(federation, &weights[..words.len()])
 }

@@ -1,23 +1,23 @@
 use Rattle.std.proofs.Common.{◌∙◌, sym, ap}
 use Rattle.std.specs.Option.{option_map}
 use Rattle.schedule.specs.Commands.{members_with}
-use Rattle.schedule.proofs.WeightLemmas.{AreSoFar-none, AreSoFar-more, AreSoFar-fault}
+use Rattle.schedule.proofs.WeightLemmas.{AreSoFar-more, AreSoFar-fault}
 use Rattle.schedule.proofs.WeightLemmas.{AreSoFar-all, AreSoFar-weights}
 use Rattle.schedule.proofs.parse_command.parse_weights.Goals as goal
 
-pub returns-in_err-weight : goal.returns-in_err-weight
-returns-in_err-weight c =
+pub returns-in_err-weights : goal.returns-in_err-weights
+returns-in_err-weights c =
     c.from_residual.ensures
     ∙ ap (option_map (members_with c.args.federation))
     (sym (AreSoFar-fault c.args.words.now c.loop-place.place c.loop-place.weights
-    c.index-words-place.result c.loop-place-test.true c.index-words-place.is
-    (sym c.in_err-weight.ensures.value) c.loop-place.invariant))
+    _ c.loop-place-test.true
+    (sym c.in_err-weights.ensures.value) c.loop-place.invariant))
 
 pub loop-place-preserved : goal.loop-place-preserved
 loop-place-preserved c =
     AreSoFar-more c.args.words.now c.loop-place.place c.loop-place.weights
-    c.index-words-place.result c.in_ok-weight.weight c.loop-place-test.true c.requires.1
-    c.index-words-place.is (sym c.in_ok-weight.ensures.value) c.in_ok-weight.ensures.in_range
+    _ c.in_ok-weights.field-0 c.loop-place-test.true c.requires.1
+    (sym c.in_ok-weights.ensures.value) c.in_ok-weights.ensures.in_range
     c.loop-place.invariant
 
 pub weighted-requires : goal.weighted-requires
