@@ -1,13 +1,14 @@
 -- The weights of a federation's members: named by words, printed, and parsed again.
-use Rattle.std.proofs.Common.{◌≡◌, ℕ, ◌≤◌, Bool, true, false, cond, eqb, List, [], ◌∷◌, ◌++◌, length}
-use Rattle.std.proofs.Common.{map, replicate, Option, Some, None, refl, sym, ap, ◌∙◌, append_assoc}
+use Rattle.std.proofs.Common.{◌≡◌, ℕ, ◌≤◌, Bool, true, false, cond, eqb, List, [], ◌∷◌, ◌++◌}
+use Rattle.std.proofs.Common.{length, map, replicate, Option, Some, None, refl, sym, ap, ◌∙◌, append_assoc}
 use Rattle.std.proofs.Common.{◌+◌, ◌<◌, Bor, get_or, take, drop, slice_set, subst, All, arith}
 use Rattle.std.specs.Prelude.{codes}
 use Rattle.std.specs.List.{AllByRecursion, Contains, flat_map, join_with_byte, list_all}
 use Rattle.std.specs.Option.{option_map}
 use Rattle.std.specs.Fmt.{decimal}
 use Rattle.std.proofs.lemmas.Bool.{and_parts, eqb-true, eq-eqb, ne_eqb}
-use Rattle.std.proofs.lemmas.List.{append-nil, length-map, length-set, length-take, take_more, take_more_set}
+use Rattle.std.proofs.lemmas.List.{append-nil, length-map, length-set, length-take, take_more}
+use Rattle.std.proofs.lemmas.List.{take_more_set}
 use Rattle.std.proofs.lemmas.List.{at_drop_all, at_drop_more, flat_map_more}
 use Rattle.std.proofs.lemmas.List.Elements.{All-head, All-tail, All-nil, All-push, All-contains}
 use Rattle.fed_types.specs.Limits.{greatest_weight}
@@ -198,7 +199,8 @@ AreSoFar-more words place weights d w within most found weight are =
     record {
       room = length-set weights place w ∙ are.room;
       within = omega (arith, within);
-      each = subst (All IsWeight) (sym more) (All-push IsWeight (take place weights) w are.each weight);
+      each = subst (All IsWeight) (sym more)
+          (All-push IsWeight (take place weights) w are.each weight);
       so_far = are.so_far
           ∙ ap (λ ls. option_map (λ ws. take place weights ++ ws) (weights_in ls))
           (rest_at words place d within)
@@ -239,8 +241,9 @@ pub AreSoFar-weights : (words : List (Bor (List ℕ))) (place : ℕ) (weights : 
     → IsMemberCount (length words) → length words ≤ place → AreSoFar words place weights
     → AreWeights (take (length words) weights)
 AreSoFar-weights words place weights count past are =
-    let len = length-take (length words) weights in (
-      (omega (arith, len, count.0, count.1, are.room), omega (arith, len, count.0, count.1, are.room)),
+    let all : length (take (length words) weights) ≡ length words =
+    length-take (length words) weights ∙ omega (arith, count.1, are.room) in (
+      (omega (arith, all, count.0), omega (arith, all, count.1)),
       subst (λ (n : ℕ). All IsWeight (take n weights)) (all_read words place weights past are)
           are.each,
     )

@@ -4,7 +4,7 @@ use Rattle.std.specs.Prelude.{◌==◌, if◌then◌else◌, Option, Some, None}
 use Rattle.std.specs.Option.{option_map}
 use Rattle.std.specs.Str.{bytes_eq}
 use Rattle.fed_types.specs.Limits.{most_members, greatest_weight, greatest_version}
-use Rattle.fed_types.specs.Sites.{Membership}
+use Rattle.fed_types.specs.Sites.{Membership, membership_of}
 use Rattle.fed_types.specs.Slots.{SlotName}
 use Rattle.schedule.specs.declared.command.Command.{Command}
 use Rattle.schedule.specs.declared.command.Command.TheVariants.{Tree, Folder, File, Deposit, Query}
@@ -41,10 +41,6 @@ weights_of n words =
     else if length words == n then weights_in words
     else None
 
--- the members of a federation, with these weights
-abbrev pub members_with : ℕ → List ℕ → Membership
-members_with federation weights = record { federation = federation; weights = weights }
-
 -- `federation F N` or `federation F N W1 .. WN`
 unfoldable pub federation_of : List (List ℕ) → Option Membership
 federation_of (name ∷ federation ∷ count ∷ weights) =
@@ -52,7 +48,7 @@ federation_of (name ∷ federation ∷ count ∷ weights) =
     then (do
       f ← number_in 0 greatest_federation federation
       n ← number_in 1 most_members count
-      option_map (members_with f) (weights_of n weights))
+      option_map (membership_of f) (weights_of n weights))
     else None
 federation_of words = None
 

@@ -1,7 +1,7 @@
 ghost use Rattle.std.specs.Prelude.{◌≡◌, ◌<◌, length, map, All, Some, IfOk};
 ghost use Rattle.std.specs.Option.{option_map};
-ghost use Rattle.fed_types.specs.Sites.{AreWeights, IsMemberCount};
-ghost use Rattle.schedule.specs.Commands.{members_with, weights_in, weights_of};
+ghost use Rattle.fed_types.specs.Sites.{AreWeights, IsMemberCount, membership_of};
+ghost use Rattle.schedule.specs.Commands.{weights_in, weights_of};
 ghost use Rattle.schedule.specs.Commands.{federation_of, tree_command, folder_command};
 ghost use Rattle.schedule.specs.Commands.{file_command, deposit_command, query_command, command_of};
 
@@ -35,7 +35,7 @@ pub(crate) fn parse_federation(words: &[&[u8]]) -> Option<Members>
 #[tactic(auto, unfolding(crate::specs::Commands::weights_of))]
 fn parse_members(federation: u64, count: u8, words: &[&[u8]]) -> Option<Members>
     requires { IsMemberCount count }
-    ensures { result ≡ option_map (members_with federation)
+    ensures { result ≡ option_map (membership_of federation)
         (weights_of count (map (λ word. word.now) words.now)) }
 {
     if words.is_empty() {
@@ -50,7 +50,7 @@ fn parse_members(federation: u64, count: u8, words: &[&[u8]]) -> Option<Members>
 // The members with these weights, if each word is one.
 fn parse_weights(federation: u64, words: &[&[u8]]) -> Option<Members>
     requires { IsMemberCount (length words.now) }
-    ensures { result ≡ option_map (members_with federation)
+    ensures { result ≡ option_map (membership_of federation)
         (weights_in (map (λ word. word.now) words.now)) }
 {
     let mut weights = [0; ROOM];
@@ -62,7 +62,7 @@ fn parse_weights(federation: u64, words: &[&[u8]]) -> Option<Members>
 
 fn weighted(federation: u64, weights: &[u8]) -> Option<Members>
     requires { AreWeights weights.now }
-    ensures { result ≡ Some (members_with federation weights.now) }
+    ensures { result ≡ Some (membership_of federation weights.now) }
 {
     Members::weighted(federation, weights).ok()
 }

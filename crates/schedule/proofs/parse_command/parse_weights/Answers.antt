@@ -1,6 +1,6 @@
 use Rattle.std.proofs.Common.{◌∙◌, sym, ap}
 use Rattle.std.specs.Option.{option_map}
-use Rattle.schedule.specs.Commands.{members_with}
+use Rattle.fed_types.specs.Sites.{membership_of}
 use Rattle.schedule.proofs.WeightLemmas.{AreSoFar-more, AreSoFar-fault}
 use Rattle.schedule.proofs.WeightLemmas.{AreSoFar-all, AreSoFar-weights}
 use Rattle.schedule.proofs.parse_command.parse_weights.Goals as goal
@@ -8,7 +8,7 @@ use Rattle.schedule.proofs.parse_command.parse_weights.Goals as goal
 pub returns-in_err-weights : goal.returns-in_err-weights
 returns-in_err-weights c =
     c.from_residual.ensures
-    ∙ ap (option_map (members_with c.args.federation))
+    ∙ ap (option_map (membership_of c.args.federation))
     (sym (AreSoFar-fault c.args.words.now c.loop-place.place c.loop-place.weights
     _ c.loop-place-test.true
     (sym c.in_err-weights.ensures.value) c.loop-place.invariant))
@@ -28,6 +28,6 @@ weighted-requires c =
 pub returns : goal.returns
 returns c =
     c.weighted.ensures
-    ∙ ap (option_map (members_with c.args.federation))
+    ∙ ap (option_map (membership_of c.args.federation))
     (sym (AreSoFar-all c.args.words.now c.loop-place.place c.loop-place.weights
     c.loop-place-test.false c.loop-place.invariant))

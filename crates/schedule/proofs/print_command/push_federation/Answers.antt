@@ -15,7 +15,8 @@ returns-clause-text c =
     let weighed = string_bytes c.push_weights.new.text in
     let spaced : weighed ≡ counted ++ spaced_weights (printed_weights m.weights) =
     c.in_ok-push_weights.ensures
-    ∙ ap (λ (ws : List ℕ). counted ++ spaced_weights (printed_weights ws)) c.weights.ensures.value in
+    ∙ ap (λ (ws : List ℕ). counted ++ spaced_weights (printed_weights ws))
+    c.weights.ensures.value in
     on_ok_weaker c.push_end.result
     (federation_line-is m (string_bytes c.args.text.now) counted weighed
     (string_bytes c.push_end.new.text) c.in_ok-push_count.ensures spaced) c.push_end.ensures
@@ -24,5 +25,6 @@ pub returns-clause-again : goal.returns-clause-again
 returns-clause-again c =
     let m = c.args.members in
     let fits : m.federation < 2 ^ 64 = omega arith in
-    let weights : AreWeights m.weights = rw (← c.weights.ensures.value) c.weights.ensures.in_range in
+    let weights : AreWeights m.weights =
+    rw (← c.weights.ensures.value) c.weights.ensures.in_range in
     OnOk-always c.push_end.result (FederationRoundTrips-members m (fits, weights))

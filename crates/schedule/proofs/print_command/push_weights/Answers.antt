@@ -1,4 +1,5 @@
-use Rattle.std.proofs.Common.{◌++◌, List, ℕ, ◌∷◌, get_or, take, string_bytes, sym, ap, ◌∙◌, append_assoc}
+use Rattle.std.proofs.Common.{◌++◌, List, ℕ, ◌∷◌, get_or, take, string_bytes, sym, ap, ◌∙◌}
+use Rattle.std.proofs.Common.{append_assoc}
 use Rattle.std.specs.Fmt.{decimal}
 use Rattle.std.proofs.lemmas.List.{append-nil, take_all}
 use Rattle.schedule.specs.inner.Printed.{spaced_weights}
