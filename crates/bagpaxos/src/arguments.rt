@@ -23,9 +23,9 @@ const RUN_EXAMPLE: &str = "A schedule is a text of commands, one a line:
   query S OBJ V         asks site S which bag is version V of OBJ
 Lines that are blank, or begin with `#`, are skipped.
 
-The exit status is 0; 1 where the text is no schedule (`schedule line N`), memory runs out (`memory`),
-standard input can't be read (`input unread`) or standard output can't be written; and 2 for a mistake
-in the arguments.
+The exit status is 0; 1 where the text is no schedule (`schedule line N`), memory runs out
+(`memory`), standard input can't be read (`input unread`) or standard output can't be written; and
+2 for a mistake in the arguments.
 
 Example:
   printf 'federation 7 3\\nquery 1 a 1\\n' | bagpaxos run";
