@@ -61,7 +61,7 @@ fn prints(rt: HostRuntime) -> Result<(), Fail> {
 }
 
 // Texts, and the numbers of their first lines at fault.
-const FAULTS: [(&[u8], usize); 70] = [
+const FAULTS: [(&[u8], usize); 73] = [
     (b"", 1),
     (b"\n\n# tree 1\n", 1),
     (b"tree 1\nfederation 0 1\n", 1),
@@ -98,6 +98,9 @@ const FAULTS: [(&[u8], usize); 70] = [
     // Words too few, or too many.
     (b"federation\n", 1),
     (b"federation 0 1 1 1\n", 1),
+    (b"federation 7 2 1\n", 1),
+    (b"federation 7 1 0\n", 1),
+    (b"federation 7 1 256\n", 1),
     (b"federation 7 2 1\n", 1),
     (b"federation 7 1 0\n", 1),
     (b"federation 7 1 256\n", 1),
