@@ -14,6 +14,8 @@ const RUN_ABOUT: &str =
 
 const RUN_EXAMPLE: &str = "A schedule is a text of commands, one a line:
   federation F N        the sites 1 to N of federation F; this command comes first, once
+  federation F N W1 .. WN
+                        the same, with the weights of the sites; else each has the weight 1
   tree T                declares an empty tree of files
   folder T              makes the tree's payload folder `data` stand
   file T PATH HEX       adds a file, its bytes in hex (`-` for none)
@@ -21,9 +23,9 @@ const RUN_EXAMPLE: &str = "A schedule is a text of commands, one a line:
   query S OBJ V         asks site S which bag is version V of OBJ
 Lines that are blank, or begin with `#`, are skipped.
 
-The exit status is 0; 1 where the text is no schedule (`schedule line N`), memory runs out (`memory`),
-standard input can't be read (`input unread`) or standard output can't be written; and 2 for a mistake
-in the arguments.
+The exit status is 0; 1 where the text is no schedule (`schedule line N`), memory runs out
+(`memory`), standard input can't be read (`input unread`) or standard output can't be written; and
+2 for a mistake in the arguments.
 
 Example:
   printf 'federation 7 3\\nquery 1 a 1\\n' | bagpaxos run";

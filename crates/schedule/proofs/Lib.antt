@@ -7,5 +7,6 @@ pub mod Utf8Lemmas
 pub mod EscapeLemmas
 pub mod WordLemmas
 pub mod PrintedWords
+pub mod WeightLemmas
 pub mod PrintedCommands
 pub mod PrintedLines

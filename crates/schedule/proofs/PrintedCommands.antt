@@ -2,7 +2,8 @@
 use Rattle.std.proofs.Common.{ℕ, ◌^◌, ◌<◌, ◌≤◌, List, length, refl, arith}
 use Rattle.std.specs.Prelude.{codes}
 use Rattle.std.specs.Str.{IsUtf8}
-use Rattle.fed_types.specs.Sites.{Membership, IsMemberCount}
+use Rattle.fed_types.specs.Sites.{Membership, count_of}
+use Rattle.fed_types.specs.Values.{IsMembership}
 use Rattle.fed_types.specs.Slots.{SlotName, IsObjectName}
 use Rattle.hex.specs.Hex.{IsBytes}
 use Rattle.schedule.specs.declared.command.Command.TheVariants.{Tree, Folder, File, Deposit, Query}
@@ -10,26 +11,30 @@ use Rattle.schedule.specs.Commands.{federation_of, command_of, tree_command, fol
 use Rattle.schedule.specs.Commands.{file_command, deposit_command, query_command}
 use Rattle.fed_types.specs.Limits.{most_members}
 use Rattle.schedule.specs.Limits.{greatest_federation, greatest_site, greatest_tree}
+use Rattle.schedule.specs.Texts.{federation_words}
 use Rattle.schedule.specs.inner.Printed.{RoundTrips, FederationRoundTrips}
 use Rattle.schedule.proofs.WordLemmas.{IsWord-computed, IsWord-decimal, IsWord-escaped}
 use Rattle.schedule.proofs.WordLemmas.{IsWord-hex_word}
 use Rattle.schedule.proofs.PrintedWords.{number_in-decimal, text_of-escaped, slot_of-printed}
 use Rattle.schedule.proofs.PrintedWords.{content_of-hex_word}
+use Rattle.schedule.proofs.WeightLemmas.{weights_of-printed, IsWord-weights}
 
-pub FederationRoundTrips-members : (m : Membership) → m.federation < 2 ^ 64 → IsMemberCount m.count
-    → FederationRoundTrips m
-unfolding federation_of
-FederationRoundTrips-members m fits count = record {
+pub FederationRoundTrips-members : (m : Membership) → IsMembership m → FederationRoundTrips m
+unfolding federation_of federation_words
+FederationRoundTrips-members m is = record {
   words = (
     IsWord-computed (codes "federation") refl,
-    (IsWord-decimal m.federation fits, (IsWord-decimal m.count (omega arith), tt)),
+    (
+      IsWord-decimal m.federation is.0,
+      (IsWord-decimal (count_of m) (omega (arith, is.1)), IsWord-weights m.weights is.1.1),
+    ),
   );
   read =
       rw (
-        number_in-decimal 0 greatest_federation m.federation (omega arith) (omega arith)
+        number_in-decimal 0 greatest_federation m.federation (omega arith) (omega (arith, is.0))
             (omega arith),
-        number_in-decimal 1 most_members m.count (omega arith) (omega arith)
-            (omega arith),
+        number_in-decimal 1 most_members (count_of m) is.1.0.0 is.1.0.1 (omega arith),
+        weights_of-printed m.weights is.1.1,
       ) refl;
 }
 

@@ -1,14 +1,15 @@
 -- Printed lines are read again, and a printed schedule as a whole.
 use Rattle.std.proofs.Common.{◌≡◌, ℕ, zero, suc, ◌+◌, ◌-◌, ◌<◌, Bool, true, false, not, eqb, ◌||◌}
 use Rattle.std.proofs.Common.{List, [], ◌∷◌, ◌++◌, length, get_or, All, Option, Some, None, Ok}
-use Rattle.std.proofs.Common.{replicate, refl, ap, ◌∙◌, inl, inr, append_assoc, arith}
+use Rattle.std.proofs.Common.{replicate, refl, sym, ap, subst, ◌∙◌, inl, inr, append_assoc, take}
+use Rattle.std.proofs.Common.{arith}
 use Rattle.std.specs.Prelude.{IfSome, filter}
 use Rattle.std.specs.Option.{option_map}
 use Rattle.std.specs.List.{AllByRecursion, slice_split, join_with_byte, flat_map}
 use Rattle.std.specs.Str.Lines.{lines, lines_of_parts, strip_carriage_return}
 use Rattle.std.proofs.lemmas.Bool.{ne_eqb, cases_lt}
-use Rattle.std.proofs.lemmas.List.{get_or_past}
-use Rattle.std.proofs.lemmas.List.Elements.{All-nil, All-cons, All-append, All-weaker}
+use Rattle.std.proofs.lemmas.List.{get_or_past, take_more, flat_map_more}
+use Rattle.std.proofs.lemmas.List.Elements.{All-nil, All-cons, All-append, All-push, All-weaker}
 use Rattle.std.proofs.lemmas.List.Elements.{recursion_from_All}
 use Rattle.std.proofs.lemmas.List.Splits.{slice_split_none, slice_split_at, length-slice_split}
 use Rattle.fed_types.specs.Sites.{Membership}
@@ -106,6 +107,16 @@ begins (File t path content) = refl
 begins (Deposit s t slot) = refl
 begins (Query s slot) = refl
 
+-- nor does a federation's line
+begins_federation : (m : Membership)
+    → (eqb (length (federation_words m)) 0
+    || eqb (get_or (join_with_byte 32 (federation_words m)) 0 0) 35) ≡ false
+unfolding federation_words
+begins_federation m =
+    let some : eqb (length (federation_words m)) 0 ≡ false =
+    ne_eqb (length (federation_words m)) 0 (λ e. omega (arith, e)) in
+    rw some refl
+
 -- the line of a command
 pub later_line-command : (command : Command) → RoundTrips command
     → later_line (join_with_byte 32 (words_for command)) ≡ Some (Some command)
@@ -162,7 +173,7 @@ plan_of-schedule_text plan federation are =
     let line = join_with_byte 32 (federation_words plan.members) in
     let rest = flat_map printed_line plan.lines in
     let words = words_of-join (federation_words plan.members) federation.words in
-    let isnt : is_skipped line ≡ false = rw words refl in
+    let isnt : is_skipped line ≡ false = rw (words, begins_federation plan.members) refl in
     ap (λ (t : List ℕ). plan_after 0 (lines t))
     (append_assoc (replicate plan.skipped 10) (federation_line plan.members) rest)
     ∙ plan_after-blank plan.skipped 0 (federation_line plan.members ++ rest)
@@ -175,3 +186,22 @@ plan_of-schedule_text plan federation are =
     ∙ ap (plan_from plan.skipped (Some plan.members))
     (later_lines-printed (plan.skipped + 2) plan.lines
     (recursion_from_All (λ s. IfSome s RoundTrips) plan.lines are))
+
+-- one line more is printed
+pub flat_map_line-more : (front : List ℕ) (said : List (Option Command)) (i : ℕ)
+    (line : Option Command) → i < length said → line ≡ get_or said i line
+    → (front ++ flat_map printed_line (take i said)) ++ printed_line line
+    ≡ front ++ flat_map printed_line (take (i + 1) said)
+flat_map_line-more front said i line within is =
+    let more : take (i + 1) said ≡ take i said ++ line ∷ [] =
+    take_more said i line within ∙ ap (λ (l : Option Command). take i said ++ l ∷ []) (sym is) in
+    flat_map_more printed_line front (take i said) line
+    ∙ ap (λ (ls : List (Option Command)). front ++ flat_map printed_line ls) (sym more)
+
+pub All-line-more : (P : Option Command → Type 0) (said : List (Option Command)) (i : ℕ)
+    (line : Option Command) → i < length said → line ≡ get_or said i line
+    → All P (take i said) → P line → All P (take (i + 1) said)
+All-line-more P said i line within is are one =
+    let more : take (i + 1) said ≡ take i said ++ line ∷ [] =
+    take_more said i line within ∙ ap (λ (l : Option Command). take i said ++ l ∷ []) (sym is) in
+    subst (All P) (sym more) (All-push P (take i said) line are one)

@@ -1,8 +1,10 @@
 -- The commands, each by its words.
-use Rattle.std.specs.Prelude.{ℕ, List, [], ◌∷◌, Option, Some, None, codes, if◌then◌else◌}
+use Rattle.std.specs.Prelude.{ℕ, List, [], ◌∷◌, length, replicate, codes}
+use Rattle.std.specs.Prelude.{◌==◌, if◌then◌else◌, Option, Some, None}
+use Rattle.std.specs.Option.{option_map}
 use Rattle.std.specs.Str.{bytes_eq}
-use Rattle.fed_types.specs.Limits.{most_members, greatest_version}
-use Rattle.fed_types.specs.Sites.{Membership}
+use Rattle.fed_types.specs.Limits.{most_members, greatest_weight, greatest_version}
+use Rattle.fed_types.specs.Sites.{Membership, membership_of}
 use Rattle.fed_types.specs.Slots.{SlotName}
 use Rattle.schedule.specs.declared.command.Command.{Command}
 use Rattle.schedule.specs.declared.command.Command.TheVariants.{Tree, Folder, File, Deposit, Query}
@@ -24,14 +26,29 @@ slot_of object version = do
   v ← number_in 1 greatest_version version
   Some (record { object = o; version = v })
 
--- `federation F N`
+-- W1 .. WN: the weight of each word, in order
+unfoldable pub weights_in : List (List ℕ) → Option (List ℕ)
+weights_in [] = Some []
+weights_in (word ∷ words) = do
+  w ← number_in 1 greatest_weight word
+  ws ← weights_in words
+  Some (w ∷ ws)
+
+-- the weights of n members: 1 for each where no word names one, else each has a word of its own
+unfoldable pub weights_of : ℕ → List (List ℕ) → Option (List ℕ)
+weights_of n words =
+    if length words == 0 then Some (replicate n 1)
+    else if length words == n then weights_in words
+    else None
+
+-- `federation F N` or `federation F N W1 .. WN`
 unfoldable pub federation_of : List (List ℕ) → Option Membership
-federation_of (name ∷ federation ∷ count ∷ []) =
+federation_of (name ∷ federation ∷ count ∷ weights) =
     if bytes_eq name (codes "federation")
     then (do
       f ← number_in 0 greatest_federation federation
       n ← number_in 1 most_members count
-      Some (record { federation = f; count = n }))
+      option_map (membership_of f) (weights_of n weights))
     else None
 federation_of words = None
 

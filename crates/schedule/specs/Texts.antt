@@ -1,10 +1,10 @@
 -- The one text in which a schedule is printed.
 use Rattle.std.specs.Prelude.{ℕ, ◌==◌, if◌then◌else◌, Option, Some, None}
-use Rattle.std.specs.Prelude.{List, [], ◌∷◌, ◌++◌, length, replicate, codes}
-use Rattle.std.specs.List.{flat_map, join_with_byte}
+use Rattle.std.specs.Prelude.{List, [], ◌∷◌, ◌++◌, length, map, replicate, codes}
+use Rattle.std.specs.List.{flat_map, join_with_byte, list_all}
 use Rattle.std.specs.Fmt.{decimal}
 use Rattle.hex.specs.Hex.{encode_lower}
-use Rattle.fed_types.specs.Sites.{Membership}
+use Rattle.fed_types.specs.Sites.{Membership, count_of}
 use Rattle.fed_types.specs.Slots.{SlotName}
 use Rattle.schedule.specs.declared.command.Command.{Command}
 use Rattle.schedule.specs.declared.command.Command.TheVariants.{Tree, Folder, File, Deposit, Query}
@@ -41,9 +41,15 @@ abbrev pub printed_line : Option Command → List ℕ
 printed_line None = 10 ∷ []
 printed_line (Some command) = printed_command command
 
+-- the weights that are printed: none where each is 1
+abbrev pub printed_weights : List ℕ → List ℕ
+printed_weights weights = if list_all (λ w. w == 1) weights then [] else weights
+
 -- the words that name a federation's members, and their line
-abbrev pub federation_words : Membership → List (List ℕ)
-federation_words m = codes "federation" ∷ decimal m.federation ∷ decimal m.count ∷ []
+unfoldable pub federation_words : Membership → List (List ℕ)
+federation_words m =
+    codes "federation" ∷ decimal m.federation ∷ decimal (count_of m)
+    ∷ map decimal (printed_weights m.weights)
 
 abbrev pub federation_line : Membership → List ℕ
 federation_line m = line_of_words (federation_words m)

@@ -3,7 +3,9 @@ use std::alloc::{AllocError, Global};
 use std::test::Fail;
 
 // Texts, and what is printed of their schedules.
-const PRINTED: [(&[u8], &str); 10] = [
+const PRINTED: [(&[u8], &str); 12] = [
+    (b"federation 7 3 1 1 1", "federation 7 3\n"),
+    (b"federation 7 2 2 1", "federation 7 2 2 1\n"),
     (
         b"federation 7 3\ntree 1\nfolder 1\nfile 1 bagit.txt 4261\nfile 1 manifest-sha512.txt -\n",
         "federation 7 3\ntree 1\nfolder 1\nfile 1 bagit.txt 4261\nfile 1 manifest-sha512.txt -\n",
@@ -59,7 +61,7 @@ fn prints(rt: HostRuntime) -> Result<(), Fail> {
 }
 
 // Texts, and the numbers of their first lines at fault.
-const FAULTS: [(&[u8], usize); 67] = [
+const FAULTS: [(&[u8], usize); 73] = [
     (b"", 1),
     (b"\n\n# tree 1\n", 1),
     (b"tree 1\nfederation 0 1\n", 1),
@@ -95,7 +97,13 @@ const FAULTS: [(&[u8], usize); 67] = [
     (b"federation 0 1\ntree 1\r\r\n", 2),
     // Words too few, or too many.
     (b"federation\n", 1),
-    (b"federation 0 1 1\n", 1),
+    (b"federation 0 1 1 1\n", 1),
+    (b"federation 7 2 1\n", 1),
+    (b"federation 7 1 0\n", 1),
+    (b"federation 7 1 256\n", 1),
+    (b"federation 7 2 1\n", 1),
+    (b"federation 7 1 0\n", 1),
+    (b"federation 7 1 256\n", 1),
     (b"federation 0 1\nfolder\n", 2),
     (b"federation 0 1\nfolder 1 1\n", 2),
     (b"federation 0 1\nfile 1 a\n", 2),

@@ -1,9 +1,11 @@
 ghost use Rattle.std.specs.Prelude.{◌≡◌, ◌≤◌, ◌<◌, length, string_bytes, IfOk, IfSome, option_map};
+ghost use Rattle.fed_types.specs.Limits.{greatest_weight};
+ghost use Rattle.fed_types.specs.Sites.{IsWeight};
 ghost use Rattle.schedule.specs.Words.{number_in, text_of, content_of};
 ghost use Rattle.schedule.specs.Commands.{site_of, tree_of, slot_of};
 
 use crate::command::{Content, FilePath, TreeNo};
-use fed_types::Slot;
+use fed_types::{GREATEST_WEIGHT, Slot};
 use hex::FromHexError;
 use percent_encoding::percent_decode;
 use std::alloc::{AllocError, Global};
@@ -35,6 +37,14 @@ pub(crate) fn parse_site(word: &[u8]) -> Option<u8>
     ensures { result ≡ site_of word.now }
 {
     Some(parse_number(0, u64::from(u8::MAX), word)? as u8)
+}
+
+/// The weight of a member.
+pub(crate) fn parse_weight(word: &[u8]) -> Option<u8>
+    ensures value { result ≡ number_in 1 greatest_weight word.now }
+    ensures in_range { IfSome result IsWeight }
+{
+    Some(parse_number(1, u64::from(GREATEST_WEIGHT), word)? as u8)
 }
 
 /// The number of a tree.

@@ -4,7 +4,7 @@ use Rattle.std.specs.Prelude.{ℕ, ◌-◌, Bool, ◌==◌, ◌&&◌, nat_le, if
 use Rattle.std.specs.Prelude.{replicate, Option, Some, None, slice_set, slice_index_or, length}
 use Rattle.fed_types.specs.declared.bag_id.BagId.{BagId}
 use Rattle.fed_types.specs.Bags.{same_bag}
-use Rattle.fed_types.specs.Sites.{Membership}
+use Rattle.fed_types.specs.Sites.{Membership, count_of}
 use Rattle.bag_tree.specs.Tree.{Files}
 use Rattle.simulator.specs.declared.line.Line.{Line}
 use Rattle.simulator.specs.declared.line.Line.TheVariants.{Skip}
@@ -31,7 +31,12 @@ pub record World : Type 0 where
 
 -- every site is there with no records, and nothing has happened
 abbrev pub start : Membership → World
-start members = record { sites = replicate members.count []; trees = []; seen = []; lines = [] }
+start members = record {
+  sites = replicate (count_of members) [];
+  trees = [];
+  seen = [];
+  lines = [];
+}
 
 -- the members are the sites 1 to the last that the world has
 abbrev pub is_member : World → ℕ → Bool

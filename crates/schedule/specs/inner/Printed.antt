@@ -1,6 +1,7 @@
 -- Printed words that are parsed again.
-use Rattle.std.specs.Prelude.{◌≡◌, ℕ, ◌<◌, List, length, All, Some}
-use Rattle.std.specs.List.{AllByRecursion}
+use Rattle.std.specs.Prelude.{◌≡◌, ℕ, ◌<◌, List, ◌∷◌, length, All, Some}
+use Rattle.std.specs.Fmt.{decimal}
+use Rattle.std.specs.List.{AllByRecursion, flat_map}
 use Rattle.fed_types.specs.Sites.{Membership}
 use Rattle.schedule.specs.declared.command.Command.{Command}
 use Rattle.schedule.specs.Commands.{federation_of, command_of}
@@ -9,6 +10,10 @@ use Rattle.schedule.specs.Texts.{federation_words, words_for}
 -- at least one byte, and all above the space, CR and LF
 abbrev pub IsWord : List ℕ → Type 0
 IsWord word = (0 < length word) × All (λ b. 32 < b) word
+
+-- weights as words, each after a space
+abbrev pub spaced_weights : List ℕ → List ℕ
+spaced_weights weights = flat_map (λ w. 32 ∷ decimal w) weights
 
 -- the words for these members are words, and name the members again
 pub record FederationRoundTrips (members : Membership) : Type 0 where
