@@ -1,12 +1,12 @@
 -- From one slot's row to what is known of every slot.
 use Rattle.std.proofs.Common.{◌≡◌, Bool, true, false, cond, refl, sym, ap, subst, ◌∙◌, List, Option}
-use Rattle.std.proofs.Common.{None, Some}
+use Rattle.std.proofs.Common.{None, Some, IsSome}
 use Rattle.fed_types.specs.Ballots.{BallotNumber}
 use Rattle.fed_types.specs.Slots.{SlotName, same_slot}
 use Rattle.fed_types.specs.Laws.Slots.{same_slot_decides}
 use Rattle.records.specs.declared.record.Record.{Record}
 use Rattle.dgram.specs.declared.message.Message.{Message}
-use Rattle.slot_table.specs.Rows.{Rows, row_at, row_or, IsWith}
+use Rattle.slot_table.specs.Rows.{Rows, row_at, row_or, IsWith, HasRooms}
 use Rattle.proposer.specs.declared.row.Row.{Row}
 use Rattle.proposer.specs.Proposals.{Current}
 use Rattle.proposer.specs.Sessions.{Session, UnderWay}
@@ -70,3 +70,18 @@ pub same_stands : (old new : Rows Row) → ((s : SlotName) → row_of new s ≡ 
 same_stands old new same records session under stands s =
     subst (Knows s records session.heard (session.current s) (under.begun s) (under.waiting s))
     (sym (same s)) (stands s)
+
+-- a slot that had a row has one after a row is put in
+pub rooms_put : (old new : Rows Row) (slot : SlotName) (before after : Row)
+    → Some before ≡ row_at old slot → (IsSome (row_at old slot) → IsWith old new slot after)
+    → HasRooms old new
+rooms_put old new slot before after there put s had =
+    subst IsSome (sym (put (subst IsSome there refl) s)) (go (same_slot slot s))
+  where
+    go : (t : Bool) → IsSome (cond t (Some after) (row_at old s))
+    go true = refl
+    go false = had
+
+-- and where the table is as it was
+pub rooms_same : (old new : Rows Row) → new ≡ old → HasRooms old new
+rooms_same old new same s had = subst (λ (rows : Rows Row). IsSome (row_at rows s)) (sym same) had

@@ -4,7 +4,7 @@ ghost use Rattle.fed_types.specs.Ballots.{BallotNumber};
 ghost use Rattle.fed_types.specs.Slots.{SlotName};
 ghost use Rattle.records.specs.declared.record.Record.{Record as declared_record};
 ghost use Rattle.records.specs.Words.{deposit_of};
-ghost use Rattle.slot_table.specs.Rows.{row_at, IsWith};
+ghost use Rattle.slot_table.specs.Rows.{row_at, IsWith, HasRooms};
 ghost use Rattle.proposer.specs.Proposals.{next_ballot, ready, ballot_after};
 ghost use Rattle.proposer.specs.Sessions.{Session, UnderWay, new_session, nothing, begins};
 ghost use Rattle.proposer.specs.Sessions.{promise_message, heard_after, waiting_after};
@@ -62,6 +62,7 @@ impl<Q: Quorums + Drop> Proposer<Q> {
         ensures same { (s : SlotName) → row_of self.new.rows s ≡ row_of self.old.rows s }
         ensures present { OnOk result (IsSome (row_at self.new.rows slot.now)) }
         ensures succeeds { IsSome (row_at self.old.rows slot.now) → IsOk result }
+        ensures rooms { HasRooms self.old.rows self.new.rows }
         ensures whose { IsOfSameSite self.old self.new }
     {
         self.table.reserve(slot, Row::empty())
@@ -87,6 +88,7 @@ impl<Q: Quorums + Drop> Proposer<Q> {
         ensures present { IfOk result (λ ballot. IsSome (row_at self.new.rows slot.now)) }
         ensures unchanged { OnErr result
             ((s : SlotName) → row_of self.new.rows s ≡ row_of self.old.rows s) }
+        ensures rooms { HasRooms self.old.rows self.new.rows }
         ensures whose { IsOfSameSite self.old self.new }
     {
         match self.next(slot) {
@@ -117,6 +119,7 @@ impl<Q: Quorums + Drop> Proposer<Q> {
             → StandsFor self.new.rows records
             (heard_after result session (promise_message slot.now from ballot prior))
             (waiting_after result under (promise_message slot.now from ballot prior)) }
+        ensures rooms { HasRooms self.old.rows self.new.rows }
         ensures whose { IsOfSameSite self.old self.new }
     {
         let promise = Promise { site: from, prior };
@@ -130,6 +133,7 @@ impl<Q: Quorums + Drop> Proposer<Q> {
             → StandsFor self.old.rows records session under
             → StandsFor self.new.rows records (heard_if session (under.waiting slot.now))
             (waits under slot.now None) }
+        ensures rooms { HasRooms self.old.rows self.new.rows }
         ensures whose { IsOfSameSite self.old self.new }
     {
         issue_in(&mut self.table, slot);
@@ -145,6 +149,7 @@ impl<Q: Quorums + Drop> Proposer<Q> {
         ensures unchanged { OnErr result
             ((s : SlotName) → row_of self.new.rows s ≡ row_of self.old.rows s) }
         ensures succeeds { IsSome (row_at self.old.rows slot.now) → IsOk result }
+        ensures rooms { HasRooms self.old.rows self.new.rows }
         ensures whose { IsOfSameSite self.old self.new }
     {
         self.reserve(slot)?;
@@ -166,6 +171,7 @@ impl<Q: Quorums + Drop> Proposer<Q> {
         ensures unchanged { OnErr result
             ((s : SlotName) → row_of self.new.rows s ≡ row_of self.old.rows s) }
         ensures succeeds { IsSome (row_at self.old.rows new.now.slot) → IsOk result }
+        ensures rooms { HasRooms self.old.rows self.new.rows }
         ensures whose { IsOfSameSite self.old self.new }
     {
         self.reserve(&new.slot)?;
@@ -190,6 +196,7 @@ impl<Q: Quorums + Drop> Proposer<Q> {
         ensures present { OnOk result (IsSome (row_at self.new.rows slot.now)) }
         ensures unchanged { OnErr result
             ((s : SlotName) → row_of self.new.rows s ≡ row_of self.old.rows s) }
+        ensures rooms { HasRooms self.old.rows self.new.rows }
         ensures whose { IsOfSameSite self.old self.new }
     {
         let round = Box::new(self.alloc, round)?;
@@ -250,8 +257,9 @@ fn promise_in<Q: Quorums>(
     ballot: Ballot,
     promise: Promise,
 ) -> Option<BagId>
-    ensures { HeardAt (Q.quorum_system members.now) ballot promise table.old table.new slot.now
-        result }
+    ensures heard { HeardAt (Q.quorum_system members.now) ballot promise table.old table.new
+        slot.now result }
+    ensures rooms { HasRooms table.old table.new }
 {
     match table.get_mut(slot) {
         Some(row) => row.promise(members, ballot, promise),
@@ -261,7 +269,8 @@ fn promise_in<Q: Quorums>(
 
 // Counts what waits in the slot's row.
 fn issue_in(table: &mut SlotTable<Row>, slot: &Slot)
-    ensures { IssuesAt table.old table.new slot.now }
+    ensures issued { IssuesAt table.old table.new slot.now }
+    ensures rooms { HasRooms table.old table.new }
 {
     match table.get_mut(slot) {
         Some(row) => row.issued(),

@@ -6,6 +6,6 @@ use Rattle.proposer.proofs.proposer.Proposer.issued.Goals as goal
 pub returns-clause-heard : goal.returns-clause-heard
 returns-clause-heard g c records session under stands =
     issued_stands c.self.inside.table c.issue_in.new.table c.args.slot.now records session under
-    c.issue_in.ensures
+    c.issue_in.ensures.issued
     (subst (λ (p : Proposing g.row.Q.Denot). StandsFor p.rows records session under)
     (sym c.self.view_is) stands)

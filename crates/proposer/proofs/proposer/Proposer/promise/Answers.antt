@@ -18,7 +18,7 @@ returns-clause-ready g c records session under stands =
     HeardAt (g.Q.Quorums.quorum_system p.members) c.args.ballot
     (record { site = c.args.from; prior = c.args.prior }) p.rows c.promise_in.new.table
     c.args.slot.now c.promise_in.result)
-    c.self.view_is c.promise_in.ensures)
+    c.self.view_is c.promise_in.ensures.heard)
     stands
 
 pub returns-clause-heard : goal.returns-clause-heard
@@ -34,5 +34,5 @@ returns-clause-heard g c records session under stands =
     HeardAt (g.Q.Quorums.quorum_system p.members) c.args.ballot
     (record { site = c.args.from; prior = c.args.prior }) p.rows c.promise_in.new.table
     c.args.slot.now c.promise_in.result)
-    c.self.view_is c.promise_in.ensures)
+    c.self.view_is c.promise_in.ensures.heard)
     stands
