@@ -60,10 +60,10 @@ HasGrown before now = (before < now) ⊎ (most_failures ≤ before)
 -- The fault for a failure of the device is answered exactly where the device failed, by the count
 -- of its failures; no failure is answered as anything else.
 pub record HasCause {T E : Type 0} (device : E) (before now : ℕ) (result : Result T E) : Type 0
-    where
-  pub later : before ≤ now
-  pub failed : IsErrOf result device → HasGrown before now
-  pub same : ¬ IsErrOf result device → now ≡ before
+  where
+    pub later : before ≤ now
+    pub failed : IsErrOf result device → HasGrown before now
+    pub same : ¬ IsErrOf result device → now ≡ before
 
 -- what a read gives, where the bytes are known
 abbrev pub IsRead : Option Image → List ℕ → Type 0

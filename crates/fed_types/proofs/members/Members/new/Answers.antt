@@ -28,7 +28,7 @@ returns-clause-value c =
     let same : take {A = ℕ} c.from.result (replicate room 1) ≡ replicate c.args.count 1 =
     ones c.from.result fits ∙ ap (λ (n : ℕ). replicate {A = ℕ} n 1) c.from.ensures in
     subst (λ (ws : List ℕ). IfOk c.weighted.result (λ m. m ≡ membership_of c.args.federation ws))
-        same
+    same
     c.weighted.ensures.value
 
 pub returns-clause-bad_count : goal.returns-clause-bad_count

@@ -71,42 +71,44 @@ returns-clause-heard g c none records heard stands =
     c.in_ok-count.ensures.ok)
 
 pub returns-in_err-reserve-clause-no_memory : goal.returns-in_err-reserve-clause-no_memory
-returns-in_err-reserve-clause-no_memory g c = err_of c.from_residual.result (λ records heard stands.
-    (sym (stands.known c.args.slot.now)
-        ∙ none_from (known_in (row_at c.args.self.now.rows c.args.slot.now))
-        (ap is_some (sym c.known.ensures.row) ∙ sym c.is_some.ensures ∙ c.if-is_some.false),
-    sym (learned_by c.args.self.now.rows records heard c.args.slot.now c.args.from
-        (record { ballot = c.args.ballot; bag = c.args.bag }) stands
-        (g.Q.Quorums.quorum_system c.args.self.now.members)
-        (record {
-          meet = g.met.Q.Quorums.quorums_meet c.args.self.now.members;
-          grow = g.met.Q.Quorums.quorum_grows c.args.self.now.members;
-        })
-        (none_from (known_in (row_at c.args.self.now.rows c.args.slot.now))
-            (ap is_some (sym c.known.ensures.row) ∙ sym c.is_some.ensures ∙ c.if-is_some.false))
-        c.counted_with-voters.result false c.counted_with-voters.ensures
-        (sym (ap (λ (l : Ledger g.row.Q.Denot).
-                (g.Q.Quorums.quorum_system l.members).is_quorum c.counted_with-voters.result)
-            c.self.view_is)
-        ∙ sym c.is_quorum.ensures ∙ c.if-is_quorum.false))))
+returns-in_err-reserve-clause-no_memory g c = err_of c.from_residual.result (λ records heard stands. (
+  sym (stands.known c.args.slot.now)
+      ∙ none_from (known_in (row_at c.args.self.now.rows c.args.slot.now))
+      (ap is_some (sym c.known.ensures.row) ∙ sym c.is_some.ensures ∙ c.if-is_some.false),
+  sym (learned_by c.args.self.now.rows records heard c.args.slot.now c.args.from
+      (record { ballot = c.args.ballot; bag = c.args.bag }) stands
+      (g.Q.Quorums.quorum_system c.args.self.now.members)
+      (record {
+        meet = g.met.Q.Quorums.quorums_meet c.args.self.now.members;
+        grow = g.met.Q.Quorums.quorum_grows c.args.self.now.members;
+      })
+      (none_from (known_in (row_at c.args.self.now.rows c.args.slot.now))
+      (ap is_some (sym c.known.ensures.row) ∙ sym c.is_some.ensures ∙ c.if-is_some.false))
+      c.counted_with-voters.result false c.counted_with-voters.ensures
+      (sym (ap (λ (l : Ledger g.row.Q.Denot).
+      (g.Q.Quorums.quorum_system l.members).is_quorum c.counted_with-voters.result)
+      c.self.view_is)
+      ∙ sym c.is_quorum.ensures ∙ c.if-is_quorum.false)),
+))
 
 pub returns-in_err-count-clause-no_memory : goal.returns-in_err-count-clause-no_memory
 returns-in_err-count-clause-no_memory g c =
-    err_of c.from_residual-in_err-count.result (λ records heard stands.
-    (sym (stands.known c.args.slot.now)
-        ∙ none_from (known_in (row_at c.args.self.now.rows c.args.slot.now))
-        (ap is_some (sym c.known.ensures.row) ∙ sym c.is_some.ensures ∙ c.if-is_some.false),
-    sym (learned_by c.args.self.now.rows records heard c.args.slot.now c.args.from
-        (record { ballot = c.args.ballot; bag = c.args.bag }) stands
-        (g.Q.Quorums.quorum_system c.args.self.now.members)
-        (record {
-          meet = g.met.Q.Quorums.quorums_meet c.args.self.now.members;
-          grow = g.met.Q.Quorums.quorum_grows c.args.self.now.members;
-        })
-        (none_from (known_in (row_at c.args.self.now.rows c.args.slot.now))
-            (ap is_some (sym c.known.ensures.row) ∙ sym c.is_some.ensures ∙ c.if-is_some.false))
-        c.counted_with-voters.result false c.counted_with-voters.ensures
-        (sym (ap (λ (l : Ledger g.row.Q.Denot).
-                (g.Q.Quorums.quorum_system l.members).is_quorum c.counted_with-voters.result)
-            c.self.view_is)
-        ∙ sym c.is_quorum.ensures ∙ c.if-is_quorum.false))))
+    err_of c.from_residual-in_err-count.result (λ records heard stands. (
+      sym (stands.known c.args.slot.now)
+          ∙ none_from (known_in (row_at c.args.self.now.rows c.args.slot.now))
+          (ap is_some (sym c.known.ensures.row) ∙ sym c.is_some.ensures ∙ c.if-is_some.false),
+      sym (learned_by c.args.self.now.rows records heard c.args.slot.now c.args.from
+          (record { ballot = c.args.ballot; bag = c.args.bag }) stands
+          (g.Q.Quorums.quorum_system c.args.self.now.members)
+          (record {
+            meet = g.met.Q.Quorums.quorums_meet c.args.self.now.members;
+            grow = g.met.Q.Quorums.quorum_grows c.args.self.now.members;
+          })
+          (none_from (known_in (row_at c.args.self.now.rows c.args.slot.now))
+          (ap is_some (sym c.known.ensures.row) ∙ sym c.is_some.ensures ∙ c.if-is_some.false))
+          c.counted_with-voters.result false c.counted_with-voters.ensures
+          (sym (ap (λ (l : Ledger g.row.Q.Denot).
+          (g.Q.Quorums.quorum_system l.members).is_quorum c.counted_with-voters.result)
+          c.self.view_is)
+          ∙ sym c.is_quorum.ensures ∙ c.if-is_quorum.false)),
+    ))
