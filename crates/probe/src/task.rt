@@ -27,6 +27,8 @@ pub enum Task {
     Open { path: String },
     /// Open a cell in memory and commit a record, to have allocations fail.
     Memory,
+    /// Call acceptor, proposer and learner, to have allocations fail.
+    Deciding,
 }
 
 /// The task that the program's arguments name.
@@ -64,6 +66,7 @@ pub fn task_of(words: &mut Args) -> Result<Task, Fault> {
         },
         "open" => Task::Open { path: word(words)? },
         "memory" => Task::Memory,
+        "deciding" => Task::Deciding,
         _ => return Err(Fault::Arguments),
     };
     match words.next() {
