@@ -8,6 +8,7 @@ mod cases;
 mod datagram_case;
 mod datagram_times;
 mod deciding_memory;
+mod deciding_times;
 mod example;
 mod fault;
 mod files;
@@ -22,6 +23,7 @@ mod turns;
 use cases::answers;
 use datagram_times::{decoding_line, encoding_line};
 use deciding_memory::decided_line;
+use deciding_times::decisions_text;
 use fault::Fault;
 use files::{commit_line, opened_line};
 use journal_times::{commits_line, filled_line, opening_time_line};
@@ -62,5 +64,6 @@ fn text(rt: &HostRuntime) -> Result<String, Fault> {
         Task::Open { path } => opening_time_line(rt, path.as_str()),
         Task::Memory => voted_line(alloc),
         Task::Deciding => decided_line(alloc),
+        Task::Decide { count } => decisions_text(rt, count),
     }
 }
