@@ -11,6 +11,8 @@ WANTED = open(os.environ["WANTED"], "rb").read()
 WITHOUT_MEMORY = [line.encode() + b"\n" for line in os.environ["WITHOUT_MEMORY"].split(",")]
 STATUS = int(os.environ["STATUS"])
 SAID = os.environ["SAID"]
+# Two allocations of so many bytes that no other may come between, where the run makes such.
+MARK = int(os.environ.get("MARK", "0"))
 # No run makes as many calls for memory.
 TOO_MANY = 5000
 # the program and the first of its arguments
@@ -22,15 +24,18 @@ class Allocation(gdb.Breakpoint):
 
     calls = 0
     failing = 0
+    marks = []
 
     def stop(self):
         Allocation.calls += 1
+        if MARK and int(gdb.parse_and_eval("(unsigned long)$rdi")) == MARK:
+            Allocation.marks.append(Allocation.calls)
         return Allocation.calls == Allocation.failing
 
 
 def run(failing):
     """Runs the program with that call for memory failing: whether there was one, the status, and the output."""
-    Allocation.calls, Allocation.failing = 0, failing
+    Allocation.calls, Allocation.failing, Allocation.marks = 0, failing, []
     gdb.execute(f"run {ARGUMENTS} < {INPUT} > {SAID}", to_string=True)
     has_failed = Allocation.calls == failing
     if has_failed:
@@ -71,6 +76,10 @@ print(
 if has_failed:
     failed += 1
     print(f"FAILED {ARGUMENTS}: after {failing} failed allocations there was no run in which none fails")
+# The last run was whole: its marks are one call apart.
+if MARK and [later - Allocation.marks[0] for later in Allocation.marks] != [0, 1]:
+    failed += 1
+    print(f"FAILED {ARGUMENTS}: not two allocations of {MARK} bytes, one after the other: {Allocation.marks}")
 if without_memory == 0 or whole == 0:
     failed += 1
     print(f"FAILED {ARGUMENTS}: no answer without memory, or none that is whole")

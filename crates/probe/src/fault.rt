@@ -11,7 +11,7 @@ use thiserror::Error;
 #[derive(Clone, Copy, Debug, PartialEq, Eq, Error)]
 pub enum Fault {
     /// The arguments are not those of a task.
-    #[error("tasks: encode|decode N, file|commit|turns PATH SITE, bench|fill PATH N, open PATH, memory")]
+    #[error("tasks: encode|decode|decide N, file|commit|turns PATH SITE, bench|fill PATH N, open PATH, memory, deciding")]
     Arguments,
     /// A line is no comment, no federation with the hex digits of a datagram, and no site with
     /// those of a cell.

@@ -1,11 +1,14 @@
-//! A tool of the tests, beside the crates `dgram` and `book`. Without arguments it reads datagrams
-//! and cells from standard input, one a line, and prints what each says. Its tasks (`task` lists
-//! them) call those crates on files, time them, and let allocations fail.
+//! A tool of the tests, beside the crates `dgram`, `book`, `acceptor`, `proposer` and `learner`.
+//! Without arguments it reads datagrams and cells from standard input, one a line, and prints what
+//! each says. Its tasks (`task` lists them) call those crates, some on files, time them, and let
+//! allocations fail.
 #![tactic(auto)]
 
 mod cases;
 mod datagram_case;
 mod datagram_times;
+mod deciding_memory;
+mod deciding_times;
 mod example;
 mod fault;
 mod files;
@@ -19,6 +22,8 @@ mod turns;
 
 use cases::answers;
 use datagram_times::{decoding_line, encoding_line};
+use deciding_memory::decided_line;
+use deciding_times::decisions_text;
 use fault::Fault;
 use files::{commit_line, opened_line};
 use journal_times::{commits_line, filled_line, opening_time_line};
@@ -58,5 +63,7 @@ fn text(rt: &HostRuntime) -> Result<String, Fault> {
         Task::Fill { path, count } => filled_line(rt, path.as_str(), count),
         Task::Open { path } => opening_time_line(rt, path.as_str()),
         Task::Memory => voted_line(alloc),
+        Task::Deciding => decided_line(alloc),
+        Task::Decide { count } => decisions_text(rt, count),
     }
 }

@@ -27,6 +27,10 @@ pub enum Task {
     Open { path: String },
     /// Open a cell in memory and commit a record, to have allocations fail.
     Memory,
+    /// Call acceptor, proposer and learner, to have allocations fail.
+    Deciding,
+    /// Call them on so many slots, and take the time.
+    Decide { count: u32 },
 }
 
 /// The task that the program's arguments name.
@@ -64,6 +68,10 @@ pub fn task_of(words: &mut Args) -> Result<Task, Fault> {
         },
         "open" => Task::Open { path: word(words)? },
         "memory" => Task::Memory,
+        "deciding" => Task::Deciding,
+        "decide" => Task::Decide {
+            count: count(words)?,
+        },
         _ => return Err(Fault::Arguments),
     };
     match words.next() {
