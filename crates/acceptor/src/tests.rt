@@ -23,23 +23,18 @@ enum Asked {
     Accept(BagId),
 }
 
-// What it decides; it then takes note of the record, where there is one.
-fn decided(
-    acceptor: &mut Acceptor,
-    alloc: Global,
-    slot: &Slot,
-    ballot: Ballot,
-    asked: Asked,
-) -> Result<Decision, Fail> {
-    let decision = match asked {
+fn decide(acceptor: &Acceptor, slot: &Slot, ballot: Ballot, asked: Asked) -> Decision {
+    match asked {
         Asked::Prepare => acceptor.prepare(slot, ballot),
         Asked::Accept(bag) => acceptor.accept(slot, ballot, bag),
-    };
-    if let Some(body) = decision.entry {
-        let slot = slot.copy(alloc)?;
-        acceptor.note(&Record { slot, body })?;
     }
-    Ok(decision)
+}
+
+// Takes note of a record of the slot.
+fn note(acceptor: &mut Acceptor, alloc: Global, slot: &Slot, body: Entry) -> Result<(), Fail> {
+    let slot = slot.copy(alloc)?;
+    acceptor.note(&Record { slot, body })?;
+    Ok(())
 }
 
 fn promises(ballot: Ballot, vote: Option<Vote>) -> Decision {
@@ -49,17 +44,17 @@ fn promises(ballot: Ballot, vote: Option<Vote>) -> Decision {
     }
 }
 
-fn votes(vote: Vote) -> Decision {
+fn votes(ballot: Ballot, bag: BagId) -> Decision {
     Decision {
-        entry: Some(Entry::Vote(vote)),
-        answer: Answer::Accepted(vote),
+        entry: Some(Entry::Vote(Vote { ballot, bag })),
+        answer: Answer::Accepted(Vote { ballot, bag }),
     }
 }
 
-fn votes_again(vote: Vote) -> Decision {
+fn votes_again(ballot: Ballot, bag: BagId) -> Decision {
     Decision {
         entry: None,
-        answer: Answer::Accepted(vote),
+        answer: Answer::Accepted(Vote { ballot, bag }),
     }
 }
 
@@ -76,23 +71,26 @@ fn one_slot_from_promise_to_promise(rt: HostRuntime) -> Result<(), Fail> {
     let slot = slot(alloc, "a")?;
     let mut acceptor = Acceptor::new(alloc);
     let (b11, b12, b13, b21) = (ballot(1, 1)?, ballot(1, 2)?, ballot(1, 3)?, ballot(2, 1)?);
-    let vote = Vote {
+    let prior = Some(Vote {
         ballot: b12,
         bag: V,
-    };
+    });
     let rows = [
         (b11, Asked::Prepare, promises(b11, None)),
-        (b12, Asked::Accept(V), votes(vote)),
-        (b12, Asked::Accept(V), votes_again(vote)),
+        (b12, Asked::Accept(V), votes(b12, V)),
+        (b12, Asked::Accept(V), votes_again(b12, V)),
         (b12, Asked::Prepare, refuses(b12, b12)),
         (b12, Asked::Accept(W), refuses(b12, b12)),
-        (b21, Asked::Prepare, promises(b21, Some(vote))),
+        (b21, Asked::Prepare, promises(b21, prior)),
         (b13, Asked::Accept(V), refuses(b13, b21)),
-        (b12, Asked::Accept(V), votes_again(vote)),
+        (b12, Asked::Accept(V), votes_again(b12, V)),
     ];
     for (ballot, asked, want) in rows {
-        let decision = decided(&mut acceptor, alloc, &slot, ballot, asked)?;
+        let decision = decide(&acceptor, &slot, ballot, asked);
         assert_eq!(rt; decision, want, "{asked:?} {ballot:?}");
+        if let Some(body) = want.entry {
+            note(&mut acceptor, alloc, &slot, body)?;
+        }
     }
     Ok(())
 }
@@ -104,7 +102,7 @@ fn slots_are_apart(rt: HostRuntime) -> Result<(), Fail> {
     let mut acceptor = Acceptor::new(alloc);
     acceptor.reserve(&b)?;
     let (low, high) = (ballot(1, 1)?, ballot(9, 1)?);
-    let _ = decided(&mut acceptor, alloc, &a, high, Asked::Accept(V))?;
+    note(&mut acceptor, alloc, &a, Entry::Promise(high))?;
     assert_eq!(rt; acceptor.prepare(&a, low), refuses(low, high));
     assert_eq!(rt; acceptor.prepare(&b, low), promises(low, None));
     Ok(())
@@ -116,8 +114,7 @@ fn other_records_change_nothing(rt: HostRuntime) -> Result<(), Fail> {
     let slot = slot(alloc, "a")?;
     let mut acceptor = Acceptor::new(alloc);
     for body in [Entry::Deposit(V), Entry::Known(W)] {
-        let slot = slot.copy(alloc)?;
-        acceptor.note(&Record { slot, body })?;
+        note(&mut acceptor, alloc, &slot, body)?;
     }
     let low = ballot(1, 1)?;
     assert_eq!(rt; acceptor.prepare(&slot, low), promises(low, None));
