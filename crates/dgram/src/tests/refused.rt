@@ -3,114 +3,143 @@
 use super::cases::{CASES, datagram};
 use super::*;
 
+// No datagram begins with a datagram, or is the beginning of one.
+fn only_the_whole_is_one(rt: &impl Abort, alloc: Global, bytes: &mut Vec<u8>) -> Result<(), Fail> {
+    let malformed = Some(DgramFault::Malformed);
+    for end in 0..bytes.len() {
+        assert_eq!(rt; fault(alloc, 7, &bytes[..end]), malformed);
+    }
+    bytes.push(0)?;
+    assert_eq!(rt; fault(alloc, 7, bytes), malformed);
+    Ok(())
+}
+
 #[test]
 fn prefixes_and_longer_ones_are_malformed(rt: HostRuntime) -> Result<(), Fail> {
-    let alloc = rt.alloc();
     for case in &CASES {
-        let mut bytes = datagram(alloc, 7, case)?;
-        for end in 0..bytes.len() {
-            assert!(rt; matches!(decode(alloc, 7, &bytes[..end]), Err(DgramFault::Malformed)));
-        }
-        bytes.push(0)?;
-        assert!(rt; matches!(decode(alloc, 7, &bytes), Err(DgramFault::Malformed)));
+        let mut bytes = datagram(rt.alloc(), 7, *case)?;
+        only_the_whole_is_one(&rt, rt.alloc(), &mut bytes)?;
     }
     Ok(())
 }
 
-// Bytes that are no datagram of federation 7.
-static REFUSED: [(&str, DgramFault); 15] = [
-    (
+// Bytes in hex, and why they are no datagram of federation 7.
+struct Row(&'static str, DgramFault);
+
+static REFUSED: [Row; 17] = [
+    Row(
         "42500111000000000000000701016100000001",
         DgramFault::Malformed,
     ),
-    (
+    Row(
         "42500110000000000000000700016100000001000078",
         DgramFault::Malformed,
     ),
-    (
+    Row(
         "425001100000000000000007000161000000010000",
         DgramFault::Malformed,
     ),
-    (
+    Row(
         "42500106000000000000000740016100000001",
         DgramFault::Malformed,
     ),
-    (
+    Row(
         "425001020000000000000007400161000000010000000103",
         DgramFault::Malformed,
     ),
-    (
+    Row(
         "42500106000000000000000700016100000001",
         DgramFault::Malformed,
     ),
-    (
+    Row(
         "42500108000000000000000703016100000001",
         DgramFault::Malformed,
     ),
-    (
+    Row(
         "42500206000000000000000703016100000001a12fe49e32e9606d",
         DgramFault::NotOurs,
     ),
-    (
+    Row(
         "42500206000000000000000703016100000001",
         DgramFault::NotOurs,
     ),
-    (
+    Row(
         "42500101000000000000000701016100000001000000010100",
         DgramFault::Malformed,
     ),
-    (
+    Row(
         "4250010100000000000000070101610000000100000001",
         DgramFault::Malformed,
     ),
-    (
+    Row(
         "425001010000000000000007010161000000010000000001",
         DgramFault::Malformed,
     ),
-    (
+    Row(
         "425001010000000000000007010161000000010000000102",
         DgramFault::Malformed,
     ),
-    ("", DgramFault::Malformed),
-    (
+    Row("", DgramFault::Malformed),
+    Row(
         "425001010000000000000008010161000000010000000101",
         DgramFault::NotOurs,
     ),
+    Row("000000000000000000000000", DgramFault::NotOurs),
+    Row("0000000000000000000000", DgramFault::Malformed),
 ];
+
+fn is_refused(rt: &impl Abort, alloc: Global, row: &Row) -> Result<(), Fail> {
+    let bytes = hex::decode(alloc, row.0)?;
+    assert_eq!(rt; fault(alloc, 7, &bytes), Some(row.1), "{}", row.0);
+    Ok(())
+}
 
 #[test]
 fn other_bytes_are_refused(rt: HostRuntime) -> Result<(), Fail> {
-    let alloc = rt.alloc();
-    for (text, fault) in &REFUSED {
-        let bytes = hex::decode(alloc, *text)?;
-        assert_eq!(rt;
-            decode(alloc, 7, &bytes).err().map(|e| e.number()),
-            Some(fault.number())
-        );
+    for row in &REFUSED {
+        is_refused(&rt, rt.alloc(), row)?;
     }
+    Ok(())
+}
+
+// A reply to a query: its code, the last byte of its bag, whose others are 0, and whether it is one.
+struct Reply(u8, u8, bool);
+
+static REPLIES: [Reply; 4] = [
+    Reply(2, 0, true),
+    Reply(2, 1, false),
+    Reply(3, 0, false),
+    Reply(0, 1, true),
+];
+
+fn is_answered(rt: &impl Abort, alloc: Global, reply: &Reply) -> Result<(), Fail> {
+    let Reply(code, last, taken) = reply;
+    let mut bytes = hex::decode(alloc, "42500121000000000000000701016100000001")?;
+    bytes.push(*code)?;
+    bytes.extend_from_slice(&[0; 63])?;
+    bytes.push(*last)?;
+    assert_eq!(rt; fault(alloc, 7, &bytes).is_none(), *taken, "{code} {last}");
     Ok(())
 }
 
 #[test]
 fn bags_where_none_is_named_are_zeros(rt: HostRuntime) -> Result<(), Fail> {
-    let alloc = rt.alloc();
-    // A reply to a query with a code, and a bag of zeros but for its last byte.
-    for (code, last, taken) in [(2, 0, true), (2, 1, false), (3, 0, false), (0, 1, true)] {
-        let mut bytes = hex::decode(alloc, "42500121000000000000000701016100000001")?;
-        bytes.push(code)?;
-        bytes.extend_from_slice(&[0; 63])?;
-        bytes.push(last)?;
-        assert_eq!(rt; decode(alloc, 7, &bytes).is_ok(), taken, "{code} {last}");
+    for reply in &REPLIES {
+        is_answered(&rt, rt.alloc(), reply)?;
     }
     Ok(())
 }
 
+// The length of the path that this text is, if it is one.
+fn path_length(alloc: Global, text: &str) -> Result<Option<usize>, Fail> {
+    let path = FolderPath::new(String::from_str(alloc, text)?);
+    Ok(path.map(|path| path.as_str().len()))
+}
+
 #[test]
 fn paths_and_fault_numbers_have_ranges(rt: HostRuntime) -> Result<(), Fail> {
-    let alloc = rt.alloc();
-    assert!(rt; FolderPath::new(String::new(alloc)).is_none());
-    let path = FolderPath::new(String::from_str(alloc, "x")?).ok_or("a path")?;
-    assert_eq!(rt; path.as_str().len(), 1);
+    assert_eq!(rt; path_length(rt.alloc(), "")?, None);
+    assert_eq!(rt; path_length(rt.alloc(), "x")?, Some(1));
     assert!(rt; TreeFaultNo::new(0).is_none() && TreeFaultNo::new(7).is_none());
     assert_eq!(rt; TreeFaultNo::new(6).map(|f| f.number()), Some(6));
     assert!(rt; BagFaultNo::new(0).is_none() && BagFaultNo::new(15).is_none());
@@ -120,16 +149,7 @@ fn paths_and_fault_numbers_have_ranges(rt: HostRuntime) -> Result<(), Fail> {
 
 #[test]
 fn each_fault_has_its_number(rt: HostRuntime) {
-    let alloc = rt.alloc();
-    let not_ours = [0; 12];
-    let malformed = [0; 11];
-    assert_eq!(rt;
-        decode(alloc, 7, &not_ours).err().map(|e| e.number()),
-        Some(1)
-    );
-    assert_eq!(rt;
-        decode(alloc, 7, &malformed).err().map(|e| e.number()),
-        Some(2)
-    );
+    assert_eq!(rt; DgramFault::NotOurs.number(), 1);
+    assert_eq!(rt; DgramFault::Malformed.number(), 2);
     assert_eq!(rt; DgramFault::from(fields::FieldFault::Memory).number(), 3);
 }
