@@ -191,17 +191,12 @@ fn holds_the_vote(alloc: Global, cell: &MemoryCell) -> Result<bool, Fail> {
     Ok(cell.bytes() == bytes.as_slice())
 }
 
-fn commits(rt: &impl Abort, alloc: Global, book: &mut Book<MemoryCell>) -> Result<(), Fail> {
-    assert_eq!(rt; commit(alloc, book)?, None);
-    assert!(rt; are(book.records(), "RPV"));
-    Ok(())
-}
-
 #[test]
 fn a_record_is_committed(rt: HostRuntime) -> Result<(), Fail> {
     let alloc = rt.alloc();
     let mut book = opened(alloc, cell(alloc, JOURNAL)?)?;
-    commits(&rt, alloc, &mut book)?;
+    assert!(rt; commit(alloc, &mut book)?.is_none());
+    assert!(rt; are(book.records(), "RPV"));
     let cell = book.close();
     assert!(rt; holds_the_vote(alloc, &cell)?);
     assert!(rt; says(alloc, cell, "RPV", 40 + VOTE_SIZE)?);
@@ -224,11 +219,8 @@ fn committed_and_restarted(
     }
 }
 
-fn is_restarted(rt: &impl Abort, book: &Book<MemoryCell>) -> Result<(), Fail> {
-    assert!(rt; are(book.records(), "RPV"));
-    assert_eq!(rt; book.members(), Members::new(7, 3)?);
-    assert_eq!(rt; book.site(), SiteNo::new(1)?);
-    Ok(())
+fn is_of_site_1(book: &Book<MemoryCell>) -> Result<bool, Fail> {
+    Ok(book.members() == Members::new(7, 3)? && book.site() == SiteNo::new(1)?)
 }
 
 #[test]
@@ -236,7 +228,8 @@ fn a_book_outlives_a_restart(rt: HostRuntime) -> Result<(), Fail> {
     let alloc = rt.alloc();
     let book = opened(alloc, cell(alloc, JOURNAL)?)?;
     let book = committed_and_restarted(alloc, book, vote(alloc)?)?;
-    is_restarted(&rt, &book)?;
+    assert!(rt; are(book.records(), "RPV"));
+    assert!(rt; is_of_site_1(&book)?);
     let cell = book.close();
     assert_eq!(rt; cell.bytes().len(), 40 + VOTE_SIZE);
     append_is_atomic();
@@ -268,19 +261,22 @@ fn has_only(book: &Book<MemoryCell>, record: &Record) -> bool {
     book.records().len() == COMMITS
 }
 
-// The longest record goes again and again into one book, which then has all of them, and so has the
-// book that is opened after it.
+// Whether the longest record goes again and again into one book, which then has all of them, and so
+// has the book that is opened after it.
+fn is_filled(alloc: Global, longest: &Record) -> Result<bool, Fail> {
+    let mut book = opened(alloc, cell(alloc, "")?)?;
+    commit_often(alloc, &mut book, longest)?;
+    let has_all = has_only(&book, longest);
+    let cell = book.close();
+    let has_size = cell.bytes().len() == 13 + 277 * COMMITS;
+    let book = opened(alloc, cell)?;
+    Ok(has_all && has_size && has_only(&book, longest))
+}
+
 #[test]
 fn thousands_of_commits(rt: HostRuntime) -> Result<(), Fail> {
-    let alloc = rt.alloc();
-    let longest = longest(alloc)?;
-    let mut book = opened(alloc, cell(alloc, "")?)?;
-    commit_often(alloc, &mut book, &longest)?;
-    assert!(rt; has_only(&book, &longest));
-    let cell = book.close();
-    assert_eq!(rt; cell.bytes().len(), 13 + 277 * COMMITS);
-    let book = opened(alloc, cell)?;
-    assert!(rt; has_only(&book, &longest));
+    let longest = longest(rt.alloc())?;
+    assert!(rt; is_filled(rt.alloc(), &longest)?);
     Ok(())
 }
 
@@ -293,32 +289,24 @@ fn started(cell: MemoryCell, how: How) -> MemoryCell {
     cell
 }
 
-// A commit fails, and so does the next.
-fn fails(
-    rt: &impl Abort,
-    alloc: Global,
-    book: &mut Book<MemoryCell>,
-    fuse: Fuse,
-) -> Result<(), Fail> {
+// Whether a commit fails, and so does the next.
+fn fails(alloc: Global, book: &mut Book<MemoryCell>, fuse: Fuse) -> Result<bool, Fail> {
     book.set_fuse(Some(fuse));
-    assert_eq!(rt; commit(alloc, book)?, Some(CommitFault::Device));
-    assert!(rt; book.needs_opening());
-    assert_eq!(rt; commit(alloc, book)?, Some(CommitFault::NeedsOpen));
-    assert!(rt; are(book.records(), "RP"));
-    Ok(())
+    let fails = commit(alloc, book)? == Some(CommitFault::Device) && book.needs_opening();
+    let is_closed = commit(alloc, book)? == Some(CommitFault::NeedsOpen);
+    Ok(fails && is_closed && are(book.records(), "RP"))
 }
 
-// After a commit in which the fuse fires the vote is there, if all its bytes are kept, or nothing of
+// Whether a commit in which the fuse fires leaves the vote, if all its bytes are kept, or nothing of
 // it.
-fn is_atomic(rt: &impl Abort, alloc: Global, fuse: Fuse) -> Result<(), Fail> {
+fn is_atomic(alloc: Global, fuse: Fuse) -> Result<bool, Fail> {
     let mut book = opened(alloc, cell(alloc, JOURNAL)?)?;
-    fails(rt, alloc, &mut book, fuse)?;
+    let fails = fails(alloc, &mut book, fuse)?;
     let cell = started(book.close(), fuse.how);
-    assert_eq!(rt; cell.bytes().len().checked_sub(40), Some(fuse.kept));
-    let whole = fuse.kept == VOTE_SIZE;
-    let (want, size) = if whole { ("RPV", 118) } else { ("RP", 40) };
-    assert!(rt; says(alloc, cell, want, size)?, "{fuse:?}");
-    Ok(())
+    let is_kept = cell.bytes().len().checked_sub(40) == Some(fuse.kept);
+    let is_whole = fuse.kept == VOTE_SIZE;
+    let (want, size) = if is_whole { ("RPV", 118) } else { ("RP", 40) };
+    Ok(says(alloc, cell, want, size)? && fails && is_kept)
 }
 
 // Of each call of a commit that fails, with each number of bytes kept: the commit is atomic.
@@ -326,32 +314,12 @@ fn is_atomic(rt: &impl Abort, alloc: Global, fuse: Fuse) -> Result<(), Fail> {
 fn a_commit_that_fails_is_atomic(rt: HostRuntime) -> Result<(), Fail> {
     for kept in 0..=VOTE_SIZE {
         for call in 1..=2 {
-            let how = How::Fail;
-            is_atomic(&rt, rt.alloc(), Fuse { call, how, kept })?;
-            let how = How::Stop;
-            is_atomic(&rt, rt.alloc(), Fuse { call, how, kept })?;
+            for how in [How::Fail, How::Stop] {
+                let fuse = Fuse { call, how, kept };
+                assert!(rt; is_atomic(rt.alloc(), fuse)?, "{fuse:?}");
+            }
         }
     }
-    Ok(())
-}
-
-fn fails_in_its_sync(
-    rt: &impl Abort,
-    alloc: Global,
-    book: &mut Book<MemoryCell>,
-) -> Result<(), Fail> {
-    book.set_fuse(Some(Fuse {
-        call: 2,
-        how: How::Fail,
-        kept: 0,
-    }));
-    assert_eq!(rt; commit(alloc, book)?, Some(CommitFault::Device));
-    Ok(())
-}
-
-fn goes_on(rt: &impl Abort, alloc: Global, book: &mut Book<MemoryCell>) -> Result<(), Fail> {
-    assert!(rt; are(book.records(), "RP"));
-    assert_eq!(rt; commit(alloc, book)?, None);
     Ok(())
 }
 
@@ -359,21 +327,17 @@ fn goes_on(rt: &impl Abort, alloc: Global, book: &mut Book<MemoryCell>) -> Resul
 fn a_book_goes_on_after_a_failure(rt: HostRuntime) -> Result<(), Fail> {
     let alloc = rt.alloc();
     let mut book = opened(alloc, cell(alloc, JOURNAL)?)?;
-    fails_in_its_sync(&rt, alloc, &mut book)?;
-    let mut book = opened(alloc, book.close())?;
-    goes_on(&rt, alloc, &mut book)?;
-    assert!(rt; says(alloc, book.close(), "RPV", 40 + VOTE_SIZE)?);
-    Ok(())
-}
-
-fn commits_once(rt: &impl Abort, alloc: Global, book: &mut Book<MemoryCell>) -> Result<(), Fail> {
+    let how = How::Fail;
     book.set_fuse(Some(Fuse {
-        call: 3,
-        how: How::Stop,
-        kept: 7,
+        call: 2,
+        how,
+        kept: 0,
     }));
-    assert_eq!(rt; commit(alloc, book)?, None);
-    assert_eq!(rt; commit(alloc, book)?, Some(CommitFault::Device));
+    assert!(rt; commit(alloc, &mut book)? == Some(CommitFault::Device));
+    let mut book = opened(alloc, book.close())?;
+    assert!(rt; are(book.records(), "RP"));
+    assert!(rt; commit(alloc, &mut book)?.is_none());
+    assert!(rt; says(alloc, book.close(), "RPV", 40 + VOTE_SIZE)?);
     Ok(())
 }
 
@@ -382,7 +346,14 @@ fn commits_once(rt: &impl Abort, alloc: Global, book: &mut Book<MemoryCell>) -> 
 fn a_later_fuse_leaves_a_commit_alone(rt: HostRuntime) -> Result<(), Fail> {
     let alloc = rt.alloc();
     let mut book = opened(alloc, cell(alloc, JOURNAL)?)?;
-    commits_once(&rt, alloc, &mut book)?;
+    let how = How::Stop;
+    book.set_fuse(Some(Fuse {
+        call: 3,
+        how,
+        kept: 7,
+    }));
+    assert!(rt; commit(alloc, &mut book)?.is_none());
+    assert!(rt; commit(alloc, &mut book)? == Some(CommitFault::Device));
     let cell = started(book.close(), How::Stop);
     assert!(rt; says(alloc, cell, "RPV", 40 + VOTE_SIZE)?);
     Ok(())
@@ -479,14 +450,26 @@ fn an_opening_that_fails_loses_nothing(rt: HostRuntime) -> Result<(), Fail> {
     Ok(())
 }
 
+static COMMIT_FAULTS: [(CommitFault, u8); 3] = [
+    (CommitFault::Device, 1),
+    (CommitFault::Memory, 2),
+    (CommitFault::NeedsOpen, 3),
+];
+
+static OPEN_FAULTS: [(OpenFault, u8); 5] = [
+    (OpenFault::OtherFederation, 1),
+    (OpenFault::OtherSite, 2),
+    (OpenFault::Damaged(26), 3),
+    (OpenFault::Device, 4),
+    (OpenFault::Memory, 5),
+];
+
 #[test]
 fn faults_have_numbers(rt: HostRuntime) {
-    assert_eq!(rt; CommitFault::Device.number(), 1);
-    assert_eq!(rt; CommitFault::Memory.number(), 2);
-    assert_eq!(rt; CommitFault::NeedsOpen.number(), 3);
-    assert_eq!(rt; OpenFault::OtherFederation.number(), 1);
-    assert_eq!(rt; OpenFault::OtherSite.number(), 2);
-    assert_eq!(rt; OpenFault::Damaged(26).number(), 3);
-    assert_eq!(rt; OpenFault::Device.number(), 4);
-    assert_eq!(rt; OpenFault::Memory.number(), 5);
+    for (fault, number) in &COMMIT_FAULTS {
+        assert_eq!(rt; fault.number(), *number);
+    }
+    for (fault, number) in &OPEN_FAULTS {
+        assert_eq!(rt; fault.number(), *number);
+    }
 }
