@@ -6,7 +6,6 @@ use super::*;
 use std::alloc::{AllocError, Global};
 use std::os::unix::fs::symlink;
 use std::path::PathBuf;
-use std::process::Abort;
 use std::test::Fail;
 use std::{env, fs, process};
 
@@ -38,6 +37,10 @@ fn keeps<C: Cell>(cell: &mut C, alloc: Global, bytes: &[u8]) -> Result<bool, Cel
 
 fn fuse(call: usize, how: How, kept: usize) -> Option<Fuse> {
     Some(Fuse { call, how, kept })
+}
+
+fn is_device_fault(answer: Result<(), CellFault>) -> bool {
+    answer == Err(CellFault::Device)
 }
 
 // An append to a cell from which nothing is cut, which stays so.
@@ -96,24 +99,22 @@ static DONE: [Done; 4] = [
     Done(Kind::Sync, "abcd"),
 ];
 
-fn succeeds(rt: &impl Abort, alloc: Global, cell: &mut MemoryCell, row: &Done) -> Result<(), Fail>
+fn succeeds(alloc: Global, cell: &mut MemoryCell, row: &Done) -> Result<bool, CellFault>
     requires rest { (image_of cell.old).synced ≡ (image_of cell.old).newest }
     requires four { 4 ≤ length (image_of cell.old).seen }
 {
     let Done(kind, after) = row;
-    assert_eq!(rt; cell.fuse(), FuseState::Clear);
+    let was_clear = cell.fuse() == FuseState::Clear;
     call(cell, alloc, *kind)?;
-    assert_eq!(rt; cell.bytes(), after.as_bytes(), "after {kind:?}");
-    assert!(rt; keeps(cell, alloc, after.as_bytes())?, "after {kind:?}");
-    assert_eq!(rt; cell.failures(), 0);
-    Ok(())
+    let is_done = cell.bytes() == after.as_bytes();
+    Ok(keeps(cell, alloc, after.as_bytes())? && was_clear && is_done && cell.failures() == 0)
 }
 
 #[test]
 fn calls_that_succeed(rt: HostRuntime) -> Result<(), Fail> {
     for row in &DONE {
         let mut cell = new_cell(rt.alloc(), b"abcd")?;
-        succeeds(&rt, rt.alloc(), &mut cell, row)?;
+        assert!(rt; succeeds(rt.alloc(), &mut cell, row)?, "{:?}", row.0);
     }
     Ok(())
 }
@@ -133,27 +134,31 @@ static FAILED: [Failed; 8] = [
     Failed(Kind::Sync, 0, "abcd"),
 ];
 
-fn fails(rt: &impl Abort, alloc: Global, cell: &mut MemoryCell, row: &Failed, how: How)
+fn fails(alloc: Global, cell: &mut MemoryCell, row: &Failed, how: How) -> bool
     requires rest { (image_of cell.old).synced ≡ (image_of cell.old).newest }
     requires four { 4 ≤ length (image_of cell.old).seen }
 {
     let Failed(kind, kept, after) = row;
     cell.set_fuse(fuse(1, how, *kept));
-    assert_eq!(rt; call(cell, alloc, *kind), Err(CellFault::Device));
-    assert_eq!(rt; cell.bytes(), after.as_bytes(), "after {kind:?} {kept}");
-    assert_eq!(rt; cell.failures(), 1);
-    let goes_on = how == How::Fail;
-    assert_eq!(rt; cell.load(alloc).is_ok(), goes_on, "after {kind:?} {kept}");
-    assert_eq!(rt; cell.bytes(), after.as_bytes(), "after {kind:?} {kept}");
+    let has_failed = is_device_fault(call(cell, alloc, *kind));
+    let is_counted = cell.failures() == 1;
+    let has_part = cell.bytes() == after.as_bytes();
+    let goes_on = cell.load(alloc).is_ok() == (how == How::Fail);
+    has_failed && is_counted && has_part && goes_on && cell.bytes() == after.as_bytes()
+}
+
+// Whether the call of the row fails so on a cell of its own.
+fn fails_anew(alloc: Global, row: &Failed, how: How) -> Result<bool, AllocError> {
+    let mut cell = new_cell(alloc, b"abcd")?;
+    Ok(fails(alloc, &mut cell, row, how))
 }
 
 #[test]
 fn a_failed_call_keeps_a_part(rt: HostRuntime) -> Result<(), Fail> {
     for row in &FAILED {
-        let mut cell = new_cell(rt.alloc(), b"abcd")?;
-        fails(&rt, rt.alloc(), &mut cell, row, How::Fail);
-        let mut cell = new_cell(rt.alloc(), b"abcd")?;
-        fails(&rt, rt.alloc(), &mut cell, row, How::Stop);
+        let fails = fails_anew(rt.alloc(), row, How::Fail)?;
+        let stops = fails_anew(rt.alloc(), row, How::Stop)?;
+        assert!(rt; fails && stops, "{:?} {}", row.0, row.1);
     }
     Ok(())
 }
@@ -163,119 +168,113 @@ struct Part(usize, &'static str);
 
 static PARTS: [Part; 3] = [Part(0, "ab"), Part(1, "abc"), Part(9, "abcd")];
 
-fn keeps_a_part(
-    rt: &impl Abort,
-    alloc: Global,
-    cell: &mut MemoryCell,
-    part: &Part,
-) -> Result<(), Fail>
+fn keeps_a_part(alloc: Global, cell: &mut MemoryCell, part: &Part) -> Result<bool, CellFault>
     requires newest { length (image_of cell.old).synced ≤ length (image_of cell.old).newest }
     requires seen { length (image_of cell.old).synced ≤ length (image_of cell.old).seen }
 {
     let Part(kept, after) = part;
+    let after = after.as_bytes();
     push(cell, b"cd")?;
     cell.set_fuse(fuse(1, How::Fail, *kept));
-    assert!(rt; fails_to_read(cell, alloc));
-    assert_eq!(rt; cell.bytes(), after.as_bytes());
+    let is_loaded = fails_to_read(cell, alloc) && cell.bytes() == after;
     cell.set_fuse(fuse(1, How::Fail, *kept));
-    assert!(rt; keep(cell).is_err());
-    assert_eq!(rt; cell.bytes(), after.as_bytes());
+    let is_synced = keep(cell).is_err() && cell.bytes() == after;
     // The next sync keeps what a read gives.
     keep(cell)?;
     cell.set_fuse(fuse(1, How::Fail, 0));
-    assert!(rt; fails_to_read(cell, alloc));
-    assert_eq!(rt; cell.bytes(), after.as_bytes());
-    Ok(())
+    Ok(is_loaded && is_synced && fails_to_read(cell, alloc) && cell.bytes() == after)
 }
 
 #[test]
 fn a_failed_load_or_sync_keeps_a_part(rt: HostRuntime) -> Result<(), Fail> {
     for part in &PARTS {
         let mut cell = new_cell(rt.alloc(), b"ab")?;
-        keeps_a_part(&rt, rt.alloc(), &mut cell, part)?;
+        assert!(rt; keeps_a_part(rt.alloc(), &mut cell, part)?, "{}", part.0);
     }
     Ok(())
 }
 
-fn stops_and_restarts(rt: &impl Abort, alloc: Global, cell: &mut MemoryCell) -> Result<(), Fail>
+// Whether a cut stops the cell, and with it each call.
+fn stops(alloc: Global, cell: &mut MemoryCell) -> bool
     requires { (image_of cell.old).synced ≡ (image_of cell.old).newest }
 {
     cell.set_fuse(fuse(1, How::Stop, 1));
-    assert_eq!(rt; cell.cut(0), Err(CellFault::Device));
-    assert_eq!(rt; cell.load(alloc).is_ok(), false);
-    assert_eq!(rt; cell.sync(), Err(CellFault::Device));
-    assert_eq!(rt; cell.bytes(), b"a".as_slice());
-    // No fuse starts it again.
+    let is_cut = is_device_fault(cell.cut(0));
+    let is_stopped = cell.load(alloc).is_err() && is_device_fault(cell.sync());
+    is_cut && is_stopped && cell.bytes() == b"a".as_slice()
+}
+
+// Whether no fuse starts it again.
+fn stays_stopped(cell: &mut MemoryCell) -> bool {
     cell.set_fuse(None);
     cell.set_fuse(fuse(7, How::Fail, 1));
-    assert_eq!(rt; cell.fuse(), FuseState::Stopped);
+    cell.fuse() == FuseState::Stopped
+}
+
+fn goes_on(cell: &mut MemoryCell) -> Result<bool, CellFault> {
     cell.restart();
-    assert_eq!(rt; cell.fuse(), FuseState::Clear);
-    assert_eq!(rt; cell.bytes(), b"a".as_slice());
+    let is_clear = cell.fuse() == FuseState::Clear && cell.bytes() == b"a".as_slice();
     cell.cut(0)?;
-    assert_eq!(rt; cell.bytes(), b"".as_slice());
-    assert_eq!(rt; cell.failures(), 3);
-    Ok(())
+    Ok(is_clear && cell.bytes() == b"".as_slice() && cell.failures() == 3)
 }
 
 #[test]
 fn a_stopped_cell_is_restarted(rt: HostRuntime) -> Result<(), Fail> {
     let mut cell = new_cell(rt.alloc(), b"abcd")?;
-    stops_and_restarts(&rt, rt.alloc(), &mut cell)
+    assert!(rt; stops(rt.alloc(), &mut cell));
+    assert!(rt; stays_stopped(&mut cell));
+    assert!(rt; goes_on(&mut cell)?);
+    Ok(())
 }
 
-fn restarts_with_what_is_seen(
-    rt: &impl Abort,
-    alloc: Global,
-    cell: &mut MemoryCell,
-) -> Result<(), Fail>
+fn keeps_what_is_seen(alloc: Global, cell: &mut MemoryCell) -> Result<bool, CellFault>
     requires newest { length (image_of cell.old).synced ≤ length (image_of cell.old).newest }
     requires seen { length (image_of cell.old).synced ≤ length (image_of cell.old).seen }
 {
     cell.set_fuse(fuse(1, How::Stop, 1));
-    assert_eq!(rt; push(cell, b"cd"), Err(CellFault::Device));
-    assert_eq!(rt; push(cell, b"x"), Err(CellFault::Device));
-    assert_eq!(rt; keep(cell), Err(CellFault::Device));
-    assert_eq!(rt; cell.bytes(), b"abc".as_slice());
-    assert_eq!(rt; cell.failures(), 3);
+    let is_stopped = is_device_fault(push(cell, b"cd"));
+    let stays_stopped = is_device_fault(push(cell, b"x"));
+    let is_not_synced = is_device_fault(keep(cell));
+    let has_part = cell.bytes() == b"abc".as_slice() && cell.failures() == 3;
     cell.restart();
     push(cell, b"de")?;
     cell.set_fuse(fuse(1, How::Fail, 0));
-    assert!(rt; fails_to_read(cell, alloc));
-    assert_eq!(rt; cell.bytes(), b"abc".as_slice());
-    Ok(())
+    let is_kept = fails_to_read(cell, alloc) && cell.bytes() == b"abc".as_slice();
+    Ok(is_stopped && stays_stopped && is_not_synced && has_part && is_kept)
 }
 
 #[test]
 fn a_restart_keeps_what_is_seen(rt: HostRuntime) -> Result<(), Fail> {
     let mut cell = new_cell(rt.alloc(), b"ab")?;
-    restarts_with_what_is_seen(&rt, rt.alloc(), &mut cell)
+    assert!(rt; keeps_what_is_seen(rt.alloc(), &mut cell)?);
+    Ok(())
 }
 
-fn appends_go_on(rt: &impl Abort, cell: &mut MemoryCell) -> Result<(), Fail>
+fn appends_go_on(cell: &mut MemoryCell) -> Result<bool, CellFault>
     requires newest { length (image_of cell.old).synced ≤ length (image_of cell.old).newest }
     requires seen { length (image_of cell.old).synced ≤ length (image_of cell.old).seen }
 {
     cell.set_fuse(fuse(1, How::Fail, 1));
-    assert_eq!(rt; push(cell, b"cd"), Err(CellFault::Device));
+    let first_fails = is_device_fault(push(cell, b"cd"));
     push(cell, b"ef")?;
-    assert_eq!(rt; cell.bytes(), b"abcef".as_slice());
+    let has_first = cell.bytes() == b"abcef".as_slice();
     cell.set_fuse(fuse(1, How::Fail, 2));
-    assert_eq!(rt; push(cell, b"gh"), Err(CellFault::Device));
-    assert_eq!(rt; cell.bytes(), b"abce".as_slice());
+    let second_fails = is_device_fault(push(cell, b"gh"));
+    let has_second = cell.bytes() == b"abce".as_slice();
     keep(cell)?;
     push(cell, b"!")?;
-    assert_eq!(rt; cell.bytes(), b"abce!".as_slice());
-    Ok(())
+    let has_third = cell.bytes() == b"abce!".as_slice();
+    Ok(first_fails && has_first && second_fails && has_second && has_third)
 }
 
 #[test]
 fn an_append_after_a_failed_one(rt: HostRuntime) -> Result<(), Fail> {
     let mut cell = new_cell(rt.alloc(), b"ab")?;
-    appends_go_on(&rt, &mut cell)
+    assert!(rt; appends_go_on(&mut cell)?);
+    Ok(())
 }
 
-fn fires_twice(rt: &impl Abort, cell: &mut MemoryCell) -> Result<(), Fail>
+fn fires_twice(cell: &mut MemoryCell) -> Result<bool, CellFault>
     requires newest { length (image_of cell.old).synced ≤ length (image_of cell.old).newest }
     requires seen { length (image_of cell.old).synced ≤ length (image_of cell.old).seen }
 {
@@ -283,25 +282,23 @@ fn fires_twice(rt: &impl Abort, cell: &mut MemoryCell) -> Result<(), Fail>
     cell.set_fuse(fuse(3, How::Fail, 0));
     push(cell, b"b")?;
     keep(cell)?;
-    assert_eq!(rt; push(cell, b"c"), Err(CellFault::Device));
-    assert_eq!(rt; cell.fuse(), FuseState::Clear);
+    let first_fires = is_device_fault(push(cell, b"c")) && cell.fuse() == FuseState::Clear;
     push(cell, b"d")?;
     // The second is set before it fires, and counts from then on.
     cell.set_fuse(fuse(2, How::Stop, 0));
     push(cell, b"e")?;
     cell.set_fuse(fuse(2, How::Stop, 9));
     push(cell, b"f")?;
-    assert_eq!(rt; push(cell, b"g"), Err(CellFault::Device));
-    assert_eq!(rt; cell.fuse(), FuseState::Stopped);
-    assert_eq!(rt; cell.bytes(), b"abdefg".as_slice());
-    assert_eq!(rt; cell.failures(), 2);
-    Ok(())
+    let second_fires = is_device_fault(push(cell, b"g")) && cell.fuse() == FuseState::Stopped;
+    let has_rest = cell.bytes() == b"abdefg".as_slice() && cell.failures() == 2;
+    Ok(first_fires && second_fires && has_rest)
 }
 
 #[test]
 fn two_fuses(rt: HostRuntime) -> Result<(), Fail> {
     let mut cell = new_cell(rt.alloc(), b"")?;
-    fires_twice(&rt, &mut cell)
+    assert!(rt; fires_twice(&mut cell)?);
+    Ok(())
 }
 
 #[test]
