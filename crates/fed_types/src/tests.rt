@@ -115,19 +115,29 @@ static MEMBER_ROWS: [MemberRow; 4] = [
     MemberRow(63, false),
 ];
 
+fn count_fault(count: u8) -> Option<TypeFault> {
+    Members::new(7, count).err()
+}
+
+fn has_member(members: &Members, number: u8) -> Result<bool, TypeFault> {
+    Ok(members.has(SiteNo::new(number)?))
+}
+
 #[test]
 fn memberships(rt: HostRuntime) -> Result<(), Fail> {
     for count in [0, 64, 255] {
-        assert_eq!(rt; Members::new(7, count).err(), Some(TypeFault::BadCount));
-    }
-    let members = Members::new(7, 3)?;
-    assert_eq!(rt; members.federation(), 7);
-    assert_eq!(rt; members.count(), 3);
-    for MemberRow(number, want) in &MEMBER_ROWS {
-        assert_eq!(rt; members.has(SiteNo::new(*number)?), *want, "site {number}");
+        assert!(rt;
+            count_fault(count) == Some(TypeFault::BadCount),
+            "count {count}"
+        );
     }
     assert!(rt; Members::new(u64::MAX, 1).is_ok());
     assert!(rt; Members::new(0, 63).is_ok());
+    let members = Members::new(7, 3)?;
+    assert!(rt; members.federation() == 7 && members.count() == 3);
+    for MemberRow(number, want) in &MEMBER_ROWS {
+        assert!(rt; has_member(&members, *number)? == *want, "site {number}");
+    }
     Ok(())
 }
 
@@ -156,68 +166,91 @@ static WEIGHT_ROWS: [WeightRow; 5] = [
     WeightRow(63, 0),
 ];
 
+fn weights_fault(weights: &[u8]) -> Option<TypeFault> {
+    Members::weighted(7, weights).err()
+}
+
 #[test]
-fn weights(rt: HostRuntime) -> Result<(), Fail> {
+fn weights_have_ranges(rt: HostRuntime) {
     for WeightsRow(weights, want) in &WEIGHTS_ROWS {
-        let fault = Members::weighted(7, *weights).err();
-        assert_eq!(rt; fault, *want, "{weights:?}");
+        assert!(rt; weights_fault(*weights) == *want, "{weights:?}");
     }
+}
+
+fn weight_of(members: &Members, number: u8) -> Result<u8, TypeFault> {
+    Ok(members.weight(SiteNo::new(number)?))
+}
+
+#[test]
+fn weights_are_kept(rt: HostRuntime) -> Result<(), Fail> {
     let members = Members::weighted(7, &[2, 1, 255])?;
     members_are_well_formed(&members);
-    assert_eq!(rt; members.federation(), 7);
-    assert_eq!(rt; members.count(), 3);
-    assert_eq!(rt; members.total_weight(), 258);
+    assert!(rt; members.federation() == 7 && members.count() == 3);
+    assert!(rt; members.total_weight() == 258);
     for WeightRow(number, want) in &WEIGHT_ROWS {
-        assert_eq!(rt;
-            members.weight(SiteNo::new(*number)?),
-            *want,
-            "site {number}"
-        );
+        assert!(rt; weight_of(&members, *number)? == *want, "site {number}");
     }
-    assert!(rt; Members::weighted(7, &[1, 1, 1])? == Members::new(7, 3)?);
-    assert!(rt; members != Members::weighted(7, &[2, 1])?);
-    assert!(rt; members != Members::weighted(8, &[2, 1, 255])?);
     Ok(())
 }
 
-// The round and the site of a ballot.
-struct BallotRow(u32, u8);
+fn are_members(members: &Members, federation: u64, weights: &[u8]) -> Result<bool, TypeFault> {
+    Ok(*members == Members::weighted(federation, weights)?)
+}
+
+#[test]
+fn members_are_compared_by_federation_and_weights(rt: HostRuntime) -> Result<(), Fail> {
+    assert!(rt; are_members(&Members::new(7, 3)?, 7, &[1, 1, 1])?);
+    let members = Members::weighted(7, &[2, 1, 255])?;
+    assert!(rt; !are_members(&members, 7, &[2, 1])?);
+    assert!(rt; !are_members(&members, 8, &[2, 1, 255])?);
+    Ok(())
+}
+
+// The place of a ballot in their order, its round and its site.
+struct BallotRow(u8, u32, u8);
 
 static ASCENDING: [BallotRow; 7] = [
-    BallotRow(1, 1),
-    BallotRow(1, 2),
-    BallotRow(1, 63),
-    BallotRow(2, 1),
-    BallotRow(2, 3),
-    BallotRow(u32::MAX, 1),
-    BallotRow(u32::MAX, 2),
+    BallotRow(0, 1, 1),
+    BallotRow(1, 1, 2),
+    BallotRow(2, 1, 63),
+    BallotRow(3, 2, 1),
+    BallotRow(4, 2, 3),
+    BallotRow(5, u32::MAX, 1),
+    BallotRow(6, u32::MAX, 2),
 ];
 
 fn ballot_of(row: &BallotRow) -> Result<Ballot, TypeFault> {
-    Ballot::new(row.0, SiteNo::new(row.1)?)
+    Ballot::new(row.1, SiteNo::new(row.2)?)
 }
 
-// The ballots at these places are ordered as their places.
-fn are_ordered(rt: &impl Abort, a: Ballot, i: usize, b: Ballot, j: usize) {
-    assert_eq!(rt; a < b, i < j, "{a:?} {b:?}");
-    assert_eq!(rt; is_below(a, b), i < j);
-    assert_eq!(rt; is_above(a, b), i > j);
-    assert_eq!(rt; same_ballot(a, b), i == j);
-    assert_eq!(rt; a.cmp(&b), i.cmp(&j));
+fn has_its_parts(row: &BallotRow) -> Result<bool, TypeFault> {
+    let ballot = ballot_of(row)?;
+    Ok(ballot.round() == row.1 && ballot.site().number() == row.2)
+}
+
+fn is_compared(a: Ballot, b: Ballot, i: u8, j: u8) -> bool {
+    (a < b) == (i < j)
+        && is_below(a, b) == (i < j)
+        && is_above(a, b) == (i > j)
+        && same_ballot(a, b) == (i == j)
+        && a.cmp(&b) == i.cmp(&j)
+}
+
+// Whether the ballots are ordered as their places.
+fn are_ordered(low: &BallotRow, high: &BallotRow) -> Result<bool, TypeFault> {
+    Ok(is_compared(ballot_of(low)?, ballot_of(high)?, low.0, high.0))
 }
 
 #[test]
 fn ballots_by_round_then_site(rt: HostRuntime) -> Result<(), Fail> {
-    let fault = Ballot::new(0, SiteNo::new(1)?).err();
-    assert_eq!(rt; fault, Some(TypeFault::ZeroRound));
-    for (i, low) in ASCENDING.iter().enumerate() {
-        let a = ballot_of(low)?;
-        assert_eq!(rt; a.round(), low.0);
-        assert_eq!(rt; a.site().number(), low.1);
-        for (j, high) in ASCENDING.iter().enumerate() {
-            are_ordered(&rt, a, i, ballot_of(high)?, j);
+    for low in &ASCENDING {
+        assert!(rt; has_its_parts(low)?, "place {}", low.0);
+        for high in &ASCENDING {
+            assert!(rt; are_ordered(low, high)?, "places {} {}", low.0, high.0);
         }
     }
+    let fault = Ballot::new(0, SiteNo::new(1)?).err();
+    assert!(rt; fault == Some(TypeFault::ZeroRound));
     Ok(())
 }
 
@@ -327,15 +360,25 @@ static VOTER_ROWS: [VoterRow; 4] = [
     VoterRow(63, true),
 ];
 
+fn is_majority(count: u8, numbers: &[u8]) -> Result<bool, TypeFault> {
+    Ok(voters_of(numbers)?.is_quorum(&Members::new(7, count)?))
+}
+
+fn has_voter(voters: &Voters, number: u8) -> Result<bool, TypeFault> {
+    Ok(voters.has(SiteNo::new(number)?))
+}
+
 #[test]
 fn quorums_are_more_than_half(rt: HostRuntime) -> Result<(), Fail> {
     for Majority(count, numbers, want) in &MAJORITIES {
-        let is_quorum = voters_of(*numbers)?.is_quorum(&Members::new(7, *count)?);
-        assert_eq!(rt; is_quorum, *want, "{numbers:?} of {count}");
+        assert!(rt;
+            is_majority(*count, *numbers)? == *want,
+            "{numbers:?} of {count}"
+        );
     }
     let voters = voters_of(&[3, 63])?;
     for VoterRow(number, want) in &VOTER_ROWS {
-        assert_eq!(rt; voters.has(SiteNo::new(*number)?), *want, "site {number}");
+        assert!(rt; has_voter(&voters, *number)? == *want, "site {number}");
     }
     Ok(())
 }
@@ -369,11 +412,17 @@ fn most_are_a_quorum(rt: &impl Abort) -> Result<(), Fail> {
     Ok(())
 }
 
+fn is_heavy(weights: &[u8], numbers: &[u8]) -> Result<bool, TypeFault> {
+    Ok(voters_of(numbers)?.is_quorum(&Members::weighted(7, weights)?))
+}
+
 #[test]
 fn quorums_have_more_than_half_of_the_weight(rt: HostRuntime) -> Result<(), Fail> {
     for Weighted(weights, numbers, want) in &WEIGHTED {
-        let is_quorum = voters_of(*numbers)?.is_quorum(&Members::weighted(7, *weights)?);
-        assert_eq!(rt; is_quorum, *want, "{numbers:?} of {weights:?}");
+        assert!(rt;
+            is_heavy(*weights, *numbers)? == *want,
+            "{numbers:?} of {weights:?}"
+        );
     }
     most_are_a_quorum(&rt)
 }
