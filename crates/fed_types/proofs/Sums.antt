@@ -14,13 +14,12 @@ unfolding sites_to
 sum_none f = refl
 
 -- one site more
-pub sum_next : (f : ℕ → ℕ) (n a b : ℕ) → 1 ≤ n → a ≡ sum_by f (sites_to (n - 1)) → b ≡ f n
-    → a + b ≡ sum_by f (sites_to n)
+pub sum_next : (f : ℕ → ℕ) (n a b : ℕ) → a ≡ sum_by f (sites_to n) → b ≡ f (suc n)
+    → a + b ≡ sum_by f (sites_to (n + 1))
 unfolding sites_to
-sum_next f zero a b low before is = absurd (omega arith)
-sum_next f (suc n) a b low before is =
-    let same : suc n - 1 ≡ n = omega arith in
-    rw (before, is, same) (sym (sum_by_push f (sites_to n) (suc n)))
+sum_next f n a b before is =
+    let more : n + 1 ≡ suc n = omega arith in
+    rw (more, before, is) (sym (sum_by_push f (sites_to n) (suc n)))
 
 -- ---- the sum over those sites that pass a test
 abbrev pub among : (ℕ → ℕ) → (ℕ → Bool) → ℕ → ℕ
