@@ -30,15 +30,15 @@ known_in (Some (rows.Heard votes)) = None
 abbrev pub Votes : Type 0
 Votes = List (Vote × List ℕ)
 
+-- those of a row, which has them where one was heard of
+abbrev pub votes_in : Option (Box Votes Global) → Votes
+votes_in None = []
+votes_in (Some votes) = box_value votes
+
 -- the sites counted for a vote
 abbrev pub voters_or_none : Option (List ℕ) → List ℕ
 voters_or_none None = []
 voters_or_none (Some voters) = voters
-
--- those of a row, where one was heard of
-abbrev pub votes_in : Option (Box Votes Global) → Votes
-votes_in None = []
-votes_in (Some votes) = box_value votes
 
 abbrev pub voters_for_vote : Votes → Vote → List ℕ
 voters_for_vote votes vote = voters_or_none (lookup (same_vote vote) votes)

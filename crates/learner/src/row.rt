@@ -12,8 +12,8 @@ use std::alloc::{AllocError, Global};
 pub(crate) enum Row {
     /// This bag is known; votes aren't counted any more.
     Known(BagId),
-    /// No bag is known; the votes that were heard of, if one was. They are boxed, so that a slot
-    /// that was only asked about takes a few words.
+    /// No bag is known; the votes that were heard of, if one was. They are boxed, so that the row of
+    /// a slot that was only asked about is no larger than that of a known bag.
     Heard(Option<Box<Votes>>),
 }
 

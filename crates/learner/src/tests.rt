@@ -86,18 +86,18 @@ fn is_right<Q: Quorums + Drop>(
     }
 }
 
-// The number of the first step, each for a version, that gives something else than it should.
-fn first_wrong<Q: Quorums + Drop>(
+// Takes the steps, each for a version: each gives what it should.
+fn all_right<Q: Quorums + Drop>(
     alloc: Global,
     learner: &mut Learner<Q>,
     steps: &[(u32, Step)],
-) -> Result<Option<usize>, Fail> {
+) -> Result<(), Fail> {
     for (number, (version, step)) in steps.iter().enumerate() {
         if !is_right(alloc, learner, &slot(alloc, *version)?, *step)? {
-            return Ok(Some(number));
+            return Err(Fail::new(format_args!("step {number}")));
         }
     }
-    Ok(None)
+    Ok(())
 }
 
 const THREE_OF_FOUR: [(u32, Step); 19] = [
@@ -126,9 +126,7 @@ const THREE_OF_FOUR: [(u32, Step); 19] = [
 fn three_of_four_in_one_ballot(rt: HostRuntime) -> Result<(), Fail> {
     let alloc = rt.alloc();
     let mut learner = Learner::new(alloc, Members::new(7, 4)?);
-    let wrong = first_wrong(alloc, &mut learner, &THREE_OF_FOUR)?;
-    assert!(rt; wrong.is_none(), "step {wrong:?}");
-    Ok(())
+    all_right(alloc, &mut learner, &THREE_OF_FOUR)
 }
 
 // The votes of a slot for other bags, and in other ballots, each count for themselves.
@@ -150,9 +148,7 @@ const MANY_VOTES: [(u32, Step); 11] = [
 fn votes_are_apart(rt: HostRuntime) -> Result<(), Fail> {
     let alloc = rt.alloc();
     let mut learner = Learner::new(alloc, Members::new(7, 4)?);
-    let wrong = first_wrong(alloc, &mut learner, &MANY_VOTES)?;
-    assert!(rt; wrong.is_none(), "step {wrong:?}");
-    Ok(())
+    all_right(alloc, &mut learner, &MANY_VOTES)
 }
 
 const BELIEVED: [(u32, Step); 8] = [
@@ -170,9 +166,7 @@ const BELIEVED: [(u32, Step); 8] = [
 fn a_site_that_knows_is_believed(rt: HostRuntime) -> Result<(), Fail> {
     let alloc = rt.alloc();
     let mut learner = Learner::new(alloc, Members::new(7, 3)?);
-    let wrong = first_wrong(alloc, &mut learner, &BELIEVED)?;
-    assert!(rt; wrong.is_none(), "step {wrong:?}");
-    Ok(())
+    all_right(alloc, &mut learner, &BELIEVED)
 }
 
 // Of weights 2, 1, 1 sites 2 and 3 have exactly half.
@@ -186,9 +180,7 @@ const WEIGHTS: [(u32, Step); 3] = [
 fn weights_count(rt: HostRuntime) -> Result<(), Fail> {
     let alloc = rt.alloc();
     let mut learner = Learner::new(alloc, Members::weighted(7, &[2, 1, 1])?);
-    let wrong = first_wrong(alloc, &mut learner, &WEIGHTS)?;
-    assert!(rt; wrong.is_none(), "step {wrong:?}");
-    Ok(())
+    all_right(alloc, &mut learner, &WEIGHTS)
 }
 
 const BOTH_MEMBERS: [(u32, Step); 3] = [
@@ -205,7 +197,5 @@ fn all_members_are_the_only_quorum(rt: HostRuntime) -> Result<(), Fail> {
         second: SiteNo::new(3)?,
     };
     let mut learner = Learner::new(alloc, members);
-    let wrong = first_wrong(alloc, &mut learner, &BOTH_MEMBERS)?;
-    assert!(rt; wrong.is_none(), "step {wrong:?}");
-    Ok(())
+    all_right(alloc, &mut learner, &BOTH_MEMBERS)
 }
