@@ -82,24 +82,24 @@ fn vote(voted: Option<Voted>) -> Result<Option<Vote>, Fail> {
     Ok(Some(Vote { ballot, bag }))
 }
 
-// The number of the first step that gives something else than it should.
-fn first_wrong<Q: Quorums + Drop>(
+// Takes the steps: each gives what it should.
+fn all_right<Q: Quorums + Drop>(
     alloc: Global,
     proposer: &mut Proposer<Q>,
     steps: &[Step],
-) -> Result<Option<usize>, Fail> {
+) -> Result<(), Fail> {
     for (number, step) in steps.iter().enumerate() {
         if !is_right(alloc, proposer, *step)? {
-            return Ok(Some(number));
+            return Err(Fail::new(format_args!("step {number}")));
         }
     }
-    Ok(None)
+    Ok(())
 }
 
-// The steps of a proposer of members of these weights.
-fn first_wrong_of(alloc: Global, weights: &[u8], steps: &[Step]) -> Result<Option<usize>, Fail> {
+// Those of a proposer of members of these weights.
+fn all_right_of(alloc: Global, weights: &[u8], steps: &[Step]) -> Result<(), Fail> {
     let mut proposer = site_1(alloc, weights)?;
-    first_wrong(alloc, &mut proposer, steps)
+    all_right(alloc, &mut proposer, steps)
 }
 
 const ONE_OF_THREE: [Step; 14] = [
@@ -121,9 +121,7 @@ const ONE_OF_THREE: [Step; 14] = [
 
 #[test]
 fn one_of_three(rt: HostRuntime) -> Result<(), Fail> {
-    let wrong = first_wrong_of(rt.alloc(), &[1; 3], &ONE_OF_THREE)?;
-    assert!(rt; wrong.is_none(), "step {wrong:?}");
-    Ok(())
+    all_right_of(rt.alloc(), &[1; 3], &ONE_OF_THREE)
 }
 
 const ITS_OWN_BAG: [Step; 6] = [
@@ -137,9 +135,7 @@ const ITS_OWN_BAG: [Step; 6] = [
 
 #[test]
 fn its_own_bag_where_no_vote_is_named(rt: HostRuntime) -> Result<(), Fail> {
-    let wrong = first_wrong_of(rt.alloc(), &[1; 4], &ITS_OWN_BAG)?;
-    assert!(rt; wrong.is_none(), "step {wrong:?}");
-    Ok(())
+    all_right_of(rt.alloc(), &[1; 4], &ITS_OWN_BAG)
 }
 
 const WEIGHTS: [Step; 5] = [
@@ -152,9 +148,7 @@ const WEIGHTS: [Step; 5] = [
 
 #[test]
 fn weights_count(rt: HostRuntime) -> Result<(), Fail> {
-    let wrong = first_wrong_of(rt.alloc(), &[1, 1, 3], &WEIGHTS)?;
-    assert!(rt; wrong.is_none(), "step {wrong:?}");
-    Ok(())
+    all_right_of(rt.alloc(), &[1, 1, 3], &WEIGHTS)
 }
 
 const FORGED: [Step; 6] = [
@@ -168,9 +162,7 @@ const FORGED: [Step; 6] = [
 
 #[test]
 fn a_promise_before_the_ballot_was_issued_never_counts(rt: HostRuntime) -> Result<(), Fail> {
-    let wrong = first_wrong_of(rt.alloc(), &[1; 3], &FORGED)?;
-    assert!(rt; wrong.is_none(), "step {wrong:?}");
-    Ok(())
+    all_right_of(rt.alloc(), &[1; 3], &FORGED)
 }
 
 const WAITING: [Step; 10] = [
@@ -189,9 +181,7 @@ const WAITING: [Step; 10] = [
 
 #[test]
 fn what_waits_is_forgotten_with_its_ballot(rt: HostRuntime) -> Result<(), Fail> {
-    let wrong = first_wrong_of(rt.alloc(), &[1; 3], &WAITING)?;
-    assert!(rt; wrong.is_none(), "step {wrong:?}");
-    Ok(())
+    all_right_of(rt.alloc(), &[1; 3], &WAITING)
 }
 
 const NOT_BEGUN: [Step; 5] = [
@@ -204,9 +194,7 @@ const NOT_BEGUN: [Step; 5] = [
 
 #[test]
 fn a_round_that_was_not_begun_is_used(rt: HostRuntime) -> Result<(), Fail> {
-    let wrong = first_wrong_of(rt.alloc(), &[1], &NOT_BEGUN)?;
-    assert!(rt; wrong.is_none(), "step {wrong:?}");
-    Ok(())
+    all_right_of(rt.alloc(), &[1], &NOT_BEGUN)
 }
 
 // Three members, whose only quorum is all of them.
@@ -256,7 +244,5 @@ fn all_members(rt: HostRuntime) -> Result<(), Fail> {
         third,
     };
     let mut proposer = Proposer::new(alloc, members, first);
-    let wrong = first_wrong(alloc, &mut proposer, &ALL_MEMBERS)?;
-    assert!(rt; wrong.is_none(), "step {wrong:?}");
-    Ok(())
+    all_right(alloc, &mut proposer, &ALL_MEMBERS)
 }
