@@ -1,0 +1,5 @@
+pub mod Outcomes
+pub mod Deposited
+pub mod Heard
+pub mod Noted
+pub mod Examples
