@@ -1,5 +1,5 @@
 -- The deposits of a few records, computed.
-use Rattle.std.proofs.Common.{◌≡◌, ℕ, List, [], ◌∷◌, Option, Some, None, refl}
+use Rattle.std.proofs.Common.{◌≡◌, ℕ, List, [], ◌∷◌, refl}
 use Rattle.fed_types.specs.declared.bag_id.BagId.{BagId}
 use Rattle.fed_types.specs.Slots.{SlotName, same_slot}
 use Rattle.records.specs.declared.entry.Entry.{Entry}
