@@ -1,0 +1,4 @@
+pub mod Faults
+pub mod Effects
+pub mod Arrivals
+pub mod Calls

@@ -1,0 +1,10 @@
+//! A site of a federation: the acceptor, proposer and learner of every slot over one book, which
+//! keeps its word through a crash. Each call commits its one record first, and then hands out its
+//! datagrams.
+#![tactic(auto)]
+
+mod answer;
+mod fault;
+
+pub use answer::{Answer, Line, Reply, Sealed};
+pub use fault::SiteFault;

@@ -1,0 +1,70 @@
+-- What a site's tables hold, and what they stand for.
+use Rattle.std.specs.Prelude.{◌≡◌, ℕ, ◌<◌, List, [], ◌∷◌, ◌++◌, Option, Some, None, IsSome, fold}
+use Rattle.fed_types.specs.declared.bag_id.BagId.{BagId}
+use Rattle.fed_types.specs.Sites.{Membership}
+use Rattle.fed_types.specs.Slots.{SlotName}
+use Rattle.records.specs.declared.owner.Owner.{Owner}
+use Rattle.records.specs.declared.record.Record.{Record}
+use Rattle.records.specs.Words.{deposit_in, known_of}
+use Rattle.slot_table.specs.Rows.{Rows, row_at}
+use Rattle.acceptor.specs.declared.row.Row.{Row as acceptor_row}
+use Rattle.acceptor.specs.Rows as acceptors
+use Rattle.proposer.specs.Rows as proposers
+use Rattle.proposer.specs.Sessions.{Session, UnderWay}
+use Rattle.learner.specs.Ledgers as learners
+
+-- the slots that have a deposit, with it, and room for how many more; and what the acceptor, the
+-- proposer and the learner know of each slot
+pub record Contents : Type 0 where
+  pub deposits : Rows BagId
+  pub spare : ℕ
+  pub acceptor : Rows acceptor_row
+  pub proposer : proposers.Proposing Membership
+  pub learner : learners.Ledger Membership
+
+-- the deposit of a slot that had none goes to the end
+abbrev pub unless_there : Rows BagId → SlotName → BagId → Option BagId → Rows BagId
+unless_there rows slot bag None = rows ++ (slot, bag) ∷ []
+unless_there rows slot bag (Some own) = rows
+
+abbrev pub with_bag : Rows BagId → SlotName → Option BagId → Rows BagId
+with_bag rows slot None = rows
+with_bag rows slot (Some bag) = unless_there rows slot bag (row_at rows slot)
+
+abbrev pub with_deposit : Rows BagId → Record → Rows BagId
+with_deposit rows r = with_bag rows r.slot (deposit_in r.body)
+
+-- the slots that have a Deposit record, in the order of their first ones, with the bag of each
+unfoldable pub deposits_of : List Record → Rows BagId
+deposits_of records = fold with_deposit [] records
+
+-- the tables of this owner say what these records say: what follows of the records alone
+pub record IsOf (t : Contents) (owner : Owner) (records : List Record) : Type 0 where
+  pub deposits : t.deposits ≡ deposits_of records
+  pub acceptor : acceptors.StandsFor t.acceptor records
+  pub known : (slot : SlotName)
+      → learners.known_in (row_at t.learner.rows slot) ≡ known_of slot records
+  pub proposer_members : t.proposer.members ≡ owner.members
+  pub proposer_site : t.proposer.site ≡ owner.site
+  pub learner_members : t.learner.members ≡ owner.members
+
+-- they stand for the records, and for what was heard since the site was opened
+pub record StandsFor
+    (t : Contents) (records : List Record) (session : Session) (under : UnderWay)
+    : Type 0 where
+  pub proposer : proposers.StandsFor t.proposer.rows records session under
+  pub learner : learners.StandsFor t.learner.rows records session.heard
+
+-- there is room for a record of this slot
+pub record HasRoom (t : Contents) (slot : SlotName) : Type 0 where
+  pub deposits : 0 < t.spare
+  pub acceptor : IsSome (row_at t.acceptor slot)
+  pub proposer : IsSome (row_at t.proposer.rows slot)
+  pub learner : IsSome (row_at t.learner.rows slot)
+
+-- they are another's contents no more than before: whatever records and messages the old ones stand
+-- for, the new ones stand for
+pub record StandsForSame (old new : Contents) : Type 0 where
+  pub of : (owner : Owner) (records : List Record) → IsOf old owner records → IsOf new owner records
+  pub stands : (records : List Record) (session : Session) (under : UnderWay)
+      → StandsFor old records session under → StandsFor new records session under

@@ -1,0 +1,9 @@
+//! What a site knows of every slot: its deposits, and what its acceptor, proposer and learner know.
+//! The tables take note of each record that the site has committed, and hear each message that it
+//! has taken in.
+#![tactic(auto)]
+
+mod deposits;
+mod tables;
+
+pub use tables::Tables;

@@ -1,0 +1,265 @@
+ghost use Rattle.std.specs.Prelude.{◌≡◌, ℕ, ◌++◌, ◌∷◌, [], List, None, Option, Err, slice_get};
+ghost use Rattle.std.specs.Prelude.{OnOk, OnErr, IfOk, IsOk, IsSome, option_map};
+ghost use Rattle.std.specs.Option.{option_copied};
+ghost use Rattle.fed_types.specs.Ballots.{BallotNumber};
+ghost use Rattle.fed_types.specs.Quorums.{quorums_of};
+ghost use Rattle.records.specs.declared.owner.Owner.{Owner as declared_owner};
+ghost use Rattle.records.specs.declared.record.Record.{Record as declared_record};
+ghost use Rattle.records.specs.Words.{deposit_of, known_of};
+ghost use Rattle.acceptor.specs.Decisions.{prepare_decision, accept_decision};
+ghost use Rattle.proposer.specs.Faults.{next_or_spent, IsOrMemory};
+ghost use Rattle.proposer.specs.Proposals.{next_ballot, ready};
+ghost use Rattle.proposer.specs.Sessions.{Session, UnderWay, new_session, nothing, begins};
+ghost use Rattle.proposer.specs.Sessions.{promise_message, heard_after, waiting_after};
+ghost use Rattle.proposer.specs.Sessions.{hears, refusal_message, heard_if, waits};
+ghost use Rattle.proposer.specs.Sessions.{issued_by, issued_if, under_way_if};
+ghost use Rattle.learner.specs.Learning.{learned_from, learned_of_known};
+ghost use Rattle.dgram.specs.declared.body.Body.TheVariants.{Accepted};
+ghost use Rattle.site_tables.specs.Contents.{IsOf, StandsFor, StandsForSame, HasRoom};
+
+use crate::deposits::Deposits;
+use acceptor::{Acceptor, Decision};
+use fed_types::{BagId, Ballot, Members, SiteNo, Slot, Vote};
+use learner::Learner;
+use proposer::{ProposeFault, Proposer};
+use records::{Entry, Owner, Record};
+use std::alloc::{AllocError, Global};
+use std::marker::Model;
+
+/// What a site knows of every slot. A clause sees its `Contents`.
+#[derive(Drop)]
+pub struct Tables {
+    alloc: Global,
+    deposits: Deposits,
+    acceptor: Acceptor,
+    proposer: Proposer<Members>,
+    learner: Learner<Members>,
+}
+
+impl Model for Tables {
+    ghost use Rattle.site_tables.specs.Contents.{Contents};
+
+    ghost Value = { Contents };
+
+    ghost view = { λ t. record {
+      deposits = t.deposits.bags;
+      spare = t.deposits.spare;
+      acceptor = t.acceptor;
+      proposer = t.proposer;
+      learner = t.learner;
+    } };
+}
+
+impl Tables {
+    /// The tables of a site without records that has heard nothing.
+    pub fn new(alloc: Global, owner: Owner) -> Tables
+        ensures of { IsOf result owner [] }
+        ensures stands { StandsFor result [] new_session nothing }
+    {
+        Tables {
+            alloc,
+            deposits: Deposits::new(alloc),
+            acceptor: Acceptor::new(alloc),
+            proposer: Proposer::new(alloc, owner.members, owner.site),
+            learner: Learner::new(alloc, owner.members),
+        }
+    }
+
+    /// The tables of a site with these records that has heard nothing.
+    pub fn of(alloc: Global, owner: Owner, records: &[Record]) -> Result<Tables, AllocError>
+        ensures of { IfOk result (λ t. IsOf t owner records.now) }
+        ensures stands { IfOk result (λ t. StandsFor t records.now new_session nothing) }
+    {
+        let mut tables = Tables::new(alloc, owner);
+        for r in records {
+            tables.reserve(&r.slot)?;
+            tables.note(r.copy(alloc)?);
+        }
+        Ok(tables)
+    }
+
+    /// The slot's deposit.
+    pub fn deposit(&self, slot: &Slot) -> Option<BagId>
+        ensures { (owner : declared_owner) (records : List declared_record)
+            → IsOf self.now owner records → result ≡ deposit_of slot.now records }
+    {
+        self.deposits.of(slot)
+    }
+
+    /// The slot's known bag.
+    pub fn known(&self, slot: &Slot) -> Option<BagId>
+        ensures { (owner : declared_owner) (records : List declared_record)
+            → IsOf self.now owner records → result ≡ known_of slot.now records }
+    {
+        self.learner.known(slot)
+    }
+
+    /// What the acceptor decides when it is asked to promise a ballot.
+    pub fn prepare(&self, slot: &Slot, ballot: Ballot) -> Decision
+        ensures { (owner : declared_owner) (records : List declared_record)
+            → IsOf self.now owner records
+            → result ≡ prepare_decision slot.now records ballot }
+    {
+        self.acceptor.prepare(slot, ballot)
+    }
+
+    /// What the acceptor decides when it is asked to vote.
+    pub fn accept(&self, slot: &Slot, vote: Vote) -> Decision
+        ensures { (owner : declared_owner) (records : List declared_record)
+            → IsOf self.now owner records → result ≡ accept_decision slot.now records vote }
+    {
+        self.acceptor.accept(slot, vote.ballot, vote.bag)
+    }
+
+    /// Begins the slot's next ballot, to propose this bag, the site's deposit.
+    pub fn begin(&mut self, slot: &Slot, own: BagId) -> Result<Ballot, ProposeFault>
+        ensures answer { (owner : declared_owner) (records : List declared_record)
+            (session : Session) (under : UnderWay) → IsOf self.old owner records
+            → StandsFor self.old records session under → IsOrMemory result
+            (next_or_spent (next_ballot owner.site slot.now records session.heard)) }
+        ensures spent { (owner : declared_owner) (records : List declared_record)
+            (session : Session) (under : UnderWay) → IsOf self.old owner records
+            → StandsFor self.old records session under
+            → next_ballot owner.site slot.now records session.heard ≡ None
+            → result ≡ Err ProposeFault.RoundsSpent }
+        ensures begun { IfOk result (λ ballot. (records : List declared_record)
+            (session : Session) (under : UnderWay) → StandsFor self.old records session under
+            → deposit_of slot.now records ≡ Some own
+            → StandsFor self.new records session (begins under slot.now ballot)) }
+        ensures of { (owner : declared_owner) (records : List declared_record)
+            → IsOf self.old owner records → IsOf self.new owner records }
+        ensures same { OnErr result (StandsForSame self.old self.new) }
+    {
+        self.proposer.begin(slot, own)
+    }
+
+    /// Hears a promise, and gives the bag to propose exactly when it makes the proposal ready. Then
+    /// the promise waits, and is heard once `issued` is called.
+    pub fn promise(
+        &mut self,
+        from: SiteNo,
+        slot: &Slot,
+        ballot: Ballot,
+        prior: Option<Vote>,
+    ) -> Option<BagId>
+        ensures ready { (owner : declared_owner) (records : List declared_record)
+            (session : Session) (under : UnderWay) → IsOf self.old owner records
+            → StandsFor self.old records session under
+            → result ≡ ready (quorums_of owner.members) (deposit_of slot.now records) slot.now
+            (session.current slot.now) session.heard ballot
+            (record { site = from; prior = prior }) }
+        ensures heard { (records : List declared_record) (session : Session) (under : UnderWay)
+            → StandsFor self.old records session under
+            → StandsFor self.new records
+            (heard_after result session (promise_message slot.now from ballot prior))
+            (waiting_after result under (promise_message slot.now from ballot prior)) }
+        ensures of { (owner : declared_owner) (records : List declared_record)
+            → IsOf self.old owner records → IsOf self.new owner records }
+    {
+        self.proposer.promise(from, slot, ballot, prior)
+    }
+
+    /// The proposal that became ready is sent: the promise that waits is heard, if one waits.
+    pub fn issued(&mut self, slot: &Slot)
+        ensures heard { (records : List declared_record) (session : Session) (under : UnderWay)
+            → StandsFor self.old records session under
+            → StandsFor self.new records (heard_if session (under.waiting slot.now))
+            (waits under slot.now None) }
+        ensures of { (owner : declared_owner) (records : List declared_record)
+            → IsOf self.old owner records → IsOf self.new owner records }
+    {
+        self.proposer.issued(slot);
+    }
+
+    /// Hears a refusal, which raises the slot's next round.
+    pub fn refused(&mut self, slot: &Slot, standing: Ballot) -> Result<(), AllocError>
+        ensures heard { OnOk result ((from : ℕ) (asked : BallotNumber)
+            (records : List declared_record) (session : Session) (under : UnderWay)
+            → StandsFor self.old records session under
+            → StandsFor self.new records
+            (hears session (refusal_message slot.now from asked standing)) under) }
+        ensures of { (owner : declared_owner) (records : List declared_record)
+            → IsOf self.old owner records → IsOf self.new owner records }
+        ensures same { OnErr result (StandsForSame self.old self.new) }
+    {
+        self.proposer.refused(slot, standing)
+    }
+
+    /// Hears of a vote, and gives the bag that is learned by it: then nothing changes.
+    pub fn accepted(
+        &mut self,
+        from: SiteNo,
+        slot: &Slot,
+        vote: Vote,
+    ) -> Result<Option<BagId>, AllocError>
+        ensures learned { IfOk result (λ o. (owner : declared_owner)
+            (records : List declared_record) (session : Session) (under : UnderWay)
+            → IsOf self.old owner records → StandsFor self.old records session under
+            → o ≡ learned_from (quorums_of owner.members) slot.now records session.heard from
+            vote) }
+        ensures heard { IfOk result (λ o. o ≡ None → (records : List declared_record)
+            (session : Session) (under : UnderWay) → StandsFor self.old records session under
+            → StandsFor self.new records
+            (hears session (record { slot = slot.now; body = Accepted from vote })) under) }
+        ensures unchanged { IfOk result (λ o. IsSome o → self.new ≡ self.old) }
+        ensures of { (owner : declared_owner) (records : List declared_record)
+            (session : Session) (under : UnderWay) → StandsFor self.old records session under
+            → IsOf self.old owner records → IsOf self.new owner records }
+        ensures same { OnErr result ((records : List declared_record) (session : Session)
+            (under : UnderWay) → StandsFor self.old records session under
+            → StandsFor self.new records session under) }
+        // Memory can run out only where nothing is learned, and the vote still counts.
+        ensures no_memory { OnErr result ((owner : declared_owner)
+            (records : List declared_record) (session : Session) (under : UnderWay)
+            → IsOf self.old owner records → StandsFor self.old records session under
+            → (known_of slot.now records ≡ None)
+            × (learned_from (quorums_of owner.members) slot.now records session.heard from vote
+            ≡ None)) }
+    {
+        self.learner.accepted(from, slot, vote.ballot, vote.bag)
+    }
+
+    /// What is learned from a site that knows this bag.
+    pub fn told(&self, slot: &Slot, bag: BagId) -> Option<BagId>
+        ensures { (owner : declared_owner) (records : List declared_record)
+            → IsOf self.now owner records
+            → result ≡ learned_of_known slot.now records bag }
+    {
+        match self.known(slot) {
+            None => Some(bag),
+            Some(_) => None,
+        }
+    }
+
+    /// Makes room for a record of this slot.
+    pub fn reserve(&mut self, slot: &Slot) -> Result<(), AllocError>
+        ensures same { StandsForSame self.old self.new }
+        ensures room { OnOk result (HasRoom self.new slot.now) }
+        ensures succeeds { HasRoom self.old slot.now → IsOk result }
+    {
+        self.deposits.reserve()?;
+        self.acceptor.reserve(slot)?;
+        self.proposer.reserve(slot)?;
+        self.learner.reserve(slot)
+    }
+
+    /// Takes note of a record that was committed, for which there is room. It takes no memory.
+    pub fn note(&mut self, new: Record)
+        requires { HasRoom self.old new.slot }
+        ensures of { (owner : declared_owner) (records : List declared_record)
+            → IsOf self.old owner records → IsOf self.new owner (records ++ new ∷ []) }
+        ensures stands { (records : List declared_record) (session : Session)
+            (under : UnderWay) → StandsFor self.old records session under
+            → StandsFor self.new (records ++ new ∷ [])
+            (issued_if session new.slot (issued_by (under.begun new.slot) new.body))
+            (under_way_if under new.slot (issued_by (under.begun new.slot) new.body)) }
+    {
+        let _ = self.acceptor.note(&new);
+        let _ = self.proposer.note(&new);
+        let _ = self.learner.note(&new);
+        let Record { slot, body } = new;
+        if let Entry::Deposit(bag) = body {
+            self.deposits.note(slot, bag);
+        }
+    }
+}
