@@ -14,7 +14,7 @@ pub enum Line {
     Registered(BagId),
     /// The site has learned that this bag was chosen for the slot.
     Known(Slot, BagId),
-    /// What arrived is no message of a member.
+    /// What arrived is no message from one member to another.
     Dropped,
 }
 

@@ -2,8 +2,10 @@ ghost use Rattle.std.specs.Prelude.{◌≡◌};
 ghost use Rattle.site.specs.Faults.{number_of};
 
 use bag_check::BagFault;
+use book::CommitFault;
 use fed_types::BagId;
-use std::alloc::{AllocError, AllocFailed};
+use proposer::ProposeFault;
+use std::alloc::AllocError;
 use thiserror::Error;
 
 /// Why a site refused a call. After `Device` the site needs opening; after any other fault it is as
@@ -55,5 +57,55 @@ impl SiteFault {
             SiteFault::RoundsSpent => 17,
             SiteFault::AlreadyKnown => 18,
         }
+    }
+}
+
+impl From<BagFault> for SiteFault {
+    ghost use Rattle.site.specs.Faults.{check_fault};
+
+    ghost from_gives = { λ fault e. e ≡ check_fault fault };
+
+    fn from(fault: BagFault) -> SiteFault {
+        match fault {
+            BagFault::Memory => SiteFault::Memory,
+            fault => SiteFault::InvalidBag(fault),
+        }
+    }
+}
+
+impl From<CommitFault> for SiteFault {
+    ghost use Rattle.site.specs.Faults.{commit_fault};
+
+    ghost from_gives = { λ fault e. e ≡ commit_fault fault };
+
+    fn from(fault: CommitFault) -> SiteFault {
+        match fault {
+            CommitFault::Device => SiteFault::Device,
+            CommitFault::Memory => SiteFault::Memory,
+            CommitFault::NeedsOpen => SiteFault::NeedsOpen,
+        }
+    }
+}
+
+impl From<ProposeFault> for SiteFault {
+    ghost use Rattle.site.specs.Faults.{propose_fault};
+
+    ghost from_gives = { λ fault e. e ≡ propose_fault fault };
+
+    fn from(fault: ProposeFault) -> SiteFault {
+        match fault {
+            ProposeFault::RoundsSpent => SiteFault::RoundsSpent,
+            ProposeFault::Memory => SiteFault::Memory,
+        }
+    }
+}
+
+impl From<AllocError> for SiteFault {
+    ghost use Rattle.site.specs.declared.fault.SiteFault.TheVariants.{Memory};
+
+    ghost from_gives = { λ _ e. e ≡ Memory };
+
+    fn from(_e: AllocError) -> SiteFault {
+        SiteFault::Memory
     }
 }

@@ -4,7 +4,11 @@
 #![tactic(auto)]
 
 mod answer;
+mod arrivals;
 mod fault;
+mod member_site;
+mod sealing;
 
 pub use answer::{Answer, Line, Reply, Sealed};
 pub use fault::SiteFault;
+pub use member_site::Site;

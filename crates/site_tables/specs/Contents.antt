@@ -5,7 +5,8 @@ use Rattle.fed_types.specs.Sites.{Membership}
 use Rattle.fed_types.specs.Slots.{SlotName}
 use Rattle.records.specs.declared.owner.Owner.{Owner}
 use Rattle.records.specs.declared.record.Record.{Record}
-use Rattle.records.specs.Words.{deposit_in, known_of}
+use Rattle.records.specs.Words.{deposit_in}
+use Rattle.dgram.specs.declared.message.Message.{Message}
 use Rattle.slot_table.specs.Rows.{Rows, row_at}
 use Rattle.acceptor.specs.declared.row.Row.{Row as acceptor_row}
 use Rattle.acceptor.specs.Rows as acceptors
@@ -38,12 +39,12 @@ with_deposit rows r = with_bag rows r.slot (deposit_in r.body)
 unfoldable pub deposits_of : List Record → Rows BagId
 deposits_of records = fold with_deposit [] records
 
--- the tables of this owner say what these records say: what follows of the records alone
+-- The tables of this owner say what these records say: what follows of the records alone. Whatever
+-- the learner has heard, it knows the bags that they say are known.
 pub record IsOf (t : Contents) (owner : Owner) (records : List Record) : Type 0 where
   pub deposits : t.deposits ≡ deposits_of records
   pub acceptor : acceptors.StandsFor t.acceptor records
-  pub known : (slot : SlotName)
-      → learners.known_in (row_at t.learner.rows slot) ≡ known_of slot records
+  pub learner : (heard : List Message) × learners.StandsFor t.learner.rows records heard
   pub proposer_members : t.proposer.members ≡ owner.members
   pub proposer_site : t.proposer.site ≡ owner.site
   pub learner_members : t.learner.members ≡ owner.members

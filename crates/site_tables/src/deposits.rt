@@ -14,11 +14,12 @@ pub(crate) struct Deposits {
 }
 
 impl Model for Deposits {
+    ghost use Rattle.indexmap.specs.IndexMap.{spare};
     ghost use Rattle.site_tables.specs.inner.Kept.{Kept};
 
     ghost Value = { Kept };
 
-    ghost view = { λ d. record { bags = d.bags.entries; spare = d.bags.spare } };
+    ghost view = { λ d. record { bags = d.bags.entries; room = spare d.bags } };
 }
 
 impl Deposits {
@@ -41,15 +42,15 @@ impl Deposits {
     /// Makes room for one more.
     pub(crate) fn reserve(&mut self) -> Result<(), AllocError>
         ensures same { self.new.bags ≡ self.old.bags }
-        ensures room { OnOk result (0 < self.new.spare) }
-        ensures succeeds { 0 < self.old.spare → IsOk result }
+        ensures room { OnOk result (0 < self.new.room) }
+        ensures succeeds { 0 < self.old.room → IsOk result }
     {
         self.bags.reserve(1)
     }
 
     /// Notes a deposit, unless the slot has one.
     pub(crate) fn note(&mut self, slot: Slot, bag: BagId)
-        requires { 0 < self.old.spare }
+        requires { 0 < self.old.room }
         ensures { self.new.bags ≡ unless_there self.old.bags slot bag (row_at self.old.bags slot) }
     {
         if self.bags.contains_key(&slot) {

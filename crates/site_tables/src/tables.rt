@@ -29,7 +29,6 @@ use std::marker::Model;
 /// What a site knows of every slot. A clause sees its `Contents`.
 #[derive(Drop)]
 pub struct Tables {
-    alloc: Global,
     deposits: Deposits,
     acceptor: Acceptor,
     proposer: Proposer<Members>,
@@ -43,7 +42,7 @@ impl Model for Tables {
 
     ghost view = { λ t. record {
       deposits = t.deposits.bags;
-      spare = t.deposits.spare;
+      spare = t.deposits.room;
       acceptor = t.acceptor;
       proposer = t.proposer;
       learner = t.learner;
@@ -57,7 +56,6 @@ impl Tables {
         ensures stands { StandsFor result [] new_session nothing }
     {
         Tables {
-            alloc,
             deposits: Deposits::new(alloc),
             acceptor: Acceptor::new(alloc),
             proposer: Proposer::new(alloc, owner.members, owner.site),
@@ -203,11 +201,8 @@ impl Tables {
             (hears session (record { slot = slot.now; body = Accepted from vote })) under) }
         ensures unchanged { IfOk result (λ o. IsSome o → self.new ≡ self.old) }
         ensures of { (owner : declared_owner) (records : List declared_record)
-            (session : Session) (under : UnderWay) → StandsFor self.old records session under
             → IsOf self.old owner records → IsOf self.new owner records }
-        ensures same { OnErr result ((records : List declared_record) (session : Session)
-            (under : UnderWay) → StandsFor self.old records session under
-            → StandsFor self.new records session under) }
+        ensures same { OnErr result (StandsForSame self.old self.new) }
         // Memory can run out only where nothing is learned, and the vote still counts.
         ensures no_memory { OnErr result ((owner : declared_owner)
             (records : List declared_record) (session : Session) (under : UnderWay)

@@ -1,0 +1,365 @@
+ghost use Rattle.std.specs.Prelude.{◌≡◌, ◌↔◌, true, false, List, ◌∷◌, [], None, Some, Ok, Err, map};
+ghost use Rattle.std.specs.Prelude.{Result, IfOk, IsErrOf, IsOk};
+ghost use Rattle.fed_types.specs.Quorums.{quorums_of};
+ghost use Rattle.bag_check.specs.Check.{check_of};
+ghost use Rattle.book.specs.Volumes.{HoldsText, RecoversTo};
+ghost use Rattle.cell_device.specs.Memory.{fuse_of, failures_of, fuse_after_set, IsSameMedium};
+ghost use Rattle.dgram.specs.Decoded.{message_of};
+ghost use Rattle.proposer.specs.Sessions.{Session, new_session};
+ghost use Rattle.site.specs.Arrivals.{on_arrival};
+ghost use Rattle.site.specs.Answered.{IsAnswered};
+ghost use Rattle.records.specs.Words.{deposit_of, known_of};
+ghost use Rattle.site.specs.Calls.{Deposits, Proposes, Asks, Arrives, reply_of, other_than, deposit_fault};
+ghost use Rattle.site.specs.declared.answer.Line.TheVariants as lines;
+ghost use Rattle.site.specs.Datagrams.{handed_out};
+ghost use Rattle.site.specs.Opened.{Opens, book_of};
+ghost use Rattle.site.specs.Sites.{StandsFor, effect};
+ghost use Rattle.site.specs.inner.Concluded.{IsCommitted, Concludes, one_datagram, all_datagrams};
+
+use crate::answer::{Answer, Line, Reply, Sealed};
+use crate::fault::SiteFault;
+use crate::sealing::{to_all, to_one};
+use bag_check::check;
+use bag_tree::Facts;
+use book::{Book, OpenFault};
+use cell_device::{Cell, Fuse, MemoryCell};
+use dgram::{Body, DgramFault, Message, decode};
+use fed_types::{BagId, Members, SiteNo, Slot};
+use records::{Entry, Owner, Record, Round};
+use site_tables::Tables;
+use std::alloc::{AllocError, Global};
+use std::marker::Model;
+
+/// A site of a federation, over a cell. A clause sees an `OpenSite`.
+#[derive(Drop)]
+pub struct Site<C: Cell> {
+    pub(crate) alloc: Global,
+    book: Book<C>,
+    pub(crate) tables: Tables,
+}
+
+impl<C: Cell> Model for Site<C> {
+    ghost use Rattle.site.specs.Sites.{OpenSite, IsInOrder};
+
+    ghost Value = { OpenSite C };
+
+    ghost view = { λ s. record { book = s.book; tables = s.tables } };
+
+    ghost invariant = { λ s. IsInOrder (record { book = s.book; tables = s.tables }) };
+}
+
+impl<C: Cell> Site<C> {
+    /// Opens the site of this owner, from the journal in the cell. It has heard nothing yet, and no
+    /// ballot of it is current. On a refusal the cell is handed back.
+    pub fn open(alloc: Global, cell: C, owner: Owner) -> Result<Site<C>, (C, OpenFault)>
+        ensures opened { Opens C.device owner cell (book_of result) }
+        ensures stands { IfOk result (λ s. StandsFor s new_session) }
+    {
+        let Owner { members, site } = owner;
+        let book = Book::open(alloc, cell, Owner { members, site })?;
+        match Tables::of(alloc, Owner { members, site }, book.records()) {
+            Ok(tables) => Ok(Site {
+                alloc,
+                book,
+                tables,
+            }),
+            Err(_) => Err((book.close(), OpenFault::Memory)),
+        }
+    }
+
+    /// Hands the cell back as it is, with no call on it.
+    pub fn close(self) -> C
+        ensures cell { result ≡ self.book.cell }
+        ensures text { self.book.needs_opening ≡ false →
+            HoldsText self.book.owner self.book.records (C.device result).image }
+        ensures recovers { self.book.needs_opening ≡ false →
+            RecoversTo self.book.owner self.book.records (C.device result).image }
+    {
+        let Site { book, .. } = self;
+        book.close()
+    }
+
+    /// The site's number.
+    pub fn number(&self) -> SiteNo
+        ensures { result ≡ self.now.book.owner.site }
+    {
+        self.book.site()
+    }
+
+    /// The members of its federation.
+    pub fn members(&self) -> Members
+        ensures { result ≡ self.now.book.owner.members }
+    {
+        self.book.members()
+    }
+
+    /// The records, in order.
+    pub fn records(&self) -> &[Record]
+        ensures { result.now ≡ self.now.book.records }
+    {
+        self.book.records()
+    }
+
+    /// Whether the device has failed since the site was opened.
+    pub fn needs_opening(&self) -> bool
+        ensures { result ≡ self.now.book.needs_opening }
+    {
+        self.book.needs_opening()
+    }
+
+    /// What the site knows of the slot. It takes no memory.
+    #[tactic(auto, unfolding(crate::specs::Calls::reply_of))]
+    pub fn query(&self, slot: &Slot) -> Result<Reply, SiteFault>
+        ensures reply { self.now.book.needs_opening ≡ false
+            → result ≡ Ok (reply_of slot.now self.now.book.records) }
+        ensures needs_open { self.now.book.needs_opening ≡ true
+            → result ≡ Err SiteFault.NeedsOpen }
+    {
+        if self.book.needs_opening() {
+            return Err(SiteFault::NeedsOpen);
+        }
+        Ok(match self.tables.known(slot) {
+            Some(known) => Reply::Known(known),
+            None => match self.tables.deposit(slot) {
+                Some(own) => Reply::Pending(own),
+                None => Reply::Nothing,
+            },
+        })
+    }
+
+    /// Asks a member for the bag that it knows. Who calls sees to it that it is a member.
+    pub fn ask(&self, slot: &Slot, to: SiteNo) -> Result<Answer, SiteFault>
+        ensures answer { self.now.book.needs_opening ≡ false → (session : Session)
+            → StandsFor self.now session
+            → IsAnswered C.device self.now self.now session
+            (effect self.now session (Asks slot.now to)) result }
+        ensures needs_open { IsErrOf result SiteFault.NeedsOpen
+            ↔ (self.now.book.needs_opening ≡ true) }
+    {
+        if self.book.needs_opening() {
+            return Err(SiteFault::NeedsOpen);
+        }
+        let body = Body::Ask {
+            from: self.number(),
+        };
+        let slot = slot.copy(self.alloc)?;
+        let sends = self.send(&Message { slot, body }, to)?;
+        Ok(Answer { line: None, sends })
+    }
+
+    /// Takes a tree as the slot's deposit, where it is a valid bag, and neither another deposit nor
+    /// another known bag is in the way.
+    pub fn deposit(&mut self, slot: &Slot, facts: &Facts) -> Result<Answer, SiteFault>
+        ensures answer { self.old.book.needs_opening ≡ false → (session : Session)
+            → StandsFor self.old session
+            → IsAnswered C.device self.old self.new session
+            (effect self.old session (Deposits slot.now (check_of facts.now))) result }
+        ensures needs_open { IsErrOf result SiteFault.NeedsOpen
+            ↔ (self.old.book.needs_opening ≡ true) }
+        ensures untouched { self.old.book.needs_opening ≡ true → self.new ≡ self.old }
+    {
+        if self.book.needs_opening() {
+            return Err(SiteFault::NeedsOpen);
+        }
+        let bag = check(self.alloc, facts)?;
+        self.register(slot, bag)
+    }
+
+    /// Proposes the slot's deposit: issues the next ballot, and asks all members to promise it.
+    pub fn propose(&mut self, slot: &Slot) -> Result<Answer, SiteFault>
+        ensures answer { self.old.book.needs_opening ≡ false → (session : Session)
+            → StandsFor self.old session
+            → IsAnswered C.device self.old self.new session
+            (effect self.old session (Proposes slot.now)) result }
+        ensures needs_open { IsErrOf result SiteFault.NeedsOpen
+            ↔ (self.old.book.needs_opening ≡ true) }
+        ensures untouched { self.old.book.needs_opening ≡ true → self.new ≡ self.old }
+    {
+        if self.book.needs_opening() {
+            return Err(SiteFault::NeedsOpen);
+        }
+        if self.tables.known(slot).is_some() {
+            return Err(SiteFault::AlreadyKnown);
+        }
+        match self.tables.deposit(slot) {
+            Some(own) => self.issue(slot, own),
+            None => Err(SiteFault::NoDeposit),
+        }
+    }
+
+    /// A datagram arrives.
+    pub fn arrive(&mut self, bytes: &[u8]) -> Result<Answer, SiteFault>
+        ensures answer { self.old.book.needs_opening ≡ false → (session : Session)
+            → StandsFor self.old session
+            → IsAnswered C.device self.old self.new session
+            (effect self.old session
+            (Arrives (message_of self.old.book.owner.members.federation bytes.now))) result }
+        ensures needs_open { IsErrOf result SiteFault.NeedsOpen
+            ↔ (self.old.book.needs_opening ≡ true) }
+        ensures untouched { self.old.book.needs_opening ≡ true → self.new ≡ self.old }
+    {
+        if self.book.needs_opening() {
+            return Err(SiteFault::NeedsOpen);
+        }
+        match decode(self.alloc, self.members().federation(), bytes) {
+            Ok(message) => self.take_in(message),
+            Err(DgramFault::Memory) => Err(SiteFault::Memory),
+            Err(DgramFault::NotOurs | DgramFault::Malformed) => Ok(dropped(self.alloc)),
+        }
+    }
+
+    // What doesn't come from a member is dropped.
+    fn take_in(&mut self, message: Message) -> Result<Answer, SiteFault>
+        requires { self.old.book.needs_opening ≡ false }
+        ensures answer { (session : Session) → StandsFor self.old session
+            → IsAnswered C.device self.old self.new session
+            (on_arrival (quorums_of self.old.book.owner.members) self.old.book.owner.site
+            self.old.book.records session (Some message)) result }
+        ensures fault { ¬ IsErrOf result SiteFault.NeedsOpen }
+    {
+        match message.from() {
+            Some(from) if self.members().has(from) => self.hear(message),
+            _ => Ok(dropped(self.alloc)),
+        }
+    }
+
+    // Takes a valid bag as the slot's deposit.
+    fn register(&mut self, slot: &Slot, bag: BagId) -> Result<Answer, SiteFault>
+        requires { self.old.book.needs_opening ≡ false }
+        ensures { (session : Session) → StandsFor self.old session
+            → IsAnswered C.device self.old self.new session
+            (effect self.old session (Deposits slot.now (Ok bag))) result }
+    {
+        let own = self.tables.deposit(slot);
+        if let Some(fault) = deposit_fault(bag, own, self.tables.known(slot)) {
+            return Err(fault);
+        }
+        let line = Some(Line::Registered(bag));
+        let sends = Vec::new(self.alloc);
+        if own.is_some() {
+            return Ok(Answer { line, sends });
+        }
+        let new = Record {
+            slot: slot.copy(self.alloc)?,
+            body: Entry::Deposit(bag),
+        };
+        self.conclude(new, Answer { line, sends })
+    }
+
+    // Issues the slot's next ballot, to propose this bag where no vote stands in the way.
+    fn issue(&mut self, slot: &Slot, own: BagId) -> Result<Answer, SiteFault>
+        requires { self.old.book.needs_opening ≡ false }
+        ensures { (session : Session) → StandsFor self.old session
+            → known_of slot.now self.old.book.records ≡ None
+            → deposit_of slot.now self.old.book.records ≡ Some own
+            → IsAnswered C.device self.old self.new session
+            (effect self.old session (Proposes slot.now)) result }
+    {
+        let ballot = self.tables.begin(slot, own)?;
+        let message = Message {
+            slot: slot.copy(self.alloc)?,
+            body: Body::Prepare { ballot },
+        };
+        let sends = self.send_to_all(&message)?;
+        let Message { slot, .. } = message;
+        let new = Record {
+            slot,
+            body: Entry::Round(Round::of(ballot)),
+        };
+        self.conclude(new, Answer { line: None, sends })
+    }
+
+    /// Commits a record and takes note of it; then the answer is handed out.
+    pub(crate) fn conclude(&mut self, new: Record, answer: Answer) -> Result<Answer, SiteFault>
+        requires { self.old.book.needs_opening ≡ false }
+        ensures { Concludes C.device self.old self.new (Some new) answer.line
+            (map handed_out answer.sends.items) result }
+    {
+        self.commit(new)?;
+        Ok(answer)
+    }
+
+    // Makes room for a record, commits it, and takes note of it, which takes no memory.
+    fn commit(&mut self, new: Record) -> Result<(), SiteFault>
+        requires { self.old.book.needs_opening ≡ false }
+        ensures { IsCommitted C.device self.old self.new new result }
+    {
+        self.tables.reserve(&new.slot)?;
+        let noted = new.copy(self.alloc)?;
+        self.book.commit(new)?;
+        self.tables.note(noted);
+        Ok(())
+    }
+
+    /// The message as a datagram for one site.
+    pub(crate) fn send(&self, message: &Message, to: SiteNo) -> Result<Vec<Sealed>, AllocError>
+        ensures { IfOk result (λ sends. map handed_out sends.items
+            ≡ one_datagram self.now message.now.slot message.now.body to) }
+    {
+        to_one(self.alloc, self.members().federation(), message, to)
+    }
+
+    /// The message as a datagram for each member, in ascending order.
+    pub(crate) fn send_to_all(&self, message: &Message) -> Result<Vec<Sealed>, AllocError>
+        ensures { IfOk result (λ sends. map handed_out sends.items
+            ≡ all_datagrams self.now message.now.slot message.now.body) }
+    {
+        to_all(self.alloc, self.members(), message)
+    }
+}
+
+impl Site<MemoryCell> {
+    /// Sets the cell's fuse, or takes it away. It changes nothing else.
+    pub fn set_fuse(&mut self, fuse: Option<Fuse>)
+        ensures fuse { fuse_of self.new.book.cell
+            ≡ fuse_after_set fuse (fuse_of self.old.book.cell) }
+        ensures medium { IsSameMedium self.old.book.cell self.new.book.cell }
+        ensures failures { failures_of self.new.book.cell ≡ failures_of self.old.book.cell }
+        ensures records { (self.new.book.records ≡ self.old.book.records)
+            × (self.new.book.needs_opening ≡ self.old.book.needs_opening)
+            × (self.new.book.owner ≡ self.old.book.owner) }
+        ensures tables { self.new.tables ≡ self.old.tables }
+    {
+        self.book.set_fuse(fuse);
+    }
+}
+
+/// Nothing is said or sent.
+pub(crate) fn quiet(alloc: Global) -> Answer
+    ensures { (result.line ≡ None) × (result.sends.items ≡ []) }
+{
+    Answer {
+        line: None,
+        sends: Vec::new(alloc),
+    }
+}
+
+/// What arrived is dropped.
+pub(crate) fn dropped(alloc: Global) -> Answer
+    ensures { (result.line ≡ Some lines.Dropped) × (result.sends.items ≡ []) }
+{
+    Answer {
+        line: Some(Line::Dropped),
+        sends: Vec::new(alloc),
+    }
+}
+
+// Why a valid bag is refused, by the slot's deposit and its known bag.
+fn deposit_fault(bag: BagId, own: Option<BagId>, known: Option<BagId>) -> Option<SiteFault>
+    ensures { result ≡ deposit_fault (other_than bag own) (other_than bag known) }
+{
+    match other_than(bag, own) {
+        Some(own) => Some(SiteFault::OtherDeposit(own)),
+        None => Some(SiteFault::OtherKnown(other_than(bag, known)?)),
+    }
+}
+
+// The bag, if there is one and it is another than this.
+fn other_than(bag: BagId, other: Option<BagId>) -> Option<BagId>
+    ensures { result ≡ other_than bag other }
+{
+    match other {
+        Some(other) if other != bag => Some(other),
+        _ => None,
+    }
+}

@@ -1,0 +1,4 @@
+pub mod Outcomes
+pub mod Deposited
+pub mod Heard
+pub mod Noted

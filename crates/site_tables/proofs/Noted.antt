@@ -1,0 +1,83 @@
+-- What the tables say and stand for with one record more.
+use Rattle.std.proofs.Common.{◌≡◌, List, [], ◌∷◌, ◌++◌, Option, Some, None, refl, sym, ap, subst, ◌∙◌}
+use Rattle.fed_types.specs.Ballots.{BallotNumber}
+use Rattle.fed_types.specs.Slots.{SlotName}
+use Rattle.records.specs.declared.entry.Entry.{Entry}
+use Rattle.records.specs.declared.entry.Entry.TheVariants as entry
+use Rattle.records.specs.declared.owner.Owner.{Owner}
+use Rattle.records.specs.declared.record.Record.{Record}
+use Rattle.dgram.specs.declared.message.Message.{Message}
+use Rattle.acceptor.specs.Rows as acceptors
+use Rattle.proposer.specs.Rows as proposers
+use Rattle.proposer.specs.Sessions.{Session, UnderWay, new_session, nothing, issued_by, issued_if}
+use Rattle.proposer.specs.Sessions.{under_way_if}
+use Rattle.learner.specs.Ledgers as learners
+use Rattle.site_tables.specs.Contents.{Contents, IsOf, StandsFor, with_deposit}
+use Rattle.site_tables.proofs.Deposited.{deposits-push}
+
+-- a ballot that becomes current changes nothing of what was heard
+heard_same : (session : Session) (slot : SlotName) (ballot : Option BallotNumber)
+    → session.heard ≡ (issued_if session slot ballot).heard
+heard_same session slot None = refl
+heard_same session slot (Some ballot) = refl
+
+-- each part takes note of the record
+pub record Notes (old new : Contents) (r : Record) : Type 0 where
+  pub deposits : new.deposits ≡ with_deposit old.deposits r
+  pub acceptor : (records : List Record) → acceptors.StandsFor old.acceptor records
+      → acceptors.StandsFor new.acceptor (records ++ r ∷ [])
+  pub proposer : (records : List Record) (session : Session) (under : UnderWay)
+      → proposers.StandsFor old.proposer.rows records session under
+      → proposers.StandsFor new.proposer.rows (records ++ r ∷ [])
+      (issued_if session r.slot (issued_by (under.begun r.slot) r.body))
+      (under_way_if under r.slot (issued_by (under.begun r.slot) r.body))
+  pub learner : (records : List Record) (heard : List Message)
+      → learners.StandsFor old.learner.rows records heard
+      → learners.StandsFor new.learner.rows (records ++ r ∷ []) heard
+  pub whose : proposers.IsOfSameSite old.proposer new.proposer
+  pub members : new.learner.members ≡ old.learner.members
+
+module _ (old new : Contents) (r : Record) (notes : Notes old new r) where
+  -- so the tables say what the records say
+  pub noted_of : (owner : Owner) (records : List Record) → IsOf old owner records
+      → IsOf new owner (records ++ r ∷ [])
+  noted_of owner records of = record {
+    deposits = notes.deposits
+        ∙ ap (λ rows. with_deposit rows r) of.deposits
+        ∙ sym (deposits-push records r);
+    acceptor = notes.acceptor records of.acceptor;
+    learner = ((of.learner).0, notes.learner records (of.learner).0 (of.learner).1);
+    proposer_members = (notes.whose).0 ∙ of.proposer_members;
+    proposer_site = (notes.whose).1 ∙ of.proposer_site;
+    learner_members = notes.members ∙ of.learner_members;
+  }
+
+  -- and stand for them
+  pub noted_stands : (records : List Record) (session : Session) (under : UnderWay)
+      → StandsFor old records session under
+      → StandsFor new (records ++ r ∷ [])
+      (issued_if session r.slot (issued_by (under.begun r.slot) r.body))
+      (under_way_if under r.slot (issued_by (under.begun r.slot) r.body))
+  noted_stands records session under stands = record {
+    proposer = notes.proposer records session under stands.proposer;
+    learner = subst (learners.StandsFor new.learner.rows (records ++ r ∷ []))
+        (heard_same session r.slot (issued_by (under.begun r.slot) r.body))
+        (notes.learner records session.heard stands.learner);
+  }
+
+-- where no ballot was begun none becomes current
+none_issued : (body : Entry) → issued_by None body ≡ None
+none_issued (entry.Deposit bag) = refl
+none_issued (entry.Round round) = refl
+none_issued (entry.Promise ballot) = refl
+none_issued (entry.Vote vote) = refl
+none_issued (entry.Known bag) = refl
+
+-- so a record leaves a new session new
+pub stays_new : (t : Contents) (records : List Record) (r : Record)
+    → StandsFor t records (issued_if new_session r.slot (issued_by None r.body))
+    (under_way_if nothing r.slot (issued_by None r.body))
+    → StandsFor t records new_session nothing
+stays_new t records r stands =
+    subst (λ (b : Option BallotNumber). StandsFor t records (issued_if new_session r.slot b)
+    (under_way_if nothing r.slot b)) (none_issued r.body) stands

@@ -1,0 +1,63 @@
+use Rattle.std.proofs.Common.{sym, ap, subst, ◌∙◌}
+use Rattle.records.specs.declared.entry.Entry.{Entry}
+use Rattle.records.specs.Words.{deposit_in}
+use Rattle.site_tables.specs.Contents.{Contents, HasRoom, with_bag}
+use Rattle.site_tables.proofs.Deposited.{says_no_deposit}
+use Rattle.site_tables.proofs.Noted.{Notes, noted_of, noted_stands}
+use Rattle.site_tables.proofs.Outcomes.{always}
+use Rattle.site_tables.proofs.tables.Tables.note.Goals as goal
+
+pub returns-in-Deposit : goal.returns-in-Deposit
+returns-in-Deposit c =
+    let new : Contents = record {
+      deposits = c.note-in-Deposit.new.self.bags;
+      spare = c.note-in-Deposit.new.self.room;
+      acceptor = c.note.new.self;
+      proposer = c.note-2.new.self;
+      learner = c.note-3.new.self;
+    } in
+    let room = subst (λ (t : Contents). HasRoom t c.args.new.slot) (sym c.self.view_is)
+    c.requires in
+    let notes = subst (λ (t : Contents). Notes t new c.args.new) c.self.view_is (record {
+      deposits = c.note-in-Deposit.ensures
+          ∙ sym (ap (λ (e : Entry). with_bag c.self.inside.deposits.bags c.args.new.slot
+          (deposit_in e)) c.in-Deposit.is);
+      acceptor = always c.note.result (c.note.ensures.succeeds room.acceptor) c.note.ensures.noted;
+      proposer = always c.note-2.result (c.note-2.ensures.succeeds room.proposer)
+          c.note-2.ensures.noted;
+      learner = always c.note-3.result (c.note-3.ensures.succeeds room.learner)
+          c.note-3.ensures.noted;
+      whose = c.note-2.ensures.whose;
+      members = c.note-3.ensures.members;
+    }) in
+    record {
+      of = noted_of c.args.self.now new c.args.new notes;
+      stands = noted_stands c.args.self.now new c.args.new notes;
+    }
+
+pub returns-in_default : goal.returns-in_default
+returns-in_default c =
+    let new : Contents = record {
+      deposits = c.self.inside.deposits.bags;
+      spare = c.self.inside.deposits.room;
+      acceptor = c.note.new.self;
+      proposer = c.note-2.new.self;
+      learner = c.note-3.new.self;
+    } in
+    let room = subst (λ (t : Contents). HasRoom t c.args.new.slot) (sym c.self.view_is)
+    c.requires in
+    let notes = subst (λ (t : Contents). Notes t new c.args.new) c.self.view_is (record {
+      deposits = sym (ap (with_bag c.self.inside.deposits.bags c.args.new.slot)
+          (says_no_deposit c.args.new.body c.in_default.not-Deposit));
+      acceptor = always c.note.result (c.note.ensures.succeeds room.acceptor) c.note.ensures.noted;
+      proposer = always c.note-2.result (c.note-2.ensures.succeeds room.proposer)
+          c.note-2.ensures.noted;
+      learner = always c.note-3.result (c.note-3.ensures.succeeds room.learner)
+          c.note-3.ensures.noted;
+      whose = c.note-2.ensures.whose;
+      members = c.note-3.ensures.members;
+    }) in
+    record {
+      of = noted_of c.args.self.now new c.args.new notes;
+      stands = noted_stands c.args.self.now new c.args.new notes;
+    }

@@ -1,0 +1,28 @@
+use Rattle.std.proofs.Common.{sym, ap, subst, ◌∙◌}
+use Rattle.fed_types.specs.Quorums.{quorums_of}
+use Rattle.fed_types.specs.Sites.{Membership}
+use Rattle.records.specs.Words.{deposit_of}
+use Rattle.proposer.specs.Proposals.{ready}
+use Rattle.site_tables.specs.Contents.{Contents, IsOf, StandsFor}
+use Rattle.site_tables.proofs.Heard.{learner_hears_promise}
+use Rattle.site_tables.proofs.tables.Tables.promise.Goals as goal
+
+pub returns-clause-ready : goal.returns-clause-ready
+returns-clause-ready c owner records session under of stands =
+    let is = subst (λ (t : Contents). IsOf t owner records) (sym c.self.view_is) of in
+    let was = subst (λ (t : Contents). StandsFor t records session under) (sym c.self.view_is)
+    stands in
+    c.promise.ensures.ready records session under was.proposer
+    ∙ ap (λ (m : Membership). ready (quorums_of m) (deposit_of c.args.slot.now records)
+    c.args.slot.now (session.current c.args.slot.now) session.heard c.args.ballot
+    (record { site = c.args.from; prior = c.args.prior })) is.proposer_members
+
+pub returns-clause-heard : goal.returns-clause-heard
+returns-clause-heard c records session under stands =
+    let was = subst (λ (t : Contents). StandsFor t records session under) (sym c.self.view_is)
+    stands in
+    record {
+      proposer = c.promise.ensures.heard records session under was.proposer;
+      learner = learner_hears_promise c.self.inside.learner.rows records session was.learner
+          c.promise.result c.args.slot.now c.args.from c.args.ballot c.args.prior;
+    }
