@@ -1,8 +1,10 @@
 use super::*;
 use bag_digest::Digests;
-use bag_tree::{LONGEST_TEXT, Tree, TreeFault};
+use bag_tree::{FileFacts, LONGEST_TEXT, Tree, TreeFault};
+use std::alloc::Global;
 use std::io;
 use std::io::{ErrorKind, Read};
+use std::process::Abort;
 use std::test::Fail;
 
 /// What a reader does when it is read: it gives these bytes, or fails.
@@ -61,59 +63,73 @@ impl Read for OneByOne<'_> {
     }
 }
 
-#[test]
-fn bytes_in_pieces(rt: HostRuntime) -> Result<(), Fail> {
-    let mut hashing = Hashing::new(rt.alloc(), "bagit.txt")?;
-    for piece in [b"a".as_slice(), b"", b"bc"] {
+fn is_of_abc(rt: &impl Abort, file: &FileFacts, path: &str, text: Option<&[u8]>) {
+    assert_eq!(rt; (file.path(), file.text()), (path, text));
+    assert_eq!(rt; file.digests(), &Digests::of(b"abc"));
+}
+
+fn feed(hashing: &mut Hashing, pieces: &[&[u8]]) -> Result<(), TreeFault> {
+    for piece in pieces {
         hashing.feed(piece)?;
     }
-    let file = hashing.finish();
-    assert_eq!(rt; file.path(), "bagit.txt");
-    assert_eq!(rt; file.text(), Some(b"abc".as_slice()));
-    assert_eq!(rt; file.digests(), &Digests::of(b"abc"));
     Ok(())
 }
 
 #[test]
+fn bytes_in_pieces(rt: HostRuntime) -> Result<(), Fail> {
+    let mut hashing = Hashing::new(rt.alloc(), "bagit.txt")?;
+    feed(&mut hashing, &[b"a", b"", b"bc"])?;
+    is_of_abc(&rt, &hashing.finish(), "bagit.txt", Some(b"abc"));
+    Ok(())
+}
+
+static FAILING: [Turn<'static>; 3] = [
+    Turn::Gives(b"ab"),
+    Turn::Gives(b"c"),
+    Turn::Fails(ErrorKind::Other),
+];
+
+const INTERRUPTED: Turn<'static> = Turn::Fails(ErrorKind::Interrupted);
+
+static INTERRUPTING: [Turn<'static>; 6] = [
+    INTERRUPTED,
+    Turn::Gives(b"ab"),
+    INTERRUPTED,
+    INTERRUPTED,
+    Turn::Gives(b"c"),
+    INTERRUPTED,
+];
+
+fn read_turns(alloc: Global, path: &str, turns: &[Turn<'_>]) -> Result<FileFacts, TreeFault> {
+    let mut reader = Turns { turns };
+    hash_reader(alloc, path, &mut reader)
+}
+
+#[test]
 fn a_reader_that_fails(rt: HostRuntime) -> Result<(), Fail> {
-    let turns = [
-        Turn::Gives(b"ab"),
-        Turn::Gives(b"c"),
-        Turn::Fails(ErrorKind::Other),
-    ];
+    let file = read_turns(rt.alloc(), "data/a", &FAILING[..2])?;
+    is_of_abc(&rt, &file, "data/a", None);
     // The third read fails: never the facts of the two pieces before it.
-    for (count, wanted) in [(2, None), (3, Some(TreeFault::Device))] {
-        let mut reader = Turns {
-            turns: &turns[..count],
-        };
-        match hash_reader(rt.alloc(), "data/a", &mut reader) {
-            Ok(file) => {
-                assert_eq!(rt; wanted, None);
-                assert_eq!(rt; file.digests().sha512, Digests::of(b"abc").sha512);
-                assert!(rt; file.text().is_none());
-            }
-            Err(fault) => assert_eq!(rt; wanted, Some(fault)),
-        }
-    }
+    let fault = read_turns(rt.alloc(), "data/a", &FAILING).err();
+    assert_eq!(rt; fault, Some(TreeFault::Device));
     Ok(())
 }
 
 // An interrupted read is no failed one, and no end: the facts are those of all bytes.
 #[test]
 fn a_reader_that_is_interrupted(rt: HostRuntime) -> Result<(), Fail> {
-    let interrupted = Turn::Fails(ErrorKind::Interrupted);
-    let turns = [
-        interrupted,
-        Turn::Gives(b"ab"),
-        interrupted,
-        interrupted,
-        Turn::Gives(b"c"),
-        interrupted,
-    ];
-    let mut reader = Turns { turns: &turns };
-    let file = hash_reader(rt.alloc(), "bagit.txt", &mut reader)?;
-    assert_eq!(rt; file.digests().sha512, Digests::of(b"abc").sha512);
-    assert_eq!(rt; file.text(), Some(b"abc".as_slice()));
+    let file = read_turns(rt.alloc(), "bagit.txt", &INTERRUPTING)?;
+    is_of_abc(&rt, &file, "bagit.txt", Some(b"abc"));
+    Ok(())
+}
+
+fn read_one_by_one(rt: &impl Abort, alloc: Global, bytes: &[u8]) -> Result<(), Fail> {
+    let mut reader = OneByOne {
+        bytes,
+        interrupted: false,
+    };
+    let file = hash_reader(alloc, "manifest-x.txt", &mut reader)?;
+    assert!(rt; file.text() == Some(bytes) && file.digests() == &Digests::of(bytes));
     Ok(())
 }
 
@@ -121,34 +137,27 @@ fn a_reader_that_is_interrupted(rt: HostRuntime) -> Result<(), Fail> {
 fn a_reader_that_gives_a_byte_at_a_time(rt: HostRuntime) -> Result<(), Fail> {
     // As many reads as a file of 2.4 GB takes: fewer are no fault.
     let bytes = vec![in rt.alloc(); b'x'; 300_000]?;
-    let mut reader = OneByOne {
-        bytes: bytes.as_slice(),
-        interrupted: false,
-    };
-    let file = hash_reader(rt.alloc(), "manifest-x.txt", &mut reader)?;
-    assert_eq!(rt; file.text(), Some(bytes.as_slice()));
-    let whole = Digests::of(bytes.as_slice());
-    assert_eq!(rt; file.digests().md5, whole.md5);
-    assert_eq!(rt; file.digests().sha512, whole.sha512);
-    Ok(())
+    assert_eq!(rt; MOST_READS, 4_294_967_295);
+    read_one_by_one(&rt, rt.alloc(), &bytes)
 }
 
-#[test]
-fn limit_of_reads(rt: HostRuntime) {
-    assert_eq!(rt; MOST_READS, 4_294_967_295);
+fn refuses_a_long_piece(
+    rt: &impl Abort,
+    hashing: &mut Hashing,
+    long: &[u8],
+) -> Result<(), TreeFault> {
+    hashing.feed(b"a")?;
+    assert_eq!(rt; hashing.feed(long), Err(TreeFault::TextTooLong));
+    // The refused piece left no trace.
+    hashing.feed(b"bc")
 }
 
 #[test]
 fn a_piece_beyond_the_limit_of_a_text(rt: HostRuntime) -> Result<(), Fail> {
     let long = vec![in rt.alloc(); b'x'; LONGEST_TEXT]?;
     let mut hashing = Hashing::new(rt.alloc(), "manifest-x.txt")?;
-    hashing.feed(b"a")?;
-    assert_eq!(rt; hashing.feed(long.as_slice()), Err(TreeFault::TextTooLong));
-    // The refused piece left no trace.
-    hashing.feed(b"bc")?;
-    let file = hashing.finish();
-    assert_eq!(rt; file.text(), Some(b"abc".as_slice()));
-    assert_eq!(rt; file.digests().sha512, Digests::of(b"abc").sha512);
+    refuses_a_long_piece(&rt, &mut hashing, &long)?;
+    is_of_abc(&rt, &hashing.finish(), "manifest-x.txt", Some(b"abc"));
     Ok(())
 }
 
@@ -158,17 +167,41 @@ fn read_of<F: Folders>(folders: &mut F, path: &str) -> Result<usize, TreeFault> 
     Ok(facts.files().len())
 }
 
+fn add(
+    folders: &mut MemoryFolders,
+    alloc: Global,
+    name: &str,
+    files: &[&str],
+) -> Result<(), TreeFault> {
+    let mut tree = Tree::new(alloc);
+    for file in files {
+        tree.add(file, b"abc")?;
+    }
+    folders.add(name, tree)?;
+    Ok(())
+}
+
+fn has_two_folders(
+    rt: &impl Abort,
+    alloc: Global,
+    folders: &mut MemoryFolders,
+) -> Result<(), TreeFault> {
+    add(folders, alloc, "x", &["data/a"])?;
+    add(folders, alloc, "x", &[])?;
+    add(folders, alloc, "y", &[])?;
+    let read = [
+        read_of(folders, "x"),
+        read_of(folders, "y"),
+        read_of(folders, "z"),
+    ];
+    assert_eq!(rt; read, [Ok(1), Ok(0), Err(TreeFault::Listing)]);
+    Ok(())
+}
+
 #[test]
 fn folders_in_memory(rt: HostRuntime) -> Result<(), Fail> {
-    let mut tree = Tree::new(rt.alloc());
-    tree.add("data/a", b"abc")?;
     let mut folders = MemoryFolders::new(rt.alloc());
-    folders.add("x", tree)?;
-    folders.add("x", Tree::new(rt.alloc()))?;
-    folders.add("y", Tree::new(rt.alloc()))?;
-    assert_eq!(rt; read_of(&mut folders, "x"), Ok(1));
-    assert_eq!(rt; read_of(&mut folders, "y"), Ok(0));
-    assert_eq!(rt; read_of(&mut folders, "z"), Err(TreeFault::Listing));
+    has_two_folders(&rt, rt.alloc(), &mut folders)?;
     Ok(())
 }
 
@@ -176,10 +209,8 @@ fn folders_in_memory(rt: HostRuntime) -> Result<(), Fail> {
 #[test]
 fn a_folder_that_is_not_there(rt: HostRuntime) -> Result<(), Fail> {
     let mut folders = DiskFolders::new(rt.clone()?);
-    assert_eq!(rt;
-        read_of(&mut folders, "no such folder"),
-        Err(TreeFault::Listing)
-    );
+    let read = read_of(&mut folders, "no such folder");
+    assert_eq!(rt; read, Err(TreeFault::Listing));
     assert!(rt; read_folder(&rt, "").is_err());
     Ok(())
 }

@@ -1,154 +1,175 @@
 use super::*;
 use bag_digest::Digests;
 use std::alloc::Global;
+use std::process::Abort;
 use std::test::Fail;
 
-#[test]
-fn facts_of_a_small_tree(rt: HostRuntime) -> Result<(), Fail> {
-    let mut tree = Tree::new(rt.alloc());
-    assert!(rt; !tree.payload_exists());
-    tree.add("bagit.txt", b"abc")?;
-    assert!(rt; !tree.payload_exists());
-    tree.add("data/a.txt", b"abc")?;
-    assert!(rt; tree.payload_exists());
-    let facts = facts_of(rt.alloc(), &tree)?;
-    assert!(rt; facts.payload_exists());
-    assert_eq!(rt; facts.files().len(), 2);
-    for (file, path) in facts.files().iter().zip(["bagit.txt", "data/a.txt"]) {
-        assert_eq!(rt; file.path(), path);
-        assert_eq!(rt; file.digests(), &Digests::of(b"abc"));
-        // The text that describes the bag is kept, the payload isn't.
-        assert_eq!(rt; file.text().is_some(), path == "bagit.txt");
+/// The tree of files at these paths, each of `abc`.
+fn tree_of(alloc: Global, paths: &[&str]) -> Result<Tree, TreeFault> {
+    let mut tree = Tree::new(alloc);
+    for path in paths {
+        tree.add(path, b"abc")?;
     }
-    assert_eq!(rt; tree.files().len(), 2);
+    Ok(tree)
+}
+
+fn has_both_files(rt: &impl Abort, tree: &Tree, facts: &Facts) {
+    assert_eq!(rt; (tree.files().len(), facts.files().len()), (2, 2));
+    assert_eq!(rt;
+        (tree.payload_exists(), facts.payload_exists()),
+        (true, true)
+    );
     for file in tree.files() {
         assert_eq!(rt; file.bytes(), b"abc".as_slice(), "of {}", file.path());
     }
+    for (file, &path) in facts.files().iter().zip(&["bagit.txt", "data/a.txt"]) {
+        assert_eq!(rt; (file.path(), file.digests()), (path, &Digests::of(b"abc")));
+        // The text that describes the bag is kept, the payload isn't.
+        assert_eq!(rt; file.text().is_some(), path == "bagit.txt");
+    }
+}
+
+#[test]
+fn facts_of_a_small_tree(rt: HostRuntime) -> Result<(), Fail> {
+    let tree = tree_of(rt.alloc(), &["bagit.txt", "data/a.txt"])?;
+    let facts = facts_of(rt.alloc(), &tree)?;
+    has_both_files(&rt, &tree, &facts);
     Ok(())
 }
 
 #[test]
-fn an_added_folder_exists(rt: HostRuntime) {
-    let mut tree = Tree::new(rt.alloc());
+fn an_added_folder_exists(rt: HostRuntime) -> Result<(), Fail> {
+    let mut tree = tree_of(rt.alloc(), &["bagit.txt"])?;
+    let before = tree.payload_exists();
     tree.add_folder();
-    assert!(rt; tree.payload_exists());
+    assert_eq!(rt; (before, tree.payload_exists()), (false, true));
+    assert!(rt; !Tree::new(rt.alloc()).payload_exists());
+    Ok(())
 }
 
-/// What adding an empty file answers, to a tree of `a`, `b/c` and `data/x`.
+const ADDED: Result<(), TreeFault> = Ok(());
+
+const BAD_PATH: Result<(), TreeFault> = Err(TreeFault::BadPath);
+
+const TOO_DEEP: Result<(), TreeFault> = Err(TreeFault::TooDeep);
+
+/// Paths, and what adding a file there answers, to a tree of `a`, `b/c` and `data/x`.
+static PATHS: [(&str, Result<(), TreeFault>); 26] = [
+    ("ab", ADDED),
+    ("b/d", ADDED),
+    ("datax", ADDED),
+    ("data/y", ADDED),
+    ("a.b", ADDED),
+    ("...", ADDED),
+    ("b/..c", ADDED),
+    ("manifest-sha512.txt", ADDED),
+    ("", BAD_PATH),
+    ("/", BAD_PATH),
+    ("/x", BAD_PATH),
+    ("x/", BAD_PATH),
+    ("x//y", BAD_PATH),
+    (".", BAD_PATH),
+    ("..", BAD_PATH),
+    ("x/./y", BAD_PATH),
+    ("x/../y", BAD_PATH),
+    ("data", BAD_PATH),
+    ("a", BAD_PATH),
+    ("a/b", BAD_PATH),
+    ("b", BAD_PATH),
+    ("b/c/d", BAD_PATH),
+    ("data/x/y", BAD_PATH),
+    // A path of 32 parts, one of 33, and one that is unsafe as well.
+    (
+        "1/1/1/1/1/1/1/1/1/1/1/1/1/1/1/1/1/1/1/1/1/1/1/1/1/1/1/1/1/1/1/1",
+        ADDED,
+    ),
+    (
+        "1/1/1/1/1/1/1/1/1/1/1/1/1/1/1/1/1/1/1/1/1/1/1/1/1/1/1/1/1/1/1/1/1",
+        TOO_DEEP,
+    ),
+    (
+        "1/1/1/1/1/1/1/1/1/1/1/1/1/1/1/1/1/1/1/1/1/1/1/1/1/1/1/1/1/1/1/1/1/..",
+        BAD_PATH,
+    ),
+];
+
 fn added(alloc: Global, path: &str) -> Result<(), TreeFault> {
-    let mut tree = Tree::new(alloc);
-    tree.add("a", b"")?;
-    tree.add("b/c", b"")?;
-    tree.add("data/x", b"")?;
+    let mut tree = tree_of(alloc, &["a", "b/c", "data/x"])?;
     tree.add(path, b"")
 }
 
 #[test]
 fn paths_that_a_tree_can_have(rt: HostRuntime) {
-    for path in [
-        "ab",
-        "b/d",
-        "datax",
-        "data/y",
-        "a.b",
-        "...",
-        "b/..c",
-        "manifest-sha512.txt",
-    ] {
-        assert_eq!(rt; added(rt.alloc(), path), Ok(()), "at {path}");
-    }
-    for path in [
-        "", "/", "/x", "x/", "x//y", ".", "..", "x/./y", "x/../y", "data", "a", "a/b", "b",
-        "b/c/d", "data/x/y",
-    ] {
-        assert_eq!(rt;
-            added(rt.alloc(), path),
-            Err(TreeFault::BadPath),
-            "at {path}"
-        );
+    for &(path, want) in &PATHS {
+        assert_eq!(rt; added(rt.alloc(), path), want, "at {path}");
     }
 }
 
-#[test]
-fn deep_paths(rt: HostRuntime) -> Result<(), Fail> {
-    let mut path = String::from_str(rt.alloc(), "1")?;
-    for _ in 1..32 {
-        path.push_str("/1")?;
-    }
-    assert_eq!(rt; added(rt.alloc(), path.as_str()), Ok(()));
-    path.push_str("/1")?;
-    assert_eq!(rt; added(rt.alloc(), path.as_str()), Err(TreeFault::TooDeep));
-    // An unsafe path is said to be so first.
-    path.push_str("/..")?;
-    assert_eq!(rt; added(rt.alloc(), path.as_str()), Err(TreeFault::BadPath));
-    Ok(())
+fn takes_long_files_but_not_texts(rt: &impl Abort, tree: &mut Tree, longest: &[u8], longer: &[u8]) {
+    let too_long = Err(TreeFault::TextTooLong);
+    assert_eq!(rt; tree.add("bagit.txt", longer), too_long);
+    assert_eq!(rt; tree.add("manifest-x.txt", longer), too_long);
+    assert_eq!(rt; tree.add("bagit.txt", longest), ADDED);
+    assert_eq!(rt; tree.add("data/long", longer), ADDED);
+    assert_eq!(rt; tree.files().len(), 2);
 }
 
 #[test]
 fn long_texts(rt: HostRuntime) -> Result<(), Fail> {
     let long = vec![in rt.alloc(); 0u8; LONGEST_TEXT + 1]?;
     let mut tree = Tree::new(rt.alloc());
-    assert_eq!(rt;
-        tree.add("bagit.txt", long.as_slice()),
-        Err(TreeFault::TextTooLong)
-    );
-    assert_eq!(rt;
-        tree.add("manifest-x.txt", long.as_slice()),
-        Err(TreeFault::TextTooLong)
-    );
-    assert_eq!(rt; tree.add("bagit.txt", &long.as_slice()[1..]), Ok(()));
-    assert_eq!(rt; tree.add("data/long", long.as_slice()), Ok(()));
-    assert_eq!(rt; tree.files().len(), 2);
+    takes_long_files_but_not_texts(&rt, &mut tree, &long.as_slice()[1..], long.as_slice());
     Ok(())
 }
 
+/// Paths, and whether they are those of texts that are read, have an unsafe part, are payload.
+static NAMES: [(&str, (bool, bool, bool)); 17] = [
+    ("bagit.txt", (true, false, false)),
+    ("manifest-sha512.txt", (true, false, false)),
+    ("manifest-.txt", (true, false, false)),
+    ("tagmanifest-md5.txt", (true, false, false)),
+    ("manifest-x y.txt", (true, false, false)),
+    ("bag-info.txt", (false, false, false)),
+    ("fetch.txt", (false, false, false)),
+    ("manifest-sha512", (false, false, false)),
+    ("Manifest-md5.txt", (false, false, false)),
+    ("manifest-x/y.txt", (false, false, false)),
+    ("xmanifest-md5.txt", (false, false, false)),
+    ("data/bagit.txt", (false, false, true)),
+    ("data/.../x", (false, false, true)),
+    ("data/../x", (false, true, true)),
+    ("", (false, true, false)),
+    ("data", (false, false, false)),
+    ("datax/y", (false, false, false)),
+];
+
 #[test]
-fn texts_that_are_read(rt: HostRuntime) {
-    for path in [
-        "bagit.txt",
-        "manifest-sha512.txt",
-        "manifest-.txt",
-        "tagmanifest-md5.txt",
-        "manifest-x y.txt",
-    ] {
-        assert!(rt; is_read_text(path.as_bytes()), "at {path}");
-    }
-    for path in [
-        "bag-info.txt",
-        "fetch.txt",
-        "manifest-sha512",
-        "Manifest-md5.txt",
-        "manifest-x/y.txt",
-        "data/bagit.txt",
-        "xmanifest-md5.txt",
-    ] {
-        assert!(rt; !is_read_text(path.as_bytes()), "at {path}");
+fn what_paths_say(rt: HostRuntime) {
+    for &(path, want) in &NAMES {
+        let bytes = path.as_bytes();
+        let found = (
+            is_read_text(bytes),
+            has_unsafe_part(bytes),
+            is_payload(bytes),
+        );
+        assert_eq!(rt; found, want, "at {path}");
     }
 }
 
-#[test]
-fn parts_of_paths(rt: HostRuntime) {
-    assert!(rt; has_unsafe_part(b"data/../x"));
-    assert!(rt; has_unsafe_part(b""));
-    assert!(rt; !has_unsafe_part(b"data/.../x"));
-    assert!(rt; is_payload(b"data/x"));
-    assert!(rt; !is_payload(b"data"));
-    assert!(rt; !is_payload(b"datax/y"));
-}
+static NUMBERS: [(TreeFault, u8); 8] = [
+    (TreeFault::Listing, 1),
+    (TreeFault::NotAFile, 2),
+    (TreeFault::TooDeep, 3),
+    (TreeFault::TooMany, 4),
+    (TreeFault::TextTooLong, 5),
+    (TreeFault::Device, 6),
+    (TreeFault::Memory, 7),
+    (TreeFault::BadPath, 8),
+];
 
 #[test]
 fn numbers_of_faults(rt: HostRuntime) {
-    let faults = [
-        TreeFault::Listing,
-        TreeFault::NotAFile,
-        TreeFault::TooDeep,
-        TreeFault::TooMany,
-        TreeFault::TextTooLong,
-        TreeFault::Device,
-        TreeFault::Memory,
-        TreeFault::BadPath,
-    ];
-    for (fault, number) in faults.iter().zip([1u8, 2, 3, 4, 5, 6, 7, 8]) {
+    for &(fault, number) in &NUMBERS {
         assert_eq!(rt; fault.number(), number);
     }
 }
@@ -156,7 +177,8 @@ fn numbers_of_faults(rt: HostRuntime) {
 #[test]
 fn limits_of_the_code(rt: HostRuntime) {
     limits_hold();
-    assert_eq!(rt; DEEPEST_PATH, 32);
-    assert_eq!(rt; MOST_FILES, 100_000);
-    assert_eq!(rt; LONGEST_TEXT, 67_108_864);
+    assert_eq!(rt;
+        (DEEPEST_PATH, MOST_FILES, LONGEST_TEXT),
+        (32, 100_000, 67_108_864)
+    );
 }

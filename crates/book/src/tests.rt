@@ -4,6 +4,7 @@ use super::*;
 use cell_device::{Cell, Fuse, How, MemoryCell};
 use fed_types::{BagId, Ballot, Members, SiteNo, Slot, Vote};
 use std::alloc::Global;
+use std::process::Abort;
 use std::test::Fail;
 
 // The journal of site 1 of federation 7: round 1 and a promise of ballot (1, 1), both for version 1
@@ -67,91 +68,139 @@ fn opened(alloc: Global, cell: MemoryCell) -> Result<Book<MemoryCell>, Fail> {
     }
 }
 
-// What the records say, a letter each.
-fn letters(alloc: Global, records: &[Record]) -> Result<String, Fail> {
-    let mut text = String::new(alloc);
-    for entry in records {
-        text.push(match entry.body {
-            Entry::Deposit(_) => 'D',
-            Entry::Round(_) => 'R',
-            Entry::Promise(_) => 'P',
-            Entry::Vote(_) => 'V',
-            Entry::Known(_) => 'K',
-        })?;
+// What a record says, in a letter.
+fn letter_of(entry: &Entry) -> u8 {
+    match entry {
+        Entry::Deposit(_) => b'D',
+        Entry::Round(_) => b'R',
+        Entry::Promise(_) => b'P',
+        Entry::Vote(_) => b'V',
+        Entry::Known(_) => b'K',
     }
-    Ok(text)
 }
 
-// A book of this cell says this, and the cell then has so many bytes.
-fn says(alloc: Global, cell: MemoryCell, want: &str, size: usize) -> Result<(), Fail> {
+// Whether the records say this, a letter each.
+fn are(records: &[Record], want: &str) -> bool {
+    let letters = want.as_bytes();
+    for (record, letter) in records.iter().zip(letters.iter()) {
+        if letter_of(&record.body) != *letter {
+            return false;
+        }
+    }
+    records.len() == letters.len()
+}
+
+// Whether a book of this cell says this, and the cell then has so many bytes.
+fn says(alloc: Global, cell: MemoryCell, want: &str, size: usize) -> Result<bool, Fail> {
     let book = opened(alloc, cell)?;
-    let text = letters(alloc, book.records())?;
-    if text.as_str() != want {
-        return Err(Fail::from(format!(in alloc; "{text} where {want} is wanted")?));
-    }
-    let needs_opening = book.needs_opening();
-    let len = book.close().bytes().len();
-    if needs_opening || len != size {
-        return Err(Fail::from(format!(in alloc; "{len} bytes where {size} are wanted")?));
-    }
-    Ok(())
+    let is_said = are(book.records(), want) && !book.needs_opening();
+    let cell = book.close();
+    Ok(is_said && cell.bytes().len() == size)
+}
+
+// Whether the cell has these bytes.
+fn holds(alloc: Global, cell: &MemoryCell, digits: &str) -> Result<bool, Fail> {
+    let bytes = hex::decode(alloc, digits)?;
+    Ok(cell.bytes() == bytes.as_slice())
+}
+
+// So many digits of the journal, and what a book of them says, and how many bytes it then has.
+struct Torn(usize, &'static str, usize);
+
+static TORN: [Torn; 10] = [
+    Torn(0, "", 13),
+    Torn(10, "", 13),
+    Torn(24, "", 13),
+    Torn(26, "", 13),
+    Torn(28, "", 13),
+    Torn(54, "R", 26),
+    Torn(52, "R", 26),
+    Torn(76, "R", 26),
+    Torn(78, "R", 26),
+    Torn(80, "RP", 40),
+];
+
+// The cell of so many digits of the journal.
+fn cell_of_digits(alloc: Global, digits: usize) -> Result<MemoryCell, Fail> {
+    cell(alloc, JOURNAL.get(..digits).ok_or("digits")?)
 }
 
 #[test]
 fn a_journal_is_opened_and_repaired(rt: HostRuntime) -> Result<(), Fail> {
     let alloc = rt.alloc();
-    for (digits, want, size) in [
-        (0, "", 13),
-        (10, "", 13),
-        (24, "", 13),
-        (26, "", 13),
-        (28, "", 13),
-        (54, "R", 26),
-        (52, "R", 26),
-        (76, "R", 26),
-        (78, "R", 26),
-        (80, "RP", 40),
-    ] {
-        says(alloc, cell(alloc, &JOURNAL[..digits])?, want, size)?;
+    for Torn(digits, want, size) in &TORN {
+        let cell = cell_of_digits(alloc, *digits)?;
+        assert!(rt; says(alloc, cell, *want, *size)?, "{digits} digits");
     }
-    let book = opened(alloc, cell(alloc, "")?)?;
-    let cell = book.close();
-    assert_eq!(rt; cell.bytes(), hex::decode(alloc, HEADER)?.as_slice());
+    let cell = opened(alloc, cell(alloc, "")?)?.close();
+    assert!(rt; holds(alloc, &cell, HEADER)?);
     Ok(())
+}
+
+// The digits of a cell, the site that opens it, and the fault.
+struct Refused(&'static str, u8, OpenFault);
+
+static REFUSED: [Refused; 3] = [
+    Refused(JOURNAL, 2, OpenFault::OtherSite),
+    Refused(DAMAGED, 1, OpenFault::Damaged(26)),
+    Refused(STRANGE, 1, OpenFault::OtherFederation),
+];
+
+// The cell and the fault, where it isn't opened.
+fn refusal(alloc: Global, cell: MemoryCell, site: u8) -> Result<(MemoryCell, OpenFault), Fail> {
+    match open(alloc, cell, site) {
+        Ok(_) => Err(Fail::from("it opens")),
+        Err(refusal) => Ok(refusal),
+    }
+}
+
+fn is_left_as_it_was(alloc: Global, row: &Refused) -> Result<bool, Fail> {
+    let (cell, fault) = refusal(alloc, cell(alloc, row.0)?, row.1)?;
+    Ok(fault == row.2 && holds(alloc, &cell, row.0)?)
 }
 
 #[test]
 fn a_refused_journal_is_left_as_it_was(rt: HostRuntime) -> Result<(), Fail> {
-    let alloc = rt.alloc();
-    for (digits, site, want) in [
-        (JOURNAL, 2, OpenFault::OtherSite),
-        (DAMAGED, 1, OpenFault::Damaged(26)),
-        (STRANGE, 1, OpenFault::OtherFederation),
-    ] {
-        let before = hex::decode(alloc, digits)?;
-        match open(alloc, cell(alloc, digits)?, site) {
-            Ok(_) => return Err(Fail::from("it opens")),
-            Err((cell, fault)) => {
-                assert_eq!(rt; fault, want);
-                assert_eq!(rt; cell.bytes(), before.as_slice());
-            }
-        }
+    for row in &REFUSED {
+        assert!(rt;
+            is_left_as_it_was(rt.alloc(), row)?,
+            "site {}: {}",
+            row.1,
+            row.0
+        );
     }
     Ok(())
+}
+
+// Commits a vote, and answers the fault, if there is one.
+fn commit(alloc: Global, book: &mut Book<MemoryCell>) -> Result<Option<CommitFault>, Fail> {
+    let vote = vote(alloc)?;
+    Ok(book.commit(vote).err())
+}
+
+// The journal with the vote.
+fn voted(alloc: Global) -> Result<Vec<u8>, Fail> {
+    let mut bytes = hex::decode(alloc, JOURNAL)?;
+    bytes.extend_from_slice(&hex::decode(alloc, "004c040161000000010000000101")?)?;
+    bytes.extend_from_slice(&[0xaa; 64])?;
+    Ok(bytes)
+}
+
+fn holds_the_vote(alloc: Global, cell: &MemoryCell) -> Result<bool, Fail> {
+    let bytes = voted(alloc)?;
+    Ok(cell.bytes() == bytes.as_slice())
 }
 
 #[test]
 fn a_record_is_committed(rt: HostRuntime) -> Result<(), Fail> {
     let alloc = rt.alloc();
     let mut book = opened(alloc, cell(alloc, JOURNAL)?)?;
-    book.commit(vote(alloc)?)?;
-    assert_eq!(rt; letters(alloc, book.records())?.as_str(), "RPV");
+    assert!(rt; commit(alloc, &mut book)?.is_none());
+    assert!(rt; are(book.records(), "RPV"));
     let cell = book.close();
-    let mut want = hex::decode(alloc, JOURNAL)?;
-    want.extend_from_slice(&hex::decode(alloc, "004c040161000000010000000101")?)?;
-    want.extend_from_slice(&[0xaa; 64])?;
-    assert_eq!(rt; cell.bytes(), want.as_slice());
-    says(alloc, cell, "RPV", 40 + VOTE_SIZE)
+    assert!(rt; holds_the_vote(alloc, &cell)?);
+    assert!(rt; says(alloc, cell, "RPV", 40 + VOTE_SIZE)?);
+    Ok(())
 }
 
 // A commit, a stop and a start: the records are those from before, and the new one.
@@ -170,14 +219,17 @@ fn committed_and_restarted(
     }
 }
 
+fn is_of_site_1(book: &Book<MemoryCell>) -> Result<bool, Fail> {
+    Ok(book.members() == Members::new(7, 3)? && book.site() == SiteNo::new(1)?)
+}
+
 #[test]
 fn a_book_outlives_a_restart(rt: HostRuntime) -> Result<(), Fail> {
     let alloc = rt.alloc();
     let book = opened(alloc, cell(alloc, JOURNAL)?)?;
     let book = committed_and_restarted(alloc, book, vote(alloc)?)?;
-    assert_eq!(rt; letters(alloc, book.records())?.as_str(), "RPV");
-    assert_eq!(rt; book.members(), Members::new(7, 3)?);
-    assert_eq!(rt; book.site(), SiteNo::new(1)?);
+    assert!(rt; are(book.records(), "RPV"));
+    assert!(rt; is_of_site_1(&book)?);
     let cell = book.close();
     assert_eq!(rt; cell.bytes().len(), 40 + VOTE_SIZE);
     append_is_atomic();
@@ -185,55 +237,86 @@ fn a_book_outlives_a_restart(rt: HostRuntime) -> Result<(), Fail> {
     Ok(())
 }
 
-// A record at its greatest size, 277 bytes: a vote for an object of 200 bytes. It goes again and
-// again into one book, which then has all of them, and so has the book that is opened after it.
+// A record at its greatest size, 277 bytes: a vote for an object of 200 bytes.
+fn longest(alloc: Global) -> Result<Record, Fail> {
+    let Record { body, .. } = vote(alloc)?;
+    let slot = Slot::new("\u{e9}".repeat(alloc, 100)?, 1)?;
+    Ok(Record { slot, body })
+}
+
+fn commit_often(alloc: Global, book: &mut Book<MemoryCell>, record: &Record) -> Result<(), Fail> {
+    for _ in 0..COMMITS {
+        book.commit(record.copy(alloc)?)?;
+    }
+    Ok(())
+}
+
+// Whether the book has the record as often as it was committed, and no other.
+fn has_only(book: &Book<MemoryCell>, record: &Record) -> bool {
+    for other in book.records() {
+        if other.slot != record.slot || other.body != record.body {
+            return false;
+        }
+    }
+    book.records().len() == COMMITS
+}
+
+// Whether the longest record goes again and again into one book, which then has all of them, and so
+// has the book that is opened after it.
+fn is_filled(alloc: Global, longest: &Record) -> Result<bool, Fail> {
+    let mut book = opened(alloc, cell(alloc, "")?)?;
+    commit_often(alloc, &mut book, longest)?;
+    let has_all = has_only(&book, longest);
+    let cell = book.close();
+    let has_size = cell.bytes().len() == 13 + 277 * COMMITS;
+    let book = opened(alloc, cell)?;
+    Ok(has_all && has_size && has_only(&book, longest))
+}
+
 #[test]
 fn thousands_of_commits(rt: HostRuntime) -> Result<(), Fail> {
-    let alloc = rt.alloc();
-    let object = "\u{e9}".repeat(alloc, 100)?;
-    let longest = Record {
-        slot: Slot::new(object, 1)?,
-        body: vote(alloc)?.body,
-    };
-    let mut book = opened(alloc, cell(alloc, "")?)?;
-    for _ in 0..COMMITS {
-        book.commit(longest.copy(alloc)?)?;
-    }
-    assert_eq!(rt; book.records().len(), COMMITS);
-    let cell = book.close();
-    assert_eq!(rt; cell.bytes().len(), 13 + 277 * COMMITS);
-    let book = opened(alloc, cell)?;
-    assert_eq!(rt; book.records().len(), COMMITS);
-    let others = book
-        .records()
-        .iter()
-        .filter(|r| r.slot != longest.slot || r.body != longest.body)
-        .count();
-    assert_eq!(rt; others, 0);
+    let longest = longest(rt.alloc())?;
+    assert!(rt; is_filled(rt.alloc(), &longest)?);
     Ok(())
+}
+
+// The cell as it goes on after a failure, started again if it has stopped.
+fn started(cell: MemoryCell, how: How) -> MemoryCell {
+    let mut cell = cell;
+    if how == How::Stop {
+        cell.restart();
+    }
+    cell
+}
+
+// Whether a commit fails, and so does the next.
+fn fails(alloc: Global, book: &mut Book<MemoryCell>, fuse: Fuse) -> Result<bool, Fail> {
+    book.set_fuse(Some(fuse));
+    let fails = commit(alloc, book)? == Some(CommitFault::Device) && book.needs_opening();
+    let is_closed = commit(alloc, book)? == Some(CommitFault::NeedsOpen);
+    Ok(fails && is_closed && are(book.records(), "RP"))
+}
+
+// Whether a commit in which the fuse fires leaves the vote, if all its bytes are kept, or nothing of
+// it.
+fn is_atomic(alloc: Global, fuse: Fuse) -> Result<bool, Fail> {
+    let mut book = opened(alloc, cell(alloc, JOURNAL)?)?;
+    let fails = fails(alloc, &mut book, fuse)?;
+    let cell = started(book.close(), fuse.how);
+    let is_kept = cell.bytes().len().checked_sub(40) == Some(fuse.kept);
+    let is_whole = fuse.kept == VOTE_SIZE;
+    let (want, size) = if is_whole { ("RPV", 118) } else { ("RP", 40) };
+    Ok(says(alloc, cell, want, size)? && fails && is_kept)
 }
 
 // Of each call of a commit that fails, with each number of bytes kept: the commit is atomic.
 #[test]
 fn a_commit_that_fails_is_atomic(rt: HostRuntime) -> Result<(), Fail> {
-    let alloc = rt.alloc();
-    for how in [How::Fail, How::Stop] {
-        for call in [1, 2] {
-            for kept in 0..=VOTE_SIZE {
-                let mut book = opened(alloc, cell(alloc, JOURNAL)?)?;
-                book.set_fuse(Some(Fuse { call, how, kept }));
-                assert_eq!(rt; book.commit(vote(alloc)?), Err(CommitFault::Device));
-                assert!(rt; book.needs_opening());
-                assert_eq!(rt; book.commit(vote(alloc)?), Err(CommitFault::NeedsOpen));
-                assert_eq!(rt; letters(alloc, book.records())?.as_str(), "RP");
-                let mut cell = book.close();
-                assert_eq!(rt; cell.bytes().len(), 40 + kept);
-                if how == How::Stop {
-                    cell.restart();
-                }
-                let whole = kept == VOTE_SIZE;
-                let (want, size) = if whole { ("RPV", 118) } else { ("RP", 40) };
-                says(alloc, cell, want, size)?;
+    for kept in 0..=VOTE_SIZE {
+        for call in 1..=2 {
+            for how in [How::Fail, How::Stop] {
+                let fuse = Fuse { call, how, kept };
+                assert!(rt; is_atomic(rt.alloc(), fuse)?, "{fuse:?}");
             }
         }
     }
@@ -244,17 +327,18 @@ fn a_commit_that_fails_is_atomic(rt: HostRuntime) -> Result<(), Fail> {
 fn a_book_goes_on_after_a_failure(rt: HostRuntime) -> Result<(), Fail> {
     let alloc = rt.alloc();
     let mut book = opened(alloc, cell(alloc, JOURNAL)?)?;
-    let fuse = Fuse {
+    let how = How::Fail;
+    book.set_fuse(Some(Fuse {
         call: 2,
-        how: How::Fail,
+        how,
         kept: 0,
-    };
-    book.set_fuse(Some(fuse));
-    assert_eq!(rt; book.commit(vote(alloc)?), Err(CommitFault::Device));
+    }));
+    assert!(rt; commit(alloc, &mut book)? == Some(CommitFault::Device));
     let mut book = opened(alloc, book.close())?;
-    assert_eq!(rt; letters(alloc, book.records())?.as_str(), "RP");
-    book.commit(vote(alloc)?)?;
-    says(alloc, book.close(), "RPV", 40 + VOTE_SIZE)
+    assert!(rt; are(book.records(), "RP"));
+    assert!(rt; commit(alloc, &mut book)?.is_none());
+    assert!(rt; says(alloc, book.close(), "RPV", 40 + VOTE_SIZE)?);
+    Ok(())
 }
 
 // A fuse that is to fire later than the commit's two calls stays.
@@ -262,33 +346,96 @@ fn a_book_goes_on_after_a_failure(rt: HostRuntime) -> Result<(), Fail> {
 fn a_later_fuse_leaves_a_commit_alone(rt: HostRuntime) -> Result<(), Fail> {
     let alloc = rt.alloc();
     let mut book = opened(alloc, cell(alloc, JOURNAL)?)?;
-    let fuse = Fuse {
+    let how = How::Stop;
+    book.set_fuse(Some(Fuse {
         call: 3,
-        how: How::Stop,
+        how,
         kept: 7,
-    };
-    book.set_fuse(Some(fuse));
-    book.commit(vote(alloc)?)?;
-    assert_eq!(rt; book.commit(vote(alloc)?), Err(CommitFault::Device));
-    let mut cell = book.close();
-    cell.restart();
-    says(alloc, cell, "RPV", 40 + VOTE_SIZE)
+    }));
+    assert!(rt; commit(alloc, &mut book)?.is_none());
+    assert!(rt; commit(alloc, &mut book)? == Some(CommitFault::Device));
+    let cell = started(book.close(), How::Stop);
+    assert!(rt; says(alloc, cell, "RPV", 40 + VOTE_SIZE)?);
+    Ok(())
+}
+
+// The book after a stop in its append, with so many bytes kept, and a start.
+fn stopped_and_restarted(
+    alloc: Global,
+    book: Book<MemoryCell>,
+    kept: usize,
+) -> Result<Book<MemoryCell>, Fail> {
+    let mut book = book;
+    let how = How::Stop;
+    book.set_fuse(Some(Fuse { call: 1, how, kept }));
+    if commit(alloc, &mut book)? != Some(CommitFault::Device) {
+        return Err(Fail::from("it commits"));
+    }
+    match book.restart(alloc) {
+        Ok(book) => Ok(book),
+        Err((_, fault)) => Err(Fail::from(fault.to_string(alloc)?)),
+    }
+}
+
+fn restarts_with(alloc: Global, kept: usize, want: &str) -> Result<bool, Fail> {
+    let book = opened(alloc, cell(alloc, JOURNAL)?)?;
+    let book = stopped_and_restarted(alloc, book, kept)?;
+    Ok(are(book.records(), want))
 }
 
 // A stop within a commit, and a start: the commit is atomic.
 #[test]
 fn a_restart_after_a_failed_commit(rt: HostRuntime) -> Result<(), Fail> {
-    let alloc = rt.alloc();
-    for (kept, want) in [(0, "RP"), (VOTE_SIZE - 1, "RP"), (VOTE_SIZE, "RPV")] {
-        let mut book = opened(alloc, cell(alloc, JOURNAL)?)?;
-        let how = How::Stop;
-        book.set_fuse(Some(Fuse { call: 1, how, kept }));
-        assert_eq!(rt; book.commit(vote(alloc)?), Err(CommitFault::Device));
-        match book.restart(alloc) {
-            Ok(book) => assert_eq!(rt; letters(alloc, book.records())?.as_str(), want),
-            Err((_, fault)) => return Err(Fail::from(fault.to_string(alloc)?)),
+    assert!(rt; restarts_with(rt.alloc(), 0, "RP")?);
+    assert!(rt; restarts_with(rt.alloc(), VOTE_SIZE - 1, "RP")?);
+    assert!(rt; restarts_with(rt.alloc(), VOTE_SIZE, "RPV")?);
+    Ok(())
+}
+
+// So many digits of the journal, the number of calls with which they are opened, what a book then
+// says, and how many bytes it has.
+struct Opening(usize, usize, &'static str, usize);
+
+static OPENINGS: [Opening; 3] = [
+    Opening(80, 2, "RP", 40),
+    Opening(78, 4, "R", 26),
+    Opening(10, 4, "", 13),
+];
+
+fn broken(alloc: Global, digits: usize, fuse: Fuse) -> Result<MemoryCell, Fail> {
+    let mut cell = cell_of_digits(alloc, digits)?;
+    cell.set_fuse(Some(fuse));
+    Ok(cell)
+}
+
+// Whether the fuse fires in the opening, after which the cell opens as it would have.
+fn loses_nothing(alloc: Global, opening: &Opening, fuse: Fuse) -> Result<bool, Fail> {
+    let Opening(digits, _, want, size) = opening;
+    let (cell, fault) = refusal(alloc, broken(alloc, *digits, fuse)?, 1)?;
+    let cell = started(cell, fuse.how);
+    Ok(says(alloc, cell, *want, *size)? && fault == OpenFault::Device)
+}
+
+// Whether the opening has no call in which this fuse fires.
+fn is_opened(alloc: Global, opening: &Opening, fuse: Fuse) -> Result<bool, Fail> {
+    let Opening(digits, _, want, size) = opening;
+    says(alloc, broken(alloc, *digits, fuse)?, *want, *size)
+}
+
+fn opens(rt: &impl Abort, alloc: Global, opening: &Opening, how: How) -> Result<(), Fail> {
+    let Opening(_, calls, _, _) = opening;
+    for call in 1..=*calls {
+        for kept in 0..=14 {
+            let fuse = Fuse { call, how, kept };
+            assert!(rt; loses_nothing(alloc, opening, fuse)?, "{fuse:?}");
         }
     }
+    let fuse = Fuse {
+        call: calls.saturating_add(1),
+        how,
+        kept: 0,
+    };
+    assert!(rt; is_opened(alloc, opening, fuse)?, "{fuse:?}");
     Ok(())
 }
 
@@ -296,53 +443,33 @@ fn a_restart_after_a_failed_commit(rt: HostRuntime) -> Result<(), Fail> {
 // same. A torn tail is cut and a header completed, each between two syncs.
 #[test]
 fn an_opening_that_fails_loses_nothing(rt: HostRuntime) -> Result<(), Fail> {
-    let alloc = rt.alloc();
-    for (digits, calls, want, size) in [(80, 2, "RP", 40), (78, 4, "R", 26), (10, 4, "", 13)] {
-        for how in [How::Fail, How::Stop] {
-            for call in 1..=calls {
-                for kept in 0..=14 {
-                    let mut broken = cell(alloc, &JOURNAL[..digits])?;
-                    broken.set_fuse(Some(Fuse { call, how, kept }));
-                    match open(alloc, broken, 1) {
-                        Ok(_) => return Err(Fail::from("it opens")),
-                        Err((mut cell, fault)) => {
-                            assert_eq!(rt; fault, OpenFault::Device);
-                            if how == How::Stop {
-                                cell.restart();
-                            }
-                            says(alloc, cell, want, size)?;
-                        }
-                    }
-                }
-            }
-            let mut sound = cell(alloc, &JOURNAL[..digits])?;
-            sound.set_fuse(Some(Fuse {
-                call: calls + 1,
-                how,
-                kept: 0,
-            }));
-            says(alloc, sound, want, size)?;
-        }
+    for opening in &OPENINGS {
+        opens(&rt, rt.alloc(), opening, How::Fail)?;
+        opens(&rt, rt.alloc(), opening, How::Stop)?;
     }
     Ok(())
 }
 
+static COMMIT_FAULTS: [(CommitFault, u8); 3] = [
+    (CommitFault::Device, 1),
+    (CommitFault::Memory, 2),
+    (CommitFault::NeedsOpen, 3),
+];
+
+static OPEN_FAULTS: [(OpenFault, u8); 5] = [
+    (OpenFault::OtherFederation, 1),
+    (OpenFault::OtherSite, 2),
+    (OpenFault::Damaged(26), 3),
+    (OpenFault::Device, 4),
+    (OpenFault::Memory, 5),
+];
+
 #[test]
 fn faults_have_numbers(rt: HostRuntime) {
-    for (fault, number) in [
-        (CommitFault::Device, 1),
-        (CommitFault::Memory, 2),
-        (CommitFault::NeedsOpen, 3),
-    ] {
-        assert_eq!(rt; fault.number(), number);
+    for (fault, number) in &COMMIT_FAULTS {
+        assert_eq!(rt; fault.number(), *number);
     }
-    for (fault, number) in [
-        (OpenFault::OtherFederation, 1),
-        (OpenFault::OtherSite, 2),
-        (OpenFault::Damaged(26), 3),
-        (OpenFault::Device, 4),
-        (OpenFault::Memory, 5),
-    ] {
-        assert_eq!(rt; fault.number(), number);
+    for (fault, number) in &OPEN_FAULTS {
+        assert_eq!(rt; fault.number(), *number);
     }
 }

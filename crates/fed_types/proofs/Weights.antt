@@ -2,14 +2,14 @@
 use Rattle.std.specs.Prelude.{◌≡◌, ℕ, ◌<◌, ◌≤◌, ◌-◌, ◌==◌, false, List, ◌++◌, length, take, drop}
 use Rattle.std.specs.Prelude.{replicate, slice_index, refl}
 use Rattle.std.specs.List.{All, Contains, list_any}
-use Rattle.std.proofs.Common.{arith, sym, ap, ◌∙◌, inl, inr, eq-eqb, length-append}
+use Rattle.std.proofs.Common.{arith, sym, ◌∙◌, inl, inr, eq-eqb, length-append}
 use Rattle.std.proofs.Math.Seq.{drop-append_seam}
-use Rattle.std.proofs.lemmas.Bool.{cases_eq, false≢true}
+use Rattle.std.proofs.lemmas.Bool.{cases_eq, cases_lt, false≢true}
 use Rattle.std.proofs.lemmas.List.{length-replicate, length-drop, drop-replicate, take-replicate}
-use Rattle.std.proofs.lemmas.List.{take_at, get_or-replicate}
-use Rattle.std.proofs.lemmas.List.Elements.{All-from_get_or}
+use Rattle.std.proofs.lemmas.List.{take_at, get_or-replicate, get_or_past}
+use Rattle.std.proofs.lemmas.List.Elements.{All-from_get_or, All-get_or}
 use Rattle.std.proofs.lemmas.List.Folds.{list_any_at}
-use Rattle.fed_types.specs.Sites.{IsMemberCount, IsWeight}
+use Rattle.fed_types.specs.Sites.{AreWeights, IsMemberCount, IsWeight, Membership, weight_of}
 use Rattle.fed_types.specs.inner.Padded.{IsPadded, room}
 
 -- a number of a list without 0 is at least 1
@@ -28,6 +28,21 @@ pub are_weights : (ws : List ℕ) → ((k : ℕ) → slice_index ws k < 256)
     → list_any (λ y. y == 0) ws ≡ false → All IsWeight ws
 are_weights ws fits none =
     All-from_get_or IsWeight ws 0 (λ i l. (positive ws i none l, omega (arith, fits i)))
+
+-- no site's weight is above the greatest; one that is no member has none
+pub weight_most : (m : Membership) → AreWeights m.weights → (site : ℕ) → weight_of m site ≤ 255
+weight_most m weights site =
+    elim (cases_lt (site - 1) (length m.weights)) [
+      | inl member ↦
+          let w : IsWeight (slice_index m.weights (site - 1)) =
+          All-get_or IsWeight m.weights (site - 1) 0 member weights.1 in w.1
+      | inr stranger ↦
+          let none = get_or_past m.weights (site - 1) 0 stranger in omega (arith, none)
+    ]
+
+-- and a stranger's is 0
+pub weight_past : (m : Membership) (site : ℕ) → length m.weights < site → weight_of m site ≡ 0
+weight_past m site beyond = get_or_past m.weights (site - 1) 0 (omega arith)
 
 -- the zeros that the array begins with
 abbrev zeros : List ℕ

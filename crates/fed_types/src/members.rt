@@ -122,8 +122,8 @@ impl Members {
         ensures { result ≡ weight_sum self (members_of self) }
     {
         let mut total = 0;
-        for number in 1..=self.count() {
-            total += u16::from(self.weight_at(number));
+        for weight in self.weights() {
+            total += u16::from(*weight);
         }
         total
     }

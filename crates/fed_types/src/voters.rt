@@ -71,11 +71,15 @@ impl Voters {
         ensures value { result ≡ weight_sum members.now (members_among members.now self.now) }
         ensures most { result ≤ most_members * greatest_weight }
     {
+        // So few of them, and each so small, that the sum fits.
+        let _weights = members.weights();
         let mut sum = 0;
-        for number in 1..=members.count() {
-            if self.holds(number) {
-                sum += u16::from(members.weight_at(number));
-            }
+        // The ones that aren't counted yet; no site has number 0.
+        let mut rest = self.word & !1;
+        while rest != 0 {
+            let number = rest.trailing_zeros() as u8;
+            sum += u16::from(members.weight_at(number));
+            rest &= !(1 << number);
         }
         sum
     }

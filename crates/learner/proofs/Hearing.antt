@@ -1,6 +1,6 @@
 -- What a learner stands for after it has heard of one more vote.
 use Rattle.std.proofs.Common.{◌≡◌, ℕ, ◌&&◌, ◌||◌, Bool, true, false, cond, List, [], ◌∷◌, ◌++◌}
-use Rattle.std.proofs.Common.{Option, Some, None, is_some, refl, sym, ap, subst, ◌∙◌}
+use Rattle.std.proofs.Common.{Option, Some, None, refl, sym, ap, subst, ◌∙◌}
 use Rattle.std.specs.Bool.{◌==◌, Decides}
 use Rattle.std.specs.List.{cons_option}
 use Rattle.std.proofs.lemmas.Bool.Decides.{Decides-eqb, Decides-and}
@@ -26,7 +26,7 @@ use Rattle.dgram.specs.Heard.{same_vote, bodies_of, voters_for}
 use Rattle.dgram.proofs.Heard.{bodies_of-append, voters_for-append}
 use Rattle.slot_table.specs.Rows.{Rows, row_at}
 use Rattle.learner.specs.declared.row.Row.{Row}
-use Rattle.learner.specs.inner.Counts.{KnowsSame, CountsSame, IsCounted}
+use Rattle.learner.specs.inner.Counts.{KnowsSame, CountsSame, IsCounted, unless_settled}
 use Rattle.learner.specs.Learning.{with_vote, chosen_by, learned_from}
 use Rattle.learner.specs.Ledgers.{known_in, counted_in, StandsFor}
 
@@ -187,27 +187,53 @@ module _ (old : Rows Row) (records : List Record) (heard : List Message) (slot :
           ∙ rw ((same_slot_decides slot slot).1 refl, (same_vote_decides vote vote).1 refl)
           refl)
 
-  -- the same, by a test
-  pub heard_where_known : is_some (known_in (row_at old slot)) ≡ true
+  -- the voters, with this one, while no bag is known
+  abbrev counting : Option (List ℕ)
+  counting =
+      unless_settled (known_in (row_at old slot))
+      (with_voter (counted_in (row_at old slot) vote) from)
+
+  -- no vote is counted where a bag is known
+  pub heard_settled : (o : Option (List ℕ)) → o ≡ counting
+      → ((voters : List ℕ) → o ≡ Some voters → ⊥)
       → StandsFor old records (with_vote heard slot from vote)
-  heard_where_known is = go (known_in (row_at old slot)) refl is
+  heard_settled o is nobody = go (known_in (row_at old slot)) refl
     where
-      go : (o : Option BagId) → known_in (row_at old slot) ≡ o → is_some o ≡ true
+      go : (k : Option BagId) → known_in (row_at old slot) ≡ k
           → StandsFor old records (with_vote heard slot from vote)
-      go None e f = absurd (cc f)
-      go (Some bag) e f = heard_known bag e
+      go None e =
+          absurd (nobody (with_voter (counted_in (row_at old slot) vote) from)
+          (is ∙ ap (λ (k : Option BagId). unless_settled k
+          (with_voter (counted_in (row_at old slot) vote) from)) e))
+      go (Some bag) e = heard_known bag e
+
+  -- and none is known where one is
+  pub unsettled : (voters : List ℕ) → Some voters ≡ counting
+      → (known_in (row_at old slot) ≡ None)
+      × (voters ≡ with_voter (counted_in (row_at old slot) vote) from)
+  unsettled voters is = go (known_in (row_at old slot)) is
+    where
+      go : (k : Option BagId)
+          → Some voters ≡ unless_settled k (with_voter (counted_in (row_at old slot) vote) from)
+          → (k ≡ None) × (voters ≡ with_voter (counted_in (row_at old slot) vote) from)
+      go None e = (refl, cc e)
+      go (Some bag) e = absurd (cc e)
 
   -- what is learned, as the code finds it
-  pub learned_by : (quorums : QuorumSystem) → AreQuorums quorums
-      → known_in (row_at old slot) ≡ None → (voters : List ℕ) (t : Bool)
-      → voters ≡ with_voter (counted_in (row_at old slot) vote) from
-      → quorums.is_quorum voters ≡ t
+  pub learned_by : (quorums : QuorumSystem) → AreQuorums quorums → (voters : List ℕ)
+      → Some voters ≡ counting → (t : Bool) → quorums.is_quorum voters ≡ t
       → cond t (Some vote.bag) None ≡ learned_from quorums slot records heard from vote
-  learned_by quorums laws none voters t counted test =
-      ap (λ (u : Bool). cond u (Some vote.bag) None) (sym test ∙ ap quorums.is_quorum counted)
-      ∙ sym (learned_is quorums laws none)
+  learned_by quorums laws voters is t test =
+      ap (λ (u : Bool). cond u (Some vote.bag) None)
+      (sym test ∙ ap quorums.is_quorum (unsettled voters is).1)
+      ∙ sym (learned_is quorums laws (unsettled voters is).0)
 
--- what isn't there is nothing
-pub none_from : {A : Type 0} (o : Option A) → is_some o ≡ false → o ≡ None
-none_from None e = refl
-none_from (Some x) e = absurd (cc e)
+  -- where the voters aren't a quorum
+  pub learned_nothing : (quorums : QuorumSystem) → AreQuorums quorums → (voters : List ℕ)
+      → Some voters ≡ counting → quorums.is_quorum voters ≡ false
+      → (known_of slot records ≡ None)
+      × (learned_from quorums slot records heard from vote ≡ None)
+  learned_nothing quorums laws voters is test = (
+    sym (stands.known slot) ∙ (unsettled voters is).0,
+    sym (learned_by quorums laws voters is false test),
+  )

@@ -1,5 +1,7 @@
 -- What a learner knows of each slot.
 use Rattle.std.specs.Prelude.{◌≡◌, ℕ, List, [], Option, Some, None, if◌then◌else◌}
+use Rattle.std.specs.Prelude.{Box, box_value}
+use Rattle.std.specs.declared.alloc.Global.{Global}
 use Rattle.std.specs.Map.{lookup}
 use Rattle.fed_types.specs.declared.bag_id.BagId.{BagId}
 use Rattle.fed_types.specs.declared.vote.Vote.{Vote}
@@ -28,6 +30,11 @@ known_in (Some (rows.Heard votes)) = None
 abbrev pub Votes : Type 0
 Votes = List (Vote × List ℕ)
 
+-- those of a row, which has them where one was heard of
+abbrev pub votes_in : Option (Box Votes Global) → Votes
+votes_in None = []
+votes_in (Some votes) = box_value votes
+
 -- the sites counted for a vote
 abbrev pub voters_or_none : Option (List ℕ) → List ℕ
 voters_or_none None = []
@@ -47,7 +54,7 @@ IsCountedWith old new vote voters =
 abbrev pub counted_in : Option Row → Vote → List ℕ
 counted_in None vote = []
 counted_in (Some (rows.Known bag)) vote = []
-counted_in (Some (rows.Heard votes)) vote = voters_for_vote votes vote
+counted_in (Some (rows.Heard votes)) vote = voters_for_vote (votes_in votes) vote
 
 -- the learner knows of each slot its known bag, by the records; and, of a slot without one, for
 -- each vote the sites that were heard to have cast it

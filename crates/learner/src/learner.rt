@@ -19,6 +19,7 @@ ghost use Rattle.dgram.specs.declared.message.Message.{Message};
 ghost use Rattle.slot_table.specs.Rows.{row_at, HasRooms};
 ghost use Rattle.learner.specs.Learning.{with_vote, learned_from, learned_of_known};
 ghost use Rattle.learner.specs.Ledgers.{StandsFor, known_in, counted_in};
+ghost use Rattle.learner.specs.inner.Counts.{unless_settled};
 
 use crate::row::Row;
 use crate::table::{count, reserve, settle};
@@ -111,29 +112,28 @@ impl<Q: Quorums + Drop> Learner<Q> {
         ensures rooms { HasRooms self.old.rows self.new.rows }
         ensures members { self.new.members ≡ self.old.members }
     {
-        if self.known(slot).is_some() {
-            return Ok(None);
-        }
         let vote = Vote { ballot, bag };
-        let voters = self.counted_with(from, slot, &vote);
+        let Some(voters) = self.counted_with(from, slot, &vote) else {
+            return Ok(None);
+        };
         if self.members.is_quorum(&voters) {
             return Ok(Some(bag));
         }
-        reserve(self.alloc, &mut self.table, slot)?;
-        count(&mut self.table, slot, &vote, &voters)?;
+        count(self.alloc, &mut self.table, slot, &vote, &voters)?;
         Ok(None)
     }
 
-    // The sites counted for a vote, with this one.
-    fn counted_with(&self, from: SiteNo, slot: &Slot, vote: &Vote) -> Voters
-        ensures { result ≡ with_voter (counted_in (row_at self.now.rows slot.now) vote.now) from }
+    // The sites counted for a vote, with this one, while no bag is known.
+    fn counted_with(&self, from: SiteNo, slot: &Slot, vote: &Vote) -> Option<Voters>
+        ensures { result ≡ unless_settled (known_in (row_at self.now.rows slot.now))
+            (with_voter (counted_in (row_at self.now.rows slot.now) vote.now) from) }
     {
         let mut voters = match self.table.get(slot) {
-            Some(row) => row.counted(vote),
+            Some(row) => row.counted(vote)?,
             None => Voters::new(),
         };
         voters.add(from);
-        voters
+        Some(voters)
     }
 
     /// Makes room for the slot, so that `note` of its records takes no memory. It says nothing of
@@ -146,7 +146,7 @@ impl<Q: Quorums + Drop> Learner<Q> {
         ensures succeeds { IsSome (row_at self.old.rows slot.now) → IsOk result }
         ensures members { self.new.members ≡ self.old.members }
     {
-        reserve(self.alloc, &mut self.table, slot)
+        reserve(&mut self.table, slot)
     }
 
     /// Takes note of a record that was committed.
@@ -163,7 +163,7 @@ impl<Q: Quorums + Drop> Learner<Q> {
         ensures members { self.new.members ≡ self.old.members }
     {
         if let Entry::Known(bag) = new.body {
-            reserve(self.alloc, &mut self.table, &new.slot)?;
+            reserve(&mut self.table, &new.slot)?;
             settle(&mut self.table, &new.slot, bag);
         }
         Ok(())

@@ -1,53 +1,61 @@
-ghost use Rattle.std.specs.Prelude.{◌≡◌, Some, None, OnOk, OnErr};
+ghost use Rattle.std.specs.Prelude.{◌≡◌, [], Some, None, OnOk, OnErr, IfOk};
 ghost use Rattle.learner.specs.Ledgers.{known_in, counted_in};
-ghost use Rattle.learner.specs.inner.Counts.{IsRowCounted, first_known};
+ghost use Rattle.learner.specs.inner.Counts.{IsRowCounted, first_known, unless_settled};
 ghost use Rattle.learner.specs.declared.row.Row.TheVariants as rows;
 
 use crate::votes::Votes;
 use fed_types::{BagId, Vote, Voters};
-use std::alloc::AllocError;
+use std::alloc::{AllocError, Global};
 
 /// What a learner knows of a slot.
 #[derive(Drop)]
 pub(crate) enum Row {
     /// This bag is known; votes aren't counted any more.
     Known(BagId),
-    /// No bag is known; for each vote that was heard of, the sites that cast it.
-    Heard(Votes),
+    /// No bag is known; the votes that were heard of, if one was. They are boxed, so that the row of
+    /// a slot that was only asked about is no larger than that of a known bag.
+    Heard(Option<Box<Votes>>),
 }
 
 impl Row {
-    /// The known bag.
-    pub(crate) fn known(&self) -> Option<BagId>
-        ensures { result ≡ known_in (Some self.now) }
+    /// Of a slot in which these sites cast a vote.
+    pub(crate) fn of(alloc: Global, vote: Vote, voters: Voters) -> Result<Row, AllocError>
+        ensures known { IfOk result (λ row. known_in (Some row) ≡ None) }
+        ensures counted { IfOk result (λ row. IsRowCounted (rows.Heard None) row vote voters) }
     {
-        match self {
-            Row::Known(bag) => Some(*bag),
-            Row::Heard(_) => None,
-        }
+        Ok(Row::Heard(Some(Box::new(alloc, Votes::of(alloc, vote, voters))?)))
     }
 
-    /// The sites counted for a vote.
-    pub(crate) fn counted(&self, vote: &Vote) -> Voters
-        ensures { result ≡ counted_in (Some self.now) vote.now }
+    /// The sites counted for a vote, while no bag is known.
+    pub(crate) fn counted(&self, vote: &Vote) -> Option<Voters>
+        ensures { result
+            ≡ unless_settled (known_in (Some self.now)) (counted_in (Some self.now) vote.now) }
     {
         match self {
-            Row::Known(_) => Voters::new(),
-            Row::Heard(votes) => votes.of(vote),
+            Row::Known(_) => None,
+            Row::Heard(None) => Some(Voters::new()),
+            Row::Heard(Some(votes)) => Some(votes.voters(vote)),
         }
     }
 
     /// Counts these sites for a vote. Where a bag is known it changes nothing.
-    pub(crate) fn count(&mut self, vote: Vote, voters: Voters) -> Result<(), AllocError>
+    pub(crate) fn count(
+        &mut self,
+        alloc: Global,
+        vote: Vote,
+        voters: Voters,
+    ) -> Result<(), AllocError>
         ensures known { known_in (Some self.new) ≡ known_in (Some self.old) }
         ensures ok { known_in (Some self.old) ≡ None
             → OnOk result (IsRowCounted self.old self.new vote voters) }
         ensures err { OnErr result (self.new ≡ self.old) }
     {
         match self {
-            Row::Known(_) => Ok(()),
-            Row::Heard(votes) => votes.set(vote, voters),
+            Row::Known(_) => {}
+            Row::Heard(Some(votes)) => votes.set(vote, voters)?,
+            Row::Heard(None) => *self = Row::of(alloc, vote, voters)?,
         }
+        Ok(())
     }
 
     /// The bag is known, unless another was known before.

@@ -7,35 +7,30 @@ ghost use Rattle.learner.specs.inner.Counts.{KnowsSame, CountsSame, IsCounted, f
 ghost use Rattle.learner.specs.declared.row.Row.TheVariants as rows;
 
 use crate::row::Row;
-use crate::votes::Votes;
 use fed_types::{BagId, Slot, Vote, Voters};
 use slot_table::SlotTable;
 use std::alloc::{AllocError, Global};
 
 /// Gives the slot a row, if it has none.
 #[tactic(auto, using(crate::proofs::Rows::knows_same, crate::proofs::Rows::counts_same))]
-pub(crate) fn reserve(
-    alloc: Global,
-    table: &mut SlotTable<Row>,
-    slot: &Slot,
-) -> Result<(), AllocError>
+pub(crate) fn reserve(table: &mut SlotTable<Row>, slot: &Slot) -> Result<(), AllocError>
     ensures known { KnowsSame table.old table.new }
     ensures counted { CountsSame table.old table.new }
     ensures rooms { HasRooms table.old table.new }
     ensures present { OnOk result (IsSome (row_at table.new slot.now)) }
     ensures succeeds { IsSome (row_at table.old slot.now) → IsOk result }
 {
-    table.reserve(slot, Row::Heard(Votes::new(alloc)))
+    table.reserve(slot, Row::Heard(None))
 }
 
-/// Counts these sites for a vote of a slot that has a row, and whose bag isn't known.
+/// Counts these sites for a vote of a slot whose bag isn't known.
 pub(crate) fn count(
+    alloc: Global,
     table: &mut SlotTable<Row>,
     slot: &Slot,
     vote: &Vote,
     voters: &Voters,
 ) -> Result<(), AllocError>
-    requires present { IsSome (row_at table.old slot.now) }
     requires unknown { known_in (row_at table.old slot.now) ≡ None }
     ensures known { KnowsSame table.old table.new }
     ensures ok { OnOk result (IsCounted table.old table.new slot.now vote.now voters.now) }
@@ -43,8 +38,8 @@ pub(crate) fn count(
     ensures rooms { HasRooms table.old table.new }
 {
     match table.get_mut(slot) {
-        Some(row) => row.count(*vote, *voters),
-        None => Ok(()),
+        Some(row) => row.count(alloc, *vote, *voters),
+        None => table.reserve(slot, Row::of(alloc, *vote, *voters)?),
     }
 }
 

@@ -1,4 +1,4 @@
-ghost use Rattle.std.specs.Prelude.{◌≡◌, [], None, OnOk, OnErr};
+ghost use Rattle.std.specs.Prelude.{◌≡◌, ◌∷◌, [], None, OnOk, OnErr};
 ghost use Rattle.std.specs.Map.{lookup};
 ghost use Rattle.dgram.specs.Heard.{same_vote};
 ghost use Rattle.fed_types.specs.declared.vote.Vote.{Vote as declared_vote};
@@ -9,36 +9,45 @@ use indexmap::IndexMap;
 use std::alloc::{AllocError, Global};
 use std::marker::Model;
 
-/// The sites that were heard to have cast each vote. A clause sees the votes and their voters.
+/// The votes that were heard of, at least one, and the sites that were heard to have cast each. A
+/// clause sees the votes and their voters.
 #[derive(Drop)]
 pub(crate) struct Votes {
-    map: IndexMap<Vote, Voters>,
+    /// The vote that was heard of first. There is seldom another, and then no map is searched.
+    first: Vote,
+    voters: Voters,
+    others: IndexMap<Vote, Voters>,
 }
 
 impl Model for Votes {
-    ghost use Rattle.std.specs.Prelude.{ℕ, List};
+    ghost use Rattle.std.specs.Prelude.{ℕ, List, ◌∷◌};
     ghost use Rattle.fed_types.specs.declared.vote.Vote.{Vote};
 
     ghost Value = { List (Vote × List ℕ) };
 
-    ghost view = { λ v. v.map.entries };
+    ghost view = { λ v. (v.first, v.voters) ∷ v.others.entries };
 }
 
 impl Votes {
-    /// No vote was heard of.
-    pub(crate) fn new(alloc: Global) -> Votes
-        ensures { result ≡ [] }
+    /// These sites cast this vote.
+    pub(crate) fn of(alloc: Global, vote: Vote, voters: Voters) -> Votes
+        ensures { result ≡ (vote, voters) ∷ [] }
     {
         Votes {
-            map: IndexMap::new(alloc),
+            first: vote,
+            voters,
+            others: IndexMap::new(alloc),
         }
     }
 
     /// The sites that cast this vote.
-    pub(crate) fn of(&self, vote: &Vote) -> Voters
+    pub(crate) fn voters(&self, vote: &Vote) -> Voters
         ensures { result ≡ voters_for_vote self.now vote.now }
     {
-        match self.map.get(vote) {
+        if *vote == self.first {
+            return self.voters;
+        }
+        match self.others.get(vote) {
             Some(voters) => *voters,
             None => Voters::new(),
         }
@@ -50,9 +59,22 @@ impl Votes {
         ensures err { OnErr result (self.new ≡ self.old) }
         ensures memory { OnErr result (lookup (same_vote vote) self.old ≡ None) }
     {
-        match self.map.insert(vote, voters) {
-            Ok(_) => Ok(()),
-            Err(_) => Err(AllocError),
+        if vote == self.first {
+            self.voters = voters;
+            return Ok(());
         }
+        set_in(&mut self.others, vote, voters)
+    }
+}
+
+// These are the sites that cast this vote, one of the others.
+fn set_in(others: &mut IndexMap<Vote, Voters>, vote: Vote, voters: Voters) -> Result<(), AllocError>
+    ensures ok { OnOk result (IsCountedWith others.old.entries others.new.entries vote voters) }
+    ensures err { OnErr result (others.new.entries ≡ others.old.entries) }
+    ensures memory { OnErr result (lookup (same_vote vote) others.old.entries ≡ None) }
+{
+    match others.insert(vote, voters) {
+        Ok(_) => Ok(()),
+        Err(_) => Err(AllocError),
     }
 }

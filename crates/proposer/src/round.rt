@@ -1,4 +1,5 @@
 ghost use Rattle.std.specs.Prelude.{◌≡◌, Some};
+ghost use Rattle.fed_types.specs.Voters.{with_voter};
 ghost use Rattle.proposer.specs.Rows.{fresh};
 ghost use Rattle.proposer.specs.inner.Rounds.{counted, higher_prior, becomes_quorum, issued};
 ghost use Rattle.proposer.specs.inner.Rounds.{round_after, bag_or, bag_after, after_promise};
@@ -65,12 +66,11 @@ impl Round {
         ensures bag { result ≡ bag_after (Q.quorum_system members.now) self.old promise }
         ensures round { self.new ≡ round_after (Q.quorum_system members.now) self.old promise }
     {
-        let more = counted(*self, &promise);
-        if becomes_quorum(members, self.voters, more.voters) {
+        if becomes_quorum(members, self.voters, self.voters_with(promise.site)) {
             self.waiting = Some(promise);
-            return Some(bag_or(more.best, more.own));
+            return Some(bag_or(higher(self.best, promise.prior), self.own));
         }
-        *self = more;
+        self.count(&promise);
         None
     }
 
@@ -79,24 +79,26 @@ impl Round {
         ensures { self.new ≡ issued self.old }
     {
         if let Some(promise) = self.waiting {
-            *self = counted(*self, &promise);
+            self.count(&promise);
             self.waiting = None;
         }
     }
-}
 
-// With one promise more.
-fn counted(round: Round, promise: &Promise) -> Round
-    ensures { result ≡ counted round promise.now }
-{
-    let mut voters = round.voters;
-    voters.add(promise.site);
-    Round {
-        ballot: round.ballot,
-        own: round.own,
-        voters,
-        best: higher(round.best, promise.prior),
-        waiting: round.waiting,
+    // Counts a promise.
+    fn count(&mut self, promise: &Promise)
+        ensures { self.new ≡ counted self.old promise.now }
+    {
+        self.voters = self.voters_with(promise.site);
+        self.best = higher(self.best, promise.prior);
+    }
+
+    // The sites that promised, and this one.
+    fn voters_with(&self, site: SiteNo) -> Voters
+        ensures { result ≡ with_voter self.now.voters site }
+    {
+        let mut voters = self.voters;
+        voters.add(site);
+        voters
     }
 }
 

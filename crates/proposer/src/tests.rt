@@ -23,156 +23,178 @@ fn site_1(alloc: Global, weights: &[u8]) -> Result<Proposer<Members>, Fail> {
     Ok(Proposer::new(alloc, members, SiteNo::new(1)?))
 }
 
-// The site records the round of a ballot.
-fn note<Q: Quorums + Drop>(
+// A vote: the round and the site of its ballot, and its bag.
+type Voted = (u32, u8, BagId);
+
+// A call of the proposer of site 1, and what it gives. Where no site is named a ballot is site 1's.
+#[derive(Clone, Copy)]
+enum Step {
+    // The ballot of this round is begun.
+    Begin(u32),
+    // No round is left.
+    Spent,
+    // The record of this round is noted.
+    Note(u32),
+    // The ballot of this round and site stands in the way.
+    Refused(u32, u8),
+    // A site promises the ballot of this round and names a vote; then this bag is proposed.
+    Promise(u8, u32, Option<Voted>, Option<BagId>),
+    // The proposal is sent.
+    Issued,
+}
+
+// Calls the proposer, and says whether it gives what it should.
+fn is_right<Q: Quorums + Drop>(
     alloc: Global,
     proposer: &mut Proposer<Q>,
-    ballot: Ballot,
-) -> Result<(), Fail> {
-    let body = Entry::Round(Round::of(ballot));
+    step: Step,
+) -> Result<bool, Fail> {
     let slot = slot(alloc)?;
-    proposer.note(&Record { slot, body })?;
+    match step {
+        Step::Begin(round) => Ok(proposer.begin(&slot, OWN)? == ballot(round, 1)?),
+        Step::Spent => Ok(proposer.begin(&slot, OWN) == Err(ProposeFault::RoundsSpent)),
+        Step::Note(round) => {
+            let body = Entry::Round(Round::of(ballot(round, 1)?));
+            proposer.note(&Record { slot, body })?;
+            Ok(true)
+        }
+        Step::Refused(round, site) => {
+            proposer.refused(&slot, ballot(round, site)?)?;
+            Ok(true)
+        }
+        Step::Promise(site, round, voted, want) => {
+            let prior = vote(voted)?;
+            let from = SiteNo::new(site)?;
+            Ok(proposer.promise(from, &slot, ballot(round, 1)?, prior) == want)
+        }
+        Step::Issued => {
+            proposer.issued(&slot);
+            Ok(true)
+        }
+    }
+}
+
+fn vote(voted: Option<Voted>) -> Result<Option<Vote>, Fail> {
+    let Some((round, site, bag)) = voted else {
+        return Ok(None);
+    };
+    let ballot = ballot(round, site)?;
+    Ok(Some(Vote { ballot, bag }))
+}
+
+// Takes the steps: each gives what it should.
+fn all_right<Q: Quorums + Drop>(
+    alloc: Global,
+    proposer: &mut Proposer<Q>,
+    steps: &[Step],
+) -> Result<(), Fail> {
+    for (number, step) in steps.iter().enumerate() {
+        if !is_right(alloc, proposer, *step)? {
+            return Err(Fail::new(format_args!("step {number}")));
+        }
+    }
     Ok(())
 }
 
-// The site begins a ballot, and records its round.
-fn issue<Q: Quorums + Drop>(
-    alloc: Global,
-    proposer: &mut Proposer<Q>,
-    want: (u32, u8),
-) -> Result<(), Fail> {
-    let begun = proposer.begin(&slot(alloc)?, OWN)?;
-    note(alloc, proposer, begun)?;
-    if begun == ballot(want.0, want.1)? {
-        Ok(())
-    } else {
-        Err(ProposeFault::RoundsSpent.into())
-    }
+// Those of a proposer of members of these weights.
+fn all_right_of(alloc: Global, weights: &[u8], steps: &[Step]) -> Result<(), Fail> {
+    let mut proposer = site_1(alloc, weights)?;
+    all_right(alloc, &mut proposer, steps)
 }
 
-// A promise: the site, the ballot, the vote that it names.
-type Row = (u8, (u32, u8), Option<((u32, u8), BagId)>);
-
-fn promise<Q: Quorums + Drop>(
-    alloc: Global,
-    proposer: &mut Proposer<Q>,
-    row: &Row,
-) -> Result<Option<BagId>, Fail> {
-    let (site, number, named) = *row;
-    let mut prior = None;
-    if let Some((number, bag)) = named {
-        let ballot = ballot(number.0, number.1)?;
-        prior = Some(Vote { ballot, bag });
-    }
-    let from = SiteNo::new(site)?;
-    Ok(proposer.promise(from, &slot(alloc)?, ballot(number.0, number.1)?, prior))
-}
+const ONE_OF_THREE: [Step; 14] = [
+    Step::Refused(4, 3),
+    Step::Begin(5),
+    Step::Note(5),
+    Step::Promise(2, 5, Some((3, 2, V)), None),
+    Step::Promise(2, 5, Some((3, 2, V)), None),
+    Step::Promise(3, 1, None, None),
+    Step::Promise(1, 5, Some((2, 3, W)), Some(V)),
+    Step::Issued,
+    Step::Promise(3, 5, Some((4, 3, W)), None),
+    Step::Begin(6),
+    Step::Note(6),
+    Step::Refused(u32::MAX, 3),
+    Step::Refused(1, 2),
+    Step::Spent,
+];
 
 #[test]
 fn one_of_three(rt: HostRuntime) -> Result<(), Fail> {
-    let alloc = rt.alloc();
-    let mut proposer = site_1(alloc, &[1; 3])?;
-    proposer.refused(&slot(alloc)?, ballot(4, 3)?)?;
-    issue(alloc, &mut proposer, (5, 1))?;
-    let rows: [(Row, Option<BagId>); 4] = [
-        ((2, (5, 1), Some(((3, 2), V))), None),
-        ((2, (5, 1), Some(((3, 2), V))), None),
-        ((3, (1, 1), None), None),
-        ((1, (5, 1), Some(((2, 3), W))), Some(V)),
-    ];
-    for (row, want) in rows {
-        let got = promise(alloc, &mut proposer, &row)?;
-        assert_eq!(rt; got, want, "{row:?}");
-    }
-    proposer.issued(&slot(alloc)?);
-    let late = promise(alloc, &mut proposer, &(3, (5, 1), Some(((4, 3), W))))?;
-    assert_eq!(rt; late, None);
-    issue(alloc, &mut proposer, (6, 1))?;
-    proposer.refused(&slot(alloc)?, ballot(u32::MAX, 3)?)?;
-    proposer.refused(&slot(alloc)?, ballot(1, 2)?)?;
-    let spent = proposer.begin(&slot(alloc)?, OWN);
-    assert_eq!(rt; spent, Err(ProposeFault::RoundsSpent));
-    Ok(())
+    all_right_of(rt.alloc(), &[1; 3], &ONE_OF_THREE)
 }
+
+const ITS_OWN_BAG: [Step; 6] = [
+    Step::Begin(1),
+    Step::Note(1),
+    Step::Promise(1, 1, None, None),
+    Step::Promise(2, 1, None, None),
+    Step::Promise(2, 1, None, None),
+    Step::Promise(4, 1, None, Some(OWN)),
+];
 
 #[test]
 fn its_own_bag_where_no_vote_is_named(rt: HostRuntime) -> Result<(), Fail> {
-    let alloc = rt.alloc();
-    let mut proposer = site_1(alloc, &[1; 4])?;
-    issue(alloc, &mut proposer, (1, 1))?;
-    for (site, want) in [(1, None), (2, None), (2, None), (4, Some(OWN))] {
-        let got = promise(alloc, &mut proposer, &(site, (1, 1), None))?;
-        assert_eq!(rt; got, want, "site {site}");
-    }
-    Ok(())
+    all_right_of(rt.alloc(), &[1; 4], &ITS_OWN_BAG)
 }
+
+const WEIGHTS: [Step; 5] = [
+    Step::Begin(1),
+    Step::Note(1),
+    Step::Promise(1, 1, None, None),
+    Step::Promise(2, 1, None, None),
+    Step::Promise(3, 1, None, Some(OWN)),
+];
 
 #[test]
 fn weights_count(rt: HostRuntime) -> Result<(), Fail> {
-    let alloc = rt.alloc();
-    let mut proposer = site_1(alloc, &[1, 1, 3])?;
-    issue(alloc, &mut proposer, (1, 1))?;
-    for (site, want) in [(1, None), (2, None), (3, Some(OWN))] {
-        let got = promise(alloc, &mut proposer, &(site, (1, 1), None))?;
-        assert_eq!(rt; got, want, "site {site}");
-    }
-    Ok(())
+    all_right_of(rt.alloc(), &[1, 1, 3], &WEIGHTS)
 }
+
+const FORGED: [Step; 6] = [
+    Step::Promise(2, 1, None, None),
+    Step::Begin(1),
+    Step::Promise(2, 1, None, None),
+    Step::Note(1),
+    Step::Promise(1, 1, None, None),
+    Step::Promise(3, 1, None, Some(OWN)),
+];
 
 #[test]
 fn a_promise_before_the_ballot_was_issued_never_counts(rt: HostRuntime) -> Result<(), Fail> {
-    let alloc = rt.alloc();
-    let mut proposer = site_1(alloc, &[1; 3])?;
-    let forged = (2, (1, 1), None);
-    assert_eq!(rt; promise(alloc, &mut proposer, &forged)?, None);
-    let begun = proposer.begin(&slot(alloc)?, OWN)?;
-    assert_eq!(rt; promise(alloc, &mut proposer, &forged)?, None);
-    note(alloc, &mut proposer, begun)?;
-    assert_eq!(rt; promise(alloc, &mut proposer, &(1, (1, 1), None))?, None);
-    assert_eq!(rt;
-        promise(alloc, &mut proposer, &(3, (1, 1), None))?,
-        Some(OWN)
-    );
-    Ok(())
+    all_right_of(rt.alloc(), &[1; 3], &FORGED)
 }
+
+const WAITING: [Step; 10] = [
+    Step::Begin(1),
+    Step::Note(1),
+    Step::Promise(2, 1, None, None),
+    Step::Promise(1, 1, None, Some(OWN)),
+    Step::Begin(2),
+    Step::Note(2),
+    Step::Issued,
+    Step::Promise(3, 2, None, None),
+    Step::Promise(1, 2, None, Some(OWN)),
+    // It wasn't issued: the promise comes again.
+    Step::Promise(1, 2, None, Some(OWN)),
+];
 
 #[test]
 fn what_waits_is_forgotten_with_its_ballot(rt: HostRuntime) -> Result<(), Fail> {
-    let alloc = rt.alloc();
-    let mut proposer = site_1(alloc, &[1; 3])?;
-    issue(alloc, &mut proposer, (1, 1))?;
-    assert_eq!(rt; promise(alloc, &mut proposer, &(2, (1, 1), None))?, None);
-    assert_eq!(rt;
-        promise(alloc, &mut proposer, &(1, (1, 1), None))?,
-        Some(OWN)
-    );
-    issue(alloc, &mut proposer, (2, 1))?;
-    proposer.issued(&slot(alloc)?);
-    assert_eq!(rt; promise(alloc, &mut proposer, &(3, (2, 1), None))?, None);
-    assert_eq!(rt;
-        promise(alloc, &mut proposer, &(1, (2, 1), None))?,
-        Some(OWN)
-    );
-    // It wasn't issued: the promise comes again.
-    assert_eq!(rt;
-        promise(alloc, &mut proposer, &(1, (2, 1), None))?,
-        Some(OWN)
-    );
-    Ok(())
+    all_right_of(rt.alloc(), &[1; 3], &WAITING)
 }
+
+const NOT_BEGUN: [Step; 5] = [
+    Step::Note(7),
+    Step::Promise(1, 7, None, None),
+    Step::Begin(8),
+    Step::Note(8),
+    Step::Promise(1, 8, None, Some(OWN)),
+];
 
 #[test]
 fn a_round_that_was_not_begun_is_used(rt: HostRuntime) -> Result<(), Fail> {
-    let alloc = rt.alloc();
-    let mut proposer = site_1(alloc, &[1])?;
-    note(alloc, &mut proposer, ballot(7, 1)?)?;
-    assert_eq!(rt; promise(alloc, &mut proposer, &(1, (7, 1), None))?, None);
-    issue(alloc, &mut proposer, (8, 1))?;
-    assert_eq!(rt;
-        promise(alloc, &mut proposer, &(1, (8, 1), None))?,
-        Some(OWN)
-    );
-    Ok(())
+    all_right_of(rt.alloc(), &[1], &NOT_BEGUN)
 }
 
 // Three members, whose only quorum is all of them.
@@ -202,6 +224,15 @@ impl Quorums for Unanimous {
     }
 }
 
+const ALL_MEMBERS: [Step; 6] = [
+    Step::Begin(1),
+    Step::Note(1),
+    Step::Promise(1, 1, None, None),
+    Step::Promise(2, 1, None, None),
+    Step::Promise(4, 1, None, None),
+    Step::Promise(3, 1, None, Some(OWN)),
+];
+
 #[test]
 fn all_members(rt: HostRuntime) -> Result<(), Fail> {
     let alloc = rt.alloc();
@@ -213,10 +244,5 @@ fn all_members(rt: HostRuntime) -> Result<(), Fail> {
         third,
     };
     let mut proposer = Proposer::new(alloc, members, first);
-    issue(alloc, &mut proposer, (1, 1))?;
-    for (site, want) in [(1, None), (2, None), (4, None), (3, Some(OWN))] {
-        let got = promise(alloc, &mut proposer, &(site, (1, 1), None))?;
-        assert_eq!(rt; got, want, "site {site}");
-    }
-    Ok(())
+    all_right(alloc, &mut proposer, &ALL_MEMBERS)
 }

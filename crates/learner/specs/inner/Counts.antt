@@ -30,6 +30,11 @@ IsCounted old new slot vote voters =
     → counted_in (row_at new s) v
     ≡ (if same_slot slot s && same_vote vote v then voters else counted_in (row_at old s) v)
 
+-- the sites counted for a vote, while no bag is known
+abbrev pub unless_settled : Option BagId → List ℕ → Option (List ℕ)
+unless_settled None voters = Some voters
+unless_settled (Some known) voters = None
+
 -- the bag that was known first
 abbrev pub first_known : Option BagId → BagId → BagId
 first_known None bag = bag

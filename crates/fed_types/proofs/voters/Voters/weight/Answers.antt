@@ -1,50 +1,73 @@
-use Rattle.std.proofs.Common.{◌≡◌, ◌+◌, ◌-◌, ℕ, arith, sym, subst, ◌∙◌}
-use Rattle.std.specs.List.{filter, sum_by}
+use Rattle.std.proofs.Common.{◌≡◌, ℕ, arith, sym, subst}
+use Rattle.std.specs.Int.{trailing_zeros, w64}
 use Rattle.fed_types.specs.Lists.{is_in}
-use Rattle.fed_types.specs.Sites.{count_of, sites_to, weight_of}
-use Rattle.fed_types.proofs.Sums.{among_none, among_taken, among_passed}
+use Rattle.fed_types.specs.Sites.{AreWeights, count_of, weight_of}
+use Rattle.fed_types.proofs.Ones.{has_one, lowest, sites_first, sites_next}
+use Rattle.fed_types.proofs.Ones.{counted_first, counted_next, counted_none, less_cleared}
+use Rattle.fed_types.proofs.Sums.{among, among_most}
+use Rattle.fed_types.proofs.Weights.{weight_most, weight_past}
 use Rattle.fed_types.proofs.voters.Voters.weight.Goals as goal
-use Rattle.fed_types.proofs.voters.Voters.weight.Goals.{then-holds, else-holds}
 
-pub loop-number-init : goal.loop-number-init
-loop-number-init c =
-    (among_none (weight_of c.args.members.now) (is_in c.args.self.now), omega arith)
+pub loop-rest-init : goal.loop-rest-init
+loop-rest-init c =
+    let weights =
+    subst AreWeights c.weights-weights.ensures.value c.weights-weights.ensures.in_range in (
+      sites_first c.self.inside.word c.self.invariant,
+      rw (← c.self.view_is)
+          (counted_first (weight_of c.args.members.now) c.self.inside.word
+          (count_of c.args.members.now) (omega (arith, weights.0.1))),
+    )
 
-pub loop-number-preserved : goal.loop-number-preserved
-loop-number-preserved c =
-    let same : c.loop-number.number + 1 - 1 ≡ c.loop-number.number = omega arith in
-    rw same (elim c.if-holds.branch [
-      | then-holds w ↦ (
-        w.sum-is ∙ among_taken (weight_of c.args.members.now) (is_in c.args.self.now)
-            c.loop-number.number
-            c.loop-number.sum w.from-sum.result (omega arith) c.loop-number.invariant.0
-            (sym c.holds.ensures ∙ w.if-holds.true) (omega arith),
-        omega (arith, c.loop-number.invariant.1, w.sum-is),
-      )
-      | else-holds w ↦ (
-        w.sum-is ∙ among_passed (weight_of c.args.members.now) (is_in c.args.self.now)
-            c.loop-number.number
-            c.loop-number.sum (omega arith) c.loop-number.invariant.0
-            (sym c.holds.ensures ∙ w.if-holds.false),
-        omega (arith, c.loop-number.invariant.1, w.sum-is),
-      )
-    ])
+pub weight_at-requires : goal.weight_at-requires
+weight_at-requires c =
+    let k = lowest c.loop-rest.rest (omega (arith, c.loop-rest-test.true)) c.loop-rest.invariant.0 in
+    (k.0, omega (arith, k.1))
 
-pub returns-after-holds-clause-value : goal.returns-after-holds-clause-value
-returns-after-holds-clause-value c =
-    let all : c.loop-number.number ≡ count_of c.args.members.now =
-    omega (arith, c.count-number-end.ensures.value) in
-    subst (λ (n : ℕ). c.if-holds.sum
-    ≡ sum_by (weight_of c.args.members.now) (filter (is_in c.args.self.now) (sites_to n))) all (
-    elim c.if-holds.branch [
-      | then-holds w ↦
-          w.sum-is ∙ among_taken (weight_of c.args.members.now) (is_in c.args.self.now)
-          c.loop-number.number
-          c.loop-number.sum w.from-sum.result (omega arith) c.loop-number.invariant.0
-          (sym c.holds.ensures ∙ w.if-holds.true) (omega arith)
-      | else-holds w ↦
-          w.sum-is ∙ among_passed (weight_of c.args.members.now) (is_in c.args.self.now)
-          c.loop-number.number
-          c.loop-number.sum (omega arith) c.loop-number.invariant.0
-          (sym c.holds.ensures ∙ w.if-holds.false)
-    ])
+pub overflow_add-sum : goal.overflow_add-sum
+overflow_add-sum c =
+    let weights =
+    subst AreWeights c.weights-weights.ensures.value c.weights-weights.ensures.in_range in
+    let k = lowest c.loop-rest.rest (omega (arith, c.loop-rest-test.true)) c.loop-rest.invariant.0 in
+    let most = among_most (weight_of c.args.members.now) (is_in c.args.self.now) 255
+    (count_of c.args.members.now) (weight_most c.args.members.now weights) in
+    let next = counted_next (weight_of c.args.members.now) c.loop-rest.rest
+    (trailing_zeros w64 c.loop-rest.rest) (count_of c.args.members.now)
+    (omega (arith, weights.0.1)) k.0 k.1 k.2
+    (weight_past c.args.members.now (trailing_zeros w64 c.loop-rest.rest)) in
+    omega (arith, weights.0.1, c.loop-rest.invariant.1, c.from-sum.ensures, c.weight_at.ensures)
+
+pub loop-rest-smaller : goal.loop-rest-smaller
+loop-rest-smaller c =
+    let k = lowest c.loop-rest.rest (omega (arith, c.loop-rest-test.true)) c.loop-rest.invariant.0 in
+    less_cleared c.loop-rest.rest (trailing_zeros w64 c.loop-rest.rest) k.1 k.2
+
+pub loop-rest-preserved : goal.loop-rest-preserved
+loop-rest-preserved c =
+    let weights =
+    subst AreWeights c.weights-weights.ensures.value c.weights-weights.ensures.in_range in
+    let k = lowest c.loop-rest.rest (omega (arith, c.loop-rest-test.true)) c.loop-rest.invariant.0 in
+    let next = counted_next (weight_of c.args.members.now) c.loop-rest.rest
+    (trailing_zeros w64 c.loop-rest.rest) (count_of c.args.members.now)
+    (omega (arith, weights.0.1)) k.0 k.1 k.2
+    (weight_past c.args.members.now (trailing_zeros w64 c.loop-rest.rest)) in (
+      sites_next c.loop-rest.rest (trailing_zeros w64 c.loop-rest.rest) c.loop-rest.invariant.0
+          k.0 k.1,
+      omega (arith, c.loop-rest.invariant.1, c.from-sum.ensures, c.weight_at.ensures),
+    )
+
+pub returns-clause-value : goal.returns-clause-value
+returns-clause-value c =
+    let none = counted_none (weight_of c.args.members.now) (count_of c.args.members.now) in
+    let all : among (weight_of c.args.members.now) (has_one c.loop-rest.rest)
+    (count_of c.args.members.now) ≡ 0 =
+    subst (λ (w : ℕ). among (weight_of c.args.members.now) (has_one w)
+    (count_of c.args.members.now) ≡ 0) (sym c.loop-rest-test.false) none in
+    omega (arith, c.loop-rest.invariant.1)
+
+pub returns-clause-most : goal.returns-clause-most
+returns-clause-most c =
+    let weights =
+    subst AreWeights c.weights-weights.ensures.value c.weights-weights.ensures.in_range in
+    let most = among_most (weight_of c.args.members.now) (is_in c.args.self.now) 255
+    (count_of c.args.members.now) (weight_most c.args.members.now weights) in
+    omega (arith, weights.0.1, c.loop-rest.invariant.1)
