@@ -84,9 +84,9 @@ pub noted_same : (slot : SlotName) (e : Option Entry) → IsNoRound e
     → (session : Session) (under : UnderWay)
     → (session_after session under (record_of slot e) ≡ session)
     × (under_after under (record_of slot e) ≡ under)
-noted_same slot None no session under = (refl, refl)
-noted_same slot (Some e) no session under =
-    rw (no (under.begun slot)) (refl, refl)
+noted_same slot None none session under = (refl, refl)
+noted_same slot (Some e) none session under =
+    rw (none (under.begun slot)) (refl, refl)
 
 -- what an acceptor decides issues none
 pub prepare_issues_none : (slot : SlotName) (records : List Record) (ballot : BallotNumber)

@@ -1,29 +1,27 @@
 ghost use Rattle.std.specs.Prelude.{◌≡◌, ◌↔◌, true, false, List, ◌∷◌, [], None, Some, Ok, Err, map};
 ghost use Rattle.std.specs.Prelude.{Result, IfOk, IsErrOf, IsOk};
-ghost use Rattle.fed_types.specs.Quorums.{quorums_of};
 ghost use Rattle.bag_check.specs.Check.{check_of};
 ghost use Rattle.book.specs.Volumes.{HoldsText, RecoversTo};
 ghost use Rattle.cell_device.specs.Memory.{fuse_of, failures_of, fuse_after_set, IsSameMedium};
-ghost use Rattle.dgram.specs.Decoded.{message_of};
 ghost use Rattle.proposer.specs.Sessions.{Session, new_session};
-ghost use Rattle.site.specs.Arrivals.{on_arrival};
 ghost use Rattle.site.specs.Answered.{IsAnswered};
 ghost use Rattle.records.specs.Words.{deposit_of, known_of};
-ghost use Rattle.site.specs.Calls.{Deposits, Proposes, Asks, Arrives, reply_of, other_than, deposit_fault};
+ghost use Rattle.site.specs.Calls.{Deposits, Proposes, Asks, reply_of, other_than, deposit_fault};
 ghost use Rattle.site.specs.declared.answer.Line.TheVariants as lines;
 ghost use Rattle.site.specs.Datagrams.{handed_out};
 ghost use Rattle.site.specs.Opened.{Opens, book_of};
 ghost use Rattle.site.specs.Sites.{StandsFor, effect};
-ghost use Rattle.site.specs.inner.Concluded.{IsCommitted, Concludes, one_datagram, all_datagrams};
+ghost use Rattle.site.specs.inner.Concluded.{Concludes, one_datagram, all_datagrams};
 
 use crate::answer::{Answer, Line, Reply, Sealed};
+use crate::committing::commit_and_note;
 use crate::fault::SiteFault;
 use crate::sealing::{to_all, to_one};
 use bag_check::check;
 use bag_tree::Facts;
 use book::{Book, OpenFault};
 use cell_device::{Cell, Fuse, MemoryCell};
-use dgram::{Body, DgramFault, Message, decode};
+use dgram::{Body, Message};
 use fed_types::{BagId, Members, SiteNo, Slot};
 use records::{Entry, Owner, Record, Round};
 use site_tables::Tables;
@@ -187,42 +185,6 @@ impl<C: Cell> Site<C> {
         }
     }
 
-    /// A datagram arrives.
-    pub fn arrive(&mut self, bytes: &[u8]) -> Result<Answer, SiteFault>
-        ensures answer { self.old.book.needs_opening ≡ false → (session : Session)
-            → StandsFor self.old session
-            → IsAnswered C.device self.old self.new session
-            (effect self.old session
-            (Arrives (message_of self.old.book.owner.members.federation bytes.now))) result }
-        ensures needs_open { IsErrOf result SiteFault.NeedsOpen
-            ↔ (self.old.book.needs_opening ≡ true) }
-        ensures untouched { self.old.book.needs_opening ≡ true → self.new ≡ self.old }
-    {
-        if self.book.needs_opening() {
-            return Err(SiteFault::NeedsOpen);
-        }
-        match decode(self.alloc, self.members().federation(), bytes) {
-            Ok(message) => self.take_in(message),
-            Err(DgramFault::Memory) => Err(SiteFault::Memory),
-            Err(DgramFault::NotOurs | DgramFault::Malformed) => Ok(dropped(self.alloc)),
-        }
-    }
-
-    // What doesn't come from a member is dropped.
-    fn take_in(&mut self, message: Message) -> Result<Answer, SiteFault>
-        requires { self.old.book.needs_opening ≡ false }
-        ensures answer { (session : Session) → StandsFor self.old session
-            → IsAnswered C.device self.old self.new session
-            (on_arrival (quorums_of self.old.book.owner.members) self.old.book.owner.site
-            self.old.book.records session (Some message)) result }
-        ensures fault { ¬ IsErrOf result SiteFault.NeedsOpen }
-    {
-        match message.from() {
-            Some(from) if self.members().has(from) => self.hear(message),
-            _ => Ok(dropped(self.alloc)),
-        }
-    }
-
     // Takes a valid bag as the slot's deposit.
     fn register(&mut self, slot: &Slot, bag: BagId) -> Result<Answer, SiteFault>
         requires { self.old.book.needs_opening ≡ false }
@@ -275,20 +237,8 @@ impl<C: Cell> Site<C> {
         ensures { Concludes C.device self.old self.new (Some new) answer.line
             (map handed_out answer.sends.items) result }
     {
-        self.commit(new)?;
+        commit_and_note(self.alloc, &mut self.book, &mut self.tables, new)?;
         Ok(answer)
-    }
-
-    // Makes room for a record, commits it, and takes note of it, which takes no memory.
-    fn commit(&mut self, new: Record) -> Result<(), SiteFault>
-        requires { self.old.book.needs_opening ≡ false }
-        ensures { IsCommitted C.device self.old self.new new result }
-    {
-        self.tables.reserve(&new.slot)?;
-        let noted = new.copy(self.alloc)?;
-        self.book.commit(new)?;
-        self.tables.note(noted);
-        Ok(())
     }
 
     /// The message as a datagram for one site.

@@ -21,7 +21,7 @@ use Rattle.site.specs.Answered.{Commits, Keeps, IsAnswered}
 use Rattle.site.specs.Arrivals.{on_body}
 use Rattle.site.specs.Datagrams.{handed_out, datagram}
 use Rattle.site.specs.Effects.{to_each}
-use Rattle.site.specs.Sites.{OpenSite, StandsFor}
+use Rattle.site.specs.Sites.{OpenSite, StandsFor, IsInOrder}
 
 -- the tables, with the records, stand for a session and what is under way
 abbrev pub Stands : {C : Type 0} → OpenSite C → Session → UnderWay → Type 0
@@ -66,6 +66,7 @@ pub record IsCommitted
   pub same : OnErr result ((session : Session) (under : UnderWay) → Stands old session under
       → Stands new session under)
   pub faults : IfErr result (λ fault. (fault ≡ faults.Memory) ⊎ (fault ≡ faults.Device))
+  pub order : IsInOrder old → IsInOrder new
 
 -- a conclusion: with a record that is a commit
 pub record Concludes
