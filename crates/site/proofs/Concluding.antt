@@ -2,7 +2,7 @@
 use Rattle.std.proofs.Common.{◌≡◌, ◌≢◌, ◌⊎◌, inl, inr, ◌||◌, ℕ, Bool, true, false, cond, List, [], ◌∷◌, ◌++◌}
 use Rattle.std.proofs.Common.{map, Option, Some, None, IsSome, Result, Ok, Err, refl, sym, ap, subst}
 use Rattle.std.proofs.Common.{◌∙◌}
-use Rattle.std.specs.Prelude.{OnOk, OnErr, IfErr, IsErrOf}
+use Rattle.std.specs.Prelude.{OnOk, OnErr, IfErr, IsErrOf, IsErrAnd}
 use Rattle.fed_types.specs.declared.bag_id.BagId.{BagId}
 use Rattle.fed_types.specs.declared.vote.Vote.{Vote}
 use Rattle.fed_types.specs.Ballots.{BallotNumber, below}
@@ -23,13 +23,63 @@ use Rattle.site.specs.declared.answer.Answer.{Answer}
 use Rattle.site.specs.declared.answer.Line.{Line}
 use Rattle.site.specs.declared.fault.SiteFault.{SiteFault}
 use Rattle.site.specs.declared.fault.SiteFault.TheVariants as faults
-use Rattle.site.specs.Answered.{Commits, Keeps, Gives, IsAnswered}
+use Rattle.site.specs.Answered.{Commits, Keeps, Gives, IsAnswered, commit_of}
 use Rattle.site.specs.Datagrams.{handed_out, datagram}
 use Rattle.site.specs.Effects.{Effect, Send, record_of}
 use Rattle.site.specs.Sites.{OpenSite, StandsFor}
-use Rattle.site.specs.inner.Concluded.{Stands, session_after, under_after, Concludes}
+use Rattle.site.specs.inner.Concluded.{Stands, session_after, under_after, Concludes, IsCommitted}
+use Rattle.site.specs.inner.Concluded.{committed}
 use Rattle.site_tables.proofs.Heard.{hears_other, hears_known}
 
+-- the answer of a `?`
+pub answer_err_of : (r : Result Answer SiteFault) (fault : SiteFault)
+    → IsErrAnd r (λ e. e ≡ fault) → r ≡ Err fault
+answer_err_of (Ok x) fault is = absurd is
+answer_err_of (Err e) fault is = ap (λ (f : SiteFault). Err f) is
+
+-- ---- a commit as the last step
+module _ {C : Type 0} (device : C → Device) (old new : OpenSite C) (r : Record) where
+  -- the commit is refused, and the refusal handed on
+  pub concludes_err : (line : Option Line) (datagrams : List (ℕ × List ℕ)) (fault : SiteFault)
+      → IsCommitted device old new r (Err fault)
+      → Concludes device old new (Some r) line datagrams (Err fault)
+  concludes_err line datagrams fault c = record {
+    keeps = keeps c.faults c.book;
+    stands = tt;
+    same = c.same;
+    faults = only c.faults;
+    says = λ a e. absurd (no_answer e);
+  }
+    where
+      no_answer : {a : Answer} → ◌≡◌ {A = Result Answer SiteFault} (Err fault) (Ok a) → ⊥
+      no_answer e = cc
+
+      err_of : {f g : SiteFault} → ◌≡◌ {A = Result (Unit {0}) SiteFault} (Err f) (Err g) → f ≡ g
+      err_of e = cc
+
+      only : (fault ≡ faults.Memory) ⊎ (fault ≡ faults.Device)
+          → (fault ≡ faults.Memory) ⊎ ((fault ≡ faults.Device) × IsSome (Some r))
+      only (inl e) = inl e
+      only (inr e) = inr (e, refl)
+
+      tried : (f : SiteFault) → (f ≡ faults.Memory) ⊎ (f ≡ faults.Device)
+          → Commits device old.book r (committed (Err f)) new.book
+          → Commits device old.book r (commit_of (Err f)) new.book
+      tried f (inl e) c = subst (λ (x : SiteFault). Commits device old.book r (commit_of (Err x))
+          new.book) (sym e) (subst (λ (x : SiteFault). Commits device old.book r
+          (committed (Err x)) new.book) e c)
+      tried f (inr e) c = subst (λ (x : SiteFault). Commits device old.book r (commit_of (Err x))
+          new.book) (sym e) (subst (λ (x : SiteFault). Commits device old.book r
+          (committed (Err x)) new.book) e c)
+
+      keeps : (fault ≡ faults.Memory) ⊎ (fault ≡ faults.Device)
+          → (◌≡◌ {A = Result (Unit {0}) SiteFault} (Err fault) (Err faults.Memory) × (new.book ≡ old.book))
+          ⊎ Commits device old.book r (committed (Err fault)) new.book
+          → Keeps device (Some r) (Err fault) old.book new.book
+      keeps f (inl (e, same)) = inl (ap (λ (x : SiteFault). Err x) (err_of e), same)
+      keeps f (inr c) = inr (tried fault f c)
+
+-- ---- a conclusion as an answer
 module _ {C : Type 0} (device : C → Device) (old mid new : OpenSite C)
     (session : Session) (under : UnderWay) (e : Effect)
     (line : Option Line) (datagrams : List (ℕ × List ℕ)) where

@@ -2,7 +2,7 @@ use Rattle.std.proofs.Common.{◌≡◌, ◌<◌, None, sym, ap, subst, ◌∙�
 use Rattle.fed_types.specs.declared.bag_id.BagId.{BagId}
 use Rattle.fed_types.specs.Slots.{SlotName, same_slot}
 use Rattle.indexmap.proofs.CallerLemmas.{insert_entry-new}
-use Rattle.learner.proofs.Hearing.{none_from}
+use Rattle.slot_table.proofs.Rows.{none_from}
 use Rattle.slot_table.specs.Rows.{row_at}
 use Rattle.site_tables.specs.Contents.{unless_there}
 use Rattle.site_tables.specs.inner.Kept.{Kept}
