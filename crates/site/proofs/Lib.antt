@@ -1,3 +1,6 @@
 pub mod Sent
 pub mod Committed
 pub mod Concluding
+pub mod Replies
+pub mod Asked
+pub mod Registered
