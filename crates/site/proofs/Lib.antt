@@ -4,3 +4,5 @@ pub mod Concluding
 pub mod Replies
 pub mod Asked
 pub mod Registered
+pub mod Refused
+pub mod Reopened
