@@ -20,6 +20,9 @@ pub asked : {C : Type 0} (device : C → Device) (s : OpenSite C) (session : Ses
 unfolding on_ask
 asked device s session slot same_slot to from answer stands e f line sends = record {
   keeps = refl;
-  gives = (ap (λ (l : Option Line). Ok l) (sym line),
-      sends ∙ (λ i. one_datagram s (e i) (Ask (f i)) to), stands);
+  gives = (
+    ap (λ (l : Option Line). Ok l) (sym line),
+    sends ∙ (λ i. one_datagram s (e i) (Ask (f i)) to),
+    stands,
+  );
 }

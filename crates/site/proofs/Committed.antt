@@ -36,8 +36,13 @@ module _ {C : Type 0} (device : C → Device) (old new : OpenSite C) (r : Record
     pub same_order : IsInOrder old → IsInOrder new
     same_order order = record {
       of = rw (records, owner) (same.of old.book.owner old.book.records order.of);
-      session = (order.session.0, (order.session.1.0,
-          same_stands order.session.0 order.session.1.0 order.session.1.1));
+      session = (
+        order.session.0,
+        (
+          order.session.1.0,
+          same_stands order.session.0 order.session.1.0 order.session.1.1,
+        ),
+      );
     }
 
   -- memory ran out before the commit
@@ -95,9 +100,13 @@ module _ {C : Type 0} (device : C → Device) (old new : OpenSite C) (r : Record
     faults = tt;
     order = λ order. record {
       of = rw (c.committed.0, c.whose) (of (same.of old.book.owner old.book.records order.of));
-      session = (noted_session order.session.0 order.session.1.0 r,
-          (noted_under order.session.1.0 r,
-          all_stands order.session.0 order.session.1.0 order.session.1.1));
+      session = (
+        noted_session order.session.0 order.session.1.0 r,
+        (
+          noted_under order.session.1.0 r,
+          all_stands order.session.0 order.session.1.0 order.session.1.1,
+        ),
+      );
     };
   }
     where

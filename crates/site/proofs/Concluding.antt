@@ -83,7 +83,6 @@ module _ {C : Type 0} (device : C → Device) (old new : OpenSite C) (r : Record
 module _ {C : Type 0} (device : C → Device) (old mid new : OpenSite C)
     (session : Session) (under : UnderWay) (e : Effect)
     (line : Option Line) (datagrams : List (ℕ × List ℕ)) where
-
   -- the federation's number of the old site
   abbrev federation : ℕ
   federation = old.book.owner.members.federation

@@ -6,3 +6,6 @@ pub mod Asked
 pub mod Registered
 pub mod Refused
 pub mod Reopened
+pub mod Beginning
+pub mod Issuing
+pub mod Proposed

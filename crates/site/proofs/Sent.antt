@@ -36,5 +36,12 @@ sealed_next federation f m zero to old s same_federation same_site low before is
     absurd (omega arith)
 sealed_next federation f m (suc n) to old s same_federation same_site low before is =
     let same : suc n - 1 ≡ n = omega arith in
-    rw (map-append handed_out old (s ∷ []), before, same, is, same_federation, same_site,
-    sent_to_more federation m (sites_to n) (suc n)) refl
+    rw (
+      map-append handed_out old (s ∷ []),
+      before,
+      same,
+      is,
+      same_federation,
+      same_site,
+      sent_to_more federation m (sites_to n) (suc n),
+    ) refl

@@ -7,8 +7,12 @@ mod answer;
 mod committing;
 mod fault;
 mod member_site;
+mod proposing;
 mod sealing;
 
 pub use answer::{Answer, Line, Reply, Sealed};
 pub use fault::SiteFault;
 pub use member_site::Site;
+
+#[cfg(test)]
+mod tests;

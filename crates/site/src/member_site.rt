@@ -5,7 +5,8 @@ ghost use Rattle.book.specs.Volumes.{HoldsText, RecoversTo};
 ghost use Rattle.cell_device.specs.Memory.{fuse_of, failures_of, fuse_after_set, IsSameMedium};
 ghost use Rattle.proposer.specs.Sessions.{Session, new_session};
 ghost use Rattle.site.specs.Answered.{IsAnswered};
-ghost use Rattle.site.specs.Calls.{Deposits, Asks, reply_of, other_than, deposit_fault};
+ghost use Rattle.records.specs.Words.{deposit_of, known_of};
+ghost use Rattle.site.specs.Calls.{Deposits, Proposes, Asks, reply_of, other_than, deposit_fault};
 ghost use Rattle.site.specs.declared.answer.Line.TheVariants as lines;
 ghost use Rattle.site.specs.Datagrams.{handed_out};
 ghost use Rattle.site.specs.Opened.{Opens, book_of};
@@ -15,6 +16,7 @@ ghost use Rattle.site.specs.inner.Concluded.{Concludes, one_datagram, all_datagr
 use crate::answer::{Answer, Line, Reply, Sealed};
 use crate::committing::commit_and_note;
 use crate::fault::SiteFault;
+use crate::proposing::begin_ballot;
 use crate::sealing::{to_all, to_one};
 use bag_check::check;
 use bag_tree::Facts;
@@ -162,6 +164,28 @@ impl<C: Cell> Site<C> {
         self.register(slot, bag)
     }
 
+    /// Proposes the slot's deposit: issues the next ballot, and asks all members to promise it.
+    pub fn propose(&mut self, slot: &Slot) -> Result<Answer, SiteFault>
+        ensures answer { self.old.book.needs_opening ≡ false → (session : Session)
+            → StandsFor self.old session
+            → IsAnswered C.device self.old self.new session
+            (effect self.old session (Proposes slot.now)) result }
+        ensures needs_open { IsErrOf result SiteFault.NeedsOpen
+            ↔ (self.old.book.needs_opening ≡ true) }
+        ensures untouched { self.old.book.needs_opening ≡ true → self.new ≡ self.old }
+    {
+        if self.book.needs_opening() {
+            return Err(SiteFault::NeedsOpen);
+        }
+        if self.tables.known(slot).is_some() {
+            return Err(SiteFault::AlreadyKnown);
+        }
+        match self.tables.deposit(slot) {
+            Some(own) => self.issue(slot, own),
+            None => Err(SiteFault::NoDeposit),
+        }
+    }
+
     // Takes a valid bag as the slot's deposit.
     fn register(&mut self, slot: &Slot, bag: BagId) -> Result<Answer, SiteFault>
         requires { self.old.book.needs_opening ≡ false }
@@ -183,6 +207,20 @@ impl<C: Cell> Site<C> {
             body: Entry::Deposit(bag),
         };
         self.conclude(new, Answer { line, sends })
+    }
+
+    // Issues the slot's next ballot, to propose this bag where no vote stands in the way.
+    fn issue(&mut self, slot: &Slot, own: BagId) -> Result<Answer, SiteFault>
+        requires opened { self.old.book.needs_opening ≡ false }
+        requires deposit { deposit_of slot.now self.old.book.records ≡ Some own }
+        ensures { (session : Session) → StandsFor self.old session
+            → known_of slot.now self.old.book.records ≡ None
+            → IsAnswered C.device self.old self.new session
+            (effect self.old session (Proposes slot.now)) result }
+    {
+        let owner = self.book.owner();
+        let (new, answer) = begin_ballot(self.alloc, &owner, &mut self.tables, slot, own)?;
+        self.conclude(new, answer)
     }
 
     /// Commits a record and takes note of it; then the answer is handed out.

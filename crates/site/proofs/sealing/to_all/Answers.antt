@@ -20,14 +20,14 @@ loop-number-preserved c =
 
 pub returns : goal.returns
 returns c = elim c.loop-number-test.branch [
-  else-loop-number-test w ↦ absurd (omega (arith, w.loop-number-test, c.loop-number.auto.number-end, c.count-number-end.ensures.in_range))
+  | else-loop-number-test w ↦ absurd (omega (arith, w.loop-number-test, c.loop-number.auto.number-end, c.count-number-end.ensures.in_range))
   | then-loop-number-test+in_ok-sealed+in_ok-push+else-number-number-end w ↦
-    let all : c.loop-number.number ≡ count_of c.args.members = omega (arith, c.count-number-end.ensures.value, c.count-number-end.ensures.in_range, c.loop-number.auto.number-end, w.loop-number-test.true) in
-    rw (w.sends-is, w.in_ok-push.ensures.items) (
-    subst (λ (n : ℕ). map handed_out (c.loop-number.sends.items ++ w.in_ok-sealed.field-0 ∷ [])
-    ≡ sent c.args.members.federation c.args.message.now (sites_to n)) all (
-    sealed_next c.args.members.federation w.federation.result c.args.message.now
-    c.loop-number.number w.site-to.result c.loop-number.sends.items w.in_ok-sealed.field-0
-    w.federation.ensures w.site-to.ensures c.loop-number.auto.number c.loop-number.invariant
-    w.in_ok-sealed.ensures))
-  ]
+      let all : c.loop-number.number ≡ count_of c.args.members = omega (arith, c.count-number-end.ensures.value, c.count-number-end.ensures.in_range, c.loop-number.auto.number-end, w.loop-number-test.true) in
+      rw (w.sends-is, w.in_ok-push.ensures.items) (
+      subst (λ (n : ℕ). map handed_out (c.loop-number.sends.items ++ w.in_ok-sealed.field-0 ∷ [])
+      ≡ sent c.args.members.federation c.args.message.now (sites_to n)) all (
+      sealed_next c.args.members.federation w.federation.result c.args.message.now
+      c.loop-number.number w.site-to.result c.loop-number.sends.items w.in_ok-sealed.field-0
+      w.federation.ensures w.site-to.ensures c.loop-number.auto.number c.loop-number.invariant
+      w.in_ok-sealed.ensures))
+]

@@ -26,11 +26,11 @@ returns-in_err-bag-clause-answer g c opened session stands =
 
 pub returns-clause-needs_open : goal.returns-clause-needs_open
 returns-clause-needs_open g c = (
-    λ e. absurd (needs_none g.C.Cell.device c.args.self.now c.register.new.self some.0
-    (on_deposit c.args.self.now.book.records some.0 c.args.slot.now (Ok c.in_ok-bag.bag))
-    c.register.result (c.register.ensures some.0 some.1) e),
-    λ e. absurd (differ (sym e ∙ opened)),
-  )
+  λ e. absurd (needs_none g.C.Cell.device c.args.self.now c.register.new.self some.0
+      (on_deposit c.args.self.now.book.records some.0 c.args.slot.now (Ok c.in_ok-bag.bag))
+      c.register.result (c.register.ensures some.0 some.1) e),
+  λ e. absurd (differ (sym e ∙ opened)),
+)
   where
     some : (session : Session) × StandsFor c.args.self.now session
     some = subst (λ (s : OpenSite g.row.C.Denot). (session : Session) × StandsFor s session)
