@@ -1,3 +1,4 @@
 pub mod Sent
 pub mod Committed
 pub mod Concluding
+pub mod Hearing
