@@ -2,20 +2,19 @@
 use Rattle.std.proofs.Common.{◌≡◌, ◌⊎◌, inl, inr, ℕ, Bool, true, false, cond, List, [], ◌∷◌, ◌++◌}
 use Rattle.std.proofs.Common.{map, Option, Some, None, IsSome, Result, Ok, Err, refl, sym, ap, subst}
 use Rattle.std.proofs.Common.{◌∙◌}
-use Rattle.std.specs.Prelude.{OnOk, OnErr, IfErr, IsErrOf}
+use Rattle.std.specs.Prelude.{IsErrOf}
 use Rattle.fed_types.specs.declared.bag_id.BagId.{BagId}
 use Rattle.fed_types.specs.declared.vote.Vote.{Vote}
 use Rattle.fed_types.specs.Ballots.{BallotNumber}
-use Rattle.fed_types.specs.Quorums.{QuorumSystem, quorums_of}
+use Rattle.fed_types.specs.Quorums.{quorums_of}
 use Rattle.fed_types.specs.Sites.{members_of}
-use Rattle.fed_types.specs.Slots.{SlotName, same_slot}
+use Rattle.fed_types.specs.Slots.{SlotName}
 use Rattle.fed_types.specs.Laws.Slots.{same_slot_decides}
 use Rattle.cell_device.specs.Devices.{Device}
-use Rattle.records.specs.declared.entry.Entry.{Entry}
 use Rattle.records.specs.declared.entry.Entry.TheVariants as entry
 use Rattle.records.specs.declared.owner.Owner.{Owner}
 use Rattle.records.specs.declared.record.Record.{Record}
-use Rattle.records.specs.Words.{deposit_of, known_of, with_one, earlier, said_in, known_in, if_some}
+use Rattle.records.specs.Words.{deposit_of, known_of, with_one, earlier, known_in, if_some}
 use Rattle.records.proofs.Words.{known-push}
 use Rattle.book.specs.Volumes.{Volume}
 use Rattle.dgram.specs.declared.body.Body.{Body}
@@ -42,8 +41,7 @@ use Rattle.site.specs.Answered.{IsAnswered, Keeps, Gives}
 use Rattle.site.specs.Arrivals.{on_body, decided, learning, proposing, telling, answer_body}
 use Rattle.site.specs.Arrivals.{addressees, is_member, on_arrival}
 use Rattle.site.specs.Datagrams.{handed_out, datagram}
-use Rattle.site.specs.Effects.{Effect, Send, record_of, to_each, quiet}
-use Rattle.site.specs.Effects.{only_says}
+use Rattle.site.specs.Effects.{Effect, record_of, to_each, only_says, quiet}
 use Rattle.site.specs.Sites.{OpenSite, StandsFor, IsInOrder}
 use Rattle.site.specs.inner.Concluded.{Stands, session_after, under_after, Concludes, HearsBody}
 use Rattle.site.specs.inner.Concluded.{Issues, one_datagram, all_datagrams}
@@ -84,8 +82,11 @@ module _ {C : Type 0} (device : C → Device) (old new : OpenSite C) (slot : Slo
       (to_each slot (answer_body old.book.owner.site d.answer)
       (addressees (quorums_of old.book.owner.members) asker d.answer))) result c refl stands refl
       refl
-      (λ after. (under, hears_other new.tables new.book.records session under (same after) m
-      other.no_promise other.no_refusal other.no_vote))
+      (λ after. (
+        under,
+        hears_other new.tables new.book.records session under (same after) m
+            other.no_promise other.no_refusal other.no_vote,
+      ))
     where
       m : Message
       m = record { slot = slot; body = body }
@@ -163,8 +164,10 @@ module _ {C : Type 0} (book : Volume C) (old new : Contents)
   pub same_in_order : StandsForSame old new → IsInOrder (record { book = book; tables = old })
       → IsInOrder (record { book = book; tables = new })
   same_in_order same =
-      stays_in_order (λ session under stands. (session, (under, same.stands book.records session
-      under stands)))
+      stays_in_order (λ session under stands. (
+        session,
+        (under, same.stands book.records session under stands),
+      ))
 
 module _ {C : Type 0} (device : C → Device) (old new : OpenSite C) where
   -- what is dropped
@@ -243,9 +246,11 @@ module _ {C : Type 0} (device : C → Device) (old new : OpenSite C) (slot : Slo
         subst (λ (o : Option BagId). IsAnswered device old new session
         (learning slot o (hears session known_message)) (Ok a)) none
         (says_nothing session (hears session known_message) a is
-        (ap (λ (s : OpenSite C). s.book) same)
-        (under, hears_it session under
-        (subst (λ (s : OpenSite C). Stands s session under) (sym same) stands)))
+        (ap (λ (s : OpenSite C). s.book) same) (
+          under,
+          hears_it session under
+              (subst (λ (s : OpenSite C). Stands s session under) (sym same) stands),
+        ))
 
     pub hears_told : (learned : BagId) (result : Result Answer SiteFault)
         → Some learned ≡ learned_of_known slot old.book.records bag
@@ -310,10 +315,10 @@ module _ {C : Type 0} (device : C → Device) (old new : OpenSite C) (slot : Slo
       now_known = (
         (first_of (known_of slot old.book.records)).0,
         known-push slot old.book.records noted
-        ∙ ap (λ (t : Bool). with_one earlier (known_of slot old.book.records)
-        (if_some known_in (cond t (Some (entry.Known bag)) None)))
-        ((same_slot_decides slot slot).1 refl)
-        ∙ (first_of (known_of slot old.book.records)).1,
+            ∙ ap (λ (t : Bool). with_one earlier (known_of slot old.book.records)
+            (if_some known_in (cond t (Some (entry.Known bag)) None)))
+            ((same_slot_decides slot slot).1 refl)
+            ∙ (first_of (known_of slot old.book.records)).1,
       )
 
       -- the effect
@@ -346,8 +351,11 @@ module _ {C : Type 0} (device : C → Device) (old new : OpenSite C) (slot : Slo
       answered (Ok a) c session under stands =
           concluded device old old new session under (learned session) (Some (lines.Known slot bag))
           [] (Ok a) c refl stands refl refl
-          (λ after. (under, hears_known new.tables new.book.records session under after slot from
-          vote now_known.0 (ap (known_of slot) (grown a c.keeps) ∙ now_known.1)))
+          (λ after. (
+            under,
+            hears_known new.tables new.book.records session under after slot from
+                vote now_known.0 (ap (known_of slot) (grown a c.keeps) ∙ now_known.1),
+          ))
       answered (Err fault) c session under stands =
           record { keeps = c.keeps; gives = refused_so fault session under c stands c.faults }
 
@@ -408,11 +416,13 @@ module _ {C : Type 0} (device : C → Device) (old new : OpenSite C) (slot : Slo
           (i.says a refl).1
               ∙ ap (λ (b : Volume C). map (datagram b.owner.members.federation)
               (to_each slot (bodies.Accept (vote_for bag)) (members_of b.owner.members))) book,
-          (waits (waits under slot (Some promise)) slot None,
-              subst (λ (m : Option Message). Stands new (heard_if session m)
-              (waits (waits under slot (Some promise)) slot None))
-              (at_here slot (Some promise) under.waiting)
-              (i.heard session (waits under slot (Some promise)) stands)),
+          (
+            waits (waits under slot (Some promise)) slot None,
+            subst (λ (m : Option Message). Stands new (heard_if session m)
+                (waits (waits under slot (Some promise)) slot None))
+                (at_here slot (Some promise) under.waiting)
+                (i.heard session (waits under slot (Some promise)) stands),
+          ),
         );
       }
       asked_all (Err fault) book i session under stands =
@@ -428,8 +438,10 @@ module _ {C : Type 0} (device : C → Device) (old new : OpenSite C) (slot : Slo
               (hears session promise)) (Err x)) (sym is)
               (record {
                 keeps = i.book ∙ book;
-                gives = (waits under slot (Some promise),
-                    i.same session (waits under slot (Some promise)) stands);
+                gives = (
+                  waits under slot (Some promise),
+                  i.same session (waits under slot (Some promise)) stands,
+                );
               })
 
       pub hears_last_promise : (result : Result Answer SiteFault) → mid.book ≡ old.book

@@ -131,12 +131,7 @@ impl<C: Cell> Site<C> {
     }
 
     // Commits what the acceptor has decided, and sends its answer.
-    fn decide(
-        &mut self,
-        slot: Slot,
-        asker: SiteNo,
-        decision: Decision,
-    ) -> Result<Answer, SiteFault>
+    fn decide(&mut self, slot: Slot, asker: SiteNo, decision: Decision) -> Result<Answer, SiteFault>
         requires { self.old.book.needs_opening ≡ false }
         ensures { Concludes C.device self.old self.new (record_of slot decision.entry) None
             (map (datagram self.old.book.owner.members.federation)

@@ -1,4 +1,4 @@
-use Rattle.std.proofs.Common.{◌≡◌, [], Option, Some, None, IsSome, refl, sym, subst, ◌∙◌}
+use Rattle.std.proofs.Common.{[], Option, Some, IsSome, refl, sym, subst, ◌∙◌}
 use Rattle.fed_types.specs.declared.bag_id.BagId.{BagId}
 use Rattle.records.specs.declared.entry.Entry.TheVariants as entry
 use Rattle.site_tables.specs.Contents.{Contents}
@@ -32,8 +32,14 @@ pub invariant_of-self-in-None-1 : goal.invariant_of-self-in-None-1
 invariant_of-self-in-None-1 g c =
     stays_in_order c.self.inside.book c.self.inside.tables c.accepted.new.self
     c.in_ok-bag.ensures.of
-    (λ session under stands. (_, (_, c.in_ok-bag.ensures.heard c.in-None.is
-    c.self.inside.book.records session under stands))) c.self.invariant
+    (λ session under stands. (
+      _,
+      (
+        _,
+        c.in_ok-bag.ensures.heard c.in-None.is
+            c.self.inside.book.records session under stands,
+      ),
+    )) c.self.invariant
 
 pub returns-in-Some : goal.returns-in-Some
 returns-in-Some g c =

@@ -1,4 +1,4 @@
-use Rattle.std.proofs.Common.{◌≡◌, refl, sym, ◌∙◌}
+use Rattle.std.proofs.Common.{refl, sym, ◌∙◌}
 use Rattle.dgram.specs.Decoded.{message_of}
 use Rattle.site.proofs.Hearing.{drops_bytes}
 use Rattle.site.proofs.member_site.Site.arrive.Goals as goal

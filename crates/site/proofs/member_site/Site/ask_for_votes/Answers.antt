@@ -9,8 +9,14 @@ use Rattle.site.proofs.member_site.Site.ask_for_votes.Goals as goal
 pub invariant_of-self : goal.invariant_of-self
 invariant_of-self g c =
     stays_in_order c.self.inside.book c.self.inside.tables c.issued.new.self c.issued.ensures.of
-    (λ session under stands. (_, (_, c.issued.ensures.heard c.self.inside.book.records session under
-    stands))) c.self.invariant
+    (λ session under stands. (
+      _,
+      (
+        _,
+        c.issued.ensures.heard c.self.inside.book.records session under
+            stands,
+      ),
+    )) c.self.invariant
 
 pub returns : goal.returns
 returns g c =
@@ -22,8 +28,10 @@ returns g c =
       faults = tt;
       says = λ a e. says_so (record { line = None; sends = c.in_ok-sends.sends }) a None
           (all_datagrams (record { book = c.self.inside.book; tables = c.self.inside.tables })
-          c.args.slot (bodies.Accept c.args.vote)) e (refl,
-          subst (λ (s : OpenSite g.row.C.Denot). map handed_out c.in_ok-sends.sends.items
-          ≡ all_datagrams s c.args.slot (bodies.Accept c.args.vote)) (sym c.self.view_is)
-          c.in_ok-sends.ensures);
+          c.args.slot (bodies.Accept c.args.vote)) e (
+            refl,
+            subst (λ (s : OpenSite g.row.C.Denot). map handed_out c.in_ok-sends.sends.items
+                ≡ all_datagrams s c.args.slot (bodies.Accept c.args.vote)) (sym c.self.view_is)
+                c.in_ok-sends.ensures,
+          );
     })

@@ -1,5 +1,4 @@
-use Rattle.std.proofs.Common.{◌≡◌, inl, inr, refl, sym, subst}
-use Rattle.dgram.specs.declared.body.Body.{Body}
+use Rattle.std.proofs.Common.{inl, inr, refl, sym, subst}
 use Rattle.site.proofs.Hearing.{IsRequest, drops_request}
 use Rattle.site.proofs.member_site.Site.hear.Goals as goal
 

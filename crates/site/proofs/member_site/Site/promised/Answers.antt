@@ -1,4 +1,4 @@
-use Rattle.std.proofs.Common.{◌≡◌, Some, None, refl}
+use Rattle.std.proofs.Common.{refl}
 use Rattle.site.proofs.Hearing.{hears_promise, hears_last_promise, stays_in_order}
 use Rattle.site.proofs.member_site.Site.promised.Goals as goal
 
@@ -6,15 +6,27 @@ pub invariant_of-self : goal.invariant_of-self
 invariant_of-self g c =
     stays_in_order c.self.inside.book c.self.inside.tables c.promise.new.self
     c.in-Some.ensures.of
-    (λ session under stands. (_, (_, c.in-Some.ensures.heard c.self.inside.book.records session under
-    stands))) c.self.invariant
+    (λ session under stands. (
+      _,
+      (
+        _,
+        c.in-Some.ensures.heard c.self.inside.book.records session under
+            stands,
+      ),
+    )) c.self.invariant
 
 pub invariant_of-self-in-None-1 : goal.invariant_of-self-in-None-1
 invariant_of-self-in-None-1 g c =
     stays_in_order c.self.inside.book c.self.inside.tables c.promise.new.self
     c.in-None.ensures.of
-    (λ session under stands. (_, (_, c.in-None.ensures.heard c.self.inside.book.records session under
-    stands))) c.self.invariant
+    (λ session under stands. (
+      _,
+      (
+        _,
+        c.in-None.ensures.heard c.self.inside.book.records session under
+            stands,
+      ),
+    )) c.self.invariant
 
 pub returns-in-Some : goal.returns-in-Some
 returns-in-Some g c =

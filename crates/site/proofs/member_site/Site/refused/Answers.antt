@@ -1,6 +1,5 @@
-use Rattle.std.proofs.Common.{◌≡◌, refl}
+use Rattle.std.proofs.Common.{refl}
 use Rattle.site.specs.declared.fault.SiteFault.TheVariants as faults
-use Rattle.site.specs.Sites.{OpenSite}
 use Rattle.site.proofs.Concluding.{answer_err_of}
 use Rattle.site.proofs.Hearing.{hears_refused, refusal_unheard, stays_in_order, same_in_order}
 use Rattle.site.proofs.member_site.Site.refused.Goals as goal
@@ -25,8 +24,14 @@ pub invariant_of-self-2 : goal.invariant_of-self-2
 invariant_of-self-2 g c =
     stays_in_order c.self.inside.book c.self.inside.tables c.refused.new.self
     c.in_ok-refused.ensures.of
-    (λ session under stands. (_, (_, c.in_ok-refused.ensures.heard 0 c.args.standing
-    c.self.inside.book.records session under stands))) c.self.invariant
+    (λ session under stands. (
+      _,
+      (
+        _,
+        c.in_ok-refused.ensures.heard 0 c.args.standing
+            c.self.inside.book.records session under stands,
+      ),
+    )) c.self.invariant
 
 pub returns : goal.returns
 returns g c =

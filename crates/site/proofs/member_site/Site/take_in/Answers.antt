@@ -1,6 +1,5 @@
-use Rattle.std.proofs.Common.{◌≡◌, refl, sym, subst, ◌∙◌}
-use Rattle.dgram.specs.Encoding.{body_from}
-use Rattle.site.specs.Arrivals.{is_member, on_body}
+use Rattle.std.proofs.Common.{refl, sym, subst, ◌∙◌}
+use Rattle.site.specs.Arrivals.{on_body}
 use Rattle.site.specs.Sites.{OpenSite, IsInOrder}
 use Rattle.fed_types.specs.Quorums.{quorums_of}
 use Rattle.proposer.specs.Sessions.{hears}

@@ -1,4 +1,4 @@
-use Rattle.std.proofs.Common.{◌≡◌, Some, None, Option, refl, sym, subst, ◌∙◌}
+use Rattle.std.proofs.Common.{◌≡◌, Some, None, refl, subst}
 use Rattle.learner.specs.Learning.{learned_of_known}
 use Rattle.site.specs.Sites.{OpenSite}
 use Rattle.site.proofs.Hearing.{hears_told, hears_told_nothing}
