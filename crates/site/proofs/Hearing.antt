@@ -1,7 +1,7 @@
 -- From what the steps of a site do to what it does with a message of a member.
 use Rattle.std.proofs.Common.{◌≡◌, ◌⊎◌, inl, inr, ℕ, Bool, true, false, cond, List, [], ◌∷◌, ◌++◌}
-use Rattle.std.proofs.Common.{map, Option, Some, None, IsSome, Result, Ok, Err, refl, sym, ap, subst}
-use Rattle.std.proofs.Common.{◌∙◌}
+use Rattle.std.proofs.Common.{map, Option, Some, None, IsSome, Result, Ok, Err, refl, sym, ap}
+use Rattle.std.proofs.Common.{subst, ◌∙◌}
 use Rattle.std.specs.Prelude.{IsErrOf}
 use Rattle.fed_types.specs.declared.bag_id.BagId.{BagId}
 use Rattle.fed_types.specs.declared.vote.Vote.{Vote}
@@ -262,8 +262,8 @@ module _ {C : Type 0} (device : C → Device) (old new : OpenSite C) (slot : Slo
         subst (λ (o : Option BagId). IsAnswered device old new session
         (learning slot o (hears session known_message)) result) some
         (concluded device old old new session under
-        (learning slot (Some learned) (hears session known_message)) (Some (lines.Known slot learned))
-        [] result c refl stands refl refl (λ after. (under, hears_it session under after)))
+        (learning slot (Some learned) (hears session known_message))
+        (Some (lines.Known slot learned)) [] result c refl stands refl refl (λ after. (under, hears_it session under after)))
 
   -- ---- a vote
   module _ (from : ℕ) (vote : Vote) where
@@ -396,8 +396,8 @@ module _ {C : Type 0} (device : C → Device) (old new : OpenSite C) (slot : Slo
     unfolding on_body
     hears_promise a is book none heard session (under, stands) =
         subst (λ (o : Option BagId). IsAnswered device old new session
-        (proposing (quorums_of old.book.owner.members) slot ballot o (hears session promise)) (Ok a))
-        (none session under stands)
+        (proposing (quorums_of old.book.owner.members) slot ballot o (hears session promise))
+        (Ok a)) (none session under stands)
         (says_nothing session (hears session promise) a is book
         (under, heard session under stands))
 

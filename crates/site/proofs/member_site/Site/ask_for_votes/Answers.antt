@@ -22,8 +22,8 @@ pub returns : goal.returns
 returns g c =
     rw (← c.self.view_is) (record {
       book = refl;
-      heard = λ session under stands. c.issued.ensures.heard c.self.inside.book.records session under
-          stands;
+      heard = λ session under stands. c.issued.ensures.heard c.self.inside.book.records session
+          under stands;
       same = tt;
       faults = tt;
       says = λ a e. says_so (record { line = None; sends = c.in_ok-sends.sends }) a None

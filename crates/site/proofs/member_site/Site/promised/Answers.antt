@@ -38,8 +38,8 @@ returns-in-Some g c =
     c.ask_for_votes.result refl
     (λ session under stands. c.in-Some.ensures.ready c.self.inside.book.owner
     c.self.inside.book.records session under c.self.invariant.of stands)
-    (λ session under stands. c.in-Some.ensures.heard c.self.inside.book.records session under stands)
-    c.ask_for_votes.ensures)
+    (λ session under stands. c.in-Some.ensures.heard c.self.inside.book.records session under
+    stands) c.ask_for_votes.ensures)
 
 pub returns-in-None : goal.returns-in-None
 returns-in-None g c =
