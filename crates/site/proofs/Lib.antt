@@ -2,3 +2,8 @@ pub mod Sent
 pub mod Committed
 pub mod Concluding
 pub mod Hearing
+pub mod Replies
+pub mod Asked
+pub mod Registered
+pub mod Refused
+pub mod Reopened

@@ -5,8 +5,7 @@ ghost use Rattle.book.specs.Volumes.{HoldsText, RecoversTo};
 ghost use Rattle.cell_device.specs.Memory.{fuse_of, failures_of, fuse_after_set, IsSameMedium};
 ghost use Rattle.proposer.specs.Sessions.{Session, new_session};
 ghost use Rattle.site.specs.Answered.{IsAnswered};
-ghost use Rattle.records.specs.Words.{deposit_of, known_of};
-ghost use Rattle.site.specs.Calls.{Deposits, Proposes, Asks, reply_of, other_than, deposit_fault};
+ghost use Rattle.site.specs.Calls.{Deposits, Asks, reply_of, other_than, deposit_fault};
 ghost use Rattle.site.specs.declared.answer.Line.TheVariants as lines;
 ghost use Rattle.site.specs.Datagrams.{handed_out};
 ghost use Rattle.site.specs.Opened.{Opens, book_of};
@@ -23,7 +22,7 @@ use book::{Book, OpenFault};
 use cell_device::{Cell, Fuse, MemoryCell};
 use dgram::{Body, Message};
 use fed_types::{BagId, Members, SiteNo, Slot};
-use records::{Entry, Owner, Record, Round};
+use records::{Entry, Owner, Record};
 use site_tables::Tables;
 use std::alloc::{AllocError, Global};
 use std::marker::Model;
@@ -163,28 +162,6 @@ impl<C: Cell> Site<C> {
         self.register(slot, bag)
     }
 
-    /// Proposes the slot's deposit: issues the next ballot, and asks all members to promise it.
-    pub fn propose(&mut self, slot: &Slot) -> Result<Answer, SiteFault>
-        ensures answer { self.old.book.needs_opening ≡ false → (session : Session)
-            → StandsFor self.old session
-            → IsAnswered C.device self.old self.new session
-            (effect self.old session (Proposes slot.now)) result }
-        ensures needs_open { IsErrOf result SiteFault.NeedsOpen
-            ↔ (self.old.book.needs_opening ≡ true) }
-        ensures untouched { self.old.book.needs_opening ≡ true → self.new ≡ self.old }
-    {
-        if self.book.needs_opening() {
-            return Err(SiteFault::NeedsOpen);
-        }
-        if self.tables.known(slot).is_some() {
-            return Err(SiteFault::AlreadyKnown);
-        }
-        match self.tables.deposit(slot) {
-            Some(own) => self.issue(slot, own),
-            None => Err(SiteFault::NoDeposit),
-        }
-    }
-
     // Takes a valid bag as the slot's deposit.
     fn register(&mut self, slot: &Slot, bag: BagId) -> Result<Answer, SiteFault>
         requires { self.old.book.needs_opening ≡ false }
@@ -206,29 +183,6 @@ impl<C: Cell> Site<C> {
             body: Entry::Deposit(bag),
         };
         self.conclude(new, Answer { line, sends })
-    }
-
-    // Issues the slot's next ballot, to propose this bag where no vote stands in the way.
-    fn issue(&mut self, slot: &Slot, own: BagId) -> Result<Answer, SiteFault>
-        requires { self.old.book.needs_opening ≡ false }
-        ensures { (session : Session) → StandsFor self.old session
-            → known_of slot.now self.old.book.records ≡ None
-            → deposit_of slot.now self.old.book.records ≡ Some own
-            → IsAnswered C.device self.old self.new session
-            (effect self.old session (Proposes slot.now)) result }
-    {
-        let ballot = self.tables.begin(slot, own)?;
-        let message = Message {
-            slot: slot.copy(self.alloc)?,
-            body: Body::Prepare { ballot },
-        };
-        let sends = self.send_to_all(&message)?;
-        let Message { slot, .. } = message;
-        let new = Record {
-            slot,
-            body: Entry::Round(Round::of(ballot)),
-        };
-        self.conclude(new, Answer { line: None, sends })
     }
 
     /// Commits a record and takes note of it; then the answer is handed out.

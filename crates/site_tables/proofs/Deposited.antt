@@ -83,7 +83,8 @@ bag_step rows slot s bag (Some own) e = go (same_slot slot s) refl
 record_step : (rows : Rows BagId) (slot s : SlotName) (body : Entry) (said : Option BagId)
     → deposit_in body ≡ said
     → row_at (with_bag rows slot said) s
-    ≡ with_one earlier (row_at rows s) (if_some deposit_in (cond (same_slot slot s) (Some body) None))
+    ≡ with_one earlier (row_at rows s)
+    (if_some deposit_in (cond (same_slot slot s) (Some body) None))
 record_step rows slot s body None e = go (same_slot slot s)
   where
     go : (t : Bool) → row_at rows s

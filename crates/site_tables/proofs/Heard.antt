@@ -18,7 +18,8 @@ use Rattle.proposer.specs.declared.round.Promise.{Promise as Waiting}
 use Rattle.proposer.specs.declared.round.Round.{Round}
 use Rattle.proposer.specs.declared.row.Row.{Row as proposer_row}
 use Rattle.proposer.specs.Rows as proposers
-use Rattle.proposer.specs.Sessions.{Session, UnderWay, hears, promise_message, heard_after, heard_if}
+use Rattle.proposer.specs.Sessions.{Session, UnderWay, hears, promise_message, heard_after}
+use Rattle.proposer.specs.Sessions.{heard_if}
 use Rattle.proposer.proofs.Stands.{heard_stands}
 use Rattle.learner.specs.declared.row.Row.{Row as learner_row}
 use Rattle.learner.specs.Ledgers as learners
@@ -112,7 +113,8 @@ module _ (t : Contents) (records : List Record) (session : Session) (under : Und
   -- nor does a vote of a slot whose bag is known
   pub hears_known : (slot : SlotName) (from : ℕ) (vote : Vote) (bag : BagId)
       → known_of slot records ≡ Some bag
-      → StandsFor t records (hears session (record { slot = slot; body = Accepted from vote })) under
+      → StandsFor t records (hears session (record { slot = slot; body = Accepted from vote }))
+      under
   hears_known slot from vote bag known = record {
     proposer = heard_stands t.proposer.rows (record { slot = slot; body = Accepted from vote })
         records session under refl (λ b. refl) stands.proposer;

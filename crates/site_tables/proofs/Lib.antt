@@ -2,3 +2,4 @@ pub mod Outcomes
 pub mod Deposited
 pub mod Heard
 pub mod Noted
+pub mod Examples

@@ -7,3 +7,6 @@ mod deposits;
 mod tables;
 
 pub use tables::Tables;
+
+#[cfg(test)]
+mod tests;
