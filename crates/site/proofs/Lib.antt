@@ -1,6 +1,7 @@
 pub mod Sent
 pub mod Committed
 pub mod Concluding
+pub mod Hearing
 pub mod Replies
 pub mod Asked
 pub mod Registered

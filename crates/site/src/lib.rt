@@ -4,6 +4,7 @@
 #![tactic(auto)]
 
 mod answer;
+mod arrivals;
 mod committing;
 mod fault;
 mod member_site;

@@ -33,7 +33,7 @@ use std::marker::Model;
 #[derive(Drop)]
 pub struct Site<C: Cell> {
     pub(crate) alloc: Global,
-    book: Book<C>,
+    pub(crate) book: Book<C>,
     pub(crate) tables: Tables,
 }
 
