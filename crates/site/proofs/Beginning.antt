@@ -1,6 +1,6 @@
 -- How beginning a ballot comes out.
-use Rattle.std.proofs.Common.{◌≡◌, ◌⊎◌, inl, inr, Option, Some, None, Result, Ok, Err, refl, sym}
-use Rattle.std.proofs.Common.{ap, subst, ◌∙◌, List}
+use Rattle.std.proofs.Common.{◌≡◌, inl, inr, Option, Some, None, Result, Ok, Err, refl, sym}
+use Rattle.std.proofs.Common.{ap, subst, List}
 use Rattle.std.specs.Prelude.{IsErrAnd}
 use Rattle.fed_types.specs.declared.bag_id.BagId.{BagId}
 use Rattle.fed_types.specs.Ballots.{BallotNumber}
@@ -112,7 +112,10 @@ module _ (owner : Owner) (old new : Contents) (slot : SlotName) (own : BagId)
         subst (λ (r : Result (Record × Answer) SiteFault). BeginsBallot owner old new slot own r)
         (sym is) (record {
           order = order;
-          begun = λ records session under of stands deposit.
-              (ballot, next_of _ ballot (next records session under of stands), of_ballot,
-              begun records session under stands deposit);
+          begun = λ records session under of stands deposit. (
+            ballot,
+            next_of _ ballot (next records session under of stands),
+            of_ballot,
+            begun records session under stands deposit,
+          );
         })

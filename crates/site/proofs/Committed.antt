@@ -1,7 +1,7 @@
 -- What a commit makes of a site, by how it came out.
-use Rattle.std.proofs.Common.{◌≡◌, ◌⊎◌, inl, inr, List, [], ◌∷◌, ◌++◌, Result, Ok, Err, refl, sym}
-use Rattle.std.proofs.Common.{ap, subst, ◌∙◌}
-use Rattle.std.specs.Prelude.{OnOk, OnErr, IfErr, IsErrOf, IsErrAnd}
+use Rattle.std.proofs.Common.{◌≡◌, inl, inr, List, [], ◌∷◌, ◌++◌, Result, Ok, Err, refl, sym}
+use Rattle.std.proofs.Common.{ap, subst}
+use Rattle.std.specs.Prelude.{IsErrAnd}
 use Rattle.cell_device.specs.Devices.{Device}
 use Rattle.records.specs.declared.record.Record.{Record}
 use Rattle.book.specs.declared.fault.CommitFault.{CommitFault}
@@ -14,8 +14,8 @@ use Rattle.site.specs.declared.fault.SiteFault.{SiteFault}
 use Rattle.site.specs.declared.fault.SiteFault.TheVariants as faults
 use Rattle.site.specs.Answered.{Commits}
 use Rattle.site.specs.Faults.{commit_fault}
-use Rattle.site.specs.Sites.{OpenSite, StandsFor, IsInOrder}
-use Rattle.site.specs.inner.Concluded.{Stands, noted_session, noted_under, IsCommitted, committed}
+use Rattle.site.specs.Sites.{OpenSite, IsInOrder}
+use Rattle.site.specs.inner.Concluded.{Stands, noted_session, noted_under, IsCommitted}
 
 -- the result of a `?`
 pub err_of : (r : Result (Unit {0}) SiteFault) (fault : SiteFault)

@@ -1,35 +1,29 @@
 -- From what a site's last step does to the answer of the definitions.
-use Rattle.std.proofs.Common.{◌≡◌, ◌≢◌, ◌⊎◌, inl, inr, ◌||◌, ℕ, Bool, true, false, cond, List, [], ◌∷◌, ◌++◌}
+use Rattle.std.proofs.Common.{◌≡◌, ◌⊎◌, inl, inr, ◌||◌, ℕ, Bool, true, false, cond, List}
 use Rattle.std.proofs.Common.{map, Option, Some, None, IsSome, Result, Ok, Err, refl, sym, ap, subst}
 use Rattle.std.proofs.Common.{◌∙◌}
-use Rattle.std.specs.Prelude.{OnOk, OnErr, IfErr, IsErrOf, IsErrAnd}
-use Rattle.fed_types.specs.declared.bag_id.BagId.{BagId}
+use Rattle.std.specs.Prelude.{IsErrAnd}
 use Rattle.fed_types.specs.declared.vote.Vote.{Vote}
 use Rattle.fed_types.specs.Ballots.{BallotNumber, below}
-use Rattle.fed_types.specs.Slots.{SlotName, same_slot}
+use Rattle.fed_types.specs.Slots.{SlotName}
 use Rattle.cell_device.specs.Devices.{Device}
 use Rattle.records.specs.declared.entry.Entry.{Entry}
-use Rattle.records.specs.declared.entry.Entry.TheVariants as entry
 use Rattle.records.specs.declared.record.Record.{Record}
-use Rattle.records.specs.Words.{known_of, promised_of, vote_of}
+use Rattle.records.specs.Words.{promised_of, vote_of}
 use Rattle.book.specs.Volumes.{Volume}
-use Rattle.dgram.specs.declared.body.Body.{Body}
-use Rattle.dgram.specs.declared.message.Message.{Message}
-use Rattle.dgram.specs.Heard.{promise_in, refused_round, voter_in}
 use Rattle.acceptor.specs.Decisions.{prepare_decision, accept_decision, promises, votes, votes_again}
 use Rattle.acceptor.specs.Decisions.{refuses, on_prepare, is_vote, is_in_ballot, on_new_accept}
-use Rattle.proposer.specs.Sessions.{Session, UnderWay, hears, issued_by}
+use Rattle.proposer.specs.Sessions.{Session, UnderWay, issued_by}
 use Rattle.site.specs.declared.answer.Answer.{Answer}
 use Rattle.site.specs.declared.answer.Line.{Line}
 use Rattle.site.specs.declared.fault.SiteFault.{SiteFault}
 use Rattle.site.specs.declared.fault.SiteFault.TheVariants as faults
 use Rattle.site.specs.Answered.{Commits, Keeps, Gives, IsAnswered, commit_of}
-use Rattle.site.specs.Datagrams.{handed_out, datagram}
-use Rattle.site.specs.Effects.{Effect, Send, record_of}
+use Rattle.site.specs.Datagrams.{datagram}
+use Rattle.site.specs.Effects.{Effect, record_of}
 use Rattle.site.specs.Sites.{OpenSite, StandsFor}
 use Rattle.site.specs.inner.Concluded.{Stands, session_after, under_after, Concludes, IsCommitted}
 use Rattle.site.specs.inner.Concluded.{committed}
-use Rattle.site_tables.proofs.Heard.{hears_other, hears_known}
 
 -- the answer of a `?`
 pub answer_err_of : (r : Result Answer SiteFault) (fault : SiteFault)

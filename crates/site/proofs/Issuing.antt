@@ -1,7 +1,6 @@
 -- A ballot is issued, or why it isn't.
-use Rattle.std.proofs.Common.{◌≡◌, inl, inr, ℕ, Bool, true, false, cond, List, map, Option, Some}
+use Rattle.std.proofs.Common.{◌≡◌, inl, Bool, cond, map, Option, Some}
 use Rattle.std.proofs.Common.{None, Result, Ok, Err, refl, sym, ap, subst, ◌∙◌}
-use Rattle.std.specs.Bool.{◌==◌}
 use Rattle.std.proofs.lemmas.Bool.Decides.{Decides-eqb}
 use Rattle.fed_types.specs.declared.bag_id.BagId.{BagId}
 use Rattle.fed_types.specs.Ballots.{BallotNumber}
@@ -12,9 +11,8 @@ use Rattle.records.specs.declared.entry.Entry.TheVariants as entry
 use Rattle.records.specs.declared.record.Record.{Record}
 use Rattle.records.specs.Words.{known_of, deposit_of}
 use Rattle.proposer.specs.Proposals.{next_ballot}
-use Rattle.proposer.specs.Sessions.{Session, UnderWay, begins, issues, issued_by, issued_if, of_round}
+use Rattle.proposer.specs.Sessions.{Session, UnderWay, begins, issued_by, issued_if, of_round}
 use Rattle.proposer.proofs.Stands.{at_here}
-use Rattle.site_tables.specs.Contents.{Contents, IsOf}
 use Rattle.site.specs.declared.answer.Answer.{Answer}
 use Rattle.site.specs.declared.fault.SiteFault.{SiteFault}
 use Rattle.site.specs.declared.fault.SiteFault.TheVariants as faults
@@ -23,8 +21,8 @@ use Rattle.site.specs.Calls.{Proposes, on_propose, issuing_if}
 use Rattle.site.specs.Datagrams.{handed_out}
 use Rattle.site.specs.Effects.{Effect}
 use Rattle.site.specs.Sites.{OpenSite, StandsFor, IsInOrder, effect}
-use Rattle.site.specs.inner.Begun.{IsOfBallot, Begins, BeginsBallot}
-use Rattle.site.specs.inner.Concluded.{Stands, noted_session, noted_under, Concludes}
+use Rattle.site.specs.inner.Begun.{Begins, BeginsBallot}
+use Rattle.site.specs.inner.Concluded.{Stands, noted_under, Concludes}
 use Rattle.site.proofs.Concluding.{concluded}
 
 -- a ballot that was begun is issued by the record of its round
@@ -42,8 +40,11 @@ module _ {C : Type 0} (device : C → Device) (old mid : OpenSite C) (slot : Slo
   pub mid_order : deposit_of slot old.book.records ≡ Some own → IsInOrder mid
   mid_order deposit = rw book (record {
     of = b.order old.book.records order.of;
-    session = (order.session.0, some begun (b.begun old.book.records order.session.0
-        order.session.1.0 order.of order.session.1.1 deposit));
+    session = (
+      order.session.0,
+      some begun (b.begun old.book.records order.session.0
+          order.session.1.0 order.of order.session.1.1 deposit),
+    );
   })
     where
       some : (r : Result (Record × Answer) SiteFault)
@@ -124,9 +125,11 @@ module _ {C : Type 0} (device : C → Device) (old mid : OpenSite C) (slot : Slo
             (map handed_out x.1.sends.items) result) of_ballot.record_is
             (rw (← of_ballot.line) c))
             book (rw book s) refl of_ballot.sends
-            (λ after. (noted_under (begins stands.0 slot ballot)
-            (record { slot = slot; body = entry.Round ballot.round }),
-            subst (λ (o : Option BallotNumber). Stands new (issued_if session slot o)
-            (noted_under (begins stands.0 slot ballot)
-            (record { slot = slot; body = entry.Round ballot.round })))
-            (issued_is slot ballot stands.0) after)))
+            (λ after. (
+              noted_under (begins stands.0 slot ballot)
+                  (record { slot = slot; body = entry.Round ballot.round }),
+              subst (λ (o : Option BallotNumber). Stands new (issued_if session slot o)
+                  (noted_under (begins stands.0 slot ballot)
+                  (record { slot = slot; body = entry.Round ballot.round })))
+                  (issued_is slot ballot stands.0) after,
+            )))

@@ -1,5 +1,5 @@
 -- Why nothing is proposed.
-use Rattle.std.proofs.Common.{◌≡◌, Option, Some, None, Err, refl, sym, subst}
+use Rattle.std.proofs.Common.{◌≡◌, Option, Some, None, Err, refl, subst}
 use Rattle.fed_types.specs.declared.bag_id.BagId.{BagId}
 use Rattle.fed_types.specs.Quorums.{quorums_of}
 use Rattle.fed_types.specs.Slots.{SlotName}

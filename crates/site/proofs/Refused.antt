@@ -1,6 +1,6 @@
 -- Calls that are refused.
-use Rattle.std.proofs.Common.{◌≡◌, inl, inr, Option, Some, None, Result, Ok, Err, refl, sym, ap}
-use Rattle.std.proofs.Common.{subst, ◌∙◌}
+use Rattle.std.proofs.Common.{◌≡◌, inl, Option, Some, None, Result, Err, refl, sym}
+use Rattle.std.proofs.Common.{subst}
 use Rattle.std.specs.Prelude.{IsErrOf}
 use Rattle.fed_types.specs.declared.bag_id.BagId.{BagId}
 use Rattle.fed_types.specs.Slots.{SlotName}

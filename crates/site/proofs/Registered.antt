@@ -1,11 +1,10 @@
 -- A valid bag is deposited, or why it isn't.
-use Rattle.std.proofs.Common.{◌≡◌, ℕ, Bool, true, false, is_some, List, [], map, Option, Some, None, Result, Ok, Err, refl, sym}
+use Rattle.std.proofs.Common.{◌≡◌, ℕ, true, false, is_some, List, [], map, Option, Some, None, Result, Ok, Err, refl, sym}
 use Rattle.std.proofs.Common.{ap, subst, ◌∙◌}
 use Rattle.fed_types.specs.declared.bag_id.BagId.{BagId}
 use Rattle.fed_types.specs.Slots.{SlotName}
 use Rattle.cell_device.specs.Devices.{Device}
 use Rattle.records.specs.declared.entry.Entry.TheVariants as entry
-use Rattle.records.specs.declared.record.Record.{Record}
 use Rattle.records.specs.Words.{known_of, deposit_of}
 use Rattle.proposer.specs.Sessions.{Session}
 use Rattle.site.specs.declared.answer.Answer.{Answer}
@@ -19,7 +18,7 @@ use Rattle.site.specs.Datagrams.{handed_out}
 use Rattle.site.specs.Effects.{Effect}
 use Rattle.site.specs.Sites.{OpenSite, StandsFor, effect}
 use Rattle.site.specs.inner.Concluded.{Concludes}
-use Rattle.site.proofs.Concluding.{concluded, noted_same}
+use Rattle.site.proofs.Concluding.{concluded}
 
 -- a thing that is there, or isn't
 pub some_of : (o : Option BagId) → is_some o ≡ true → (a : BagId) × (o ≡ Some a)

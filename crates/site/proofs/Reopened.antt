@@ -1,8 +1,7 @@
 -- An opening that ends for want of the tables' memory.
-use Rattle.std.proofs.Common.{◌≡◌, ◌⊎◌, inl, inr, List, Option, Some, None, Result, Ok, Err, refl}
-use Rattle.std.proofs.Common.{sym, ap, subst, ◌∙◌}
-use Rattle.std.specs.Prelude.{IsErrAnd, IsErrOf}
-use Rattle.cell_device.specs.Calls.{HasCause}
+use Rattle.std.proofs.Common.{◌≡◌, inr, List, Option, Some, None, Result, Ok, Err, refl}
+use Rattle.std.proofs.Common.{ap}
+use Rattle.std.specs.Prelude.{IsErrAnd}
 use Rattle.cell_device.specs.Devices.{Device}
 use Rattle.cell_device.specs.Images.{Image, IfKnown}
 use Rattle.records.specs.declared.owner.Owner.{Owner}

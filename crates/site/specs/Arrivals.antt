@@ -3,7 +3,6 @@
 use Rattle.std.specs.Prelude.{ℕ, Bool, false, List, [], ◌∷◌, Option, Some, None}
 use Rattle.std.specs.Prelude.{if◌then◌else◌}
 use Rattle.fed_types.specs.declared.bag_id.BagId.{BagId}
-use Rattle.fed_types.specs.declared.vote.Vote.{Vote}
 use Rattle.fed_types.specs.Ballots.{BallotNumber}
 use Rattle.fed_types.specs.Lists.{is_in}
 use Rattle.fed_types.specs.Quorums.{QuorumSystem}

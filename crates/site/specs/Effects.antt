@@ -1,7 +1,7 @@
 -- What a call of a site comes to: the record that it commits first, if any; the messages that it
 -- then sends, in order; what it says, or why it refuses; and what the site has heard, and which
 -- ballots are current, from then on.
-use Rattle.std.specs.Prelude.{ℕ, List, [], ◌∷◌, map, Option, Some, None, Result, Ok, Err}
+use Rattle.std.specs.Prelude.{ℕ, List, [], map, Option, Some, None, Result, Ok, Err}
 use Rattle.fed_types.specs.Slots.{SlotName}
 use Rattle.records.specs.declared.entry.Entry.{Entry}
 use Rattle.records.specs.declared.record.Record.{Record}

@@ -1,7 +1,5 @@
 -- A site that is open, as a clause sees it, and what it stands for.
-use Rattle.std.specs.Prelude.{◌≡◌, List}
-use Rattle.fed_types.specs.Quorums.{QuorumSystem, quorums_of}
-use Rattle.records.specs.declared.record.Record.{Record}
+use Rattle.fed_types.specs.Quorums.{quorums_of}
 use Rattle.book.specs.Volumes.{Volume}
 use Rattle.proposer.specs.Sessions.{Session, UnderWay}
 use Rattle.site_tables.specs.Contents.{Contents, IsOf}

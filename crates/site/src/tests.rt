@@ -79,31 +79,27 @@ fn refused(
 }
 
 // A tree without the payload's folder is refused, and nothing is kept.
-fn refuses_no_bag(
-    site: &mut Site<MemoryCell>,
-    alloc: Global,
-    slot: &Slot,
-) -> Result<bool, Fail> {
+fn refuses_no_bag(site: &mut Site<MemoryCell>, alloc: Global, slot: &Slot) -> Result<bool, Fail> {
     let fault = site.deposit(slot, &no_bag(alloc)?).err();
-    Ok(fault == Some(SiteFault::InvalidBag(BagFault::NoPayloadFolder))
-        && site.query(slot) == Ok(Reply::Nothing))
+    Ok(
+        fault == Some(SiteFault::InvalidBag(BagFault::NoPayloadFolder))
+            && site.query(slot) == Ok(Reply::Nothing),
+    )
 }
 
 // A deposit, again, and another in its way.
-fn takes_deposits(
-    site: &mut Site<MemoryCell>,
-    alloc: Global,
-    slot: &Slot,
-) -> Result<bool, Fail> {
+fn takes_deposits(site: &mut Site<MemoryCell>, alloc: Global, slot: &Slot) -> Result<bool, Fail> {
     let own = BagId(NOTHING);
     let first = registers(site, alloc, slot, "")?;
     let again = registers(site, alloc, slot, "")?;
     let other = refused(site, alloc, slot, "\n")?;
-    Ok(first
-        && again
-        && other == Some(SiteFault::OtherDeposit(own))
-        && site.query(slot) == Ok(Reply::Pending(own))
-        && site.records().len() == 1)
+    Ok(
+        first
+            && again
+            && other == Some(SiteFault::OtherDeposit(own))
+            && site.query(slot) == Ok(Reply::Pending(own))
+            && site.records().len() == 1,
+    )
 }
 
 // It is there after the site is closed and opened again.
@@ -144,10 +140,12 @@ fn fails(site: &mut Site<MemoryCell>, alloc: Global, slot: &Slot) -> Result<bool
         how: How::Fail,
         kept: 0,
     }));
-    Ok(refused(site, alloc, slot, "")? == Some(SiteFault::Device)
-        && site.needs_opening()
-        && site.query(slot) == Err(SiteFault::NeedsOpen)
-        && site.records().is_empty())
+    Ok(
+        refused(site, alloc, slot, "")? == Some(SiteFault::Device)
+            && site.needs_opening()
+            && site.query(slot) == Err(SiteFault::NeedsOpen)
+            && site.records().is_empty(),
+    )
 }
 
 #[test]

@@ -1,4 +1,4 @@
-use Rattle.std.proofs.Common.{true, false, List, [], ◌∷◌, ◌++◌, ◌≡◌, Result, Ok, Err, refl, sym, ap, subst, ◌∙◌}
+use Rattle.std.proofs.Common.{true, false, [], ◌∷◌, ◌++◌, ◌≡◌, Err, refl, sym, ap, subst, ◌∙◌}
 use Rattle.records.specs.declared.record.Record.{Record}
 use Rattle.book.specs.declared.fault.CommitFault.{CommitFault}
 use Rattle.site_tables.specs.Contents.{IsOf}

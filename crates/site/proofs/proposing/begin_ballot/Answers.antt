@@ -1,9 +1,9 @@
-use Rattle.std.proofs.Common.{◌≡◌, map, Some, None, Ok, refl, sym, ap, subst, ◌∙◌}
+use Rattle.std.proofs.Common.{map, refl, ap, ◌∙◌}
 use Rattle.fed_types.specs.Sites.{members_of}
 use Rattle.fed_types.specs.Slots.{SlotName}
 use Rattle.records.specs.declared.entry.Entry.TheVariants as entry
 use Rattle.dgram.specs.declared.body.Body.TheVariants.{Prepare}
-use Rattle.site.specs.Datagrams.{handed_out, datagram}
+use Rattle.site.specs.Datagrams.{datagram}
 use Rattle.site.specs.Effects.{to_each}
 use Rattle.site.specs.Faults.{propose_fault}
 use Rattle.site.specs.declared.fault.SiteFault.TheVariants as faults

@@ -1,6 +1,6 @@
-use Rattle.std.proofs.Common.{arith, ◌≡◌, ◌∷◌, [], map, ℕ, ◌+◌, ◌-◌, ◌≤◌, List, ◌++◌, subst, sym, ap, ◌∙◌}
-use Rattle.fed_types.specs.Sites.{sites_to, count_of, members_of}
-use Rattle.site.specs.Datagrams.{handed_out, datagram}
+use Rattle.std.proofs.Common.{arith, ◌≡◌, ◌∷◌, [], map, ℕ, ◌+◌, ◌-◌, ◌++◌, subst}
+use Rattle.fed_types.specs.Sites.{sites_to, count_of}
+use Rattle.site.specs.Datagrams.{handed_out}
 use Rattle.site.proofs.Sent.{sent, sent_to_none, sealed_next}
 use Rattle.site.proofs.sealing.to_all.Goals as goal
 use Rattle.site.proofs.sealing.to_all.Goals.{else-loop-number-test, then-loop-number-test+in_ok-sealed+in_ok-push+else-number-number-end}

@@ -1,5 +1,4 @@
-use Rattle.std.proofs.Common.{◌≡◌, refl, sym, ap, subst, ◌∙◌}
-use Rattle.site.specs.Sites.{OpenSite}
+use Rattle.std.proofs.Common.{refl}
 use Rattle.site.proofs.Asked.{asked}
 use Rattle.site.proofs.member_site.Site.ask.Goals as goal
 

@@ -1,9 +1,8 @@
-use Rattle.std.proofs.Common.{◌≡◌, Result, Ok, Err, Some, map, refl, sym, ap, subst, ◌∙◌}
+use Rattle.std.proofs.Common.{Result, Some, map, sym, subst}
 use Rattle.site.specs.declared.answer.Answer.{Answer}
 use Rattle.site.specs.declared.fault.SiteFault.{SiteFault}
 use Rattle.site.specs.Datagrams.{handed_out}
 use Rattle.site.specs.inner.Concluded.{Concludes}
-use Rattle.site.specs.Sites.{OpenSite}
 use Rattle.site.proofs.Concluding.{concludes_err, answer_err_of}
 use Rattle.site.proofs.member_site.Site.conclude.Goals as goal
 

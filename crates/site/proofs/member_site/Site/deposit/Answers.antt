@@ -1,15 +1,12 @@
-use Rattle.std.proofs.Common.{◌≡◌, true, false, Result, Ok, Err, refl, sym, ap, subst, ◌∙◌}
-use Rattle.fed_types.specs.declared.bag_id.BagId.{BagId}
-use Rattle.bag_check.specs.declared.fault.BagFault.{BagFault}
+use Rattle.std.proofs.Common.{◌≡◌, true, false, Result, Ok, sym, subst, ◌∙◌}
 use Rattle.bag_check.specs.Check.{check_of}
-use Rattle.bag_check.specs.Fault.{IsOrMemory}
 use Rattle.proposer.specs.Sessions.{Session}
 use Rattle.site.specs.declared.answer.Answer.{Answer}
 use Rattle.site.specs.declared.fault.SiteFault.{SiteFault}
 use Rattle.site.specs.Answered.{IsAnswered}
-use Rattle.site.specs.Calls.{on_deposit, Deposits}
+use Rattle.site.specs.Calls.{on_deposit}
 use Rattle.site.specs.Faults.{check_fault}
-use Rattle.site.specs.Sites.{OpenSite, StandsFor, effect, IsInOrder}
+use Rattle.site.specs.Sites.{OpenSite, StandsFor}
 use Rattle.site.proofs.Concluding.{answer_err_of}
 use Rattle.site.proofs.Refused.{check_refused, needs_none}
 use Rattle.site.proofs.member_site.Site.deposit.Goals as goal

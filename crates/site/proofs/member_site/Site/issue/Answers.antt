@@ -1,4 +1,4 @@
-use Rattle.std.proofs.Common.{◌≡◌, Result, Ok, Err, Some, refl, sym, ap, subst, ◌∙◌}
+use Rattle.std.proofs.Common.{◌≡◌, Result, Some, refl, sym, subst}
 use Rattle.records.specs.declared.owner.Owner.{Owner}
 use Rattle.records.specs.Words.{deposit_of}
 use Rattle.site.specs.declared.answer.Answer.{Answer}

@@ -1,4 +1,4 @@
-use Rattle.std.proofs.Common.{◌≡◌, Result, Ok, Err, refl, sym, ap, subst, ◌∙◌}
+use Rattle.std.proofs.Common.{Result, sym, subst}
 use Rattle.book.specs.declared.fault.OpenFault.{OpenFault}
 use Rattle.site.specs.Opened.{Opens, book_of}
 use Rattle.site.specs.Sites.{OpenSite}

@@ -1,4 +1,4 @@
-use Rattle.std.proofs.Common.{◌≡◌, true, false, Some, None, refl, sym, ap, subst, ◌∙◌}
+use Rattle.std.proofs.Common.{◌≡◌, true, false, sym, subst, ◌∙◌}
 use Rattle.records.specs.Words.{known_of, deposit_of}
 use Rattle.proposer.specs.Sessions.{Session}
 use Rattle.site.specs.Calls.{Proposes}
@@ -34,15 +34,15 @@ returns-in-Some-clause-answer g c opened session stands =
 
 pub returns-in-Some-clause-needs_open : goal.returns-in-Some-clause-needs_open
 returns-in-Some-clause-needs_open g c = (
-    λ e. absurd (needs_none g.C.Cell.device c.args.self.now c.issue.new.self some.0
-    (effect c.args.self.now some.0 (Proposes c.args.slot.now))
-    c.issue.result (c.issue.ensures some.0 some.1
-    (sym (subst (λ (s : OpenSite g.row.C.Denot). c.known.result
-    ≡ known_of c.args.slot.now s.book.records) c.self.view_is
-    (c.known.ensures c.self.inside.book.owner c.self.inside.book.records c.self.invariant.of))
-    ∙ none_of c.known.result (sym c.if-is_some.ensures))) e),
-    λ e. absurd (differ (sym e ∙ opened)),
-  )
+  λ e. absurd (needs_none g.C.Cell.device c.args.self.now c.issue.new.self some.0
+      (effect c.args.self.now some.0 (Proposes c.args.slot.now))
+      c.issue.result (c.issue.ensures some.0 some.1
+      (sym (subst (λ (s : OpenSite g.row.C.Denot). c.known.result
+      ≡ known_of c.args.slot.now s.book.records) c.self.view_is
+      (c.known.ensures c.self.inside.book.owner c.self.inside.book.records c.self.invariant.of))
+      ∙ none_of c.known.result (sym c.if-is_some.ensures))) e),
+  λ e. absurd (differ (sym e ∙ opened)),
+)
   where
     some : (session : Session) × StandsFor c.args.self.now session
     some = subst (λ (s : OpenSite g.row.C.Denot). (session : Session) × StandsFor s session)

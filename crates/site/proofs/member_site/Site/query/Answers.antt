@@ -1,5 +1,4 @@
-use Rattle.std.proofs.Common.{◌≡◌, Result, Ok, Some, None, refl, sym, ap, ◌∙◌}
-use Rattle.records.specs.Words.{deposit_of}
+use Rattle.std.proofs.Common.{Ok, Some, None, refl, sym, ap, ◌∙◌}
 use Rattle.site.specs.declared.answer.Reply.{Reply}
 use Rattle.site.proofs.Replies.{reply_is}
 use Rattle.site.proofs.member_site.Site.query.Goals as goal
