@@ -1,0 +1,28 @@
+-- A member is asked.
+use Rattle.std.proofs.Common.{◌≡◌, ℕ, map, Option, None, Ok, refl, sym, ap, ◌∙◌}
+use Rattle.fed_types.specs.Slots.{SlotName}
+use Rattle.cell_device.specs.Devices.{Device}
+use Rattle.dgram.specs.declared.body.Body.TheVariants.{Ask}
+use Rattle.proposer.specs.Sessions.{Session}
+use Rattle.site.specs.declared.answer.Answer.{Answer}
+use Rattle.site.specs.declared.answer.Line.{Line}
+use Rattle.site.specs.Answered.{IsAnswered}
+use Rattle.site.specs.Calls.{Asks, on_ask}
+use Rattle.site.specs.Datagrams.{handed_out}
+use Rattle.site.specs.Sites.{OpenSite, StandsFor, effect}
+use Rattle.site.specs.inner.Concluded.{one_datagram}
+
+pub asked : {C : Type 0} (device : C → Device) (s : OpenSite C) (session : Session)
+    (slot same_slot : SlotName) (to from : ℕ) (answer : Answer) → StandsFor s session
+    → same_slot ≡ slot → from ≡ s.book.owner.site → answer.line ≡ None
+    → map handed_out answer.sends.items ≡ one_datagram s same_slot (Ask from) to
+    → IsAnswered device s s session (effect s session (Asks slot to)) (Ok answer)
+unfolding on_ask
+asked device s session slot same_slot to from answer stands e f line sends = record {
+  keeps = refl;
+  gives = (
+    ap (λ (l : Option Line). Ok l) (sym line),
+    sends ∙ (λ i. one_datagram s (e i) (Ask (f i)) to),
+    stands,
+  );
+}

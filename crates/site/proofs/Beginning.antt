@@ -1,0 +1,121 @@
+-- How beginning a ballot comes out.
+use Rattle.std.proofs.Common.{◌≡◌, inl, inr, Option, Some, None, Result, Ok, Err, refl, sym}
+use Rattle.std.proofs.Common.{ap, subst, List}
+use Rattle.std.specs.Prelude.{IsErrAnd}
+use Rattle.fed_types.specs.declared.bag_id.BagId.{BagId}
+use Rattle.fed_types.specs.Ballots.{BallotNumber}
+use Rattle.fed_types.specs.Slots.{SlotName}
+use Rattle.records.specs.declared.owner.Owner.{Owner}
+use Rattle.records.specs.declared.record.Record.{Record}
+use Rattle.records.specs.Words.{deposit_of}
+use Rattle.proposer.specs.declared.fault.ProposeFault.{ProposeFault}
+use Rattle.proposer.specs.declared.fault.ProposeFault.TheVariants as proposals
+use Rattle.proposer.specs.Faults.{next_or_spent, IsOrMemory}
+use Rattle.proposer.specs.Proposals.{next_ballot}
+use Rattle.proposer.specs.Sessions.{Session, UnderWay, begins}
+use Rattle.site_tables.specs.Contents.{Contents, IsOf, StandsFor, StandsForSame}
+use Rattle.site.specs.declared.answer.Answer.{Answer}
+use Rattle.site.specs.declared.fault.SiteFault.{SiteFault}
+use Rattle.site.specs.declared.fault.SiteFault.TheVariants as faults
+use Rattle.site.specs.Faults.{propose_fault}
+use Rattle.site.specs.inner.Begun.{IsOfBallot, Begins, BeginsBallot}
+
+-- the ballot that was begun is the next one
+pub next_of : (n : Option BallotNumber) (ballot : BallotNumber)
+    → IsOrMemory (Ok ballot) (next_or_spent n) → n ≡ Some ballot
+next_of None ballot (inl e) = absurd (differ e)
+  where
+    differ : ◌≡◌ {A = Result BallotNumber ProposeFault} (Ok ballot) (Err proposals.RoundsSpent)
+        → ⊥
+    differ e = cc
+next_of None ballot (inr e) = absurd (differ e)
+  where
+    differ : ◌≡◌ {A = Result BallotNumber ProposeFault} (Ok ballot) (Err proposals.Memory) → ⊥
+    differ e = cc
+next_of (Some b) ballot (inl e) = ap (λ (x : BallotNumber). Some x) (sym (same e))
+  where
+    same : ◌≡◌ {A = Result BallotNumber ProposeFault} (Ok ballot) (Ok b) → ballot ≡ b
+    same e = cc
+next_of (Some b) ballot (inr e) = absurd (differ e)
+  where
+    differ : ◌≡◌ {A = Result BallotNumber ProposeFault} (Ok ballot) (Err proposals.Memory) → ⊥
+    differ e = cc
+
+-- and where the rounds are spent there is none
+pub none_left : (n : Option BallotNumber)
+    → IsOrMemory (Err proposals.RoundsSpent) (next_or_spent n) → n ≡ None
+none_left None is = refl
+none_left (Some b) (inl e) = absurd (differ e)
+  where
+    differ : ◌≡◌ {A = Result BallotNumber ProposeFault} (Err proposals.RoundsSpent) (Ok b) → ⊥
+    differ e = cc
+none_left (Some b) (inr e) = absurd (differ e)
+  where
+    differ : ◌≡◌ {A = Result BallotNumber ProposeFault} (Err proposals.RoundsSpent)
+        (Err proposals.Memory) → ⊥
+    differ e = cc
+
+-- the result of a `?`
+pub begun_err_of : (r : Result (Record × Answer) SiteFault) (fault : SiteFault)
+    → IsErrAnd r (λ e. e ≡ fault) → r ≡ Err fault
+begun_err_of (Ok x) fault is = absurd is
+begun_err_of (Err e) fault is = ap (λ (f : SiteFault). Err f) is
+
+module _ (owner : Owner) (old new : Contents) (slot : SlotName) (own : BagId)
+    (result : Result (Record × Answer) SiteFault) where
+  -- no ballot was begun
+  pub not_begun : (fault : ProposeFault) → result ≡ Err (propose_fault fault)
+      → StandsForSame old new
+      → ((records : List Record) (session : Session) (under : UnderWay) → IsOf old owner records
+      → StandsFor old records session under
+      → IsOrMemory (Err fault) (next_or_spent (next_ballot owner.site slot records session.heard)))
+      → BeginsBallot owner old new slot own result
+  not_begun fault is same answer =
+      subst (λ (r : Result (Record × Answer) SiteFault). BeginsBallot owner old new slot own r)
+      (sym is) (record {
+        order = same.of owner;
+        begun = λ records session under of stands deposit. go fault records session under
+            (answer records session under of stands) (same.stands records session under stands);
+      })
+    where
+      go : (f : ProposeFault) (records : List Record) (session : Session) (under : UnderWay)
+          → IsOrMemory (Err f) (next_or_spent (next_ballot owner.site slot records session.heard))
+          → StandsFor new records session under
+          → Begins owner new slot records session under (Err (propose_fault f))
+      go proposals.RoundsSpent records session under is stands = (none_left _ is, stands)
+      go proposals.Memory records session under is stands = (under, stands)
+
+  module _ (ballot : BallotNumber)
+      (order : (records : List Record) → IsOf old owner records → IsOf new owner records)
+      (begun : (records : List Record) (session : Session) (under : UnderWay)
+      → StandsFor old records session under → deposit_of slot records ≡ Some own
+      → StandsFor new records session (begins under slot ballot)) where
+    -- memory ran out for the answer
+    pub begun_in_vain : result ≡ Err faults.Memory → BeginsBallot owner old new slot own result
+    begun_in_vain is =
+        subst (λ (r : Result (Record × Answer) SiteFault). BeginsBallot owner old new slot own r)
+        (sym is) (record {
+          order = order;
+          begun = λ records session under of stands deposit.
+              (begins under slot ballot, begun records session under stands deposit);
+        })
+
+    -- a ballot was begun
+    pub ballot_begun : (new_record : Record) (answer : Answer)
+        → result ≡ Ok (new_record, answer) → IsOfBallot owner slot ballot new_record answer
+        → ((records : List Record) (session : Session) (under : UnderWay)
+        → IsOf old owner records → StandsFor old records session under
+        → IsOrMemory (Ok ballot)
+        (next_or_spent (next_ballot owner.site slot records session.heard)))
+        → BeginsBallot owner old new slot own result
+    ballot_begun new_record answer is of_ballot next =
+        subst (λ (r : Result (Record × Answer) SiteFault). BeginsBallot owner old new slot own r)
+        (sym is) (record {
+          order = order;
+          begun = λ records session under of stands deposit. (
+            ballot,
+            next_of _ ballot (next records session under of stands),
+            of_ballot,
+            begun records session under stands deposit,
+          );
+        })

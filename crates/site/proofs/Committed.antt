@@ -1,0 +1,118 @@
+-- What a commit makes of a site, by how it came out.
+use Rattle.std.proofs.Common.{◌≡◌, inl, inr, List, [], ◌∷◌, ◌++◌, Result, Ok, Err, refl, sym}
+use Rattle.std.proofs.Common.{ap, subst}
+use Rattle.std.specs.Prelude.{IsErrAnd}
+use Rattle.cell_device.specs.Devices.{Device}
+use Rattle.records.specs.declared.record.Record.{Record}
+use Rattle.book.specs.declared.fault.CommitFault.{CommitFault}
+use Rattle.book.specs.declared.fault.CommitFault.TheVariants as commits
+use Rattle.book.specs.Volumes.{Volume}
+use Rattle.proposer.specs.Sessions.{Session, UnderWay}
+use Rattle.site_tables.specs.Contents.{Contents, IsOf, StandsForSame}
+use Rattle.site_tables.specs.Contents as tables
+use Rattle.site.specs.declared.fault.SiteFault.{SiteFault}
+use Rattle.site.specs.declared.fault.SiteFault.TheVariants as faults
+use Rattle.site.specs.Answered.{Commits}
+use Rattle.site.specs.Faults.{commit_fault}
+use Rattle.site.specs.Sites.{OpenSite, IsInOrder}
+use Rattle.site.specs.inner.Concluded.{Stands, noted_session, noted_under, IsCommitted}
+
+-- the result of a `?`
+pub err_of : (r : Result (Unit {0}) SiteFault) (fault : SiteFault)
+    → IsErrAnd r (λ e. e ≡ fault) → r ≡ Err fault
+err_of (Ok x) fault is = absurd is
+err_of (Err e) fault is = ap (λ (f : SiteFault). Err f) is
+
+module _ {C : Type 0} (device : C → Device) (old new : OpenSite C) (r : Record) where
+  -- tables that stand for the same, over the same records
+  module _ (records : new.book.records ≡ old.book.records) (owner : new.book.owner ≡ old.book.owner)
+      (same : StandsForSame old.tables new.tables) where
+    pub same_stands : (session : Session) (under : UnderWay) → Stands old session under
+        → Stands new session under
+    same_stands session under stands =
+        subst (λ (rs : List Record). tables.StandsFor new.tables rs session under) (sym records)
+        (same.stands old.book.records session under stands)
+
+    pub same_order : IsInOrder old → IsInOrder new
+    same_order order = record {
+      of = rw (records, owner) (same.of old.book.owner old.book.records order.of);
+      session = (
+        order.session.0,
+        (
+          order.session.1.0,
+          same_stands order.session.0 order.session.1.0 order.session.1.1,
+        ),
+      );
+    }
+
+  -- memory ran out before the commit
+  pub not_tried : (result : Result (Unit {0}) SiteFault) → result ≡ Err faults.Memory
+      → new.book ≡ old.book → StandsForSame old.tables new.tables
+      → IsCommitted device old new r result
+  not_tried result is book same =
+      subst (λ (x : Result (Unit {0}) SiteFault). IsCommitted device old new r x) (sym is) (record {
+        book = inl (refl, book);
+        stands = tt;
+        same = same_stands (ap (λ (b : Volume C). b.records) book)
+            (ap (λ (b : Volume C). b.owner) book) same;
+        faults = inl refl;
+        order = same_order (ap (λ (b : Volume C). b.records) book)
+            (ap (λ (b : Volume C). b.owner) book) same;
+      })
+
+  -- the commit was refused
+  pub refused : (result : Result (Unit {0}) SiteFault) (fault : CommitFault)
+      → result ≡ Err (commit_fault fault) → ¬ (fault ≡ commits.NeedsOpen)
+      → Commits device old.book r (Err fault) new.book → StandsForSame old.tables new.tables
+      → IsCommitted device old new r result
+  refused result commits.Device is opened c same =
+      subst (λ (x : Result (Unit {0}) SiteFault). IsCommitted device old new r x) (sym is) (record {
+        book = inr c;
+        stands = tt;
+        same = same_stands (c.device_failed refl).0 c.whose same;
+        faults = inr refl;
+        order = same_order (c.device_failed refl).0 c.whose same;
+      })
+  refused result commits.Memory is opened c same =
+      subst (λ (x : Result (Unit {0}) SiteFault). IsCommitted device old new r x) (sym is) (record {
+        book = inr c;
+        stands = tt;
+        same = same_stands (c.memory refl).records c.whose same;
+        faults = inl refl;
+        order = same_order (c.memory refl).records c.whose same;
+      })
+  refused result commits.NeedsOpen is opened c same = absurd (opened refl)
+
+  -- the record was committed, and noted in tables that stood for the same
+  pub done : (mid : Contents) → Commits device old.book r (Ok tt) new.book
+      → StandsForSame old.tables mid
+      → (IsOf mid old.book.owner old.book.records
+      → IsOf new.tables old.book.owner (old.book.records ++ r ∷ []))
+      → ((session : Session) (under : UnderWay)
+      → tables.StandsFor mid old.book.records session under
+      → tables.StandsFor new.tables (old.book.records ++ r ∷ []) (noted_session session under r)
+      (noted_under under r))
+      → IsCommitted device old new r (Ok tt)
+  done mid c same of stands = record {
+    book = inr c;
+    stands = all_stands;
+    same = tt;
+    faults = tt;
+    order = λ order. record {
+      of = rw (c.committed.0, c.whose) (of (same.of old.book.owner old.book.records order.of));
+      session = (
+        noted_session order.session.0 order.session.1.0 r,
+        (
+          noted_under order.session.1.0 r,
+          all_stands order.session.0 order.session.1.0 order.session.1.1,
+        ),
+      );
+    };
+  }
+    where
+      all_stands : (session : Session) (under : UnderWay) → Stands old session under
+          → Stands new (noted_session session under r) (noted_under under r)
+      all_stands session under s =
+          subst (λ (rs : List Record). tables.StandsFor new.tables rs (noted_session session under r)
+          (noted_under under r)) (sym c.committed.0)
+          (stands session under (same.stands old.book.records session under s))

@@ -1,0 +1,169 @@
+-- From what a site's last step does to the answer of the definitions.
+use Rattle.std.proofs.Common.{◌≡◌, ◌⊎◌, inl, inr, ◌||◌, ℕ, Bool, true, false, cond, List}
+use Rattle.std.proofs.Common.{map, Option, Some, None, IsSome, Result, Ok, Err, refl, sym, ap, subst}
+use Rattle.std.proofs.Common.{◌∙◌}
+use Rattle.std.specs.Prelude.{IsErrAnd}
+use Rattle.fed_types.specs.declared.vote.Vote.{Vote}
+use Rattle.fed_types.specs.Ballots.{BallotNumber, below}
+use Rattle.fed_types.specs.Slots.{SlotName}
+use Rattle.cell_device.specs.Devices.{Device}
+use Rattle.records.specs.declared.entry.Entry.{Entry}
+use Rattle.records.specs.declared.record.Record.{Record}
+use Rattle.records.specs.Words.{promised_of, vote_of}
+use Rattle.book.specs.Volumes.{Volume}
+use Rattle.acceptor.specs.Decisions.{prepare_decision, accept_decision, promises, votes, votes_again}
+use Rattle.acceptor.specs.Decisions.{refuses, on_prepare, is_vote, is_in_ballot, on_new_accept}
+use Rattle.proposer.specs.Sessions.{Session, UnderWay, issued_by}
+use Rattle.site.specs.declared.answer.Answer.{Answer}
+use Rattle.site.specs.declared.answer.Line.{Line}
+use Rattle.site.specs.declared.fault.SiteFault.{SiteFault}
+use Rattle.site.specs.declared.fault.SiteFault.TheVariants as faults
+use Rattle.site.specs.Answered.{Commits, Keeps, Gives, IsAnswered, commit_of}
+use Rattle.site.specs.Datagrams.{datagram}
+use Rattle.site.specs.Effects.{Effect, record_of}
+use Rattle.site.specs.Sites.{OpenSite, StandsFor}
+use Rattle.site.specs.inner.Concluded.{Stands, session_after, under_after, Concludes, IsCommitted}
+use Rattle.site.specs.inner.Concluded.{committed}
+
+-- the answer of a `?`
+pub answer_err_of : (r : Result Answer SiteFault) (fault : SiteFault)
+    → IsErrAnd r (λ e. e ≡ fault) → r ≡ Err fault
+answer_err_of (Ok x) fault is = absurd is
+answer_err_of (Err e) fault is = ap (λ (f : SiteFault). Err f) is
+
+-- ---- a commit as the last step
+module _ {C : Type 0} (device : C → Device) (old new : OpenSite C) (r : Record) where
+  -- the commit is refused, and the refusal handed on
+  pub concludes_err : (line : Option Line) (datagrams : List (ℕ × List ℕ)) (fault : SiteFault)
+      → IsCommitted device old new r (Err fault)
+      → Concludes device old new (Some r) line datagrams (Err fault)
+  concludes_err line datagrams fault c = record {
+    keeps = keeps c.faults c.book;
+    stands = tt;
+    same = c.same;
+    faults = only c.faults;
+    says = λ a e. absurd (no_answer e);
+  }
+    where
+      no_answer : {a : Answer} → ◌≡◌ {A = Result Answer SiteFault} (Err fault) (Ok a) → ⊥
+      no_answer e = cc
+
+      err_of : {f g : SiteFault} → ◌≡◌ {A = Result (Unit {0}) SiteFault} (Err f) (Err g) → f ≡ g
+      err_of e = cc
+
+      only : (fault ≡ faults.Memory) ⊎ (fault ≡ faults.Device)
+          → (fault ≡ faults.Memory) ⊎ ((fault ≡ faults.Device) × IsSome (Some r))
+      only (inl e) = inl e
+      only (inr e) = inr (e, refl)
+
+      tried : (f : SiteFault) → (f ≡ faults.Memory) ⊎ (f ≡ faults.Device)
+          → Commits device old.book r (committed (Err f)) new.book
+          → Commits device old.book r (commit_of (Err f)) new.book
+      tried f (inl e) c = subst (λ (x : SiteFault). Commits device old.book r (commit_of (Err x))
+          new.book) (sym e) (subst (λ (x : SiteFault). Commits device old.book r
+          (committed (Err x)) new.book) e c)
+      tried f (inr e) c = subst (λ (x : SiteFault). Commits device old.book r (commit_of (Err x))
+          new.book) (sym e) (subst (λ (x : SiteFault). Commits device old.book r
+          (committed (Err x)) new.book) e c)
+
+      keeps : (fault ≡ faults.Memory) ⊎ (fault ≡ faults.Device)
+          → (◌≡◌ {A = Result (Unit {0}) SiteFault} (Err fault) (Err faults.Memory) × (new.book ≡ old.book))
+          ⊎ Commits device old.book r (committed (Err fault)) new.book
+          → Keeps device (Some r) (Err fault) old.book new.book
+      keeps f (inl (e, same)) = inl (ap (λ (x : SiteFault). Err x) (err_of e), same)
+      keeps f (inr c) = inr (tried fault f c)
+
+-- ---- a conclusion as an answer
+module _ {C : Type 0} (device : C → Device) (old mid new : OpenSite C)
+    (session : Session) (under : UnderWay) (e : Effect)
+    (line : Option Line) (datagrams : List (ℕ × List ℕ)) where
+  -- the federation's number of the old site
+  abbrev federation : ℕ
+  federation = old.book.owner.members.federation
+
+  gives : (result : Result Answer SiteFault)
+      → Concludes device mid new e.commits line datagrams result
+      → Stands mid session under
+      → e.says ≡ Ok line → datagrams ≡ map (datagram federation) e.sends
+      → (Stands new (session_after session under e.commits) (under_after under e.commits)
+      → StandsFor new e.session)
+      → Gives old new session e result
+  gives (Ok answer) c stands says sends after = (
+    says ∙ ap (λ (l : Option Line). Ok l) (sym (c.says answer refl).0),
+    (c.says answer refl).1 ∙ sends,
+    after (c.stands session under stands),
+  )
+  gives (Err fault) c stands says sends after = go c.faults
+    where
+      go : (fault ≡ faults.Memory) ⊎ ((fault ≡ faults.Device) × IsSome e.commits)
+          → Gives old new session e (Err fault)
+      go (inl is) = subst (λ (f : SiteFault). Gives old new session e (Err f)) (sym is)
+          (under, c.same session under stands)
+      go (inr (is, some)) = subst (λ (f : SiteFault). Gives old new session e (Err f)) (sym is)
+          some
+
+  -- a conclusion is the answer, where the effect is what was concluded
+  pub concluded : (result : Result Answer SiteFault)
+      → Concludes device mid new e.commits line datagrams result
+      → mid.book ≡ old.book → Stands mid session under
+      → e.says ≡ Ok line → datagrams ≡ map (datagram federation) e.sends
+      → (Stands new (session_after session under e.commits) (under_after under e.commits)
+      → StandsFor new e.session)
+      → IsAnswered device old new session e result
+  concluded result c book stands says sends after = record {
+    keeps = subst (λ (b : Volume C). Keeps device e.commits result b new.book) book c.keeps;
+    gives = gives result c stands says sends after;
+  }
+
+-- ---- the session
+
+-- an entry that issues no ballot
+abbrev pub IsNoRound : Option Entry → Type 0
+IsNoRound None = Unit {0}
+IsNoRound (Some e) = (begun : Option BallotNumber) → issued_by begun e ≡ None
+
+-- its record changes neither the session nor what is under way
+pub noted_same : (slot : SlotName) (e : Option Entry) → IsNoRound e
+    → (session : Session) (under : UnderWay)
+    → (session_after session under (record_of slot e) ≡ session)
+    × (under_after under (record_of slot e) ≡ under)
+noted_same slot None none session under = (refl, refl)
+noted_same slot (Some e) none session under =
+    rw (none (under.begun slot)) (refl, refl)
+
+-- what an acceptor decides issues none
+pub prepare_issues_none : (slot : SlotName) (records : List Record) (ballot : BallotNumber)
+    → IsNoRound (prepare_decision slot records ballot).entry
+unfolding prepare_decision
+prepare_issues_none slot records ballot = go (promised_of slot records)
+  where
+    by_test : (promised : BallotNumber) (t : Bool)
+        → IsNoRound (cond t (promises ballot (vote_of slot records)) (refuses ballot promised)).entry
+    by_test promised true = λ begun. refl
+    by_test promised false = tt
+
+    go : (p : Option BallotNumber) → IsNoRound (on_prepare p (vote_of slot records) ballot).entry
+    go None = λ begun. refl
+    go (Some promised) = by_test promised (below promised ballot)
+
+pub accept_issues_none : (slot : SlotName) (records : List Record) (vote : Vote)
+    → IsNoRound (accept_decision slot records vote).entry
+unfolding accept_decision
+accept_issues_none slot records vote =
+    go (promised_of slot records) (is_vote vote (vote_of slot records))
+  where
+    by_test : (promised : BallotNumber) (t : Bool)
+        → IsNoRound (cond t (refuses vote.ballot promised) (votes vote)).entry
+    by_test promised true = tt
+    by_test promised false = λ begun. refl
+
+    anew : (p : Option BallotNumber)
+        → IsNoRound (on_new_accept p (vote_of slot records) vote).entry
+    anew None = λ begun. refl
+    anew (Some promised) = by_test promised
+        (below vote.ballot promised || is_in_ballot vote.ballot (vote_of slot records))
+
+    go : (p : Option BallotNumber) (t : Bool)
+        → IsNoRound (cond t (votes_again vote) (on_new_accept p (vote_of slot records) vote)).entry
+    go p true = tt
+    go p false = anew p

@@ -1,0 +1,12 @@
+pub mod Sent
+pub mod Committed
+pub mod Concluding
+pub mod Hearing
+pub mod Replies
+pub mod Asked
+pub mod Registered
+pub mod Refused
+pub mod Reopened
+pub mod Beginning
+pub mod Issuing
+pub mod Proposed

@@ -1,0 +1,42 @@
+-- Why nothing is proposed.
+use Rattle.std.proofs.Common.{◌≡◌, Option, Some, None, Err, refl, subst}
+use Rattle.fed_types.specs.declared.bag_id.BagId.{BagId}
+use Rattle.fed_types.specs.Quorums.{quorums_of}
+use Rattle.fed_types.specs.Slots.{SlotName}
+use Rattle.cell_device.specs.Devices.{Device}
+use Rattle.records.specs.Words.{known_of, deposit_of}
+use Rattle.proposer.specs.Proposals.{next_ballot}
+use Rattle.proposer.specs.Sessions.{Session}
+use Rattle.site.specs.declared.fault.SiteFault.TheVariants as faults
+use Rattle.site.specs.Answered.{IsAnswered}
+use Rattle.site.specs.Calls.{Proposes, on_propose, issuing_if}
+use Rattle.site.specs.Effects.{Effect}
+use Rattle.site.specs.Sites.{OpenSite, StandsFor, effect}
+
+module _ {C : Type 0} (device : C → Device) (s : OpenSite C) (session : Session)
+    (slot : SlotName) (stands : StandsFor s session) where
+  -- the definitions, by what is known and the deposit
+  by_bags : (known own : Option BagId) → known ≡ known_of slot s.book.records
+      → own ≡ deposit_of slot s.book.records
+      → issuing_if (quorums_of s.book.owner.members) slot known own
+      (next_ballot s.book.owner.site slot s.book.records session.heard) session
+      ≡ effect s session (Proposes slot)
+  unfolding on_propose
+  by_bags known own k o = λ i. issuing_if (quorums_of s.book.owner.members) slot (k i) (o i)
+      (next_ballot s.book.owner.site slot s.book.records session.heard) session
+
+  -- a bag is known
+  pub known_already : (bag : BagId) → Some bag ≡ known_of slot s.book.records
+      → IsAnswered device s s session (effect s session (Proposes slot)) (Err faults.AlreadyKnown)
+  known_already bag known =
+      subst (λ (e : Effect). IsAnswered device s s session e (Err faults.AlreadyKnown))
+      (by_bags (Some bag) (deposit_of slot s.book.records) known refl)
+      (record { keeps = refl; gives = (refl, stands) })
+
+  -- there is no deposit
+  pub no_deposit : None ≡ known_of slot s.book.records → None ≡ deposit_of slot s.book.records
+      → IsAnswered device s s session (effect s session (Proposes slot)) (Err faults.NoDeposit)
+  no_deposit known own =
+      subst (λ (e : Effect). IsAnswered device s s session e (Err faults.NoDeposit))
+      (by_bags None None known own)
+      (record { keeps = refl; gives = (refl, stands) })

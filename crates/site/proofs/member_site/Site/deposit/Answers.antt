@@ -1,0 +1,41 @@
+use Rattle.std.proofs.Common.{◌≡◌, true, false, Result, Ok, sym, subst, ◌∙◌}
+use Rattle.bag_check.specs.Check.{check_of}
+use Rattle.proposer.specs.Sessions.{Session}
+use Rattle.site.specs.declared.answer.Answer.{Answer}
+use Rattle.site.specs.declared.fault.SiteFault.{SiteFault}
+use Rattle.site.specs.Answered.{IsAnswered}
+use Rattle.site.specs.Calls.{on_deposit}
+use Rattle.site.specs.Faults.{check_fault}
+use Rattle.site.specs.Sites.{OpenSite, StandsFor}
+use Rattle.site.proofs.Concluding.{answer_err_of}
+use Rattle.site.proofs.Refused.{check_refused, needs_none}
+use Rattle.site.proofs.member_site.Site.deposit.Goals as goal
+
+pub returns-in_err-bag-clause-answer : goal.returns-in_err-bag-clause-answer
+returns-in_err-bag-clause-answer g c opened session stands =
+    subst (λ (r : Result Answer SiteFault). IsAnswered g.C.Cell.device c.args.self.now
+    c.args.self.now session
+    (on_deposit c.args.self.now.book.records session c.args.slot.now (check_of c.args.facts.now)) r)
+    (sym (answer_err_of c.from_residual.result (check_fault c.in_err-bag.field-0.0)
+    c.from_residual.ensures.1))
+    (check_refused g.C.Cell.device c.args.self.now session c.args.slot.now
+    (check_of c.args.facts.now) c.in_err-bag.field-0.0 c.in_err-bag.ensures.exact stands)
+
+pub returns-clause-needs_open : goal.returns-clause-needs_open
+returns-clause-needs_open g c = (
+  λ e. absurd (needs_none g.C.Cell.device c.args.self.now c.register.new.self some.0
+      (on_deposit c.args.self.now.book.records some.0 c.args.slot.now (Ok c.in_ok-bag.bag))
+      c.register.result (c.register.ensures some.0 some.1) e),
+  λ e. absurd (differ (sym e ∙ opened)),
+)
+  where
+    some : (session : Session) × StandsFor c.args.self.now session
+    some = subst (λ (s : OpenSite g.row.C.Denot). (session : Session) × StandsFor s session)
+        c.self.view_is c.self.invariant.session
+
+    opened : c.args.self.now.book.needs_opening ≡ false
+    opened = subst (λ (s : OpenSite g.row.C.Denot). s.book.needs_opening ≡ false) c.self.view_is
+        (sym c.needs_opening.ensures ∙ c.if-needs_opening.false)
+
+    differ : true ≡ false → ⊥
+    differ e = cc

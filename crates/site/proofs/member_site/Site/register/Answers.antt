@@ -1,0 +1,61 @@
+use Rattle.std.proofs.Common.{◌≡◌, map, Some, refl, sym, ap, subst, ◌∙◌}
+use Rattle.fed_types.specs.Slots.{SlotName}
+use Rattle.records.specs.declared.entry.Entry.TheVariants as entry
+use Rattle.records.specs.Words.{known_of, deposit_of}
+use Rattle.site.specs.declared.answer.Line.TheVariants as lines
+use Rattle.site.specs.Datagrams.{handed_out}
+use Rattle.site.specs.Sites.{OpenSite}
+use Rattle.site.specs.inner.Concluded.{Concludes}
+use Rattle.site.proofs.Registered.{some_of, none_of, deposit_refused, deposited_again, deposited}
+use Rattle.site.proofs.member_site.Site.register.Goals as goal
+
+pub returns-in-Some : goal.returns-in-Some
+returns-in-Some g c session stands =
+    deposit_refused g.C.Cell.device c.args.self.now session c.args.slot.now c.args.bag
+    c.deposit-own.result c.known.result
+    (subst (λ (s : OpenSite g.row.C.Denot). c.deposit-own.result
+    ≡ deposit_of c.args.slot.now s.book.records) c.self.view_is
+    (c.deposit-own.ensures c.self.inside.book.owner c.self.inside.book.records
+    c.self.invariant.of))
+    (subst (λ (s : OpenSite g.row.C.Denot). c.known.result
+    ≡ known_of c.args.slot.now s.book.records) c.self.view_is
+    (c.known.ensures c.self.inside.book.owner c.self.inside.book.records c.self.invariant.of))
+    stands c.in-Some.fault
+    (sym c.deposit_fault.ensures ∙ c.in-Some.is)
+
+pub returns-then-is_some : goal.returns-then-is_some
+returns-then-is_some g c session stands =
+    let there = some_of c.deposit-own.result (sym c.if-is_some.ensures) in
+    deposited_again g.C.Cell.device c.args.self.now session c.args.slot.now c.args.bag
+    c.deposit-own.result c.known.result
+    (subst (λ (s : OpenSite g.row.C.Denot). c.deposit-own.result
+    ≡ deposit_of c.args.slot.now s.book.records) c.self.view_is
+    (c.deposit-own.ensures c.self.inside.book.owner c.self.inside.book.records
+    c.self.invariant.of))
+    (subst (λ (s : OpenSite g.row.C.Denot). c.known.result
+    ≡ known_of c.args.slot.now s.book.records) c.self.view_is
+    (c.known.ensures c.self.inside.book.owner c.self.inside.book.records c.self.invariant.of))
+    stands
+    (sym c.deposit_fault.ensures ∙ c.in_default.is) there.0 there.1 _ refl
+    (ap (map handed_out) c.new-sends.ensures.items)
+
+pub returns : goal.returns
+returns g c session stands =
+    deposited g.C.Cell.device c.args.self.now session c.args.slot.now c.args.bag
+    c.deposit-own.result c.known.result
+    (subst (λ (s : OpenSite g.row.C.Denot). c.deposit-own.result
+    ≡ deposit_of c.args.slot.now s.book.records) c.self.view_is
+    (c.deposit-own.ensures c.self.inside.book.owner c.self.inside.book.records
+    c.self.invariant.of))
+    (subst (λ (s : OpenSite g.row.C.Denot). c.known.result
+    ≡ known_of c.args.slot.now s.book.records) c.self.view_is
+    (c.known.ensures c.self.inside.book.owner c.self.inside.book.records c.self.invariant.of))
+    stands
+    (sym c.deposit_fault.ensures ∙ c.in_default.is) c.conclude.new.self
+    (map handed_out c.new-sends.result.items) c.conclude.result
+    (none_of c.deposit-own.result (sym c.if-is_some.ensures))
+    (ap (map handed_out) c.new-sends.ensures.items)
+    (subst (λ (k : SlotName). Concludes g.C.Cell.device c.args.self.now c.conclude.new.self
+    (Some (record { slot = k; body = entry.Deposit c.args.bag }))
+    (Some (lines.Registered c.args.bag)) (map handed_out c.new-sends.result.items)
+    c.conclude.result) c.in_ok-copy.ensures c.conclude.ensures)

@@ -1,0 +1,86 @@
+-- When a call answers as the definitions say: its record is committed first, and then what it says
+-- and its datagrams are handed out.
+use Rattle.std.specs.Prelude.{◌≡◌, ◌⊎◌, true, false, [], ◌∷◌, ◌++◌, map}
+use Rattle.std.specs.Prelude.{Option, Some, None, IsSome, Result, Ok, Err, OnOk, IsErrOf}
+use Rattle.cell_device.specs.declared.fuse.FuseState.{FuseState}
+use Rattle.cell_device.specs.Calls.{HasCause}
+use Rattle.cell_device.specs.Devices.{Device}
+use Rattle.cell_device.specs.Images.{IfKnown}
+use Rattle.cell_device.specs.Time.{LeavesOnly}
+use Rattle.records.specs.declared.record.Record.{Record}
+use Rattle.book.specs.declared.fault.CommitFault.{CommitFault}
+use Rattle.book.specs.declared.fault.CommitFault.TheVariants as commits
+use Rattle.book.specs.Committed.{SaysWithOrWithout, IsUnchanged, CameOut, commit_outcome}
+use Rattle.book.specs.Volumes.{Volume, LeavesText, RecoversTo}
+use Rattle.proposer.specs.Sessions.{Session}
+use Rattle.site.specs.declared.answer.Answer.{Answer}
+use Rattle.site.specs.declared.fault.SiteFault.{SiteFault}
+use Rattle.site.specs.declared.fault.SiteFault.TheVariants as faults
+use Rattle.site.specs.Datagrams.{handed_out, datagram}
+use Rattle.site.specs.Effects.{Effect}
+use Rattle.site.specs.Sites.{OpenSite, StandsFor}
+
+-- ---- the record
+
+-- The book and its cell after the commit of a record that answered so: what the book promises. After
+-- Ok every crash leaves the record, and the book has it; a crash at any moment leaves the records
+-- from before, with the new one or without; Device comes where the device failed, and then the book
+-- needs opening; where it is known which call fails, it is known what comes of it.
+pub record Commits
+    {C : Type 0} (device : C → Device) (old : Volume C) (r : Record)
+    (result : Result (Unit {0}) CommitFault) (new : Volume C)
+    : Type 0 where
+  pub committed : OnOk result ((new.records ≡ old.records ++ r ∷ []) × (new.needs_opening ≡ false))
+  pub durable : OnOk result (LeavesText new.owner new.records (device new.cell).image)
+  pub recovers : OnOk result (RecoversTo new.owner new.records (device new.cell).image)
+  pub device_failed : IsErrOf result commits.Device
+      → (new.records ≡ old.records) × (new.needs_opening ≡ true)
+  pub memory : IsErrOf result commits.Memory → IsUnchanged device old new
+  pub any_moment : LeavesOnly (device old.cell) (device new.cell)
+      (λ c. IfKnown (device old.cell).image (λ i. SaysWithOrWithout old.owner old.records r c))
+  pub cause : HasCause commits.Device (device old.cell).failures (device new.cell).failures result
+  pub fuse : (f : FuseState) → (device old.cell).fuse ≡ Some f
+      → CameOut (commit_outcome f old.records r) old.owner result (device old.cell)
+      (device new.cell)
+  pub whose : new.owner ≡ old.owner
+
+-- what a call's answer says of the commit of its record
+abbrev pub commit_of : Result Answer SiteFault → Result (Unit {0}) CommitFault
+commit_of (Ok answer) = Ok tt
+commit_of (Err faults.Device) = Err commits.Device
+commit_of (Err faults.NeedsOpen) = Err commits.NeedsOpen
+commit_of (Err fault) = Err commits.Memory
+
+-- without a record the book is as it was; with one it is as the commit left it, or memory ran out
+-- before the commit
+abbrev pub Keeps :
+    {C : Type 0} → (C → Device) → Option Record → Result Answer SiteFault → (old new : Volume C)
+    → Type 0
+Keeps device None result old new = new ≡ old
+Keeps device (Some r) result old new =
+    (IsErrOf result faults.Memory × (new ≡ old)) ⊎ Commits device old r (commit_of result) new
+
+-- ---- the answer
+
+-- the call says what it has to and hands out the datagrams, in order; a refusal is that of the
+-- definitions, and then, as where memory runs out, the site stands for what it stood for; Device can
+-- come only where there is a record
+abbrev pub Gives :
+    {C : Type 0} → (old new : OpenSite C) → Session → Effect → Result Answer SiteFault → Type 0
+Gives old new session e (Ok answer) =
+    (e.says ≡ Ok answer.line)
+    × (map handed_out answer.sends.items
+    ≡ map (datagram old.book.owner.members.federation) e.sends)
+    × StandsFor new e.session
+Gives old new session e (Err faults.Memory) = StandsFor new session
+Gives old new session e (Err faults.Device) = IsSome e.commits
+Gives old new session e (Err faults.NeedsOpen) = ⊥
+Gives old new session e (Err fault) = (e.says ≡ Err fault) × StandsFor new session
+
+-- a call of a site that needs no opening answers as the definitions say
+pub record IsAnswered
+    {C : Type 0} (device : C → Device) (old new : OpenSite C) (session : Session) (e : Effect)
+    (result : Result Answer SiteFault)
+    : Type 0 where
+  pub keeps : Keeps device e.commits result old.book new.book
+  pub gives : Gives old new session e result

@@ -1,0 +1,109 @@
+-- What a site does when it is called: it takes a bag as its deposit, proposes its deposit, asks a
+-- member, replies to a query.
+use Rattle.std.specs.Prelude.{ℕ, List, [], ◌∷◌, Option, Some, None, Result, Ok, Err}
+use Rattle.std.specs.Prelude.{if◌then◌else◌}
+use Rattle.fed_types.specs.declared.bag_id.BagId.{BagId}
+use Rattle.fed_types.specs.Bags.{same_bag}
+use Rattle.fed_types.specs.Ballots.{BallotNumber}
+use Rattle.fed_types.specs.Quorums.{QuorumSystem}
+use Rattle.fed_types.specs.Slots.{SlotName}
+use Rattle.bag_check.specs.declared.fault.BagFault.{BagFault}
+use Rattle.records.specs.declared.entry.Entry.{Entry}
+use Rattle.records.specs.declared.entry.Entry.TheVariants as entry
+use Rattle.records.specs.declared.record.Record.{Record}
+use Rattle.records.specs.Words.{deposit_of, known_of}
+use Rattle.dgram.specs.declared.body.Body.TheVariants.{Prepare, Ask}
+use Rattle.dgram.specs.declared.message.Message.{Message}
+use Rattle.proposer.specs.Proposals.{next_ballot}
+use Rattle.proposer.specs.Sessions.{Session, issues}
+use Rattle.site.specs.declared.answer.Line.TheVariants as lines
+use Rattle.site.specs.declared.answer.Reply.{Reply}
+use Rattle.site.specs.declared.answer.Reply.TheVariants as replies
+use Rattle.site.specs.declared.fault.SiteFault.{SiteFault}
+use Rattle.site.specs.declared.fault.SiteFault.TheVariants as faults
+use Rattle.site.specs.Faults.{check_fault}
+use Rattle.site.specs.Effects.{Effect, commits_and_sends, commits_and_says, refuses}
+use Rattle.site.specs.Arrivals.{on_arrival}
+
+-- ---- a deposit
+
+-- the bag, if there is one and it is another than this
+abbrev pub other_than : BagId → Option BagId → Option BagId
+other_than bag None = None
+other_than bag (Some other) = if same_bag other bag then None else Some other
+
+-- why a valid bag is refused: the own deposit is another, else the known bag is another
+abbrev pub deposit_fault : (other_own other_known : Option BagId) → Option SiteFault
+deposit_fault (Some own) known = Some (faults.OtherDeposit own)
+deposit_fault None (Some known) = Some (faults.OtherKnown known)
+deposit_fault None None = None
+
+-- the slot's first deposit is recorded, and no other
+abbrev pub deposit_entry : (own : Option BagId) → BagId → Option Entry
+deposit_entry None bag = Some (entry.Deposit bag)
+deposit_entry (Some own) bag = None
+
+-- a valid bag is registered unless it is refused
+abbrev pub registering : SlotName → (own : Option BagId) → BagId → Option SiteFault → Session → Effect
+registering slot own bag (Some fault) session = refuses fault session
+registering slot own bag None session =
+    commits_and_says slot (deposit_entry own bag) (lines.Registered bag) session
+
+-- a tree is deposited, of which the check gave this answer
+unfoldable pub on_deposit : List Record → Session → SlotName → Result BagId BagFault → Effect
+on_deposit records session slot (Err fault) = refuses (check_fault fault) session
+on_deposit records session slot (Ok bag) =
+    registering slot (deposit_of slot records) bag
+    (deposit_fault (other_than bag (deposit_of slot records))
+    (other_than bag (known_of slot records)))
+    session
+
+-- ---- a proposal
+
+-- Phase 1 (a): a ballot is issued. Its round is recorded, and all members are asked to promise it.
+abbrev pub issuing : QuorumSystem → SlotName → BallotNumber → Session → Effect
+issuing q slot ballot session =
+    commits_and_sends slot (Some (entry.Round ballot.round)) (Prepare ballot) q.members
+    (issues session slot ballot)
+
+-- a site proposes where no bag is known, it has a deposit, and a ballot is left; the first of these
+-- that isn't so is why it refuses
+abbrev pub issuing_if :
+    QuorumSystem → SlotName → (known own : Option BagId) → Option BallotNumber → Session → Effect
+issuing_if q slot (Some known) own next session = refuses faults.AlreadyKnown session
+issuing_if q slot None None next session = refuses faults.NoDeposit session
+issuing_if q slot None (Some own) None session = refuses faults.RoundsSpent session
+issuing_if q slot None (Some own) (Some ballot) session = issuing q slot ballot session
+
+unfoldable pub on_propose : QuorumSystem → (site : ℕ) → List Record → Session → SlotName → Effect
+on_propose q site records session slot =
+    issuing_if q slot (known_of slot records) (deposit_of slot records)
+    (next_ballot site slot records session.heard) session
+
+-- ---- a question
+
+-- a member is asked for the known bag; who calls says which, and that it is one
+unfoldable pub on_ask : (site : ℕ) → Session → SlotName → (member : ℕ) → Effect
+on_ask site session slot member = commits_and_sends slot None (Ask site) (member ∷ []) session
+
+-- the reply to a query: the known bag, else the own deposit
+abbrev pub reply_by : (known own : Option BagId) → Reply
+reply_by (Some known) own = replies.Known known
+reply_by None (Some own) = replies.Pending own
+reply_by None None = replies.Nothing
+
+unfoldable pub reply_of : SlotName → List Record → Reply
+reply_of slot records = reply_by (known_of slot records) (deposit_of slot records)
+
+-- ---- all that can reach an open site but queries, and what it does with it
+pub data Input : Type 0 where
+  Deposits : SlotName → Result BagId BagFault → Input
+  Proposes : SlotName → Input
+  Asks : SlotName → (member : ℕ) → Input
+  Arrives : Option Message → Input
+
+abbrev pub effect_of : QuorumSystem → (site : ℕ) → List Record → Session → Input → Effect
+effect_of q site records session (Deposits slot checked) = on_deposit records session slot checked
+effect_of q site records session (Proposes slot) = on_propose q site records session slot
+effect_of q site records session (Asks slot member) = on_ask site session slot member
+effect_of q site records session (Arrives message) = on_arrival q site records session message

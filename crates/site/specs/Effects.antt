@@ -1,0 +1,59 @@
+-- What a call of a site comes to: the record that it commits first, if any; the messages that it
+-- then sends, in order; what it says, or why it refuses; and what the site has heard, and which
+-- ballots are current, from then on.
+use Rattle.std.specs.Prelude.{ℕ, List, [], map, Option, Some, None, Result, Ok, Err}
+use Rattle.fed_types.specs.Slots.{SlotName}
+use Rattle.records.specs.declared.entry.Entry.{Entry}
+use Rattle.records.specs.declared.record.Record.{Record}
+use Rattle.dgram.specs.declared.body.Body.{Body}
+use Rattle.dgram.specs.declared.message.Message.{Message}
+use Rattle.proposer.specs.Sessions.{Session}
+use Rattle.site.specs.declared.answer.Line.{Line}
+use Rattle.site.specs.declared.fault.SiteFault.{SiteFault}
+
+-- a message and the site that it goes to; its sender is the site that it names
+pub record Send : Type 0 where
+  pub to : ℕ
+  pub message : Message
+
+pub record Effect : Type 0 where
+  pub commits : Option Record
+  pub sends : List Send
+  pub says : Result (Option Line) SiteFault
+  pub session : Session
+
+-- a record of the slot, if there is an entry
+abbrev pub record_of : SlotName → Option Entry → Option Record
+record_of slot None = None
+record_of slot (Some entry) = Some (record { slot = slot; body = entry })
+
+-- a message about the slot to each of these sites
+unfoldable pub to_each : SlotName → Body → List ℕ → List Send
+to_each slot body sites =
+    map (λ site. record { to = site; message = record { slot = slot; body = body } }) sites
+
+-- it commits an entry of the slot, if there is one, and sends a message to each of these sites
+abbrev pub commits_and_sends : SlotName → Option Entry → Body → List ℕ → Session → Effect
+commits_and_sends slot entry body sites session = record {
+  commits = record_of slot entry;
+  sends = to_each slot body sites;
+  says = Ok None;
+  session = session;
+}
+
+-- it commits an entry of the slot, if there is one, and says this
+abbrev pub commits_and_says : SlotName → Option Entry → Line → Session → Effect
+commits_and_says slot entry line session =
+    record { commits = record_of slot entry; sends = []; says = Ok (Some line); session = session }
+
+-- it says this, and nothing else comes of it
+abbrev pub only_says : Line → Session → Effect
+only_says line session = record { commits = None; sends = []; says = Ok (Some line); session = session }
+
+-- it refuses, and nothing comes of it
+abbrev pub refuses : SiteFault → Session → Effect
+refuses fault session = record { commits = None; sends = []; says = Err fault; session = session }
+
+-- nothing comes of it but the session
+abbrev pub quiet : Session → Effect
+quiet session = record { commits = None; sends = []; says = Ok None; session = session }

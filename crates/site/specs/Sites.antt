@@ -1,0 +1,27 @@
+-- A site that is open, as a clause sees it, and what it stands for.
+use Rattle.fed_types.specs.Quorums.{quorums_of}
+use Rattle.book.specs.Volumes.{Volume}
+use Rattle.proposer.specs.Sessions.{Session, UnderWay}
+use Rattle.site_tables.specs.Contents.{Contents, IsOf}
+use Rattle.site_tables.specs.Contents as tables
+use Rattle.site.specs.Effects.{Effect}
+use Rattle.site.specs.Calls.{Input, effect_of}
+
+-- its book, and what its tables hold
+pub record OpenSite (C : Type 0) : Type 0 where
+  pub book : Volume C
+  pub tables : Contents
+
+-- the site stands for a session: its tables do, with its records, whatever is under way in them
+abbrev pub StandsFor : {C : Type 0} → OpenSite C → Session → Type 0
+StandsFor s session = (under : UnderWay) × tables.StandsFor s.tables s.book.records session under
+
+-- what is so of every site: its tables are those of its records, and it stands for some session
+pub record IsInOrder {C : Type 0} (s : OpenSite C) : Type 0 where
+  pub of : IsOf s.tables s.book.owner s.book.records
+  pub session : (session : Session) × StandsFor s session
+
+-- what the definitions say that it does with an input in a session
+abbrev pub effect : {C : Type 0} → OpenSite C → Session → Input → Effect
+effect s session input =
+    effect_of (quorums_of s.book.owner.members) s.book.owner.site s.book.records session input

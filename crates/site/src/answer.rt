@@ -1,0 +1,38 @@
+use fed_types::{BagId, SiteNo, Slot};
+
+/// A datagram, and the member that it goes to.
+#[derive(Debug, Drop)]
+pub struct Sealed {
+    pub to: SiteNo,
+    pub bytes: Vec<u8>,
+}
+
+/// What a site says of a call.
+#[derive(Debug, Drop)]
+pub enum Line {
+    /// The bag is the site's deposit.
+    Registered(BagId),
+    /// The site has learned that this bag was chosen for the slot.
+    Known(Slot, BagId),
+    /// What arrived is no message from one member to another.
+    Dropped,
+}
+
+/// What a call hands out: what the site says, if it says anything, and the datagrams to send, in
+/// order.
+#[derive(Debug, Drop)]
+pub struct Answer {
+    pub line: Option<Line>,
+    pub sends: Vec<Sealed>,
+}
+
+/// What a site replies to a query.
+#[derive(Clone, Copy, Debug, PartialEq, Eq)]
+pub enum Reply {
+    /// This bag is known for the slot.
+    Known(BagId),
+    /// No bag is known; this one is the site's own deposit.
+    Pending(BagId),
+    /// No bag is known, and the site has no deposit.
+    Nothing,
+}

@@ -1,0 +1,19 @@
+//! A site of a federation: the acceptor, proposer and learner of every slot over one book, which
+//! keeps its word through a crash. Each call commits its one record first, and then hands out its
+//! datagrams.
+#![tactic(auto)]
+
+mod answer;
+mod arrivals;
+mod committing;
+mod fault;
+mod member_site;
+mod proposing;
+mod sealing;
+
+pub use answer::{Answer, Line, Reply, Sealed};
+pub use fault::SiteFault;
+pub use member_site::Site;
+
+#[cfg(test)]
+mod tests;

@@ -1,0 +1,307 @@
+ghost use Rattle.std.specs.Prelude.{◌≡◌, ◌↔◌, true, false, List, ◌∷◌, [], None, Some, Ok, Err, map};
+ghost use Rattle.std.specs.Prelude.{Result, IfOk, IsErrOf, IsOk};
+ghost use Rattle.bag_check.specs.Check.{check_of};
+ghost use Rattle.book.specs.Volumes.{HoldsText, RecoversTo};
+ghost use Rattle.cell_device.specs.Memory.{fuse_of, failures_of, fuse_after_set, IsSameMedium};
+ghost use Rattle.proposer.specs.Sessions.{Session, new_session};
+ghost use Rattle.site.specs.Answered.{IsAnswered};
+ghost use Rattle.records.specs.Words.{deposit_of, known_of};
+ghost use Rattle.site.specs.Calls.{Deposits, Proposes, Asks, reply_of, other_than, deposit_fault};
+ghost use Rattle.site.specs.declared.answer.Line.TheVariants as lines;
+ghost use Rattle.site.specs.Datagrams.{handed_out};
+ghost use Rattle.site.specs.Opened.{Opens, book_of};
+ghost use Rattle.site.specs.Sites.{StandsFor, effect};
+ghost use Rattle.site.specs.inner.Concluded.{Concludes, one_datagram, all_datagrams};
+
+use crate::answer::{Answer, Line, Reply, Sealed};
+use crate::committing::commit_and_note;
+use crate::fault::SiteFault;
+use crate::proposing::begin_ballot;
+use crate::sealing::{to_all, to_one};
+use bag_check::check;
+use bag_tree::Facts;
+use book::{Book, OpenFault};
+use cell_device::{Cell, Fuse, MemoryCell};
+use dgram::{Body, Message};
+use fed_types::{BagId, Members, SiteNo, Slot};
+use records::{Entry, Owner, Record};
+use site_tables::Tables;
+use std::alloc::{AllocError, Global};
+use std::marker::Model;
+
+/// A site of a federation, over a cell. A clause sees an `OpenSite`.
+#[derive(Drop)]
+pub struct Site<C: Cell> {
+    pub(crate) alloc: Global,
+    pub(crate) book: Book<C>,
+    pub(crate) tables: Tables,
+}
+
+impl<C: Cell> Model for Site<C> {
+    ghost use Rattle.site.specs.Sites.{OpenSite, IsInOrder};
+
+    ghost Value = { OpenSite C };
+
+    ghost view = { λ s. record { book = s.book; tables = s.tables } };
+
+    ghost invariant = { λ s. IsInOrder (record { book = s.book; tables = s.tables }) };
+}
+
+impl<C: Cell> Site<C> {
+    /// Opens the site of this owner, from the journal in the cell. It has heard nothing yet, and no
+    /// ballot of it is current. On a refusal the cell is handed back.
+    pub fn open(alloc: Global, cell: C, owner: Owner) -> Result<Site<C>, (C, OpenFault)>
+        ensures opened { Opens C.device owner cell (book_of result) }
+        ensures stands { IfOk result (λ s. StandsFor s new_session) }
+    {
+        let Owner { members, site } = owner;
+        let book = Book::open(alloc, cell, Owner { members, site })?;
+        match Tables::of(alloc, Owner { members, site }, book.records()) {
+            Ok(tables) => Ok(Site {
+                alloc,
+                book,
+                tables,
+            }),
+            Err(_) => Err((book.close(), OpenFault::Memory)),
+        }
+    }
+
+    /// Hands the cell back as it is, with no call on it.
+    pub fn close(self) -> C
+        ensures cell { result ≡ self.book.cell }
+        ensures text { self.book.needs_opening ≡ false →
+            HoldsText self.book.owner self.book.records (C.device result).image }
+        ensures recovers { self.book.needs_opening ≡ false →
+            RecoversTo self.book.owner self.book.records (C.device result).image }
+    {
+        let Site { book, .. } = self;
+        book.close()
+    }
+
+    /// The site's number.
+    pub fn number(&self) -> SiteNo
+        ensures { result ≡ self.now.book.owner.site }
+    {
+        self.book.site()
+    }
+
+    /// The members of its federation.
+    pub fn members(&self) -> Members
+        ensures { result ≡ self.now.book.owner.members }
+    {
+        self.book.members()
+    }
+
+    /// The records, in order.
+    pub fn records(&self) -> &[Record]
+        ensures { result.now ≡ self.now.book.records }
+    {
+        self.book.records()
+    }
+
+    /// Whether the device has failed since the site was opened.
+    pub fn needs_opening(&self) -> bool
+        ensures { result ≡ self.now.book.needs_opening }
+    {
+        self.book.needs_opening()
+    }
+
+    /// What the site knows of the slot. It takes no memory.
+    #[tactic(auto, unfolding(crate::specs::Calls::reply_of))]
+    pub fn query(&self, slot: &Slot) -> Result<Reply, SiteFault>
+        ensures reply { self.now.book.needs_opening ≡ false
+            → result ≡ Ok (reply_of slot.now self.now.book.records) }
+        ensures needs_open { self.now.book.needs_opening ≡ true
+            → result ≡ Err SiteFault.NeedsOpen }
+    {
+        if self.book.needs_opening() {
+            return Err(SiteFault::NeedsOpen);
+        }
+        Ok(match self.tables.known(slot) {
+            Some(known) => Reply::Known(known),
+            None => match self.tables.deposit(slot) {
+                Some(own) => Reply::Pending(own),
+                None => Reply::Nothing,
+            },
+        })
+    }
+
+    /// Asks a member for the bag that it knows. Who calls sees to it that it is a member.
+    pub fn ask(&self, slot: &Slot, to: SiteNo) -> Result<Answer, SiteFault>
+        ensures answer { self.now.book.needs_opening ≡ false → (session : Session)
+            → StandsFor self.now session
+            → IsAnswered C.device self.now self.now session
+            (effect self.now session (Asks slot.now to)) result }
+        ensures needs_open { IsErrOf result SiteFault.NeedsOpen
+            ↔ (self.now.book.needs_opening ≡ true) }
+    {
+        if self.book.needs_opening() {
+            return Err(SiteFault::NeedsOpen);
+        }
+        let body = Body::Ask {
+            from: self.number(),
+        };
+        let slot = slot.copy(self.alloc)?;
+        let sends = self.send(&Message { slot, body }, to)?;
+        Ok(Answer { line: None, sends })
+    }
+
+    /// Takes a tree as the slot's deposit, where it is a valid bag, and neither another deposit nor
+    /// another known bag is in the way.
+    pub fn deposit(&mut self, slot: &Slot, facts: &Facts) -> Result<Answer, SiteFault>
+        ensures answer { self.old.book.needs_opening ≡ false → (session : Session)
+            → StandsFor self.old session
+            → IsAnswered C.device self.old self.new session
+            (effect self.old session (Deposits slot.now (check_of facts.now))) result }
+        ensures needs_open { IsErrOf result SiteFault.NeedsOpen
+            ↔ (self.old.book.needs_opening ≡ true) }
+        ensures untouched { self.old.book.needs_opening ≡ true → self.new ≡ self.old }
+    {
+        if self.book.needs_opening() {
+            return Err(SiteFault::NeedsOpen);
+        }
+        let bag = check(self.alloc, facts)?;
+        self.register(slot, bag)
+    }
+
+    /// Proposes the slot's deposit: issues the next ballot, and asks all members to promise it.
+    pub fn propose(&mut self, slot: &Slot) -> Result<Answer, SiteFault>
+        ensures answer { self.old.book.needs_opening ≡ false → (session : Session)
+            → StandsFor self.old session
+            → IsAnswered C.device self.old self.new session
+            (effect self.old session (Proposes slot.now)) result }
+        ensures needs_open { IsErrOf result SiteFault.NeedsOpen
+            ↔ (self.old.book.needs_opening ≡ true) }
+        ensures untouched { self.old.book.needs_opening ≡ true → self.new ≡ self.old }
+    {
+        if self.book.needs_opening() {
+            return Err(SiteFault::NeedsOpen);
+        }
+        if self.tables.known(slot).is_some() {
+            return Err(SiteFault::AlreadyKnown);
+        }
+        match self.tables.deposit(slot) {
+            Some(own) => self.issue(slot, own),
+            None => Err(SiteFault::NoDeposit),
+        }
+    }
+
+    // Takes a valid bag as the slot's deposit.
+    fn register(&mut self, slot: &Slot, bag: BagId) -> Result<Answer, SiteFault>
+        requires { self.old.book.needs_opening ≡ false }
+        ensures { (session : Session) → StandsFor self.old session
+            → IsAnswered C.device self.old self.new session
+            (effect self.old session (Deposits slot.now (Ok bag))) result }
+    {
+        let own = self.tables.deposit(slot);
+        if let Some(fault) = deposit_fault(bag, own, self.tables.known(slot)) {
+            return Err(fault);
+        }
+        let line = Some(Line::Registered(bag));
+        let sends = Vec::new(self.alloc);
+        if own.is_some() {
+            return Ok(Answer { line, sends });
+        }
+        let new = Record {
+            slot: slot.copy(self.alloc)?,
+            body: Entry::Deposit(bag),
+        };
+        self.conclude(new, Answer { line, sends })
+    }
+
+    // Issues the slot's next ballot, to propose this bag where no vote stands in the way.
+    fn issue(&mut self, slot: &Slot, own: BagId) -> Result<Answer, SiteFault>
+        requires opened { self.old.book.needs_opening ≡ false }
+        requires deposit { deposit_of slot.now self.old.book.records ≡ Some own }
+        ensures { (session : Session) → StandsFor self.old session
+            → known_of slot.now self.old.book.records ≡ None
+            → IsAnswered C.device self.old self.new session
+            (effect self.old session (Proposes slot.now)) result }
+    {
+        let owner = self.book.owner();
+        let (new, answer) = begin_ballot(self.alloc, &owner, &mut self.tables, slot, own)?;
+        self.conclude(new, answer)
+    }
+
+    /// Commits a record and takes note of it; then the answer is handed out.
+    pub(crate) fn conclude(&mut self, new: Record, answer: Answer) -> Result<Answer, SiteFault>
+        requires { self.old.book.needs_opening ≡ false }
+        ensures { Concludes C.device self.old self.new (Some new) answer.line
+            (map handed_out answer.sends.items) result }
+    {
+        commit_and_note(self.alloc, &mut self.book, &mut self.tables, new)?;
+        Ok(answer)
+    }
+
+    /// The message as a datagram for one site.
+    pub(crate) fn send(&self, message: &Message, to: SiteNo) -> Result<Vec<Sealed>, AllocError>
+        ensures { IfOk result (λ sends. map handed_out sends.items
+            ≡ one_datagram self.now message.now.slot message.now.body to) }
+    {
+        to_one(self.alloc, self.members().federation(), message, to)
+    }
+
+    /// The message as a datagram for each member, in ascending order.
+    pub(crate) fn send_to_all(&self, message: &Message) -> Result<Vec<Sealed>, AllocError>
+        ensures { IfOk result (λ sends. map handed_out sends.items
+            ≡ all_datagrams self.now message.now.slot message.now.body) }
+    {
+        to_all(self.alloc, self.members(), message)
+    }
+}
+
+impl Site<MemoryCell> {
+    /// Sets the cell's fuse, or takes it away. It changes nothing else.
+    pub fn set_fuse(&mut self, fuse: Option<Fuse>)
+        ensures fuse { fuse_of self.new.book.cell
+            ≡ fuse_after_set fuse (fuse_of self.old.book.cell) }
+        ensures medium { IsSameMedium self.old.book.cell self.new.book.cell }
+        ensures failures { failures_of self.new.book.cell ≡ failures_of self.old.book.cell }
+        ensures records { (self.new.book.records ≡ self.old.book.records)
+            × (self.new.book.needs_opening ≡ self.old.book.needs_opening)
+            × (self.new.book.owner ≡ self.old.book.owner) }
+        ensures tables { self.new.tables ≡ self.old.tables }
+    {
+        self.book.set_fuse(fuse);
+    }
+}
+
+/// Nothing is said or sent.
+pub(crate) fn quiet(alloc: Global) -> Answer
+    ensures { (result.line ≡ None) × (result.sends.items ≡ []) }
+{
+    Answer {
+        line: None,
+        sends: Vec::new(alloc),
+    }
+}
+
+/// What arrived is dropped.
+pub(crate) fn dropped(alloc: Global) -> Answer
+    ensures { (result.line ≡ Some lines.Dropped) × (result.sends.items ≡ []) }
+{
+    Answer {
+        line: Some(Line::Dropped),
+        sends: Vec::new(alloc),
+    }
+}
+
+// Why a valid bag is refused, by the slot's deposit and its known bag.
+fn deposit_fault(bag: BagId, own: Option<BagId>, known: Option<BagId>) -> Option<SiteFault>
+    ensures { result ≡ deposit_fault (other_than bag own) (other_than bag known) }
+{
+    match other_than(bag, own) {
+        Some(own) => Some(SiteFault::OtherDeposit(own)),
+        None => Some(SiteFault::OtherKnown(other_than(bag, known)?)),
+    }
+}
+
+// The bag, if there is one and it is another than this.
+fn other_than(bag: BagId, other: Option<BagId>) -> Option<BagId>
+    ensures { result ≡ other_than bag other }
+{
+    match other {
+        Some(other) if other != bag => Some(other),
+        _ => None,
+    }
+}

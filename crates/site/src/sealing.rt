@@ -1,0 +1,72 @@
+//! A message as datagrams, for the sites that it goes to.
+
+ghost use Rattle.std.specs.Prelude.{◌≡◌, ◌∷◌, [], map, IfOk};
+ghost use Rattle.fed_types.specs.Sites.{IsSiteNumber, members_of};
+ghost use Rattle.dgram.specs.Encoding.{datagram_of};
+ghost use Rattle.site.specs.Datagrams.{handed_out, datagram};
+ghost use Rattle.site.specs.Effects.{to_each};
+
+use crate::answer::Sealed;
+use dgram::{LONGEST_DATAGRAM, Message, encode};
+use fed_types::{Members, SiteNo};
+use std::alloc::{AllocError, Global};
+
+/// The message for one site.
+#[tactic(auto, unfolding(crate::specs::Effects::to_each))]
+pub(crate) fn to_one(
+    alloc: Global,
+    federation: u64,
+    message: &Message,
+    to: SiteNo,
+) -> Result<Vec<Sealed>, AllocError>
+    ensures { IfOk result (λ sends. map handed_out sends.items
+        ≡ map (datagram federation) (to_each message.now.slot message.now.body (to ∷ []))) }
+{
+    let mut sends = Vec::with_capacity(alloc, 1)?;
+    sends.push(sealed(alloc, federation, message, to)?)?;
+    Ok(sends)
+}
+
+/// The message for each member, in ascending order.
+pub(crate) fn to_all(
+    alloc: Global,
+    members: Members,
+    message: &Message,
+) -> Result<Vec<Sealed>, AllocError>
+    ensures { IfOk result (λ sends. map handed_out sends.items
+        ≡ map (datagram members.federation)
+        (to_each message.now.slot message.now.body (members_of members))) }
+{
+    let mut sends = Vec::with_capacity(alloc, usize::from(members.count()))?;
+    for number in 1..=members.count() {
+        let to = site(number);
+        sends.push(sealed(alloc, members.federation(), message, to)?)?;
+    }
+    Ok(sends)
+}
+
+// The site of this number.
+fn site(number: u8) -> SiteNo
+    requires { IsSiteNumber number }
+    ensures { result ≡ number }
+{
+    match SiteNo::new(number) {
+        Ok(site) => site,
+        Err(_) => unreachable!(),
+    }
+}
+
+// The message's datagram, for a site.
+fn sealed(
+    alloc: Global,
+    federation: u64,
+    message: &Message,
+    to: SiteNo,
+) -> Result<Sealed, AllocError>
+    ensures { IfOk result (λ sealed. handed_out sealed
+        ≡ (to, datagram_of federation message.now)) }
+{
+    let mut bytes = Vec::with_capacity(alloc, LONGEST_DATAGRAM)?;
+    encode(federation, message, &mut bytes)?;
+    Ok(Sealed { to, bytes })
+}
