@@ -15,10 +15,10 @@ const NOTHING: [u8; 64] = [
     0x63, 0xb9, 0x31, 0xbd, 0x47, 0x41, 0x7a, 0x81, 0xa5, 0x38, 0x32, 0x7a, 0xf9, 0x27, 0xda, 0x3e,
 ];
 
-// Site 1 of three in federation 7.
-fn owner() -> Result<Owner, Fail> {
+// Site 1 of so many in federation 7.
+fn owner(count: u8) -> Result<Owner, Fail> {
     Ok(Owner {
-        members: Members::new(7, 3)?,
+        members: Members::new(7, count)?,
         site: SiteNo::new(1)?,
     })
 }
@@ -48,9 +48,9 @@ fn no_bag(alloc: Global) -> Result<Facts, Fail> {
     Ok(facts_of(alloc, &tree(alloc, "")?)?)
 }
 
-// The site in this cell.
-fn opened(alloc: Global, cell: MemoryCell) -> Result<Site<MemoryCell>, Fail> {
-    match Site::open(alloc, cell, owner()?) {
+// The site in this cell, one of so many.
+fn opened(alloc: Global, cell: MemoryCell, count: u8) -> Result<Site<MemoryCell>, Fail> {
+    match Site::open(alloc, cell, owner(count)?) {
         Ok(site) => Ok(site),
         Err(_) => Err(Fail::from("the site wasn't opened")),
     }
@@ -102,21 +102,18 @@ fn takes_deposits(site: &mut Site<MemoryCell>, alloc: Global, slot: &Slot) -> Re
     )
 }
 
-// It is there after the site is closed and opened again.
-fn keeps_its_deposit(site: Site<MemoryCell>, alloc: Global) -> Result<bool, Fail> {
-    let site = opened(alloc, site.close())?;
-    Ok(
-        site.query(&slot(alloc)?) == Ok(Reply::Pending(BagId(NOTHING)))
-            && site.number() == SiteNo::new(1)?
-            && site.members() == Members::new(7, 3)?,
-    )
+// Whose site it is, and that it has its deposit.
+fn has_its_deposit(site: &Site<MemoryCell>, slot: &Slot) -> bool {
+    site.query(slot) == Ok(Reply::Pending(BagId(NOTHING)))
+        && site.number().number() == 1
+        && site.members().count() == 3
 }
 
 #[test]
 fn a_deposit_is_registered(rt: HostRuntime) -> Result<(), Fail> {
     let alloc = rt.alloc();
     let slot = slot(alloc)?;
-    let mut site = opened(alloc, MemoryCell::new(alloc, Vec::new(alloc)))?;
+    let mut site = opened(alloc, MemoryCell::new(alloc, Vec::new(alloc)), 3)?;
     assert!(rt; refuses_no_bag(&mut site, alloc, &slot)?);
     assert!(rt; takes_deposits(&mut site, alloc, &slot)?);
     Ok(())
@@ -126,9 +123,9 @@ fn a_deposit_is_registered(rt: HostRuntime) -> Result<(), Fail> {
 fn a_deposit_is_there_after_the_site_is_opened_again(rt: HostRuntime) -> Result<(), Fail> {
     let alloc = rt.alloc();
     let slot = slot(alloc)?;
-    let mut site = opened(alloc, MemoryCell::new(alloc, Vec::new(alloc)))?;
+    let mut site = opened(alloc, MemoryCell::new(alloc, Vec::new(alloc)), 3)?;
     assert!(rt; registers(&mut site, alloc, &slot, "")?);
-    let site = opened(alloc, site.close())?;
+    let site = opened(alloc, site.close(), 3)?;
     assert!(rt; has_its_deposit(&site, &slot));
     Ok(())
 }
@@ -152,8 +149,42 @@ fn fails(site: &mut Site<MemoryCell>, alloc: Global, slot: &Slot) -> Result<bool
 fn a_site_whose_device_failed_needs_opening(rt: HostRuntime) -> Result<(), Fail> {
     let alloc = rt.alloc();
     let slot = slot(alloc)?;
-    let mut site = opened(alloc, MemoryCell::new(alloc, Vec::new(alloc)))?;
+    let mut site = opened(alloc, MemoryCell::new(alloc, Vec::new(alloc)), 3)?;
     assert!(rt; fails(&mut site, alloc, &slot)?);
+    Ok(())
+}
+
+// What the site answers to the one datagram of its answer.
+fn deliver(site: &mut Site<MemoryCell>, answer: &Answer) -> Result<Answer, Fail> {
+    match answer.sends.as_slice() {
+        [sent] => Ok(site.arrive(&sent.bytes)?),
+        _ => Err(Fail::from("not one datagram")),
+    }
+}
+
+// A site alone asks itself to promise a ballot, and then to vote.
+fn asks_itself_to_vote(site: &mut Site<MemoryCell>, slot: &Slot) -> Result<Answer, Fail> {
+    let prepare = site.propose(slot)?;
+    let promise = deliver(site, &prepare)?;
+    deliver(site, &promise)
+}
+
+// It votes, and learns from its vote.
+fn learns(site: &mut Site<MemoryCell>, accept: &Answer) -> Result<bool, Fail> {
+    let accepted = deliver(site, accept)?;
+    let Answer { line, sends } = deliver(site, &accepted)?;
+    Ok(sends.is_empty() && matches!(line, Some(Line::Known(_, bag)) if bag == BagId(NOTHING)))
+}
+
+#[test]
+fn a_site_alone_decides(rt: HostRuntime) -> Result<(), Fail> {
+    let alloc = rt.alloc();
+    let slot = slot(alloc)?;
+    let mut site = opened(alloc, MemoryCell::new(alloc, Vec::new(alloc)), 1)?;
+    assert!(rt; registers(&mut site, alloc, &slot, "")?);
+    let accept = asks_itself_to_vote(&mut site, &slot)?;
+    assert!(rt; learns(&mut site, &accept)?);
+    assert!(rt; site.query(&slot) == Ok(Reply::Known(BagId(NOTHING))));
     Ok(())
 }
 
@@ -171,7 +202,7 @@ fn is_ask_for_site_2(alloc: Global, answer: &Answer) -> Result<bool, Fail> {
 #[test]
 fn a_member_is_asked(rt: HostRuntime) -> Result<(), Fail> {
     let alloc = rt.alloc();
-    let site = opened(alloc, MemoryCell::new(alloc, Vec::new(alloc)))?;
+    let site = opened(alloc, MemoryCell::new(alloc, Vec::new(alloc)), 3)?;
     let answer = site.ask(&slot(alloc)?, SiteNo::new(2)?)?;
     assert!(rt; answer.line.is_none());
     assert!(rt; is_ask_for_site_2(alloc, &answer)?);
