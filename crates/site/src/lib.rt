@@ -14,6 +14,3 @@ mod sealing;
 pub use answer::{Answer, Line, Reply, Sealed};
 pub use fault::SiteFault;
 pub use member_site::Site;
-
-#[cfg(test)]
-mod tests;
