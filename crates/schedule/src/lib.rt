@@ -1,8 +1,12 @@
 //! Schedules: texts of commands, one a line, that a federation of sites runs.
 #![tactic(auto)]
 
+mod call;
 mod command;
+mod fate;
 mod fault;
+mod file_path;
+mod hex_bytes;
 mod law;
 mod line;
 mod parse_command;
@@ -10,15 +14,21 @@ mod parse_schedule;
 mod plan;
 mod print_command;
 mod print_schedule;
+mod tree_no;
 mod value;
 mod word;
 
-pub use command::{Command, Content, FilePath, TreeNo};
+pub use call::Call;
+pub use command::Command;
+pub use fate::{DeviceCall, Fate};
 pub use fault::ParseFault;
+pub use file_path::FilePath;
+pub use hex_bytes::HexBytes;
 pub use law::{numbers_law, words_law};
 pub use parse_schedule::parse;
 pub use plan::Schedule;
 pub use print_schedule::print;
+pub use tree_no::TreeNo;
 pub use word::push_escaped;
 
 #[cfg(test)]
