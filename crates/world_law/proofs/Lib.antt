@@ -2,5 +2,8 @@ pub mod Order
 pub mod Heard
 pub mod Kept
 pub mod Grows
+pub mod Step
+pub mod Deeds
+pub mod Decided
 pub mod Pumps
 pub mod Examples
