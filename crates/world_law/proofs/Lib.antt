@@ -5,5 +5,9 @@ pub mod Grows
 pub mod Step
 pub mod Deeds
 pub mod Decided
+pub mod Arriving
+pub mod Calls
+pub mod Runs
+pub mod Induction
 pub mod Pumps
-pub mod Examples
+mod Examples
