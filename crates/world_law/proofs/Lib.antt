@@ -9,5 +9,6 @@ pub mod Arriving
 pub mod Calls
 pub mod Runs
 pub mod Induction
+pub mod Reports
 pub mod Pumps
 mod Examples

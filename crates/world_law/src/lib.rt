@@ -2,8 +2,13 @@
 //! the reference run in specs/, and functions that do nothing, whose contracts are the laws.
 #![tactic(auto)]
 
+mod law;
 mod line;
 mod sent_bytes;
 
+pub use law::{
+    chosen_stays, known_was_chosen, one_bag_a_ballot, one_bag_a_slot, priors_stay,
+    proposals_are_backed, reports_agree, senders_are_named, votes_were_asked_for,
+};
 pub use line::{Line, NamedBag, NamedReply, Reason};
 pub use sent_bytes::SentBytes;
