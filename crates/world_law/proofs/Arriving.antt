@@ -42,7 +42,7 @@ use Rattle.world_law.specs.Networks.{Network, Notice, Learned, notice_of}
 use Rattle.world_law.proofs.Heard.{gathered_heard, gathered_promise}
 use Rattle.world_law.proofs.Kept.{vote_for, Proposes, IsCurrent, Kept}
 use Rattle.world_law.proofs.Step.{Extends, Sound, IsNew, Tells, tells_nothing, tells_plain}
-use Rattle.world_law.proofs.Deeds.{Deed, some_same, sent_extends, chosen_extends, carries_each}
+use Rattle.world_law.proofs.Deeds.{MayDeposit, Deed, some_same, sent_extends, chosen_extends, carries_each}
 use Rattle.world_law.proofs.Deeds.{only_sends, nothing_sent, keeps_one, hears_recalls, same_recalls}
 use Rattle.world_law.proofs.Deeds.{NoAccept, not_new}
 use Rattle.world_law.proofs.Decided.{DecisionSound, prepare_sound, accept_sound}
@@ -78,7 +78,7 @@ module _ (q : QuorumSystem) (laws : AreQuorums q) (w : Network) (inv : Kept q w)
   -- what changes nothing of the session, and proposes nothing
   pub still_deed : (input : Input) (commits : Option Record) (sends : List Send)
       (says : Result (Option Line) SiteFault) (slot : SlotName) (body : Body)
-      → Tells q w (notice_of n input says) → Sound q w n commits slot body sends → NoAccept body
+      → Tells q w (notice_of n input says) → Sound q w n (MayDeposit input) commits slot body sends → NoAccept body
       → Deed q w n input
       (record { commits = commits; sends = sends; says = says; session = old })
   still_deed input commits sends says slot body told s other = record {
@@ -120,7 +120,7 @@ module _ (q : QuorumSystem) (laws : AreQuorums q) (w : Network) (inv : Kept q w)
     -- an effect whose new messages propose nothing
     plain_deed : (commits : Option Record) (sends : List Send)
         (says : Result (Option Line) SiteFault) (new : Body)
-        → Tells q w (notice_of n input says) → Sound q w n commits slot new sends → NoAccept new
+        → Tells q w (notice_of n input says) → Sound q w n (MayDeposit input) commits slot new sends → NoAccept new
         → Deed q w n input
         (record { commits = commits; sends = sends; says = says; session = now })
     plain_deed commits sends says new told s other = record {
@@ -134,7 +134,7 @@ module _ (q : QuorumSystem) (laws : AreQuorums q) (w : Network) (inv : Kept q w)
     }
 
     quiet_deed : Deed q w n input (quiet now)
-    quiet_deed = plain_deed None [] (Ok None) (Ask n) tells_nothing (nothing_sent q w n slot) tt
+    quiet_deed = plain_deed None [] (Ok None) (Ask n) tells_nothing (nothing_sent q w n (MayDeposit input) slot) tt
 
     -- ---- the acceptor
 
@@ -144,7 +144,7 @@ module _ (q : QuorumSystem) (laws : AreQuorums q) (w : Network) (inv : Kept q w)
     no_accept (answer.Refused asked standing) = tt
 
     decided_deed : (asker : ℕ) (d : Decision)
-        → ((sites : List ℕ) → DecisionSound q w n slot sites d)
+        → ((sites : List ℕ) → DecisionSound q w n (MayDeposit input) slot sites d)
         → Deed q w n input (decided q n slot asker d now)
     decided_deed asker d s =
         plain_deed _ _ (Ok None) _ tells_nothing (s (addressees q asker d.answer))
@@ -166,7 +166,7 @@ module _ (q : QuorumSystem) (laws : AreQuorums q) (w : Network) (inv : Kept q w)
     learning_deed None chosen = quiet_deed
     learning_deed (Some bag) chosen =
         plain_deed _ [] (Ok (Some (lines.Known slot bag))) (Ask n) (reports (chosen bag refl))
-        (keeps_one q w n slot (entry.Known bag) (Ask n) [] (λ e h. absurd (has_none h)) refl
+        (keeps_one q w n (MayDeposit input) slot (entry.Known bag) (Ask n) [] (λ e h. absurd (has_none h)) refl
         (λ x g. chosen_extends g (chosen bag refl)) (λ x g. tt))
         tt
 
@@ -175,7 +175,7 @@ module _ (q : QuorumSystem) (laws : AreQuorums q) (w : Network) (inv : Kept q w)
     telling_deed asker None e = quiet_deed
     telling_deed asker (Some bag) e =
         plain_deed None _ (Ok None) (Known n bag) tells_nothing
-        (only_sends q w n slot (Known n bag) (to_each slot (Known n bag) (asker ∷ []))
+        (only_sends q w n (MayDeposit input) slot (Known n bag) (to_each slot (Known n bag) (asker ∷ []))
         (carries_each slot (Known n bag) (asker ∷ [])) refl
         (λ x g. chosen_extends g
         (inv.records n slot (entry.Known bag) (known_among slot records bag e))))
@@ -280,7 +280,7 @@ module _ (q : QuorumSystem) (laws : AreQuorums q) (w : Network) (inv : Kept q w)
         slot = slot;
         body = Accept vote;
         sound =
-            only_sends q w n slot (Accept vote) (to_each slot (Accept vote) q.members)
+            only_sends q w n (MayDeposit input) slot (Accept vote) (to_each slot (Accept vote) q.members)
             (carries_each slot (Accept vote) q.members) (ap Some cur.own)
             (λ x g. record { says = proposes x g; own = cur.own; unsent = unsent });
         recalls =
@@ -347,7 +347,7 @@ module _ (q : QuorumSystem) (laws : AreQuorums q) (w : Network) (inv : Kept q w)
       → Deed q w n input
       (record { commits = None; sends = []; says = says; session = old })
   says_deed input says told =
-      still_deed input None [] says any_slot (Ask n) told (nothing_sent q w n any_slot) tt
+      still_deed input None [] says any_slot (Ask n) told (nothing_sent q w n (MayDeposit input) any_slot) tt
     where
       any_slot : SlotName
       any_slot = record { object = []; version = 0 }
@@ -362,7 +362,7 @@ module _ (q : QuorumSystem) (laws : AreQuorums q) (w : Network) (inv : Kept q w)
   unfolding on_body
   body_deed slot (Prepare b) sent member =
       decided_deed slot (Prepare b) sent member b.site (prepare_decision slot records b)
-      (λ sites. prepare_sound q w n slot sites b)
+      (λ sites. prepare_sound q w n _ slot sites b)
   body_deed slot (Promise k b prior) sent member =
       proposing_deed slot (Promise k b prior) sent member b k prior refl _
       (λ bag e. ready_is slot (Promise k b prior) sent member b (record { site = k; prior = prior })
@@ -370,7 +370,7 @@ module _ (q : QuorumSystem) (laws : AreQuorums q) (w : Network) (inv : Kept q w)
   body_deed slot (Accept vote) sent member =
       decided_deed slot (Accept vote) sent member vote.ballot.site
       (accept_decision slot records vote)
-      (λ sites. accept_sound q w n slot sites vote sent)
+      (λ sites. accept_sound q w n _ slot sites vote sent)
   body_deed slot (Accepted k vote) sent member =
       learning_deed slot (Accepted k vote) sent member _
       (λ u e. voters_chosen slot (Accepted k vote) sent member vote u

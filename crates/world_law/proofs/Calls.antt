@@ -29,7 +29,7 @@ use Rattle.world_law.specs.Networks.{Network}
 use Rattle.world_law.proofs.Kept as facts
 use Rattle.world_law.proofs.Kept.{vote_for, IsCurrent, Kept}
 use Rattle.world_law.proofs.Step.{Extends, Splits, tells_nothing, tells_plain}
-use Rattle.world_law.proofs.Deeds.{Deed, some_same, sent_extends, carries_each, only_sends}
+use Rattle.world_law.proofs.Deeds.{MayDeposit, Deed, some_same, sent_extends, carries_each, only_sends}
 use Rattle.world_law.proofs.Deeds.{keeps_one, not_new}
 use Rattle.world_law.proofs.Arriving.{still_deed, says_deed}
 
@@ -46,25 +46,24 @@ module _ (q : QuorumSystem) (laws : AreQuorums q) (w : Network) (inv : Kept q w)
   module _ (slot : SlotName) where
     -- ---- a deposit
 
-    registering_deed : (checked : Result BagId BagFault) (own : Option BagId) (bag : BagId)
-        (fault : Option SiteFault)
-        → Deed q w n (Deposits slot checked) (registering slot own bag fault before)
-    registering_deed checked own bag (Some fault) = refuses_deed (Deposits slot checked) fault
-    registering_deed checked None bag None =
-        still_deed q laws w inv n (Deposits slot checked) _ [] (Ok (Some (lines.Registered bag)))
+    registering_deed : (own : Option BagId) (bag : BagId) (fault : Option SiteFault)
+        → Deed q w n (Deposits slot (Ok bag)) (registering slot own bag fault before)
+    registering_deed own bag (Some fault) = refuses_deed (Deposits slot (Ok bag)) fault
+    registering_deed None bag None =
+        still_deed q laws w inv n (Deposits slot (Ok bag)) _ [] (Ok (Some (lines.Registered bag)))
         slot (Ask n) (tells_plain _ refl)
-        (keeps_one q w n slot (entry.Deposit bag) (Ask n) [] (λ e h. absurd (has_none h)) refl
-        (λ x g. tt) (λ x g. tt))
+        (keeps_one q w n (MayDeposit (Deposits slot (Ok bag))) slot (entry.Deposit bag) (Ask n) []
+        (λ e h. absurd (has_none h)) refl (λ x g. (refl, refl)) (λ x g. tt))
         tt
-    registering_deed checked (Some u) bag None =
-        says_deed q laws w inv n (Deposits slot checked) (Ok (Some (lines.Registered bag)))
+    registering_deed (Some u) bag None =
+        says_deed q laws w inv n (Deposits slot (Ok bag)) (Ok (Some (lines.Registered bag)))
         (tells_plain _ refl)
 
     pub deposit_deed : (checked : Result BagId BagFault)
         → Deed q w n (Deposits slot checked) (on_deposit records before slot checked)
     unfolding on_deposit
     deposit_deed (Err fault) = refuses_deed (Deposits slot (Err fault)) _
-    deposit_deed (Ok bag) = registering_deed (Ok bag) (deposit_of slot records) bag _
+    deposit_deed (Ok bag) = registering_deed (deposit_of slot records) bag _
 
     -- ---- a proposal: a ballot above every round that was used
 
@@ -123,7 +122,7 @@ module _ (q : QuorumSystem) (laws : AreQuorums q) (w : Network) (inv : Kept q w)
         slot = slot;
         body = Prepare b;
         sound =
-            keeps_one q w n slot (entry.Round b.round) (Prepare b)
+            keeps_one q w n (MayDeposit (Proposes slot)) slot (entry.Round b.round) (Prepare b)
             (to_each slot (Prepare b) q.members) (carries_each slot (Prepare b) q.members) refl
             (λ x g. tt) (λ x g. tt);
         recalls = record {
@@ -165,6 +164,6 @@ module _ (q : QuorumSystem) (laws : AreQuorums q) (w : Network) (inv : Kept q w)
     unfolding on_ask
     ask_deed member =
         still_deed q laws w inv n (Asks slot member) None _ (Ok None) slot (Ask n) tells_nothing
-        (only_sends q w n slot (Ask n) (to_each slot (Ask n) (member ∷ []))
+        (only_sends q w n (MayDeposit (Asks slot member)) slot (Ask n) (to_each slot (Ask n) (member ∷ []))
         (carries_each slot (Ask n) (member ∷ [])) refl (λ x g. tt))
         tt

@@ -25,7 +25,7 @@ use Rattle.site.specs.Effects.{to_each, record_of}
 use Rattle.world_law.specs.Laws.{OnRecord, WasSent, IsPrior}
 use Rattle.world_law.specs.Networks.{Network}
 use Rattle.world_law.proofs.Order.{below_is, below_not, below_at_most, at_most_trans}
-use Rattle.world_law.proofs.Step.{Extends, Sound}
+use Rattle.world_law.proofs.Step.{Extends, Deposits, Sound}
 use Rattle.world_law.proofs.Deeds.{some_same, same_entry, sent_extends, carries_each, only_sends}
 use Rattle.world_law.proofs.Deeds.{keeps_one}
 
@@ -44,20 +44,20 @@ bound : {A : Type 0} (ballot : A → BallotNumber) (x y : A) → AtLeast ballot 
 bound ballot x y a = let e : a.top ≡ x = let f = a.is in cc in rw e at a.at_least
 
 -- site n, asked about a slot
-module _ (q : QuorumSystem) (w : Network) (n : ℕ) (slot : SlotName) where
+module _ (q : QuorumSystem) (w : Network) (n : ℕ) (D : Deposits) (slot : SlotName) where
   abbrev records : List Record
   records = (w.sites n).records
 
   -- the record of a decision, and its answer to these sites, agree with the network
   abbrev pub DecisionSound : List ℕ → Decision → Type 0
   DecisionSound sites d =
-      Sound q w n (record_of slot d.entry) slot (answer_body n d.answer)
+      Sound q w n D (record_of slot d.entry) slot (answer_body n d.answer)
       (to_each slot (answer_body n d.answer) sites)
 
   refused : (sites : List ℕ) (asked standing : BallotNumber)
       → DecisionSound sites (refuses asked standing)
   refused sites asked standing =
-      only_sends q w n slot (Refused n asked standing)
+      only_sends q w n D slot (Refused n asked standing)
       (to_each slot (Refused n asked standing) sites) (carries_each slot _ sites) refl (λ x g. tt)
 
   abbrev IsPromised : Option BallotNumber → Type 0
@@ -91,7 +91,7 @@ module _ (q : QuorumSystem) (w : Network) (n : ℕ) (slot : SlotName) where
   promise_given : (sites : List ℕ) (b : BallotNumber) → AllBelow b
       → DecisionSound sites (promises b (vote_of slot records))
   promise_given sites b lower =
-      keeps_one q w n slot (entry.Promise b) (Promise n b (vote_of slot records))
+      keeps_one q w n D slot (entry.Promise b) (Promise n b (vote_of slot records))
       (to_each slot (Promise n b (vote_of slot records)) sites) (carries_each slot _ sites) refl
       (λ x g. tt)
       (λ x g. record {
@@ -139,7 +139,7 @@ module _ (q : QuorumSystem) (w : Network) (n : ℕ) (slot : SlotName) where
   vote_sound : (sites : List ℕ) (asked : Vote) → WasSent w slot (Accept asked)
       → NoneAbove asked.ballot → DecisionSound sites (votes asked)
   vote_sound sites asked sent above =
-      keeps_one q w n slot (entry.Vote asked) (Accepted n asked)
+      keeps_one q w n D slot (entry.Vote asked) (Accepted n asked)
       (to_each slot (Accepted n asked) sites) (carries_each slot _ sites) refl
       (λ x g. record { asked = sent_extends g sent; above = above }) (λ x g. g.added _ refl)
 
@@ -187,7 +187,7 @@ module _ (q : QuorumSystem) (w : Network) (n : ℕ) (slot : SlotName) where
     where
       again : vote_of slot records ≡ Some asked → DecisionSound sites (votes_again asked)
       again e =
-          only_sends q w n slot (Accepted n asked) (to_each slot (Accepted n asked) sites)
+          only_sends q w n D slot (Accepted n asked) (to_each slot (Accepted n asked) sites)
           (carries_each slot _ sites) refl
           (λ x g. g.keeps n slot _ (vote_among slot records asked e))
 

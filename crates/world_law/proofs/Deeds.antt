@@ -1,6 +1,7 @@
 -- What a site does with an input agrees with a network that is kept: what all inputs share.
 use Rattle.std.proofs.Common.{ℕ, ◌≡◌, ◌≤◌, true, inl, inr, refl, ap, subst, List, [], ◌∷◌, ◌++◌}
 use Rattle.std.proofs.Common.{length, Option, None, Some, arith, length-append}
+use Rattle.std.specs.Prelude.{Ok}
 use Rattle.fed_types.specs.declared.bag_id.BagId.{BagId}
 use Rattle.fed_types.specs.Ballots.{BallotNumber}
 use Rattle.fed_types.specs.Lists.{Has}
@@ -18,18 +19,25 @@ use Rattle.proposer.specs.Proposals.{Current, gathered}
 use Rattle.proposer.specs.Sessions.{Session, hears}
 use Rattle.site.specs.Arrivals.{is_member}
 use Rattle.site.specs.Calls.{Input}
+use Rattle.site.specs.Calls as inputs
 use Rattle.site.specs.Effects.{Effect, Send, to_each, record_of}
 use Rattle.world_law.specs.Laws.{WasSent, IsChosen}
 use Rattle.world_law.specs.Networks.{Network, notice_of}
 use Rattle.world_law.proofs.Heard.{gathered_stays}
 use Rattle.world_law.proofs.Kept.{Remembers}
-use Rattle.world_law.proofs.Step.{Extends, NewEntry, NewBody, Carries, Sound, IsNew, Recalls, Tells}
+use Rattle.world_law.proofs.Step.{Extends, Deposits, NewEntry, NewBody, Carries, Sound, IsNew}
+use Rattle.world_law.proofs.Step.{Recalls, Tells}
+
+-- the deposit that an input may make: that of a tree that is a valid bag
+abbrev pub MayDeposit : Input → Deposits
+MayDeposit (inputs.Deposits slot checked) s bag = (slot ≡ s) × (checked ≡ Ok bag)
+MayDeposit _ s bag = ⊥
 
 -- what a site does with an input agrees with the network
 pub record Deed (q : QuorumSystem) (w : Network) (n : ℕ) (input : Input) (e : Effect) : Type 0 where
   pub slot : SlotName
   pub body : Body
-  pub sound : Sound q w n e.commits slot body e.sends
+  pub sound : Sound q w n (MayDeposit input) e.commits slot body e.sends
   pub recalls : Recalls q w n e.commits slot body e.session
   pub told : Tells q w (notice_of n input e.says)
 
@@ -66,35 +74,36 @@ carries_each slot body sites d h =
     (λ (k : ℕ). record { to = k; message = record { slot = slot; body = body } }) sites h in
     record { to = f.0; is = f.2 }
 
-module _ (q : QuorumSystem) (w : Network) (n : ℕ) where
+module _ (q : QuorumSystem) (w : Network) (n : ℕ) (D : Deposits) where
   -- messages of one body, and no record
   pub only_sends : (slot : SlotName) (body : Body) (sends : List Send)
       → ((d : Send) → Has d sends → Carries slot body d) → body_from body ≡ Some n
       → ((x : Network) → Extends w x n None → NewBody q w x n slot body)
-      → Sound q w n None slot body sends
+      → Sound q w n D None slot body sends
   only_sends slot body sends each own says =
       record { each = each; own = own; entry = λ r e. absurd (cc e); says = says }
 
-  pub nothing_sent : (slot : SlotName) → Sound q w n None slot (Ask n) []
+  pub nothing_sent : (slot : SlotName) → Sound q w n D None slot (Ask n) []
   nothing_sent slot =
       only_sends slot (Ask n) [] (λ d h. absurd (has_none h)) refl (λ x e. tt)
 
   -- a record, and messages of one body
   pub keeps_one : (slot : SlotName) (e : Entry) (body : Body) (sends : List Send)
       → ((d : Send) → Has d sends → Carries slot body d) → body_from body ≡ Some n
-      → ((x : Network) → Extends w x n (record_of slot (Some e)) → NewEntry q w x n slot e)
+      → ((x : Network) → Extends w x n (record_of slot (Some e)) → NewEntry q w x n D slot e)
       → ((x : Network) → Extends w x n (record_of slot (Some e)) → NewBody q w x n slot body)
-      → Sound q w n (record_of slot (Some e)) slot body sends
+      → Sound q w n D (record_of slot (Some e)) slot body sends
   keeps_one slot e body sends each own entry says = record {
     each = each;
     own = own;
     entry = λ r f x g.
-        subst (λ (r : Record). NewEntry q w x n r.slot r.body) (some_same f) (entry x g);
+        subst (λ (r : Record). NewEntry q w x n D r.slot r.body) (some_same f) (entry x g);
     says = says;
   }
 
-  -- ---- what is remembered
+-- ---- what is remembered
 
+module _ (q : QuorumSystem) (w : Network) (n : ℕ) where
   -- where the new messages propose in a current ballot, a quorum is gathered for it
   abbrev Fine : SlotName → Body → Session → Type 0
   Fine slot body session =

@@ -51,13 +51,21 @@ pub record Tells (q : QuorumSystem) (w : Network) (notice : Option Notice) : Typ
 abbrev pub Names : List Send → Option ℕ → Type 0
 Names sends place = (d : Send) → Has d sends → body_from d.message.body ≡ place
 
--- a network that is kept, and has what it had; what is said was chosen before, and what was sent
--- names the site
-pub record Next (q : QuorumSystem) (w : Network) (place : Option ℕ) (h : Happening) : Type 0 where
+-- what may be deposited: for which slot which bag
+abbrev pub Deposits : Type 1
+Deposits = SlotName → BagId → Type 0
+
+-- A network that is kept, and has what it had; what is said was chosen before, and what was sent
+-- names the site; a deposit on record is old, or this site's, and one that may be.
+pub record Next (q : QuorumSystem) (w : Network) (place : Option ℕ) (D : Deposits) (h : Happening)
+    : Type 0 where
   pub kept : Kept q h.network
   pub grows : Grows w h.network
   pub told : Tells q w h.notice
   pub names : Names h.sends place
+  pub deposits : (n : ℕ) (slot : SlotName) (bag : BagId)
+      → OnRecord h.network n slot (entry.Deposit bag)
+      → OnRecord w n slot (entry.Deposit bag) ⊎ ((place ≡ Some n) × D slot bag)
 
 pub tells_nothing : {q : QuorumSystem} {w : Network} → Tells q w None
 tells_nothing = record { tells = λ m r e f. absurd (cc e) }
@@ -86,12 +94,13 @@ pub record Votes (w x : Network) (n : ℕ) (slot : SlotName) (vote : Vote) : Typ
   pub above : (c : BallotNumber) → OnRecord w n slot (entry.Promise c) → ¬ Below vote.ballot c
 
 -- what is owed of the new record
-abbrev pub NewEntry : QuorumSystem → Network → Network → ℕ → SlotName → Entry → Type 0
-NewEntry q w x n slot (entry.Vote vote) = Votes w x n slot vote
-NewEntry q w x n slot (entry.Known bag) = IsChosen q x slot bag
-NewEntry q w x n slot (entry.Deposit bag) = Unit {0}
-NewEntry q w x n slot (entry.Round round) = Unit {0}
-NewEntry q w x n slot (entry.Promise ballot) = Unit {0}
+abbrev pub NewEntry :
+    QuorumSystem → Network → Network → ℕ → Deposits → SlotName → Entry → Type 0
+NewEntry q w x n D slot (entry.Vote vote) = Votes w x n slot vote
+NewEntry q w x n D slot (entry.Known bag) = IsChosen q x slot bag
+NewEntry q w x n D slot (entry.Deposit bag) = D slot bag
+NewEntry q w x n D slot (entry.Round round) = Unit {0}
+NewEntry q w x n D slot (entry.Promise ballot) = Unit {0}
 
 -- a new proposal: of a ballot of the site's own, in which none was sent before
 pub record NewProposal
@@ -116,13 +125,13 @@ pub record Carries (slot : SlotName) (body : Body) (d : Send) : Type 0 where
 
 -- the record and the messages that a site adds agree with the network
 pub record Sound
-    (q : QuorumSystem) (w : Network) (n : ℕ) (kept : Option Record) (slot : SlotName) (body : Body)
-    (sends : List Send)
+    (q : QuorumSystem) (w : Network) (n : ℕ) (D : Deposits) (kept : Option Record)
+    (slot : SlotName) (body : Body) (sends : List Send)
     : Type 0 where
   pub each : (d : Send) → Has d sends → Carries slot body d
   pub own : body_from body ≡ Some n
   pub entry : (r : Record) → kept ≡ Some r → (x : Network) → Extends w x n kept
-      → NewEntry q w x n r.slot r.body
+      → NewEntry q w x n D r.slot r.body
   pub says : (x : Network) → Extends w x n kept → NewBody q w x n slot body
 
 -- a proposal that was sent is old, or is the new one
@@ -216,7 +225,8 @@ module _ (q : QuorumSystem) (w : Network) (n : ℕ) (kept : Option Record) (sess
     only = λ r h. elim (record_cases n r h) [ inl old ↦ inl old | inr new ↦ inr new.1 ];
   }
 
-  module _ (slot0 : SlotName) (body0 : Body) (s : Sound q w n kept slot0 body0 sends) where
+  module _ (D : Deposits) (slot0 : SlotName) (body0 : Body)
+      (s : Sound q w n D kept slot0 body0 sends) where
     pub moved_grows : Grows w x
     moved_grows = record {
       sent = extends.sent;
@@ -245,8 +255,8 @@ module _ (q : QuorumSystem) (w : Network) (n : ℕ) (kept : Option Record) (sess
     says_new slot (DepositReply k answer) h = h
     says_new slot (QueryReply k answer) h = h
 
-    means_new : (slot : SlotName) (e : Entry) → NewEntry q w x n slot e → Means q x slot e
-    means_new slot (entry.Deposit bag) h = h
+    means_new : (slot : SlotName) (e : Entry) → NewEntry q w x n D slot e → Means q x slot e
+    means_new slot (entry.Deposit bag) h = tt
     means_new slot (entry.Round round) h = h
     means_new slot (entry.Promise ballot) h = h
     means_new slot (entry.Vote vote) h = h.asked
@@ -329,10 +339,14 @@ module _ (q : QuorumSystem) (w : Network) (n : ℕ) (kept : Option Record) (sess
         ];
       }
 
-      pub kept_moved : Next q w (Some n) next
+      pub kept_moved : Next q w (Some n) D next
       kept_moved = record {
         kept = all_kept;
         grows = moved_grows;
         told = told;
         names = λ d h. names_from d (s.each d h);
+        deposits = λ k slot bag h. elim (record_cases k _ h) [
+          | inl old ↦ inl old
+          | inr new ↦ inr (ap Some (sym new.0), s.entry _ new.1 x extends)
+        ];
       }
