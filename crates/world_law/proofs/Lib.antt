@@ -10,5 +10,6 @@ pub mod Calls
 pub mod Runs
 pub mod Induction
 pub mod Reports
+pub mod Commands
 pub mod Pumps
 mod Examples
