@@ -11,5 +11,7 @@ pub mod Runs
 pub mod Induction
 pub mod Reports
 pub mod Commands
+pub mod Schedules
+pub mod Promised
 pub mod Pumps
 mod Examples

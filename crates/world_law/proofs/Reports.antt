@@ -36,10 +36,10 @@ module _ (q : QuorumSystem) (laws : AreQuorums q) where
   reported_from (e ∷ es) w inv m r h is =
       let next = happens_kept q laws w inv e in
       elim (has_cases (option_to_list (happens q w e).notice) _ h) [
-        | inl here ↦
+        | inl first ↦
             chosen_from es (happens q w e).network next.kept r.slot r.bag
             (chosen_grows next.grows
-            (next.told.tells m r (has_notice (happens q w e).notice m here) is))
+            (next.told.tells m r (has_notice (happens q w e).notice m first) is))
         | inr later ↦ reported_from es (happens q w e).network next.kept m r later is
       ]
 

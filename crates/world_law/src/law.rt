@@ -4,10 +4,15 @@ ghost use Rattle.world_law.specs.Laws.{OneBagABallot, VotesWereAskedFor, VotesAr
 ghost use Rattle.world_law.specs.Laws.{PriorsStay, ProposalsAreBacked, KnownWasChosen, ChosenStays};
 ghost use Rattle.world_law.specs.Laws.{OneBagASlot, ReportWasChosen, SendersAreNamed};
 ghost use Rattle.world_law.specs.Laws.{ReportsAgree, notices_of};
+ghost use Rattle.schedule.specs.Plans.{Plan};
+ghost use Rattle.world_law.specs.Headline.{LinesAgree, LinesStay, ReportsWereDeposited};
+ghost use Rattle.world_law.specs.Headline.{BagsWereDeposited};
 ghost use Rattle.world_law.specs.Networks.{Event, new_network, run};
+ghost use Rattle.world_law.specs.Worlds.{run_of};
 
-// Each law holds of the network after any list of events, of every quorums that meet and grow. A
-// function here does nothing: its contract is the law.
+// A function here does nothing: its contract is the law.
+
+// ---- of the network after any list of events, for any quorums that meet and grow
 
 /// Two proposals of one ballot are for one bag.
 pub fn one_bag_a_ballot()
@@ -66,4 +71,23 @@ pub fn reports_agree()
 pub fn senders_are_named()
     ensures { (q : QuorumSystem) (events : List Event) (e : Event) → AreQuorums q
         → SendersAreNamed q (run q new_network events) e }
+{}
+
+// ---- of every schedule
+
+/// No two lines of a run report different bags for one slot.
+pub fn lines_agree()
+    ensures { (plan : Plan) → LinesAgree (run_of plan).lines }
+{}
+
+/// What a line of a schedule reports was deposited for the slot by a line before it, from files that
+/// were a valid bag of this identity. What is printed is added at the end, and stays.
+pub fn reports_were_deposited()
+    ensures deposited { (plan : Plan) → ReportsWereDeposited plan }
+    ensures lines { LinesStay }
+{}
+
+/// Each bag that was proposed, voted for or known was deposited for the slot.
+pub fn bags_were_deposited()
+    ensures { (plan : Plan) → BagsWereDeposited plan }
 {}

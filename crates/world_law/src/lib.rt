@@ -7,8 +7,9 @@ mod line;
 mod sent_bytes;
 
 pub use law::{
-    chosen_stays, known_was_chosen, one_bag_a_ballot, one_bag_a_slot, priors_stay,
-    proposals_are_backed, reports_agree, senders_are_named, votes_were_asked_for,
+    bags_were_deposited, chosen_stays, known_was_chosen, lines_agree, one_bag_a_ballot,
+    one_bag_a_slot, priors_stay, proposals_are_backed, reports_agree, reports_were_deposited,
+    senders_are_named, votes_were_asked_for,
 };
 pub use line::{Line, NamedBag, NamedReply, Reason};
 pub use sent_bytes::SentBytes;
