@@ -1,5 +1,5 @@
 use Rattle.schedule.proofs.WeightLemmas.{AreSoFar}
-use Rattle.schedule.proofs.parse_command.parse_weights.Given as goal
+use Rattle.schedule.proofs.parse_federation.parse_weights.Given as goal
 
 -- the words so far name the weights so far
 abbrev pub invariant-loop-place : goal.invariant-loop-place

@@ -3,7 +3,7 @@ use Rattle.std.specs.Option.{option_map}
 use Rattle.fed_types.specs.Sites.{membership_of}
 use Rattle.schedule.proofs.WeightLemmas.{AreSoFar-more, AreSoFar-fault}
 use Rattle.schedule.proofs.WeightLemmas.{AreSoFar-all, AreSoFar-weights}
-use Rattle.schedule.proofs.parse_command.parse_weights.Goals as goal
+use Rattle.schedule.proofs.parse_federation.parse_weights.Goals as goal
 
 pub returns-in_err-weights : goal.returns-in_err-weights
 returns-in_err-weights c =

@@ -1,7 +1,7 @@
 use Rattle.std.proofs.Common.{◌∙◌}
 use Rattle.fed_types.specs.Sites.{membership_of}
 use Rattle.schedule.proofs.WeightLemmas.{no_zero, made-some}
-use Rattle.schedule.proofs.parse_command.weighted.Goals as goal
+use Rattle.schedule.proofs.parse_federation.weighted.Goals as goal
 
 pub returns : goal.returns
 returns c =

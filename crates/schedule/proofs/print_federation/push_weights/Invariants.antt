@@ -1,6 +1,6 @@
 use Rattle.std.proofs.Common.{◌≡◌, ◌++◌, take, string_bytes}
 use Rattle.schedule.specs.inner.Printed.{spaced_weights}
-use Rattle.schedule.proofs.print_command.push_weights.Given as goal
+use Rattle.schedule.proofs.print_federation.push_weights.Given as goal
 
 -- the weights so far are printed
 abbrev pub invariant-loop-weight : goal.invariant-loop-weight

@@ -5,7 +5,7 @@ use Rattle.std.proofs.lemmas.List.{append-nil, take_all}
 use Rattle.schedule.specs.inner.Printed.{spaced_weights}
 use Rattle.schedule.proofs.WeightLemmas.{spaced_weights-none, printed_weights-all}
 use Rattle.schedule.proofs.WeightLemmas.{spaced_weights-more}
-use Rattle.schedule.proofs.print_command.push_weights.Goals as goal
+use Rattle.schedule.proofs.print_federation.push_weights.Goals as goal
 
 pub returns-then-are_ones : goal.returns-then-are_ones
 returns-then-are_ones c =
