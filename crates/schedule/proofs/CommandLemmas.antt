@@ -214,9 +214,13 @@ file_command-says (tree ∷ path ∷ content ∷ []) command is =
     let t = bind_some _ _ command is in
     let p = bind_some _ _ command t.2 in
     let b = bind_some _ _ command p.2 in
-    same_words (codes "file" ∷ tree ∷ path ∷ content ∷ []) (commands.File t.0 p.0 b.0) command b.2
-    (refl, (tree-says tree t.0 t.1,
-    (IsTextFor-text_of path p.0 p.1, (IsHexFor-bytes_of content b.0 b.1, tt))))
+    same_words (codes "file" ∷ tree ∷ path ∷ content ∷ []) (commands.File t.0 p.0 b.0) command b.2 (
+      refl,
+      (
+        tree-says tree t.0 t.1,
+        (IsTextFor-text_of path p.0 p.1, (IsHexFor-bytes_of content b.0 b.1, tt)),
+      ),
+    )
 file_command-says words command is = absurd (cc is)
 
 deposit_command-says : (words : List (List ℕ)) (command : Command)
@@ -228,9 +232,13 @@ deposit_command-says (site ∷ tree ∷ object ∷ version ∷ fate) command is 
     let t = bind_some _ _ command s.2 in
     let slot = bind_some _ _ command t.2 in
     call-says (codes "deposit" ∷ site ∷ tree ∷ object ∷ version ∷ []) fate
-    (Deposit s.0 t.0 slot.0) command slot.2
-    (refl, (site-says site s.0 s.1,
-    (tree-says tree t.0 t.1, slot-says object version slot.0 slot.1)))
+    (Deposit s.0 t.0 slot.0) command slot.2 (
+      refl,
+      (
+        site-says site s.0 s.1,
+        (tree-says tree t.0 t.1, slot-says object version slot.0 slot.1),
+      ),
+    )
 deposit_command-says words command is = absurd (cc is)
 
 propose_command-says : (words : List (List ℕ)) (command : Command)
@@ -263,9 +271,13 @@ ask_command-says (site ∷ to ∷ object ∷ version ∷ fate) command is =
     let other = bind_some _ _ command s.2 in
     let slot = bind_some _ _ command other.2 in
     call-says (codes "ask" ∷ site ∷ to ∷ object ∷ version ∷ []) fate
-    (Ask s.0 other.0 slot.0) command slot.2
-    (refl, (site-says site s.0 s.1,
-    (site-says to other.0 other.1, slot-says object version slot.0 slot.1)))
+    (Ask s.0 other.0 slot.0) command slot.2 (
+      refl,
+      (
+        site-says site s.0 s.1,
+        (site-says to other.0 other.1, slot-says object version slot.0 slot.1),
+      ),
+    )
 ask_command-says words command is = absurd (cc is)
 
 query_command-says : (words : List (List ℕ)) (command : Command)

@@ -58,14 +58,14 @@ device-says word device is =
           subst (λ (d : DeviceCall). IsWordFor word (device_token d))
           (same_Some Append device found) ((bytes_eq-Decides word (codes "1")).0 one)
       | inr not_one ↦ elim (cases_Bool (bytes_eq word (codes "2"))) [
-          | inl two ↦
-              let found : Some Sync ≡ Some device = rw (not_one, two) at is in
-              subst (λ (d : DeviceCall). IsWordFor word (device_token d))
-              (same_Some Sync device found) ((bytes_eq-Decides word (codes "2")).0 two)
-          | inr not_two ↦
-              let none : None ≡ Some device = rw (not_one, not_two) at is in
-              absurd (cc none)
-        ]
+        | inl two ↦
+            let found : Some Sync ≡ Some device = rw (not_one, two) at is in
+            subst (λ (d : DeviceCall). IsWordFor word (device_token d))
+            (same_Some Sync device found) ((bytes_eq-Decides word (codes "2")).0 two)
+        | inr not_two ↦
+            let none : None ≡ Some device = rw (not_one, not_two) at is in
+            absurd (cc none)
+      ]
     ]
 
 -- the words are the fate's, too
@@ -118,14 +118,14 @@ fate_of-says (what ∷ at ∷ number ∷ []) fate is =
           (sym ((bytes_eq-Decides what (codes "stop")).0 stops))
           (stop_of-says at number fate found)
       | inr goes_on ↦ elim (cases_Bool (bytes_eq what (codes "fail"))) [
-          | inl fails ↦
-              let found : fail_of at number ≡ Some fate = rw (goes_on, fails) at is in
-              subst (λ (w : List ℕ). AreWordsFor (w ∷ at ∷ number ∷ []) (fate_tokens fate))
-              (sym ((bytes_eq-Decides what (codes "fail")).0 fails))
-              (fail_of-says at number fate found)
-          | inr other ↦
-              let none : None ≡ Some fate = rw (goes_on, other) at is in
-              absurd (cc none)
-        ]
+        | inl fails ↦
+            let found : fail_of at number ≡ Some fate = rw (goes_on, fails) at is in
+            subst (λ (w : List ℕ). AreWordsFor (w ∷ at ∷ number ∷ []) (fate_tokens fate))
+            (sym ((bytes_eq-Decides what (codes "fail")).0 fails))
+            (fail_of-says at number fate found)
+        | inr other ↦
+            let none : None ≡ Some fate = rw (goes_on, other) at is in
+            absurd (cc none)
+      ]
     ]
 fate_of-says words fate is = absurd (cc is)

@@ -127,9 +127,11 @@ weights_of-says n (word ∷ words) weights is =
     elim (cases_Bool (eqb (length (word ∷ words)) n)) [
       | inl same ↦
           let found : weights_in (word ∷ words) ≡ Some weights = rw (some, same) at is in
-          let are = weights_in-says (word ∷ words) weights found in
-          (sym (length-weights (word ∷ words) weights are)
-          ∙ eqb-true (length (word ∷ words)) n same, inl are)
+          let are = weights_in-says (word ∷ words) weights found in (
+            sym (length-weights (word ∷ words) weights are)
+                ∙ eqb-true (length (word ∷ words)) n same,
+            inl are,
+          )
       | inr other ↦
           let none : None ≡ Some weights = rw (some, other) at is in
           absurd (cc none)
@@ -157,11 +159,11 @@ members_from federation count words f n weights f_is n_is w_is =
     elim (some.1) [
       | inl named ↦ inl (refl, (f_word, (n_word, named)))
       | inr none ↦ inr (
-          subst (λ (ws : List (List ℕ)). AreWordsFor (codes "federation" ∷ federation ∷ count ∷ ws)
-              (federation_tokens (membership_of f weights) []))
-              (sym none.0) (refl, (f_word, (n_word, tt))),
-          none.1 ∙ ap (λ (k : ℕ). replicate k 1) (sym some.0),
-        )
+        subst (λ (ws : List (List ℕ)). AreWordsFor (codes "federation" ∷ federation ∷ count ∷ ws)
+            (federation_tokens (membership_of f weights) []))
+            (sym none.0) (refl, (f_word, (n_word, tt))),
+        none.1 ∙ ap (λ (k : ℕ). replicate k 1) (sym some.0),
+      )
     ]
 
 pub federation_of-says : (words : List (List ℕ)) (m : Membership) → federation_of words ≡ Some m
@@ -171,8 +173,8 @@ federation_of-says (name ∷ federation ∷ count ∷ words) m is =
     elim (cases_Bool (bytes_eq name (codes "federation"))) [
       | inl same ↦
           let found : (number_in 0 greatest_federation federation
-              >>= (λ f. number_in 1 most_members count
-              >>= (λ n. option_map (membership_of f) (weights_of n words)))) ≡ Some m =
+          >>= (λ f. number_in 1 most_members count
+          >>= (λ n. option_map (membership_of f) (weights_of n words)))) ≡ Some m =
           rw same at is in
           let f = bind_some _ _ m found in
           let n = bind_some _ _ m f.2 in

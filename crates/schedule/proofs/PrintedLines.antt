@@ -150,9 +150,11 @@ later_line-command command is =
     let has =
     HasWords-words_of line (words_for command)
     (words_of-join (words_for command) (AreWords-command command is)) in
-    later_line-from line (Some command)
-    (words_for command, has,
-    AreWordsFor-printed (command_tokens command) (plain_command command) is)
+    later_line-from line (Some command) (
+      words_for command,
+      has,
+      AreWordsFor-printed (command_tokens command) (plain_command command) is,
+    )
 
 -- the line of a federation isn't skipped
 federation_goes_on : (m : Membership) → IsMembership m

@@ -37,13 +37,21 @@ IsMembership-named line m names =
     let some = words_some line names.0 names.1 in
     elim (names.2) [
       | inl named ↦
-          let have = HaveWords-from names.0 (federation_tokens m m.weights) some named in
-          (omega (arith, have.1.0), ((have.1.1.0.0, have.1.1.0.1),
-          weights_fit m.weights have.1.1.1))
+          let have = HaveWords-from names.0 (federation_tokens m m.weights) some named in (
+            omega (arith, have.1.0),
+            (
+              (have.1.1.0.0, have.1.1.0.1),
+              weights_fit m.weights have.1.1.1,
+            ),
+          )
       | inr ones ↦
-          let have = HaveWords-from names.0 (federation_tokens m []) some ones.0 in
-          (omega (arith, have.1.0), ((have.1.1.0.0, have.1.1.0.1),
-          subst (All IsWeight) (sym ones.1) (ones_fit (count_of m))))
+          let have = HaveWords-from names.0 (federation_tokens m []) some ones.0 in (
+            omega (arith, have.1.0),
+            (
+              (have.1.1.0.0, have.1.1.0.1),
+              subst (All IsWeight) (sym ones.1) (ones_fit (count_of m)),
+            ),
+          )
     ]
 
 said_fits : (line : List ℕ) (said : Option Command) → Says line said → IfSome said IsCommand

@@ -154,11 +154,13 @@ Says-later_line line said is =
           subst (Says line) (same_Some None said none) (IsSkipped-is_skipped line skipped)
       | inr goes_on ↦
           let found : option_map (λ command. Some command) (command_of (words_of line))
-              ≡ Some said = rw goes_on at is in
+          ≡ Some said = rw goes_on at is in
           let one = mapped (command_of (words_of line)) said found in
-          subst (Says line) (sym one.2)
-          (words_of line, HasWords-words_of line (words_of line) refl,
-          command_of-says (words_of line) one.0 one.1)
+          subst (Says line) (sym one.2) (
+            words_of line,
+            HasWords-words_of line (words_of line) refl,
+            command_of-says (words_of line) one.0 one.1,
+          )
     ]
 
 pub says_nothing : (line : List ℕ) → later_line line ≡ None → (said : Option Command)

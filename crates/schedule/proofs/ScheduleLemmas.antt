@@ -71,9 +71,11 @@ members-from line m names =
 
 pub NamesMembers-read : (line : List ℕ) (m : Membership) → federation_of (words_of line) ≡ Some m
     → NamesMembers line m
-NamesMembers-read line m is =
-    (words_of line, HasWords-words_of line (words_of line) refl,
-    federation_of-says (words_of line) m is)
+NamesMembers-read line m is = (
+  words_of line,
+  HasWords-words_of line (words_of line) refl,
+  federation_of-says (words_of line) m is,
+)
 
 -- ---- all lines
 

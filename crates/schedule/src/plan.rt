@@ -33,8 +33,7 @@ impl Schedule {
     /// after it say.
     pub(crate) fn new(skipped: usize, members: Members, lines: Vec<Option<Command>>) -> Schedule
         requires room { skipped + 2 + vec_len lines < 2 ^ 64 }
-        requires in_range
-            { IsPlan (record { skipped = skipped; members = members; lines = lines.items }) }
+        requires in_range { IsPlan (record { skipped = skipped; members = members; lines = lines.items }) }
         ensures { result ≡ record { skipped = skipped; members = members; lines = lines.items } }
     {
         Schedule {

@@ -11,7 +11,7 @@ use crate::file_path::FilePath;
 use crate::hex_bytes::HexBytes;
 use crate::print_call::{push_call, push_fate, push_slot};
 use crate::tree_no::TreeNo;
-use crate::word::push_escaped;
+use crate::word::{push_end, push_escaped};
 use fed_types::Slot;
 use std::alloc::{AllocError, Global};
 
@@ -61,7 +61,7 @@ fn push_call_and_fate(text: &mut String, call: &Call, fate: Fate) -> Result<(), 
 {
     push_call(text, call)?;
     push_fate(text, fate)?;
-    text.push('\n')
+    push_end(text)
 }
 
 fn push_query(text: &mut String, site: u8, slot: &Slot) -> Result<(), AllocError>

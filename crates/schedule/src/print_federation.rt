@@ -6,6 +6,7 @@ ghost use Rattle.schedule.specs.Pushes.{Pushes};
 ghost use Rattle.schedule.specs.Texts.{federation_line, printed_weights};
 ghost use Rattle.schedule.specs.inner.Printed.{spaced_weights};
 
+use crate::word::push_end;
 use fed_types::Members;
 use std::alloc::AllocError;
 
@@ -51,10 +52,4 @@ fn push_weight(text: &mut String, weight: u8) -> Result<(), AllocError>
     ensures { Pushes result text.old text.new (32 ∷ decimal weight) }
 {
     write!(text, " {weight}")
-}
-
-fn push_end(text: &mut String) -> Result<(), AllocError>
-    ensures { Pushes result text.old text.new (10 ∷ []) }
-{
-    text.push('\n')
 }
