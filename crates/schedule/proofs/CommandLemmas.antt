@@ -1,6 +1,6 @@
 -- The words that the grammar has for a command are those that are read as the command.
-use Rattle.std.proofs.Common.{◌≡◌, ℕ, Bool, true, List, [], ◌∷◌, ◌++◌, Option, Some, None, refl, sym}
-use Rattle.std.proofs.Common.{subst, cond, inl, inr}
+use Rattle.std.proofs.Common.{◌≡◌, ℕ, List, [], ◌∷◌, ◌++◌, Option, Some, None, refl, sym, subst}
+use Rattle.std.proofs.Common.{cond, inl, inr}
 use Rattle.std.specs.Prelude.{codes}
 use Rattle.std.specs.Str.{bytes_eq}
 use Rattle.std.proofs.lemmas.Bool.{cases_Bool}
@@ -158,8 +158,10 @@ slot-says object version slot is =
     let o = bind_some _ _ slot is in
     let v = bind_some _ _ slot o.2 in
     subst (λ (found : SlotName). AreWordsFor (object ∷ version ∷ []) (slot_tokens found))
-    (same_Some _ slot v.2)
-    (IsObject-object_of object o.0 o.1, (IsNumeral-number_in 1 greatest_version version v.0 v.1, tt))
+    (same_Some _ slot v.2) (
+      IsObject-object_of object o.0 o.1,
+      (IsNumeral-number_in 1 greatest_version version v.0 v.1, tt),
+    )
 
 -- words are the command's, too
 same_words : (words : List (List ℕ)) (found command : Command) → Some found ≡ Some command

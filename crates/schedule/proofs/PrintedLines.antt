@@ -187,7 +187,8 @@ later_lines-printed number (None ∷ more) are =
 later_lines-printed number (Some command ∷ more) are =
     let line = join_with_byte 32 (words_for command) in
     ap (later_lines number)
-    (lines-line line (flat_map printed_line more) (in_line (words_for command) (AreWords-command command are.0)))
+    (lines-line line (flat_map printed_line more)
+    (in_line (words_for command) (AreWords-command command are.0)))
     ∙ ap (λ (s : Option (Option Command)). line_then s number
     (later_lines (number + 1) (lines (flat_map printed_line more))))
     (later_line-command command are.0)

@@ -10,7 +10,7 @@ use Rattle.schedule.specs.Words.{words_of}
 use Rattle.schedule.specs.Commands.{federation_of}
 use Rattle.schedule.specs.Lines.{federation_tokens}
 use Rattle.schedule.specs.Plans.{Plan, is_skipped, later_line, later_lines, line_then, plan_from}
-use Rattle.schedule.specs.Plans.{plan_after, plan_of}
+use Rattle.schedule.specs.Plans.{plan_after, plan_of, plan_with}
 use Rattle.schedule.specs.Schedules.{IsSkipped, NamesMembers, AllSay, IsTextOf}
 use Rattle.schedule.proofs.FederationLemmas.{federation_of-from, federation_of-says}
 use Rattle.schedule.proofs.GrammarLemmas.{words_of-from, HasWords-words_of}
@@ -102,7 +102,7 @@ plan_after-from skipped [] first later plan skips count members says =
     ∙ ap (plan_from skipped (Some plan.members))
     (later_lines-from (skipped + 2) later plan.lines says)
     ∙ ap (λ (k : ℕ).
-    Ok (record { skipped = k; members = plan.members; lines = plan.lines })) (omega (arith, count))
+    Ok (plan_with k plan.members plan.lines)) (omega (arith, count))
 plan_after-from skipped (line ∷ before) first later plan skips count members says =
     plan_after-skipped skipped line (before ++ first ∷ later) (is_skipped-from line skips.0)
     ∙ plan_after-from (skipped + 1) before first later plan skips.1 (omega (arith, count)) members
@@ -116,8 +116,7 @@ parts_read : (skipped : ℕ) (members : Option Membership)
 parts_read skipped None later plan is = absurd (cc is)
 parts_read skipped (Some m) (Err fault) plan is = absurd (cc is)
 parts_read skipped (Some m) (Ok said) plan is =
-    let made : Plan = record { skipped = skipped; members = m; lines = said } in
-    let same : made ≡ plan = cc in (
+    let same : plan_with skipped m said ≡ plan = cc in (
       ap (λ (p : Plan). Some p.members) same,
       ap (λ (p : Plan). Ok p.lines) same,
       ap (λ (p : Plan). p.skipped) same,

@@ -1,7 +1,7 @@
 -- The words of tokens, one token at a time: those that are read, and the one that is printed.
 use Rattle.std.proofs.Common.{◌≡◌, ℕ, ◌^◌, ◌<◌, ◌≤◌, Bool, true, false, ◌&&◌, ltb, List, [], ◌∷◌}
-use Rattle.std.proofs.Common.{◌++◌, length, map, Option, Some, None, Ok, refl, sym, ap, ◌∙◌, inl, inr}
-use Rattle.std.proofs.Common.{Result, Err, ◌⊎◌, cond, subst, leb, arith}
+use Rattle.std.proofs.Common.{◌++◌, length, map, Option, Some, None, Ok, refl, sym, ap, ◌∙◌, inl}
+use Rattle.std.proofs.Common.{inr, Result, Err, ◌⊎◌, cond, subst, leb, arith}
 use Rattle.std.specs.Prelude.{codes}
 use Rattle.std.specs.List.{AllByRecursion}
 use Rattle.std.specs.Result.{result_ok}

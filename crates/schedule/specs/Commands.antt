@@ -1,4 +1,4 @@
--- The commands, each by its words: the function that reads a line. `specs/Lines` has the grammar as a
+-- The commands, each by its words: the function that reads a line. `Lines` has the grammar as a
 -- table, and `commands_law` says that the two are one.
 use Rattle.std.specs.Prelude.{ℕ, List, [], ◌∷◌, length, replicate, codes}
 use Rattle.std.specs.Prelude.{◌==◌, if◌then◌else◌, Option, Some, None}
@@ -113,8 +113,8 @@ fail_of at number = do
   kept ← amount_of number
   Some (FailsIn device kept)
 
--- the fate of a call, by the words that follow the call's own: where there are none, nothing befalls
--- the site
+-- the fate of a call, by the words that follow the call's own: where there are none, nothing
+-- befalls the site
 unfoldable pub fate_of : List (List ℕ) → Option Fate
 fate_of [] = Some Whole
 fate_of (what ∷ at ∷ number ∷ []) =

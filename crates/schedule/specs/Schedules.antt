@@ -1,5 +1,5 @@
--- Schedules and their texts, by cases, beside the function that reads a text (`plan_of`), which says
--- the same.
+-- Schedules and their texts, by cases, beside the function that reads a text (`plan_of`), which
+-- says the same.
 use Rattle.std.specs.Prelude.{◌≡◌, ℕ, ◌+◌, List, [], ◌∷◌, ◌++◌, length, ⊤, ◌⊎◌}
 use Rattle.std.specs.Prelude.{Option, Some, None, IfSome}
 use Rattle.std.specs.List.{AllByRecursion}

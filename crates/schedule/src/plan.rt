@@ -1,4 +1,5 @@
 ghost use Rattle.std.specs.Prelude.{◌≡◌, ◌+◌, ◌<◌, ◌^◌, length, vec_len};
+ghost use Rattle.schedule.specs.Plans.{plan_with};
 ghost use Rattle.schedule.specs.Schedules.{IsPlan};
 
 use crate::command::Command;
@@ -15,17 +16,16 @@ pub struct Schedule {
 
 impl Model for Schedule {
     ghost use Rattle.std.specs.Prelude.{◌+◌, ◌<◌, ◌^◌, vec_len};
-    ghost use Rattle.schedule.specs.Plans.{Plan};
+    ghost use Rattle.schedule.specs.Plans.{Plan, plan_with};
     ghost use Rattle.schedule.specs.Schedules.{IsPlan};
 
     ghost Value = { Plan };
 
-    ghost view = { λ s.
-        record { skipped = s.skipped; members = s.members; lines = s.lines.items } };
+    ghost view = { λ s. plan_with s.skipped s.members s.lines.items };
 
     // Each line's number fits, and every part is in its range.
     ghost invariant = { λ s. (s.skipped + 2 + vec_len s.lines < 2 ^ 64)
-        × IsPlan (record { skipped = s.skipped; members = s.members; lines = s.lines.items }) };
+        × IsPlan (plan_with s.skipped s.members s.lines.items) };
 }
 
 impl Schedule {
@@ -33,8 +33,8 @@ impl Schedule {
     /// after it say.
     pub(crate) fn new(skipped: usize, members: Members, lines: Vec<Option<Command>>) -> Schedule
         requires room { skipped + 2 + vec_len lines < 2 ^ 64 }
-        requires in_range { IsPlan (record { skipped = skipped; members = members; lines = lines.items }) }
-        ensures { result ≡ record { skipped = skipped; members = members; lines = lines.items } }
+        requires in_range { IsPlan (plan_with skipped members lines.items) }
+        ensures { result ≡ plan_with skipped members lines.items }
     {
         Schedule {
             skipped,

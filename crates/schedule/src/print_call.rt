@@ -44,7 +44,8 @@ pub(crate) fn push_slot(text: &mut String, slot: &Slot) -> Result<(), AllocError
 
 /// Appends the words of a fate, a space before each.
 pub(crate) fn push_fate(text: &mut String, fate: Fate) -> Result<(), AllocError>
-    ensures { Pushes result text.old text.new (spaced_words (map printed_token (fate_tokens fate))) }
+    ensures { Pushes result text.old text.new
+        (spaced_words (map printed_token (fate_tokens fate))) }
 {
     match fate {
         Fate::Whole => Ok(()),

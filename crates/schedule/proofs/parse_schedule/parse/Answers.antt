@@ -5,7 +5,8 @@ use Rattle.std.proofs.lemmas.Result.{err_from_is_err_and}
 use Rattle.fed_types.specs.Sites.{Membership}
 use Rattle.schedule.specs.Commands.{federation_of}
 use Rattle.schedule.specs.Words.{words_of}
-use Rattle.schedule.specs.Plans.{plan_of, plan_after, plan_from, is_skipped, later_lines}
+use Rattle.schedule.specs.Plans.{plan_of, plan_after, plan_from, plan_with, is_skipped}
+use Rattle.schedule.specs.Plans.{later_lines}
 use Rattle.schedule.proofs.PlanLemmas.{plan_after-skipped, plan_after-federation, plan_after-none}
 use Rattle.schedule.proofs.PlanLemmas.{fault_from_ok_or, IsOrMemory-no_federation}
 use Rattle.schedule.proofs.PlanLemmas.{IsOrMemory-later_fault, whole_plan}
@@ -64,11 +65,7 @@ returns-in_err-commands c =
 pub new-requires-clause-in_range : goal.new-requires-clause-in_range
 new-requires-clause-in_range c =
     IsPlan-plan_of c.args.text.now
-    (record {
-      skipped = c.loop-line.skipped;
-      members = c.in_ok-members.members;
-      lines = c.in_ok-commands.commands.items;
-    })
+    (plan_with c.loop-line.skipped c.in_ok-members.members c.in_ok-commands.commands.items)
     (whole_plan (plan_of c.args.text.now) c.loop-line.skipped c.in-Some.line.now
     (lines c.in-Some.after.now)
     (map (λ (word : Bor (List ℕ)). word.now) c.deref-then-not-skips.result.now)
