@@ -7,6 +7,8 @@ pub mod Utf8Lemmas
 pub mod EscapeLemmas
 pub mod WordLemmas
 pub mod PrintedWords
+pub mod HexDigits
+pub mod UnescapeLemmas
 pub mod TokenLemmas
 pub mod FateLemmas
 pub mod CommandLemmas

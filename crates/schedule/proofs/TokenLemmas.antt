@@ -16,12 +16,14 @@ use Rattle.percent_encoding.specs.Percent.{percent_decode}
 use Rattle.fed_types.specs.Limits.{longest_object}
 use Rattle.fed_types.specs.Slots.{IsObjectName}
 use Rattle.schedule.specs.Words.{◌>>=◌, number_in, text_of, object_of, bytes_of}
-use Rattle.schedule.specs.Grammar.{IsNumeral}
+use Rattle.schedule.specs.Grammar.{IsNumeral, AreHexDigitsOf, Unescapes}
 use Rattle.schedule.specs.Tokens.{Token, Keyword, Number, Text, Object, Hex, IsTextFor, IsHexFor}
 use Rattle.schedule.specs.Tokens.{IsWordFor, AreWordsFor, HasWord, printed_token}
 use Rattle.schedule.specs.inner.Printed.{IsWord}
 use Rattle.schedule.proofs.GrammarLemmas.{IsNumeral-number_in}
 use Rattle.schedule.proofs.TextLemmas.{percent_decode-some, text_of-utf8, text_of-not_utf8}
+use Rattle.schedule.proofs.UnescapeLemmas.{percent_decode-from, Unescapes-percent_decode}
+use Rattle.schedule.proofs.UnescapeLemmas.{decode_of-from, AreHexDigitsOf-decode_of}
 use Rattle.schedule.proofs.WordLemmas.{all_above, IsWord-computed, IsWord-decimal, IsWord-escaped}
 use Rattle.schedule.proofs.WordLemmas.{IsWord-hex_word}
 use Rattle.schedule.proofs.PrintedWords.{number_in-decimal, text_of-escaped, bytes_of-hex_word}
@@ -37,8 +39,9 @@ bind_some (Some a) step b is = (a, refl, is)
 
 pub text_of-from : (word text : List ℕ) → IsTextFor word text → text_of word ≡ Some text
 text_of-from word text is =
-    text_of-utf8 word (ap is_utf8 is.0 ∙ is_utf8-from_IsUtf8 text is.1)
-    ∙ ap (λ (t : List ℕ). Some t) is.0
+    let whole = percent_decode-from word text is.0 in
+    text_of-utf8 word (ap is_utf8 whole ∙ is_utf8-from_IsUtf8 text is.1)
+    ∙ ap (λ (t : List ℕ). Some t) whole
 
 pub IsTextFor-text_of : (word text : List ℕ) → text_of word ≡ Some text → IsTextFor word text
 IsTextFor-text_of word text found =
@@ -46,8 +49,10 @@ IsTextFor-text_of word text found =
       | inl utf8 ↦
           let same : Some (percent_decode word) ≡ Some text =
           sym (text_of-utf8 word utf8) ∙ found in
-          let whole : percent_decode word ≡ text = cc in
-          (whole, subst IsUtf8 whole (IsUtf8-from_is_utf8 (percent_decode word) utf8))
+          let whole : percent_decode word ≡ text = cc in (
+            subst (Unescapes word) whole (Unescapes-percent_decode word),
+            subst IsUtf8 whole (IsUtf8-from_is_utf8 (percent_decode word) utf8),
+          )
       | inr not_utf8 ↦
           let none : None ≡ Some text = sym (text_of-not_utf8 word not_utf8) ∙ found in
           absurd (cc none)
@@ -92,8 +97,9 @@ bytes_of-from word bytes (inr is) =
     elim (cases_Bool (bytes_eq word (codes "-"))) [
       | inl dash ↦
           absurd (not_hex bytes
-          (ap decode_of (sym ((bytes_eq-Decides word (codes "-")).0 dash)) ∙ is))
-      | inr isnt ↦ rw isnt (ap result_ok is)
+          (ap decode_of (sym ((bytes_eq-Decides word (codes "-")).0 dash))
+          ∙ decode_of-from word bytes is))
+      | inr isnt ↦ rw isnt (ap result_ok (decode_of-from word bytes is))
     ]
 
 -- an answer that is a value
@@ -110,7 +116,7 @@ IsHexFor-bytes_of word bytes found =
           inl ((bytes_eq-Decides word (codes "-")).0 dash, cc none)
       | inr isnt ↦
           let some : result_ok (decode_of word) ≡ Some bytes = rw isnt at found in
-          inr (ok_from (decode_of word) bytes some)
+          inr (AreHexDigitsOf-decode_of word bytes (ok_from (decode_of word) bytes some))
     ]
 
 -- ---- a token that has a word
@@ -119,12 +125,16 @@ pub HasWord-from : (word : List ℕ) (token : Token) → 0 < length word → IsW
     → HasWord token
 HasWord-from word (Keyword text) some is = tt
 HasWord-from word (Number low high value) some is = (is.1, is.2)
-HasWord-from word (Text text) some is =
-    (subst (λ (t : List ℕ). 0 < length t) is.0 (percent_decode-some word some), is.1)
+HasWord-from word (Text text) some is = (
+  subst (λ (t : List ℕ). 0 < length t) (percent_decode-from word text is.0)
+      (percent_decode-some word some),
+  is.1,
+)
 HasWord-from word (Object name) some is = (is.1, is.0.1)
 HasWord-from word (Hex bytes) some (inl is) =
     subst IsBytes (sym is.1) (λ i. omega arith)
-HasWord-from word (Hex bytes) some (inr is) = (decode_of-ok word bytes is).3
+HasWord-from word (Hex bytes) some (inr is) =
+    (decode_of-ok word bytes (decode_of-from word bytes is)).3
 
 -- words for tokens, none of them empty, are words that there are
 pub HaveWords-from : (words : List (List ℕ)) (tokens : List Token)

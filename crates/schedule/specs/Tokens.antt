@@ -1,14 +1,13 @@
 -- What a word of a line can mean: a token. Which words there are for a token, and which one is
 -- printed.
 use Rattle.std.specs.Prelude.{◌≡◌, ℕ, ◌<◌, ◌≤◌, ⊤, ◌==◌, if◌then◌else◌}
-use Rattle.std.specs.Prelude.{List, [], ◌∷◌, length, codes, ◌⊎◌, Ok}
+use Rattle.std.specs.Prelude.{List, [], ◌∷◌, length, codes, ◌⊎◌}
 use Rattle.std.specs.Fmt.{decimal}
 use Rattle.std.specs.Str.{IsUtf8}
-use Rattle.hex.specs.Hex.{decode_of, encode_lower, IsBytes}
-use Rattle.percent_encoding.specs.Percent.{percent_decode}
+use Rattle.hex.specs.Hex.{encode_lower, IsBytes}
 use Rattle.fed_types.specs.Slots.{IsObjectName}
 use Rattle.schedule.specs.Escapes.{escaped_text}
-use Rattle.schedule.specs.Grammar.{IsNumeral}
+use Rattle.schedule.specs.Grammar.{IsNumeral, AreHexDigitsOf, Unescapes}
 
 -- a token: this very word; a number from the first to the second, of the third as its value; a
 -- file's path, or an object's name, of these bytes; or these bytes in hex digits
@@ -19,14 +18,13 @@ pub data Token : Type 0 where
   Object : List ℕ → Token
   Hex : List ℕ → Token
 
--- the word with its escapes undone is this text, in UTF-8
+-- the word's bytes, with its escapes undone, are this text, in UTF-8
 abbrev pub IsTextFor : List ℕ → List ℕ → Type 0
-IsTextFor word text = (percent_decode word ≡ text) × IsUtf8 text
+IsTextFor word text = Unescapes word text × IsUtf8 text
 
 -- two hex digits of either case for each byte, or `-` for no bytes
 abbrev pub IsHexFor : List ℕ → List ℕ → Type 0
-IsHexFor word bytes =
-    ((word ≡ codes "-") × (bytes ≡ [])) ⊎ (decode_of word ≡ Ok bytes)
+IsHexFor word bytes = ((word ≡ codes "-") × (bytes ≡ [])) ⊎ AreHexDigitsOf word bytes
 
 -- the word is one for the token
 abbrev pub IsWordFor : List ℕ → Token → Type 0

@@ -10,8 +10,8 @@ ghost use Rattle.schedule.specs.Lines.{AreWordsForMembers, command_tokens};
 ghost use Rattle.schedule.specs.Plans.{Plan, plan_of};
 ghost use Rattle.schedule.specs.Schedules.{IsTextOf, HasFault, IsPlan};
 ghost use Rattle.schedule.specs.Texts.{schedule_text};
-ghost use Rattle.schedule.specs.Tokens.{AreWordsFor};
-ghost use Rattle.schedule.specs.Words.{words_of, number_in};
+ghost use Rattle.schedule.specs.Tokens.{IsTextFor, IsHexFor, AreWordsFor};
+ghost use Rattle.schedule.specs.Words.{words_of, number_in, text_of, bytes_of};
 
 /// `words_of` says which words a line has: those that spaces separate, in order.
 pub fn words_law()
@@ -24,6 +24,13 @@ pub fn numbers_law()
     ensures { (low high : ℕ) (word : List ℕ) (value : ℕ)
         → (IsNumeral word value × (low ≤ value) × (value ≤ high))
         ↔ (number_in low high word ≡ Some value) }
+{}
+
+/// `text_of` and `bytes_of` say which text a word is, once its escapes are undone, and which bytes
+/// its hex digits are.
+pub fn texts_law()
+    ensures texts { (word text : List ℕ) → IsTextFor word text ↔ (text_of word ≡ Some text) }
+    ensures bytes { (word bytes : List ℕ) → IsHexFor word bytes ↔ (bytes_of word ≡ Some bytes) }
 {}
 
 /// `command_of` and `federation_of` say which command, or which members, words name: those of the

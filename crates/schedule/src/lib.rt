@@ -29,7 +29,7 @@ pub use fate::{DeviceCall, Fate};
 pub use fault::ParseFault;
 pub use file_path::FilePath;
 pub use hex_bytes::HexBytes;
-pub use law::{commands_law, numbers_law, printed_law, schedules_law, words_law};
+pub use law::{commands_law, numbers_law, printed_law, schedules_law, texts_law, words_law};
 pub use parse_schedule::parse;
 pub use plan::Schedule;
 pub use print_schedule::print;

@@ -361,6 +361,7 @@ fn faults_are_numbered_and_printed(rt: HostRuntime) -> Result<(), Fail> {
 fn laws_of_the_grammar() {
     words_law();
     numbers_law();
+    texts_law();
     commands_law();
     schedules_law();
     printed_law();
