@@ -5,8 +5,8 @@ use Rattle.std.proofs.Common.{subst, inl, inr, arith}
 use Rattle.std.specs.Char.{digit_value, is_digit}
 use Rattle.std.proofs.lemmas.Bool.{cases_Bool, and_parts, eqb-true}
 use Rattle.hex.specs.declared.error.FromHexError.{FromHexError}
-use Rattle.hex.specs.Hex.{◌>>=◌, hex_digit_value, digit_or_error, value_at, pair_value, decode_pairs}
-use Rattle.hex.specs.Hex.{decode_of}
+use Rattle.hex.specs.Hex.{◌>>=◌, hex_digit_value, digit_or_error, value_at, pair_value}
+use Rattle.hex.specs.Hex.{decode_pairs, decode_of}
 use Rattle.hex.proofs.HexLemmas.{decode_of-even, decode_of-ok}
 use Rattle.percent_encoding.specs.Percent.{percent_decode, is_escape}
 use Rattle.schedule.specs.Grammar.{IsHexDigit, AreHexDigitsOf, none, pair, BeginsEscape, Unescapes}
