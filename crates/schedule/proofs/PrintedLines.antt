@@ -1,30 +1,42 @@
 -- Printed lines are read again, and a printed schedule as a whole.
-use Rattle.std.proofs.Common.{◌≡◌, ℕ, zero, suc, ◌+◌, ◌-◌, ◌<◌, Bool, true, false, not, eqb, ◌||◌}
-use Rattle.std.proofs.Common.{List, [], ◌∷◌, ◌++◌, length, get_or, All, Option, Some, None, Ok}
-use Rattle.std.proofs.Common.{replicate, refl, sym, ap, subst, ◌∙◌, inl, inr, append_assoc, take}
+use Rattle.std.proofs.Common.{◌≡◌, ℕ, zero, suc, ◌+◌, ◌-◌, ◌<◌, Bool, true, false, not, eqb}
+use Rattle.std.proofs.Common.{List, [], ◌∷◌, ◌++◌, length, get_or, map, All, Option, Some, None, Ok}
+use Rattle.std.proofs.Common.{replicate, refl, sym, ap, ◌∙◌, inl, inr, append_assoc, take}
 use Rattle.std.proofs.Common.{arith}
-use Rattle.std.specs.Prelude.{IfSome, filter}
-use Rattle.std.specs.Option.{option_map}
+use Rattle.std.specs.Prelude.{IfSome, filter, codes}
+use Rattle.std.specs.Fmt.{decimal}
 use Rattle.std.specs.List.{AllByRecursion, slice_split, join_with_byte, flat_map}
 use Rattle.std.specs.Str.Lines.{lines, lines_of_parts, strip_carriage_return}
 use Rattle.std.proofs.lemmas.Bool.{ne_eqb, cases_lt}
 use Rattle.std.proofs.lemmas.List.{get_or_past, take_more, flat_map_more}
-use Rattle.std.proofs.lemmas.List.Elements.{All-nil, All-cons, All-append, All-push, All-weaker}
-use Rattle.std.proofs.lemmas.List.Elements.{recursion_from_All}
+use Rattle.std.proofs.lemmas.List.Elements.{All-nil, All-cons, All-append, All-weaker}
 use Rattle.std.proofs.lemmas.List.Splits.{slice_split_none, slice_split_at, length-slice_split}
-use Rattle.fed_types.specs.Sites.{Membership}
+use Rattle.fed_types.specs.Sites.{Membership, count_of}
+use Rattle.fed_types.specs.Values.{IsMembership}
+use Rattle.schedule.specs.declared.call.Call.{Call}
+use Rattle.schedule.specs.declared.call.Call.TheVariants.{Deposit, Propose, Deliver, Ask}
 use Rattle.schedule.specs.declared.command.Command.{Command}
-use Rattle.schedule.specs.declared.command.Command.TheVariants.{Tree, Folder, File, Deposit, Query}
+use Rattle.schedule.specs.declared.command.Command.TheVariants as commands
+use Rattle.schedule.specs.declared.fate.DeviceCall.TheVariants.{Append, Sync}
+use Rattle.schedule.specs.declared.fate.Fate.{Fate}
+use Rattle.schedule.specs.declared.fate.Fate.TheVariants.{Whole, StopsIn, StopsAfter, FailsIn}
 use Rattle.schedule.specs.Words.{words_of}
 use Rattle.schedule.specs.Commands.{federation_of}
+use Rattle.schedule.specs.Lines.{call_tokens, fate_tokens, command_tokens}
 use Rattle.schedule.specs.Plans.{Plan, is_skipped, later_line, later_lines, line_then, plan_from}
 use Rattle.schedule.specs.Plans.{plan_after, plan_of}
+use Rattle.schedule.specs.Schedules.{IsCommand, IsPlan}
 use Rattle.schedule.specs.Texts.{words_for, federation_words, federation_line, printed_line}
-use Rattle.schedule.specs.Texts.{schedule_text}
-use Rattle.schedule.specs.inner.Printed.{IsWord, RoundTrips, FederationRoundTrips}
+use Rattle.schedule.specs.Texts.{printed_weights, schedule_text}
+use Rattle.schedule.specs.inner.Printed.{IsWord}
+use Rattle.schedule.proofs.EscapeLemmas.{IsAbove}
+use Rattle.schedule.proofs.GrammarLemmas.{HasWords-words_of}
 use Rattle.schedule.proofs.LineLemmas.{ends_line, lines_of_more_parts}
 use Rattle.schedule.proofs.PlanLemmas.{plan_after-skipped, plan_after-federation}
-use Rattle.schedule.proofs.EscapeLemmas.{IsAbove}
+use Rattle.schedule.proofs.PrintedFederation.{AreWords-federation, federation_of-printed}
+use Rattle.schedule.proofs.SaysLemmas.{later_line-from, no_skip-words}
+use Rattle.schedule.proofs.TokenLemmas.{are_plain, are_plain-append, AreWordsFor-printed}
+use Rattle.schedule.proofs.TokenLemmas.{AreWords-printed}
 
 -- no CR and no LF
 abbrev pub IsInLine : ℕ → Type 0
@@ -97,33 +109,64 @@ lines-line line rest are =
     (omega (arith, length-slice_split ends_line rest))
     ∙ ap (λ (l : List ℕ). l ∷ lines rest) (strip_carriage_return-in_line line are)
 
--- no command has no words, or begins a comment
-begins : (command : Command)
-    → (eqb (length (words_for command)) 0 || eqb
-    (get_or (join_with_byte 32 (words_for command)) 0 0) 35) ≡ false
-begins (Tree t) = refl
-begins (Folder t) = refl
-begins (File t path content) = refl
-begins (Deposit s t slot) = refl
-begins (Query s slot) = refl
+-- each keyword is a word, and each range fits
+plain_fate : (fate : Fate) → are_plain (fate_tokens fate) ≡ true
+plain_fate Whole = refl
+plain_fate (StopsIn Append kept) = refl
+plain_fate (StopsIn Sync kept) = refl
+plain_fate (StopsAfter sent) = refl
+plain_fate (FailsIn Append kept) = refl
+plain_fate (FailsIn Sync kept) = refl
 
--- nor does a federation's line
-begins_federation : (m : Membership)
-    → (eqb (length (federation_words m)) 0
-    || eqb (get_or (join_with_byte 32 (federation_words m)) 0 0) 35) ≡ false
-unfolding federation_words
-begins_federation m =
-    let some : eqb (length (federation_words m)) 0 ≡ false =
-    ne_eqb (length (federation_words m)) 0 (λ e. omega (arith, e)) in
-    rw some refl
+plain_call : (call : Call) → are_plain (call_tokens call) ≡ true
+plain_call (Deposit s t slot) = refl
+plain_call (Propose s slot) = refl
+plain_call (Deliver k) = refl
+plain_call (Ask s to slot) = refl
+
+plain_command : (command : Command) → are_plain (command_tokens command) ≡ true
+plain_command (commands.Tree t) = refl
+plain_command (commands.Folder t) = refl
+plain_command (commands.File t path content) = refl
+plain_command (commands.Call call fate) =
+    are_plain-append (call_tokens call) (fate_tokens fate) (plain_call call) (plain_fate fate)
+plain_command (commands.Query s slot) = refl
+plain_command (commands.Raw s bytes) = refl
+plain_command (commands.Pump n) = refl
+plain_command (commands.Stop s) = refl
+plain_command (commands.Start s) = refl
+
+-- the words of a command
+AreWords-command : (command : Command) → IsCommand command
+    → AllByRecursion IsWord (words_for command)
+AreWords-command command is =
+    AreWords-printed (command_tokens command) (plain_command command) is
 
 -- the line of a command
-pub later_line-command : (command : Command) → RoundTrips command
+later_line-command : (command : Command) → IsCommand command
     → later_line (join_with_byte 32 (words_for command)) ≡ Some (Some command)
-unfolding later_line
 later_line-command command is =
-    let words = words_of-join (words_for command) is.words in
-    rw (words, begins command) (ap (option_map (λ c. Some c)) (is.read))
+    let line = join_with_byte 32 (words_for command) in
+    let has =
+    HasWords-words_of line (words_for command)
+    (words_of-join (words_for command) (AreWords-command command is)) in
+    later_line-from line (Some command) (
+      words_for command,
+      has,
+      AreWordsFor-printed (command_tokens command) (plain_command command) is,
+    )
+
+-- the line of a federation isn't skipped
+federation_goes_on : (m : Membership) → IsMembership m
+    → is_skipped (join_with_byte 32 (federation_words m)) ≡ false
+unfolding federation_words
+federation_goes_on m is =
+    let line = join_with_byte 32 (federation_words m) in
+    let has =
+    HasWords-words_of line (federation_words m)
+    (words_of-join (federation_words m) (AreWords-federation m is)) in
+    no_skip-words line (codes "federation")
+    (decimal m.federation ∷ decimal (count_of m) ∷ map decimal (printed_weights m.weights)) has refl
 
 -- an empty line
 pub later_line-empty : later_line [] ≡ Some None
@@ -132,7 +175,7 @@ later_line-empty = refl
 
 -- the lines after the federation's
 pub later_lines-printed : (number : ℕ) (said : List (Option Command))
-    → AllByRecursion (λ s. IfSome s RoundTrips) said
+    → AllByRecursion (λ s. IfSome s IsCommand) said
     → later_lines number (lines (flat_map printed_line said)) ≡ Ok said
 unfolding later_lines
 later_lines-printed number [] are = refl
@@ -144,7 +187,8 @@ later_lines-printed number (None ∷ more) are =
 later_lines-printed number (Some command ∷ more) are =
     let line = join_with_byte 32 (words_for command) in
     ap (later_lines number)
-    (lines-line line (flat_map printed_line more) (in_line (words_for command) are.0.words))
+    (lines-line line (flat_map printed_line more)
+    (in_line (words_for command) (AreWords-command command are.0)))
     ∙ ap (λ (s : Option (Option Command)). line_then s number
     (later_lines (number + 1) (lines (flat_map printed_line more))))
     (later_line-command command are.0)
@@ -166,26 +210,25 @@ plan_after-blank (suc blank) skipped rest =
     ∙ ap (λ (k : ℕ). plan_after k (lines rest)) (omega arith)
 
 -- a printed schedule
-pub plan_of-schedule_text : (plan : Plan) → FederationRoundTrips plan.members
-    → All (λ s. IfSome s RoundTrips) plan.lines → plan_of (schedule_text plan) ≡ Ok plan
+pub plan_of-schedule_text : (plan : Plan) → IsPlan plan → plan_of (schedule_text plan) ≡ Ok plan
 unfolding plan_of schedule_text
-plan_of-schedule_text plan federation are =
-    let line = join_with_byte 32 (federation_words plan.members) in
+plan_of-schedule_text plan is =
+    let m = plan.members in
+    let line = join_with_byte 32 (federation_words m) in
     let rest = flat_map printed_line plan.lines in
-    let words = words_of-join (federation_words plan.members) federation.words in
-    let isnt : is_skipped line ≡ false = rw (words, begins_federation plan.members) refl in
+    let are = AreWords-federation m is.members in
+    let words = words_of-join (federation_words m) are in
     ap (λ (t : List ℕ). plan_after 0 (lines t))
-    (append_assoc (replicate plan.skipped 10) (federation_line plan.members) rest)
-    ∙ plan_after-blank plan.skipped 0 (federation_line plan.members ++ rest)
-    ∙ ap (plan_after (0 + plan.skipped))
-    (lines-line line rest (in_line (federation_words plan.members) federation.words))
+    (append_assoc (replicate plan.skipped 10) (federation_line m) rest)
+    ∙ plan_after-blank plan.skipped 0 (federation_line m ++ rest)
+    ∙ ap (plan_after (0 + plan.skipped)) (lines-line line rest (in_line (federation_words m) are))
     ∙ ap (λ (k : ℕ). plan_after k (line ∷ lines rest)) (omega arith)
-    ∙ plan_after-federation plan.skipped line (lines rest) isnt
-    ∙ ap (λ (m : Option Membership). plan_from plan.skipped m
-    (later_lines (plan.skipped + 2) (lines rest))) (ap federation_of words ∙ federation.read)
-    ∙ ap (plan_from plan.skipped (Some plan.members))
-    (later_lines-printed (plan.skipped + 2) plan.lines
-    (recursion_from_All (λ s. IfSome s RoundTrips) plan.lines are))
+    ∙ plan_after-federation plan.skipped line (lines rest) (federation_goes_on m is.members)
+    ∙ ap (λ (found : Option Membership). plan_from plan.skipped found
+    (later_lines (plan.skipped + 2) (lines rest)))
+    (ap federation_of words ∙ federation_of-printed m is.members)
+    ∙ ap (plan_from plan.skipped (Some m))
+    (later_lines-printed (plan.skipped + 2) plan.lines is.lines)
 
 -- one line more is printed
 pub flat_map_line-more : (front : List ℕ) (said : List (Option Command)) (i : ℕ)
@@ -197,11 +240,3 @@ flat_map_line-more front said i line within is =
     take_more said i line within ∙ ap (λ (l : Option Command). take i said ++ l ∷ []) (sym is) in
     flat_map_more printed_line front (take i said) line
     ∙ ap (λ (ls : List (Option Command)). front ++ flat_map printed_line ls) (sym more)
-
-pub All-line-more : (P : Option Command → Type 0) (said : List (Option Command)) (i : ℕ)
-    (line : Option Command) → i < length said → line ≡ get_or said i line
-    → All P (take i said) → P line → All P (take (i + 1) said)
-All-line-more P said i line within is are one =
-    let more : take (i + 1) said ≡ take i said ++ line ∷ [] =
-    take_more said i line within ∙ ap (λ (l : Option Command). take i said ++ l ∷ []) (sym is) in
-    subst (All P) (sym more) (All-push P (take i said) line are one)

@@ -9,17 +9,14 @@ use Rattle.std.proofs.lemmas.Bool.{and_right, le-leb}
 use Rattle.std.proofs.lemmas.Fmt.{decimal_nonempty, digits_decimal, digits_value-decimal}
 use Rattle.std.proofs.lemmas.Str.{is_utf8-from_IsUtf8}
 use Rattle.std.proofs.lemmas.Str.Parse.{IsNumeralModel, numerals_by_fold}
-use Rattle.fed_types.specs.Slots.{SlotName, IsObjectName}
 use Rattle.hex.specs.Hex.{encode_lower, encode_with, IsBytes}
 use Rattle.hex.proofs.HexLemmas.{decode_of-encode_lower}
 use Rattle.percent_encoding.specs.Percent.{percent_decode}
 use Rattle.percent_encoding.proofs.PercentLemmas.{round_trip}
 use Rattle.schedule.specs.declared.word.TheConstants.{ESCAPED}
-use Rattle.schedule.specs.Words.{value_after, number_in, text_of, object_of, content_of}
-use Rattle.schedule.specs.Commands.{slot_of}
-use Rattle.fed_types.specs.Limits.{longest_object, greatest_version}
+use Rattle.schedule.specs.Words.{value_after, number_in, text_of, bytes_of}
 use Rattle.schedule.specs.Escapes.{escaped_text}
-use Rattle.schedule.specs.Texts.{hex_word}
+use Rattle.schedule.specs.Tokens.{hex_word}
 use Rattle.schedule.proofs.NumberLemmas.{number_in-digits}
 use Rattle.schedule.proofs.EscapeLemmas.{escaped_text-is}
 use Rattle.schedule.proofs.TextLemmas.{text_of-utf8}
@@ -48,42 +45,18 @@ text_of-escaped text utf8 =
     text_of-utf8 (escaped_text text) (ap is_utf8 again ∙ is_utf8-from_IsUtf8 text utf8)
     ∙ ap (λ (t : List ℕ). Some t) again
 
--- a name
-pub object_of-escaped : (name : List ℕ) → IsObjectName name → IsUtf8 name
-    → object_of (escaped_text name) ≡ Some name
-unfolding object_of
-object_of-escaped name range utf8 =
-    rw (
-      text_of-escaped name utf8,
-      le-leb 1 (length name) range.0,
-      le-leb (length name)
-          longest_object range.1,
-    ) refl
-
--- an object's name and a version
-pub slot_of-printed : (slot : SlotName) → IsObjectName slot.object → IsUtf8 slot.object
-    → 1 ≤ slot.version → slot.version < 2 ^ 32
-    → slot_of (escaped_text slot.object) (decimal slot.version) ≡ Some slot
-unfolding slot_of
-slot_of-printed slot range utf8 least fits =
-    rw (
-      object_of-escaped slot.object range utf8,
-      number_in-decimal 1 greatest_version slot.version
-          least (omega arith) (omega arith),
-    ) refl
-
 -- hex digits are no `-`
 not_dash : (bytes : List ℕ) → 0 < length bytes → bytes_eq (encode_lower bytes) (codes "-") ≡ false
 unfolding encode_with
 not_dash [] some = absurd (omega arith)
 not_dash (b ∷ bs) some = and_right _ _ refl
 
--- a file's bytes
-pub content_of-hex_word : (bytes : List ℕ) → IsBytes bytes
-    → content_of (hex_word bytes) ≡ Some bytes
-unfolding content_of
-content_of-hex_word [] fits = refl
-content_of-hex_word (b ∷ bs) fits =
+-- bytes
+pub bytes_of-hex_word : (bytes : List ℕ) → IsBytes bytes
+    → bytes_of (hex_word bytes) ≡ Some bytes
+unfolding bytes_of
+bytes_of-hex_word [] fits = refl
+bytes_of-hex_word (b ∷ bs) fits =
     let some : 0 < length (b ∷ bs) = omega arith in
     rw (hex_word-some (b ∷ bs) some, not_dash (b ∷ bs) some)
     (ap result_ok (decode_of-encode_lower (b ∷ bs) fits))

@@ -1,7 +1,8 @@
 -- The weights of a federation's members: named by words, printed, and parsed again.
 use Rattle.std.proofs.Common.{◌≡◌, ℕ, ◌≤◌, Bool, true, false, cond, eqb, List, [], ◌∷◌, ◌++◌}
-use Rattle.std.proofs.Common.{length, map, replicate, Option, Some, None, refl, sym, ap, ◌∙◌, append_assoc}
-use Rattle.std.proofs.Common.{◌+◌, ◌<◌, Bor, get_or, take, drop, slice_set, subst, All, arith}
+use Rattle.std.proofs.Common.{length, map, replicate, Option, Some, None, refl, sym, ap, ◌∙◌}
+use Rattle.std.proofs.Common.{append_assoc, ◌+◌, ◌<◌, Bor, get_or, take, drop, slice_set, subst}
+use Rattle.std.proofs.Common.{All, arith}
 use Rattle.std.specs.Prelude.{codes}
 use Rattle.std.specs.List.{AllByRecursion, Contains, flat_map, join_with_byte, list_all}
 use Rattle.std.specs.Option.{option_map}

@@ -8,12 +8,12 @@ use Rattle.std.proofs.lemmas.Fmt.{decimal_nonempty, decimal_by_steps}
 use Rattle.std.proofs.lemmas.List.Elements.{All-nil, All-cons, All-push}
 use Rattle.hex.specs.Hex.{lower_digits, encode_with, encode_lower, IsBytes}
 use Rattle.schedule.specs.Escapes.{escaped_text}
-use Rattle.schedule.specs.Texts.{hex_word}
+use Rattle.schedule.specs.Tokens.{hex_word}
 use Rattle.schedule.specs.inner.Printed.{IsWord}
 use Rattle.schedule.proofs.EscapeLemmas.{IsAbove, All-escaped, length-escaped}
 
 -- the same as a test, which computes on a word that is written out
-abbrev all_above : List ℕ → Bool
+abbrev pub all_above : List ℕ → Bool
 all_above [] = true
 all_above (b ∷ bs) = ltb 32 b && all_above bs
 
@@ -70,7 +70,7 @@ unfolding encode_with
 length-encode_lower [] some = absurd (omega arith)
 length-encode_lower (b ∷ bs) some = omega arith
 
--- a file's bytes
+-- bytes
 pub IsWord-hex_word : (bytes : List ℕ) → IsBytes bytes → IsWord (hex_word bytes)
 IsWord-hex_word [] fits = IsWord-computed (codes "-") refl
 IsWord-hex_word (b ∷ bs) fits =

@@ -14,3 +14,8 @@ greatest_site = 255
 -- T is 1 to this, which four bytes hold: more trees than a schedule has lines to declare
 abbrev pub greatest_tree : ℕ
 greatest_tree = 4294967295
+
+-- K, J and the N of `pump` are 0 to this, which four bytes hold: the number of a datagram or of a
+-- pump's turns, and how many bytes are kept or datagrams sent
+abbrev pub greatest_amount : ℕ
+greatest_amount = 4294967295

@@ -16,6 +16,11 @@ pub record Plan : Type 0 where
   pub members : Membership
   pub lines : List (Option Command)
 
+-- the schedule of these parts
+abbrev pub plan_with : ℕ → Membership → List (Option Command) → Plan
+plan_with skipped members lines =
+    record { skipped = skipped; members = members; lines = lines }
+
 -- nothing but spaces, or a comment: a line whose first byte is `#`
 abbrev pub is_skipped : List ℕ → Bool
 is_skipped line = length (words_of line) == 0 || slice_index line 0 == 35
@@ -50,7 +55,7 @@ abbrev pub plan_from : ℕ → Option Membership → LaterLines → Result Plan 
 plan_from skipped None later = Err (skipped + 1)
 plan_from skipped (Some members) (Err fault) = Err fault
 plan_from skipped (Some members) (Ok commands) =
-    Ok (record { skipped = skipped; members = members; lines = commands })
+    Ok (plan_with skipped members commands)
 
 -- the schedule of these lines, after so many that were skipped
 unfoldable pub plan_after : ℕ → List (List ℕ) → Result Plan ℕ

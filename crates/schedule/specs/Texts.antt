@@ -1,32 +1,17 @@
 -- The one text in which a schedule is printed.
 use Rattle.std.specs.Prelude.{ℕ, ◌==◌, if◌then◌else◌, Option, Some, None}
-use Rattle.std.specs.Prelude.{List, [], ◌∷◌, ◌++◌, length, map, replicate, codes}
+use Rattle.std.specs.Prelude.{List, [], ◌∷◌, ◌++◌, map, replicate, codes}
 use Rattle.std.specs.List.{flat_map, join_with_byte, list_all}
 use Rattle.std.specs.Fmt.{decimal}
-use Rattle.hex.specs.Hex.{encode_lower}
 use Rattle.fed_types.specs.Sites.{Membership, count_of}
-use Rattle.fed_types.specs.Slots.{SlotName}
 use Rattle.schedule.specs.declared.command.Command.{Command}
-use Rattle.schedule.specs.declared.command.Command.TheVariants.{Tree, Folder, File, Deposit, Query}
-use Rattle.schedule.specs.Escapes.{escaped_text}
+use Rattle.schedule.specs.Lines.{command_tokens}
 use Rattle.schedule.specs.Plans.{Plan}
-
--- bytes as a word: in lower case, and `-` for none
-abbrev pub hex_word : List ℕ → List ℕ
-hex_word bytes = if length bytes == 0 then codes "-" else encode_lower bytes
-
--- OBJ V
-abbrev pub slot_words : SlotName → List (List ℕ)
-slot_words slot = escaped_text slot.object ∷ decimal slot.version ∷ []
+use Rattle.schedule.specs.Tokens.{printed_token}
 
 -- a command's words
 abbrev pub words_for : Command → List (List ℕ)
-words_for (Tree t) = codes "tree" ∷ decimal t ∷ []
-words_for (Folder t) = codes "folder" ∷ decimal t ∷ []
-words_for (File t path content) =
-    codes "file" ∷ decimal t ∷ escaped_text path ∷ hex_word content ∷ []
-words_for (Deposit s t slot) = codes "deposit" ∷ decimal s ∷ decimal t ∷ slot_words slot
-words_for (Query s slot) = codes "query" ∷ decimal s ∷ slot_words slot
+words_for command = map printed_token (command_tokens command)
 
 -- words with one space between them, and the end of the line
 abbrev pub line_of_words : List (List ℕ) → List ℕ

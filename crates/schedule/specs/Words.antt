@@ -43,5 +43,5 @@ object_of word = do
 
 -- `-` for no bytes, else two hex digits of either case for each byte; a word has at least one byte,
 -- so at least two digits
-unfoldable pub content_of : List ℕ → Option (List ℕ)
-content_of word = if bytes_eq word (codes "-") then Some [] else result_ok (decode_of word)
+unfoldable pub bytes_of : List ℕ → Option (List ℕ)
+bytes_of word = if bytes_eq word (codes "-") then Some [] else result_ok (decode_of word)

@@ -8,7 +8,8 @@ ghost use Rattle.schedule.specs.Faults.{IsOrMemory};
 use crate::command::Command;
 use crate::fault::ParseFault;
 use crate::line::{first_line, split_words};
-use crate::parse_command::{parse_command, parse_federation};
+use crate::parse_command::parse_command;
+use crate::parse_federation::parse_federation;
 use crate::plan::Schedule;
 use std::alloc::{AllocError, Global};
 

@@ -1,4 +1,6 @@
 ghost use Rattle.std.specs.Prelude.{◌≡◌, ◌+◌, ◌<◌, ◌^◌, length, vec_len};
+ghost use Rattle.schedule.specs.Plans.{plan_with};
+ghost use Rattle.schedule.specs.Schedules.{IsPlan};
 
 use crate::command::Command;
 use fed_types::Members;
@@ -14,23 +16,25 @@ pub struct Schedule {
 
 impl Model for Schedule {
     ghost use Rattle.std.specs.Prelude.{◌+◌, ◌<◌, ◌^◌, vec_len};
-    ghost use Rattle.schedule.specs.Plans.{Plan};
+    ghost use Rattle.schedule.specs.Plans.{Plan, plan_with};
+    ghost use Rattle.schedule.specs.Schedules.{IsPlan};
 
     ghost Value = { Plan };
 
-    ghost view = { λ s.
-        record { skipped = s.skipped; members = s.members; lines = s.lines.items } };
+    ghost view = { λ s. plan_with s.skipped s.members s.lines.items };
 
-    // Each line's number fits.
-    ghost invariant = { λ s. s.skipped + 2 + vec_len s.lines < 2 ^ 64 };
+    // Each line's number fits, and every part is in its range.
+    ghost invariant = { λ s. (s.skipped + 2 + vec_len s.lines < 2 ^ 64)
+        × IsPlan (plan_with s.skipped s.members s.lines.items) };
 }
 
 impl Schedule {
     /// The schedule of a federation's line, after so many that are skipped, and of what the lines
     /// after it say.
     pub(crate) fn new(skipped: usize, members: Members, lines: Vec<Option<Command>>) -> Schedule
-        requires { skipped + 2 + vec_len lines < 2 ^ 64 }
-        ensures { result ≡ record { skipped = skipped; members = members; lines = lines.items } }
+        requires room { skipped + 2 + vec_len lines < 2 ^ 64 }
+        requires in_range { IsPlan (plan_with skipped members lines.items) }
+        ensures { result ≡ plan_with skipped members lines.items }
     {
         Schedule {
             skipped,
@@ -62,9 +66,11 @@ impl Schedule {
         self.members
     }
 
-    /// Each line after the federation's: its command, or `None` where it is skipped.
+    /// Each line after the federation's: its command, or `None` where it is skipped. Every part of
+    /// each is in its range.
     pub fn lines(&self) -> &[Option<Command>]
-        ensures { result.now ≡ self.now.lines }
+        ensures value { result.now ≡ self.now.lines }
+        ensures in_range { IsPlan self.now }
     {
         self.lines.as_slice()
     }

@@ -1,12 +1,12 @@
-ghost use Rattle.std.specs.Prelude.{◌≡◌, IfOk, IfSome, OnOk, Ok, string_bytes};
+ghost use Rattle.std.specs.Prelude.{◌≡◌, IfOk, Ok, string_bytes};
 ghost use Rattle.schedule.specs.Plans.{plan_of};
 ghost use Rattle.schedule.specs.Pushes.{Pushes};
 ghost use Rattle.schedule.specs.Texts.{printed_line, schedule_text};
-ghost use Rattle.schedule.specs.inner.Printed.{RoundTrips};
 
 use crate::command::Command;
 use crate::plan::Schedule;
-use crate::print_command::{push_command, push_federation};
+use crate::print_command::push_command;
+use crate::print_federation::push_federation;
 use std::alloc::{AllocError, Global};
 
 /// The one text in which a schedule is printed: each command on its line's number, with single
@@ -29,8 +29,7 @@ pub fn print(alloc: Global, schedule: &Schedule) -> Result<String, AllocError>
 
 // Appends the line of a command, or an empty one.
 fn push_line(alloc: Global, text: &mut String, line: &Option<Command>) -> Result<(), AllocError>
-    ensures text { Pushes result text.old text.new (printed_line line.now) }
-    ensures again { OnOk result (IfSome line.now RoundTrips) }
+    ensures { Pushes result text.old text.new (printed_line line.now) }
 {
     match line {
         Some(command) => push_command(alloc, text, command),

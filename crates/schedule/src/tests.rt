@@ -4,7 +4,7 @@ use std::process::Abort;
 use std::test::Fail;
 
 // Texts, and what is printed of their schedules.
-static PRINTED: [(&[u8], &str); 12] = [
+static PRINTED: [(&[u8], &str); 16] = [
     (b"federation 7 3 1 1 1", "federation 7 3\n"),
     (b"federation 7 2 2 1", "federation 7 2 2 1\n"),
     (
@@ -47,6 +47,24 @@ static PRINTED: [(&[u8], &str); 12] = [
         b"federation 0 1\ndeposit 1 2 # 3\n\n#",
         "federation 0 1\ndeposit 1 2 # 3\n\n\n",
     ),
+    // The other commands, at the ends of their ranges.
+    (
+        b"federation 0 1\npropose 0 a 1\ndeliver 04294967295\nask 255 000 %41 4294967295\n",
+        "federation 0 1\npropose 0 a 1\ndeliver 4294967295\nask 255 0 A 4294967295\n",
+    ),
+    (
+        b"federation 0 1\nraw 255 0aFF\nraw 0 -\npump 4294967295\npump 0\nstop 255\nstart 00\n",
+        "federation 0 1\nraw 255 0aff\nraw 0 -\npump 4294967295\npump 0\nstop 255\nstart 0\n",
+    ),
+    // Each fate, at each of the calls that may end in one.
+    (
+        b"federation 0 1\ndeposit 1 2 a 3 stop 1 00\npropose 1 a 3  stop 2 4294967295 \n",
+        "federation 0 1\ndeposit 1 2 a 3 stop 1 0\npropose 1 a 3 stop 2 4294967295\n",
+    ),
+    (
+        b"federation 0 1\ndeliver 0 stop 3 4\nask 1 2 a 3 fail 1 5\ndeliver 1 fail 2 6\n",
+        "federation 0 1\ndeliver 0 stop 3 4\nask 1 2 a 3 fail 1 5\ndeliver 1 fail 2 6\n",
+    ),
 ];
 
 fn printed(alloc: Global, text: &[u8]) -> Result<String, Fail> {
@@ -67,7 +85,7 @@ fn prints(rt: HostRuntime) -> Result<(), Fail> {
 }
 
 // Texts, and the numbers of their first lines at fault.
-static FAULTS: [(&[u8], usize); 70] = [
+static FAULTS: [(&[u8], usize); 107] = [
     (b"", 1),
     (b"\n\n# tree 1\n", 1),
     (b"tree 1\nfederation 0 1\n", 1),
@@ -140,10 +158,49 @@ static FAULTS: [(&[u8], usize); 70] = [
     (b"federation 0 1\nfile 1 a -0\n", 2),
     (b"federation 0 1\nfile 1 a 0x00\n", 2),
     (b"federation 0 1\nfile 1 a 00g\n", 2),
-    // Words that name no command, and commands of the whole language that aren't run yet.
+    // Words that name no command.
     (b"federation 0 1\nTree 1\n", 2),
     (b"federation 0 1\ntree: 1\n", 2),
-    (b"federation 0 1\nstart 1\n", 2),
+    (b"federation 0 1\nstops 1\n", 2),
+    // The other commands: words too few or too many, numbers out of their ranges.
+    (b"federation 0 1\npropose 1 a\n", 2),
+    (b"federation 0 1\npropose 1 a 1 1\n", 2),
+    (b"federation 0 1\npropose 256 a 1\n", 2),
+    (b"federation 0 1\npropose 1 a 0\n", 2),
+    (b"federation 0 1\ndeliver\n", 2),
+    (b"federation 0 1\ndeliver 4294967296\n", 2),
+    (b"federation 0 1\ndeliver -1\n", 2),
+    (b"federation 0 1\nask 1 a 1\n", 2),
+    (b"federation 0 1\nask 256 1 a 1\n", 2),
+    (b"federation 0 1\nask 1 256 a 1\n", 2),
+    (b"federation 0 1\nraw 1\n", 2),
+    (b"federation 0 1\nraw 256 00\n", 2),
+    (b"federation 0 1\nraw 1 0\n", 2),
+    (b"federation 0 1\nraw 1 00 00\n", 2),
+    (b"federation 0 1\npump\n", 2),
+    (b"federation 0 1\npump 4294967296\n", 2),
+    (b"federation 0 1\npump 1 1\n", 2),
+    (b"federation 0 1\nstop\n", 2),
+    (b"federation 0 1\nstop 256\n", 2),
+    (b"federation 0 1\nstart 1 1\n", 2),
+    (b"federation 0 1\nstart 256\n", 2),
+    // Fates: `stop 1 K`, `stop 2 K`, `stop 3 J`, `fail 1 K` and `fail 2 K`, after a call alone.
+    (b"federation 0 1\ndeliver 1 stop\n", 2),
+    (b"federation 0 1\ndeliver 1 stop 1\n", 2),
+    (b"federation 0 1\ndeliver 1 stop 1 0 0\n", 2),
+    (b"federation 0 1\ndeliver 1 stop 0 0\n", 2),
+    (b"federation 0 1\ndeliver 1 stop 4 0\n", 2),
+    (b"federation 0 1\ndeliver 1 stop 01 0\n", 2),
+    (b"federation 0 1\ndeliver 1 stop 3 4294967296\n", 2),
+    (b"federation 0 1\ndeliver 1 stop 2 +1\n", 2),
+    (b"federation 0 1\ndeliver 1 fail 3 0\n", 2),
+    (b"federation 0 1\ndeliver 1 fail 1 4294967296\n", 2),
+    (b"federation 0 1\ndeliver 1 Stop 1 0\n", 2),
+    (b"federation 0 1\ndeliver 1 stop 3 0 fail 1 0\n", 2),
+    (b"federation 0 1\ndeliver stop 1 0\n", 2),
+    (b"federation 0 1\nquery 1 a 1 stop 3 0\n", 2),
+    (b"federation 0 1\nraw 1 00 fail 1 0\n", 2),
+    (b"federation 0 1\nstop 1 1 0\n", 2),
 ];
 
 #[test]
@@ -194,16 +251,32 @@ fn is_file(command: &Command) -> bool {
 
 fn is_deposit(command: &Command) -> bool {
     match command {
-        Command::Deposit { site, tree, slot } => {
-            *site == 9 && tree.number() == 3 && slot.object() == "x" && slot.version() == 4
+        Command::Call {
+            call: Call::Deposit { site, tree, slot },
+            fate,
+        } => {
+            *site == 9
+                && tree.number() == 3
+                && slot.object() == "x"
+                && slot.version() == 4
+                && *fate == Fate::StopsIn(DeviceCall::Sync, 77)
         }
         _ => false,
     }
 }
 
-fn are_file_and_deposit(lines: &[Option<Command>]) -> bool {
+fn is_raw(command: &Command) -> bool {
+    match command {
+        Command::Raw { site, bytes } => *site == 1 && bytes.as_slice() == b"\x00\xff".as_slice(),
+        _ => false,
+    }
+}
+
+fn are_as_said(lines: &[Option<Command>]) -> bool {
     match lines {
-        [Some(file), None, Some(deposit)] => is_file(file) && is_deposit(deposit),
+        [Some(file), None, Some(deposit), Some(raw)] => {
+            is_file(file) && is_deposit(deposit) && is_raw(raw)
+        }
         _ => false,
     }
 }
@@ -212,12 +285,12 @@ fn is_read(rt: &impl Abort, schedule: &Schedule) {
     let members = schedule.members();
     assert_eq!(rt; (schedule.skipped(), schedule.first_line()), (1, 3));
     assert_eq!(rt; (members.federation(), members.count()), (5, 2));
-    assert!(rt; are_file_and_deposit(schedule.lines()), "{schedule:?}");
+    assert!(rt; are_as_said(schedule.lines()), "{schedule:?}");
 }
 
 #[test]
 fn reads_a_schedule(rt: HostRuntime) -> Result<(), Fail> {
-    let text = b"\nfederation 5 2\nfile 3 a/b 6162\n\ndeposit 9 3 x 4\n";
+    let text = b"\nfederation 5 2\nfile 3 a/b 6162\n\ndeposit 9 3 x 4 stop 2 77\nraw 1 00fF\n";
     let schedule = parse(rt.alloc(), text)?;
     is_read(&rt, &schedule);
     Ok(())
@@ -231,9 +304,9 @@ fn is_path(alloc: Global, text: &str) -> Result<bool, Fail> {
     }
 }
 
-fn is_content(alloc: Global, bytes: &[u8]) -> Result<bool, Fail> {
-    let content = Content::new(bytes.to_vec(alloc)?);
-    Ok(content.as_slice() == bytes)
+fn are_bytes(alloc: Global, bytes: &[u8]) -> Result<bool, Fail> {
+    let kept = HexBytes::new(bytes.to_vec(alloc)?);
+    Ok(kept.as_slice() == bytes)
 }
 
 #[test]
@@ -241,7 +314,7 @@ fn makes_values(rt: HostRuntime) -> Result<(), Fail> {
     let seven = TreeNo::new(7).ok_or("7")?;
     assert_eq!(rt; (TreeNo::new(0), seven.number()), (None, 7));
     assert!(rt; !is_path(rt.alloc(), "")? && is_path(rt.alloc(), "a")?);
-    assert!(rt; is_content(rt.alloc(), b"\x00")?);
+    assert!(rt; are_bytes(rt.alloc(), b"\x00")?);
     Ok(())
 }
 
@@ -288,4 +361,8 @@ fn faults_are_numbered_and_printed(rt: HostRuntime) -> Result<(), Fail> {
 fn laws_of_the_grammar() {
     words_law();
     numbers_law();
+    texts_law();
+    commands_law();
+    schedules_law();
+    printed_law();
 }

@@ -1,10 +1,12 @@
 ghost use Rattle.std.specs.Prelude.{◌≡◌, ◌≤◌, ◌<◌, length, string_bytes, IfOk, IfSome, option_map};
 ghost use Rattle.fed_types.specs.Limits.{greatest_weight};
 ghost use Rattle.fed_types.specs.Sites.{IsWeight};
-ghost use Rattle.schedule.specs.Words.{number_in, text_of, content_of};
-ghost use Rattle.schedule.specs.Commands.{site_of, tree_of, slot_of};
+ghost use Rattle.schedule.specs.Words.{number_in, text_of, bytes_of};
+ghost use Rattle.schedule.specs.Commands.{site_of, tree_of, amount_of, slot_of};
 
-use crate::command::{Content, FilePath, TreeNo};
+use crate::file_path::FilePath;
+use crate::hex_bytes::HexBytes;
+use crate::tree_no::TreeNo;
 use fed_types::{GREATEST_WEIGHT, Slot};
 use hex::FromHexError;
 use percent_encoding::percent_decode;
@@ -54,6 +56,13 @@ pub(crate) fn parse_tree_no(word: &[u8]) -> Option<TreeNo>
     TreeNo::new(parse_number(1, u64::from(u32::MAX), word)? as u32)
 }
 
+/// How many bytes, datagrams or turns, or the number of a datagram.
+pub(crate) fn parse_amount(word: &[u8]) -> Option<u32>
+    ensures { result ≡ amount_of word.now }
+{
+    Some(parse_number(0, u64::from(u32::MAX), word)? as u32)
+}
+
 /// The slot of an object's name and a version.
 #[tactic(auto, unfolding(crate::specs::Commands::slot_of, crate::specs::Words::object_of))]
 pub(crate) fn parse_slot(
@@ -92,16 +101,16 @@ fn parse_text(alloc: Global, word: &[u8]) -> Result<Option<String>, AllocError>
     Ok(String::from_utf8(bytes).ok())
 }
 
-/// A file's bytes.
-#[tactic(auto, unfolding(crate::specs::Words::content_of))]
-pub(crate) fn parse_content(alloc: Global, word: &[u8]) -> Result<Option<Content>, AllocError>
-    ensures { IfOk result (λ content. content ≡ content_of word.now) }
+/// Bytes, by their hex digits.
+#[tactic(auto, unfolding(crate::specs::Words::bytes_of))]
+pub(crate) fn parse_bytes(alloc: Global, word: &[u8]) -> Result<Option<HexBytes>, AllocError>
+    ensures { IfOk result (λ bytes. bytes ≡ bytes_of word.now) }
 {
     if word == b"-".as_slice() {
-        return Ok(Some(Content::new(Vec::new(alloc))));
+        return Ok(Some(HexBytes::new(Vec::new(alloc))));
     }
     match hex::decode(alloc, word) {
-        Ok(bytes) => Ok(Some(Content::new(bytes))),
+        Ok(bytes) => Ok(Some(HexBytes::new(bytes))),
         Err(FromHexError::OutOfMemory) => Err(AllocError),
         Err(_) => Ok(None),
     }

@@ -1,4 +1,4 @@
-ghost use Rattle.std.specs.Prelude.{◌≡◌, OnErr, string_bytes};
+ghost use Rattle.std.specs.Prelude.{◌≡◌, [], ◌∷◌, OnErr, string_bytes};
 ghost use Rattle.schedule.specs.Escapes.{escaped_text};
 ghost use Rattle.schedule.specs.Pushes.{Pushes};
 
@@ -17,4 +17,11 @@ pub fn push_escaped(text: &mut String, name: &str) -> Result<(), AllocError>
     ensures err { OnErr result (string_bytes text.new ≡ string_bytes text.old) }
 {
     utf8_percent_encode(name, ESCAPED).append_to(text)
+}
+
+/// Appends the end of a line.
+pub(crate) fn push_end(text: &mut String) -> Result<(), AllocError>
+    ensures { Pushes result text.old text.new (10 ∷ []) }
+{
+    text.push('\n')
 }

@@ -5,10 +5,12 @@ use Rattle.std.proofs.lemmas.Result.{err_from_is_err_and}
 use Rattle.fed_types.specs.Sites.{Membership}
 use Rattle.schedule.specs.Commands.{federation_of}
 use Rattle.schedule.specs.Words.{words_of}
-use Rattle.schedule.specs.Plans.{plan_of, plan_after, plan_from, is_skipped, later_lines}
+use Rattle.schedule.specs.Plans.{plan_of, plan_after, plan_from, plan_with, is_skipped}
+use Rattle.schedule.specs.Plans.{later_lines}
 use Rattle.schedule.proofs.PlanLemmas.{plan_after-skipped, plan_after-federation, plan_after-none}
 use Rattle.schedule.proofs.PlanLemmas.{fault_from_ok_or, IsOrMemory-no_federation}
-use Rattle.schedule.proofs.PlanLemmas.{IsOrMemory-later_fault}
+use Rattle.schedule.proofs.PlanLemmas.{IsOrMemory-later_fault, whole_plan}
+use Rattle.schedule.proofs.RangeLemmas.{IsPlan-plan_of}
 use Rattle.schedule.proofs.parse_schedule.parse.Goals as goal
 
 pub loop-line-init : goal.loop-line-init
@@ -60,22 +62,31 @@ returns-in_err-commands c =
     c.in_ok-members.members later c.in_err-commands.field-0.0 is some
     c.in_err-commands.ensures.fault)
 
+pub new-requires-clause-in_range : goal.new-requires-clause-in_range
+new-requires-clause-in_range c =
+    IsPlan-plan_of c.args.text.now
+    (plan_with c.loop-line.skipped c.in_ok-members.members c.in_ok-commands.commands.items)
+    (whole_plan (plan_of c.args.text.now) c.loop-line.skipped c.in-Some.line.now
+    (lines c.in-Some.after.now)
+    (map (λ (word : Bor (List ℕ)). word.now) c.deref-then-not-skips.result.now)
+    c.in_ok-members.members c.in_ok-commands.commands.items
+    (c.loop-line.invariant.so_far ∙ ap (plan_after c.loop-line.skipped) c.in-Some.ensures.value)
+    (sym c.skips.ensures ∙ c.if-not-skips.true)
+    (rw c.deref-then-not-skips.ensures.value c.in_ok-words.ensures.value)
+    (sym c.parse_federation.ensures ∙ c.in_ok-members.ensures.ok_part)
+    c.in_ok-commands.ensures.value)
+
 pub returns-then-not-skips : goal.returns-then-not-skips
 returns-then-not-skips c =
-    let skipped = c.loop-line.skipped in
-    let line = c.in-Some.line.now in
-    let later = later_lines (skipped + 2) (lines c.in-Some.after.now) in
-    let isnt : is_skipped line ≡ false = sym c.skips.ensures ∙ c.if-not-skips.true in
-    let words : map (λ (word : Bor (List ℕ)). word.now) c.deref-then-not-skips.result.now
-    ≡ words_of line = rw c.deref-then-not-skips.ensures.value c.in_ok-words.ensures.value in
-    let some : federation_of (words_of line) ≡ Some c.in_ok-members.members =
-    sym (ap federation_of words) ∙ sym c.parse_federation.ensures
-    ∙ c.in_ok-members.ensures.ok_part in
-    let is =
-    c.loop-line.invariant.so_far ∙ ap (plan_after skipped) c.in-Some.ensures.value
-    ∙ plan_after-federation skipped line (lines c.in-Some.after.now) isnt in
-    is ∙ ap (λ (m : Option Membership). plan_from skipped m later) some
-    ∙ ap (plan_from skipped (Some c.in_ok-members.members)) c.in_ok-commands.ensures.value
+    whole_plan (plan_of c.args.text.now) c.loop-line.skipped c.in-Some.line.now
+    (lines c.in-Some.after.now)
+    (map (λ (word : Bor (List ℕ)). word.now) c.deref-then-not-skips.result.now)
+    c.in_ok-members.members c.in_ok-commands.commands.items
+    (c.loop-line.invariant.so_far ∙ ap (plan_after c.loop-line.skipped) c.in-Some.ensures.value)
+    (sym c.skips.ensures ∙ c.if-not-skips.true)
+    (rw c.deref-then-not-skips.ensures.value c.in_ok-words.ensures.value)
+    (sym c.parse_federation.ensures ∙ c.in_ok-members.ensures.ok_part)
+    c.in_ok-commands.ensures.value
     ∙ ap (λ p. Ok p) (sym c.new.ensures)
 
 pub loop-line-preserved : goal.loop-line-preserved
