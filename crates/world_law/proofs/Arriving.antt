@@ -1,5 +1,5 @@
 -- What a site does with a message that was sent agrees with a network that is kept.
-use Rattle.std.proofs.Common.{ℕ, ◌≡◌, Bool, true, false, cond, not, ◌&&◌, inl, inr, refl, sym, ap}
+use Rattle.std.proofs.Common.{ℕ, ◌≡◌, Bool, true, false, cond, inl, inr, refl, sym, ap}
 use Rattle.std.proofs.Common.{subst, ◌∙◌, List, [], ◌∷◌, ◌++◌, Option, None, Some}
 use Rattle.std.specs.Prelude.{Result, Ok}
 use Rattle.fed_types.specs.declared.bag_id.BagId.{BagId}
@@ -26,7 +26,7 @@ use Rattle.acceptor.specs.declared.decision.Answer.{Answer}
 use Rattle.acceptor.specs.declared.decision.Answer.TheVariants as answer
 use Rattle.acceptor.specs.declared.decision.Decision.{Decision}
 use Rattle.acceptor.specs.Decisions.{prepare_decision, accept_decision}
-use Rattle.learner.specs.Learning.{unless_known, chosen_by, learned_from}
+use Rattle.learner.specs.Learning.{chosen_by}
 use Rattle.proposer.specs.Proposals.{Current, gathered, highest_prior, bag_of, proposal, ready}
 use Rattle.proposer.specs.Proposals.{completes}
 use Rattle.proposer.specs.Sessions.{Session, hears, promise_message}
@@ -36,37 +36,18 @@ use Rattle.site.specs.declared.fault.SiteFault.{SiteFault}
 use Rattle.site.specs.Arrivals.{answer_body, addressees, decided, proposing, learning, telling}
 use Rattle.site.specs.Arrivals.{on_body, is_member, on_arrival}
 use Rattle.site.specs.Calls.{Input, Arrives}
-use Rattle.site.specs.Effects.{Effect, Send, to_each, only_says, quiet}
+use Rattle.site.specs.Effects.{Send, to_each, only_says, quiet}
 use Rattle.world_law.specs.Laws.{OnRecord, WasSent, IsChosen, Follows, Report, report_of}
 use Rattle.world_law.specs.Networks.{Network, Notice, Learned, notice_of}
 use Rattle.world_law.proofs.Heard.{gathered_heard, gathered_promise}
 use Rattle.world_law.proofs.Kept.{vote_for, Proposes, IsCurrent, Kept}
+use Rattle.world_law.proofs.Conditions.{given_if, kept_if, and_not, unless_known_is}
 use Rattle.world_law.proofs.Step.{Extends, Sound, IsNew, Tells, tells_nothing, tells_plain}
-use Rattle.world_law.proofs.Deeds.{MayDeposit, Deed, some_same, sent_extends, chosen_extends, carries_each}
-use Rattle.world_law.proofs.Deeds.{only_sends, nothing_sent, keeps_one, hears_recalls, same_recalls}
+use Rattle.world_law.proofs.Deeds.{MayDeposit, Deed, some_same, sent_extends, chosen_extends}
+use Rattle.world_law.proofs.Deeds.{carries_each, only_sends, nothing_sent, keeps_one}
+use Rattle.world_law.proofs.Deeds.{hears_recalls, same_recalls}
 use Rattle.world_law.proofs.Deeds.{NoAccept, not_new}
 use Rattle.world_law.proofs.Decided.{DecisionSound, prepare_sound, accept_sound}
-
--- ---- tests that passed
-
--- what is given only if a test passes
-given_if : {A : Type 0} (t : Bool) (x y : A) → cond t (Some x) None ≡ Some y → (t ≡ true) × (x ≡ y)
-given_if true x y e = (refl, cc)
-given_if false x y e = absurd (cc e)
-
-kept_if : {A : Type 0} (t : Bool) (o : Option A) (y : A) → cond t o None ≡ Some y
-    → (t ≡ true) × (o ≡ Some y)
-kept_if true o y e = (refl, e)
-kept_if false o y e = absurd (cc e)
-
-and_not : (t u : Bool) → (t && not u) ≡ true → (t ≡ true) × (u ≡ false)
-and_not true true e = absurd (cc e)
-and_not true false e = (refl, refl)
-and_not false u e = absurd (cc e)
-
-unless_known_is : (o r : Option BagId) (bag : BagId) → unless_known o r ≡ Some bag → r ≡ Some bag
-unless_known_is None r bag e = e
-unless_known_is (Some u) r bag e = absurd (cc e)
 
 module _ (q : QuorumSystem) (laws : AreQuorums q) (w : Network) (inv : Kept q w) (n : ℕ) where
   abbrev records : List Record
@@ -78,7 +59,8 @@ module _ (q : QuorumSystem) (laws : AreQuorums q) (w : Network) (inv : Kept q w)
   -- what changes nothing of the session, and proposes nothing
   pub still_deed : (input : Input) (commits : Option Record) (sends : List Send)
       (says : Result (Option Line) SiteFault) (slot : SlotName) (body : Body)
-      → Tells q w (notice_of n input says) → Sound q w n (MayDeposit input) commits slot body sends → NoAccept body
+      → Tells q w (notice_of n input says)
+      → Sound q w n (MayDeposit input) commits slot body sends → NoAccept body
       → Deed q w n input
       (record { commits = commits; sends = sends; says = says; session = old })
   still_deed input commits sends says slot body told s other = record {
@@ -120,7 +102,8 @@ module _ (q : QuorumSystem) (laws : AreQuorums q) (w : Network) (inv : Kept q w)
     -- an effect whose new messages propose nothing
     plain_deed : (commits : Option Record) (sends : List Send)
         (says : Result (Option Line) SiteFault) (new : Body)
-        → Tells q w (notice_of n input says) → Sound q w n (MayDeposit input) commits slot new sends → NoAccept new
+        → Tells q w (notice_of n input says)
+        → Sound q w n (MayDeposit input) commits slot new sends → NoAccept new
         → Deed q w n input
         (record { commits = commits; sends = sends; says = says; session = now })
     plain_deed commits sends says new told s other = record {
@@ -134,7 +117,9 @@ module _ (q : QuorumSystem) (laws : AreQuorums q) (w : Network) (inv : Kept q w)
     }
 
     quiet_deed : Deed q w n input (quiet now)
-    quiet_deed = plain_deed None [] (Ok None) (Ask n) tells_nothing (nothing_sent q w n (MayDeposit input) slot) tt
+    quiet_deed =
+        plain_deed None [] (Ok None) (Ask n) tells_nothing
+        (nothing_sent q w n (MayDeposit input) slot) tt
 
     -- ---- the acceptor
 
@@ -166,7 +151,8 @@ module _ (q : QuorumSystem) (laws : AreQuorums q) (w : Network) (inv : Kept q w)
     learning_deed None chosen = quiet_deed
     learning_deed (Some bag) chosen =
         plain_deed _ [] (Ok (Some (lines.Known slot bag))) (Ask n) (reports (chosen bag refl))
-        (keeps_one q w n (MayDeposit input) slot (entry.Known bag) (Ask n) [] (λ e h. absurd (has_none h)) refl
+        (keeps_one q w n (MayDeposit input) slot (entry.Known bag) (Ask n) []
+        (λ e h. absurd (has_none h)) refl
         (λ x g. chosen_extends g (chosen bag refl)) (λ x g. tt))
         tt
 
@@ -175,7 +161,8 @@ module _ (q : QuorumSystem) (laws : AreQuorums q) (w : Network) (inv : Kept q w)
     telling_deed asker None e = quiet_deed
     telling_deed asker (Some bag) e =
         plain_deed None _ (Ok None) (Known n bag) tells_nothing
-        (only_sends q w n (MayDeposit input) slot (Known n bag) (to_each slot (Known n bag) (asker ∷ []))
+        (only_sends q w n (MayDeposit input) slot (Known n bag)
+        (to_each slot (Known n bag) (asker ∷ []))
         (carries_each slot (Known n bag) (asker ∷ [])) refl
         (λ x g. chosen_extends g
         (inv.records n slot (entry.Known bag) (known_among slot records bag e))))
@@ -280,7 +267,8 @@ module _ (q : QuorumSystem) (laws : AreQuorums q) (w : Network) (inv : Kept q w)
         slot = slot;
         body = Accept vote;
         sound =
-            only_sends q w n (MayDeposit input) slot (Accept vote) (to_each slot (Accept vote) q.members)
+            only_sends q w n (MayDeposit input) slot (Accept vote)
+            (to_each slot (Accept vote) q.members)
             (carries_each slot (Accept vote) q.members) (ap Some cur.own)
             (λ x g. record { says = proposes x g; own = cur.own; unsent = unsent });
         recalls =
@@ -347,7 +335,8 @@ module _ (q : QuorumSystem) (laws : AreQuorums q) (w : Network) (inv : Kept q w)
       → Deed q w n input
       (record { commits = None; sends = []; says = says; session = old })
   says_deed input says told =
-      still_deed input None [] says any_slot (Ask n) told (nothing_sent q w n (MayDeposit input) any_slot) tt
+      still_deed input None [] says any_slot (Ask n) told
+      (nothing_sent q w n (MayDeposit input) any_slot) tt
     where
       any_slot : SlotName
       any_slot = record { object = []; version = 0 }

@@ -1,5 +1,5 @@
 -- What a site does when it is called agrees with a network that is kept.
-use Rattle.std.proofs.Common.{ℕ, ◌≡◌, ◌≤◌, ◌+◌, Bool, true, false, cond, inl, inr, refl, sym, subst}
+use Rattle.std.proofs.Common.{ℕ, ◌≡◌, ◌≤◌, ◌+◌, Bool, true, false, cond, inl, inr, refl, subst}
 use Rattle.std.proofs.Common.{List, [], ◌∷◌, length, Option, None, Some, arith}
 use Rattle.std.specs.Prelude.{Result, Ok, Err}
 use Rattle.std.specs.Bool.{nat_lt}
@@ -29,8 +29,8 @@ use Rattle.world_law.specs.Networks.{Network}
 use Rattle.world_law.proofs.Kept as facts
 use Rattle.world_law.proofs.Kept.{vote_for, IsCurrent, Kept}
 use Rattle.world_law.proofs.Step.{Extends, Splits, tells_nothing, tells_plain}
-use Rattle.world_law.proofs.Deeds.{MayDeposit, Deed, some_same, sent_extends, carries_each, only_sends}
-use Rattle.world_law.proofs.Deeds.{keeps_one, not_new}
+use Rattle.world_law.proofs.Deeds.{MayDeposit, Deed, some_same, sent_extends, carries_each}
+use Rattle.world_law.proofs.Deeds.{only_sends, keeps_one, not_new}
 use Rattle.world_law.proofs.Arriving.{still_deed, says_deed}
 
 module _ (q : QuorumSystem) (laws : AreQuorums q) (w : Network) (inv : Kept q w) (n : ℕ) where
@@ -164,6 +164,7 @@ module _ (q : QuorumSystem) (laws : AreQuorums q) (w : Network) (inv : Kept q w)
     unfolding on_ask
     ask_deed member =
         still_deed q laws w inv n (Asks slot member) None _ (Ok None) slot (Ask n) tells_nothing
-        (only_sends q w n (MayDeposit (Asks slot member)) slot (Ask n) (to_each slot (Ask n) (member ∷ []))
+        (only_sends q w n (MayDeposit (Asks slot member)) slot (Ask n)
+        (to_each slot (Ask n) (member ∷ []))
         (carries_each slot (Ask n) (member ∷ [])) refl (λ x g. tt))
         tt

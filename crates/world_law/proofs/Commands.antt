@@ -1,6 +1,6 @@
 -- A command changes no site, or is skipped, or is one event of the network, or is a pump.
 use Rattle.std.proofs.Common.{ℕ, ◌≡◌, ◌≢◌, Bool, true, false, cond, refl, List, [], ◌∷◌, ◌++◌}
-use Rattle.std.proofs.Common.{Option, None, Some, sym, subst}
+use Rattle.std.proofs.Common.{Option, None, Some}
 use Rattle.std.specs.Prelude.{Result, Ok, Err}
 use Rattle.fed_types.specs.declared.bag_id.BagId.{BagId}
 use Rattle.fed_types.specs.Slots.{SlotName}
@@ -28,7 +28,7 @@ use Rattle.world_law.specs.Trees.{NumberedTree, SeenBag, tree_at}
 use Rattle.world_law.specs.Worlds.{World, skips, with_seen, after_event, is_member, mode_of}
 use Rattle.world_law.specs.Worlds.{at_member, unless_down, on_tree, on_folder, on_added, on_file}
 use Rattle.world_law.specs.Worlds.{checked, on_deposit, on_datagram, on_deliver, on_call, on_raw}
-use Rattle.world_law.specs.Worlds.{next_unnamed, on_turn, pumped, on_start, after_command}
+use Rattle.world_law.specs.Worlds.{on_turn, pumped, on_start, after_command}
 
 -- an event that deposits a valid bag comes of a line that hands it
 abbrev pub Comes : World → Option Command → Event → Type 0
@@ -37,7 +37,7 @@ Comes w line e =
     → e ≡ Deposit site slot (Ok bag) fate → Hands w line site slot bag
 
 module _ (w : World) (number : ℕ) (P : World → Type 0) where
-  -- P holds where numbers are named and trees change; where a command is skipped; and after an event
+  -- P holds where numbers are named and trees change; where a command is skipped; after an event
   abbrev pub Changed : Type 0
   Changed =
       (named : List ℕ) (trees : List NumberedTree) → P (record w { named = named; trees = trees })

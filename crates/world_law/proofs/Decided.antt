@@ -1,11 +1,10 @@
 -- What an acceptor decides agrees with a network that is kept.
-use Rattle.std.proofs.Common.{ℕ, ◌≡◌, Bool, true, false, cond, ◌&&◌, ◌||◌, inl, inr, refl, subst}
+use Rattle.std.proofs.Common.{ℕ, ◌≡◌, Bool, true, false, cond, ◌||◌, inl, inr, refl, subst}
 use Rattle.std.proofs.Common.{List, Option, None, Some}
 use Rattle.std.proofs.lemmas.Bool.{and_parts}
 use Rattle.fed_types.specs.declared.vote.Vote.{Vote}
 use Rattle.fed_types.specs.Bags.{same_bag}
 use Rattle.fed_types.specs.Ballots.{BallotNumber, below, Below, same_ballot}
-use Rattle.fed_types.specs.Lists.{Has}
 use Rattle.fed_types.specs.Quorums.{QuorumSystem}
 use Rattle.fed_types.specs.Slots.{SlotName}
 use Rattle.fed_types.specs.Laws.Bags.{same_bag_decides}

@@ -1,6 +1,6 @@
 -- What a site does with an input agrees with a network that is kept: what all inputs share.
-use Rattle.std.proofs.Common.{ℕ, ◌≡◌, ◌≤◌, true, inl, inr, refl, ap, subst, List, [], ◌∷◌, ◌++◌}
-use Rattle.std.proofs.Common.{length, Option, None, Some, arith, length-append}
+use Rattle.std.proofs.Common.{ℕ, ◌≡◌, true, inl, inr, refl, ap, subst, List, [], ◌∷◌}
+use Rattle.std.proofs.Common.{Option, None, Some, arith, length-append}
 use Rattle.std.specs.Prelude.{Ok}
 use Rattle.fed_types.specs.declared.bag_id.BagId.{BagId}
 use Rattle.fed_types.specs.Ballots.{BallotNumber}

@@ -6,7 +6,7 @@ use Rattle.fed_types.specs.declared.bag_id.BagId.{BagId}
 use Rattle.fed_types.specs.Ballots.{BallotNumber, ballot_cmp}
 use Rattle.fed_types.specs.Lists.{is_in}
 use Rattle.fed_types.specs.Quorums.{quorums_of}
-use Rattle.fed_types.specs.Sites.{Membership, sites_to}
+use Rattle.fed_types.specs.Sites.{sites_to}
 use Rattle.fed_types.specs.Slots.{SlotName, same_slot}
 use Rattle.records.specs.declared.entry.Entry.TheVariants as entry
 use Rattle.records.specs.Layout.{record_bytes}

@@ -1,9 +1,8 @@
 -- What was heard, as the laws need it: what was gathered was heard, and the highest vote that
 -- promises name.
-use Rattle.std.proofs.Common.{◌≡◌, ◌≤◌, ℕ, true, refl, sym, ap, subst, ◌∙◌, List, [], ◌∷◌, ◌++◌}
-use Rattle.std.proofs.Common.{length, map, drop, Option, None, Some}
+use Rattle.std.proofs.Common.{◌≡◌, ◌≤◌, ℕ, refl, ap, subst, ◌∙◌, List, [], ◌∷◌, ◌++◌}
+use Rattle.std.proofs.Common.{length, map, drop, Option, Some}
 use Rattle.fed_types.specs.declared.vote.Vote.{Vote}
-use Rattle.fed_types.specs.Ballots.{BallotNumber, same_ballot}
 use Rattle.fed_types.specs.Lists.{Has}
 use Rattle.fed_types.specs.Slots.{SlotName}
 use Rattle.fed_types.specs.Laws.Ballots.{same_ballot_decides}
@@ -15,7 +14,7 @@ use Rattle.records.specs.Words.{if_some}
 use Rattle.records.proofs.Highest.{highest_is}
 use Rattle.dgram.specs.declared.body.Body.TheVariants.{Promise}
 use Rattle.dgram.specs.declared.message.Message.{Message}
-use Rattle.dgram.specs.Heard.{body_in, bodies_of, PromiseFrom, promise_in, promises_for, promisers}
+use Rattle.dgram.specs.Heard.{body_in, bodies_of, PromiseFrom, promise_in, promisers}
 use Rattle.dgram.specs.Heard.{priors}
 use Rattle.dgram.proofs.Heard.{has_message, has_promise}
 use Rattle.proposer.specs.Proposals.{Current, gathered, highest_prior}

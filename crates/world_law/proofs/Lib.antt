@@ -5,8 +5,10 @@ pub mod Grows
 pub mod Step
 pub mod Deeds
 pub mod Decided
+pub mod Conditions
 pub mod Arriving
 pub mod Calls
+pub mod Outcomes
 pub mod Runs
 pub mod Induction
 pub mod Reports

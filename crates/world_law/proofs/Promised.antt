@@ -1,11 +1,9 @@
 -- The promises of every schedule: reports agree and were deposited, and so was each bag that was
 -- proposed, voted for or known.
-use Rattle.std.proofs.Common.{ℕ, zero, suc, ◌≡◌, refl, sym, ap, ◌∙◌, ◌+◌, List, [], ◌∷◌, ◌++◌}
+use Rattle.std.proofs.Common.{ℕ, zero, suc, ◌≡◌, refl, sym, ap, ◌∙◌, ◌+◌, List, [], ◌++◌}
 use Rattle.std.proofs.Common.{length, drop, Option, None, Some, append-nil, append_assoc}
 use Rattle.std.proofs.Math.Seq.{drop-append_seam}
 use Rattle.fed_types.specs.declared.bag_id.BagId.{BagId}
-use Rattle.fed_types.specs.Lists.{Has}
-use Rattle.fed_types.specs.Quorums.{QuorumSystem}
 use Rattle.fed_types.specs.Slots.{SlotName}
 use Rattle.fed_types.specs.Laws.Lists.{has_drop}
 use Rattle.fed_types.specs.Laws.Quorums.{are_quorums}
@@ -13,11 +11,10 @@ use Rattle.records.specs.declared.entry.Entry.TheVariants as entry
 use Rattle.schedule.specs.declared.command.Command.{Command}
 use Rattle.schedule.specs.Plans.{Plan}
 use Rattle.world_law.specs.declared.line.Line.{Line}
-use Rattle.world_law.specs.declared.line.Line.TheVariants as lines
-use Rattle.world_law.specs.Headline.{reported, LinesAgree, first_number, world_after}
-use Rattle.world_law.specs.Headline.{DepositedBefore, printed, LinesStay, ReportsWereDeposited}
+use Rattle.world_law.specs.Headline.{LinesAgree, first_number, world_after}
+use Rattle.world_law.specs.Headline.{DepositedBefore, LinesStay, ReportsWereDeposited}
 use Rattle.world_law.specs.Headline.{BagsWereDeposited}
-use Rattle.world_law.specs.Laws.{OnRecord, IsChosen}
+use Rattle.world_law.specs.Laws.{OnRecord}
 use Rattle.world_law.specs.Networks.{Event, Happening, happens}
 use Rattle.world_law.specs.Worlds.{World, new_world, own_lines, sent_lines, after_event, quorums}
 use Rattle.world_law.specs.Worlds.{next_unnamed, on_turn, pumped, after_line, run_of}

@@ -1,5 +1,5 @@
 -- Where every datagram's number is named, a pump does nothing, however many turns it has.
-use Rattle.std.proofs.Common.{ℕ, zero, suc, ◌≡◌, refl, sym, ap, subst, ◌∙◌, Option, None}
+use Rattle.std.proofs.Common.{ℕ, zero, suc, ◌≡◌, refl, ap, ◌∙◌, Option, None}
 use Rattle.world_law.specs.Worlds.{World, next_unnamed, on_turn, pumped}
 
 idle_turn : (w : World) (number : ℕ) → next_unnamed w ≡ None → on_turn w number (next_unnamed w) ≡ w

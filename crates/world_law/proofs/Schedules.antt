@@ -1,7 +1,7 @@
 -- What every world of a schedule keeps: its network does what the laws say, what its lines report
 -- was chosen, and each deposit on record was made by a line so far.
-use Rattle.std.proofs.Common.{ℕ, zero, suc, ◌≡◌, ◌⊎◌, inl, inr, refl, sym, ap, subst, ◌∙◌, ◌+◌}
-use Rattle.std.proofs.Common.{List, [], ◌∷◌, ◌++◌, length, Option, None, Some}
+use Rattle.std.proofs.Common.{ℕ, zero, suc, ◌≡◌, ◌⊎◌, inl, inr, refl, sym, ap, ◌∙◌, ◌+◌}
+use Rattle.std.proofs.Common.{List, [], ◌∷◌, ◌++◌, Option, None, Some}
 use Rattle.std.specs.Prelude.{Ok}
 use Rattle.fed_types.specs.declared.bag_id.BagId.{BagId}
 use Rattle.fed_types.specs.Lists.{Has, here, there}
@@ -21,10 +21,11 @@ use Rattle.world_law.specs.Headline.{reported, Hands, DepositedIn}
 use Rattle.world_law.specs.Laws.{OnRecord, IsChosen, Report, report_of, site_of}
 use Rattle.world_law.specs.Networks.{Network, new_network, new_site, Event, Deposit, Propose, Ask}
 use Rattle.world_law.specs.Networks.{Query, Deliver, Raw, Stop, Start, Notice, Registered, Learned}
-use Rattle.world_law.specs.Networks.{Replied, Refused, Dropped, GoesDown, ComesUp, Happening, happens}
+use Rattle.world_law.specs.Networks.{Replied, Refused, Dropped, GoesDown, ComesUp, Happening}
+use Rattle.world_law.specs.Networks.{happens}
 use Rattle.world_law.specs.Trees.{NumberedTree, SeenBag}
 use Rattle.world_law.specs.Worlds.{World, new_world, line_of, own_lines, sent_lines, after_event}
-use Rattle.world_law.specs.Worlds.{quorums, next_unnamed, on_turn, pumped, after_command}
+use Rattle.world_law.specs.Worlds.{quorums, next_unnamed, on_turn, pumped}
 use Rattle.world_law.specs.Worlds.{after_line, run_from}
 use Rattle.world_law.proofs.Commands.{Comes, turn_is, command_is}
 use Rattle.world_law.proofs.Deeds.{some_same}

@@ -21,7 +21,7 @@ use Rattle.world_law.specs.declared.line.Line.{Line}
 use Rattle.world_law.specs.declared.line.Line.TheVariants as lines
 use Rattle.world_law.specs.declared.line.NamedReply.TheVariants as named
 use Rattle.world_law.specs.Laws.{OnRecord, WasSent, Report}
-use Rattle.world_law.specs.Networks.{Network, Down}
+use Rattle.world_law.specs.Networks.{Down}
 use Rattle.world_law.specs.Trees.{tree_at}
 use Rattle.world_law.specs.Worlds.{World, new_world, mode_of, is_member, after_line, run_from}
 use Rattle.world_law.specs.Worlds.{run_of}

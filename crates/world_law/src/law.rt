@@ -80,8 +80,8 @@ pub fn lines_agree()
     ensures { (plan : Plan) → LinesAgree (run_of plan).lines }
 {}
 
-/// What a line of a schedule reports was deposited for the slot by a line before it, from files that
-/// were a valid bag of this identity. What is printed is added at the end, and stays.
+/// What a line of a schedule reports was deposited for the slot by a line before it, from files
+/// that were a valid bag of this identity. What is printed is added at the end, and stays.
 pub fn reports_were_deposited()
     ensures deposited { (plan : Plan) → ReportsWereDeposited plan }
     ensures lines { LinesStay }

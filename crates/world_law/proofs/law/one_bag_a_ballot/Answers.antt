@@ -1,4 +1,4 @@
-use Rattle.std.proofs.Common.{◌≡◌, subst}
+use Rattle.std.proofs.Common.{subst}
 use Rattle.fed_types.specs.Ballots.{BallotNumber}
 use Rattle.dgram.specs.declared.body.Body.TheVariants.{Accept}
 use Rattle.world_law.specs.Laws.{WasSent}
