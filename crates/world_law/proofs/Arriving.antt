@@ -42,7 +42,8 @@ use Rattle.world_law.specs.Networks.{Network, Notice, Learned, notice_of}
 use Rattle.world_law.proofs.Heard.{gathered_heard, gathered_promise}
 use Rattle.world_law.proofs.Kept.{vote_for, Proposes, IsCurrent, Kept}
 use Rattle.world_law.proofs.Conditions.{given_if, kept_if, and_not, unless_known_is}
-use Rattle.world_law.proofs.Step.{Extends, Sound, IsNew, Tells, tells_nothing, tells_plain}
+use Rattle.world_law.proofs.Step.{Extends, Sound, IsNew, ReportsChosen, reports_nothing}
+use Rattle.world_law.proofs.Step.{reports_plain}
 use Rattle.world_law.proofs.Deeds.{MayDeposit, Deed, some_same, sent_extends, chosen_extends}
 use Rattle.world_law.proofs.Deeds.{carries_each, only_sends, nothing_sent, keeps_one}
 use Rattle.world_law.proofs.Deeds.{hears_recalls, same_recalls}
@@ -59,18 +60,18 @@ module _ (q : QuorumSystem) (laws : AreQuorums q) (w : Network) (inv : Kept q w)
   -- what changes nothing of the session, and proposes nothing
   pub still_deed : (input : Input) (commits : Option Record) (sends : List Send)
       (says : Result (Option Line) SiteFault) (slot : SlotName) (body : Body)
-      → Tells q w (notice_of n input says)
+      → ReportsChosen q w (notice_of n input says)
       → Sound q w n (MayDeposit input) commits slot body sends → NoAccept body
       → Deed q w n input
       (record { commits = commits; sends = sends; says = says; session = old })
-  still_deed input commits sends says slot body told s other = record {
+  still_deed input commits sends says slot body reports s other = record {
     slot = slot;
     body = body;
     sound = s;
     recalls =
         same_recalls q w n (inv.sessions n) commits slot body
         (λ k c bag f i. absurd (not_new body other i));
-    told = told;
+    reports = reports;
   }
 
   -- ---- with a member's message heard
@@ -102,23 +103,23 @@ module _ (q : QuorumSystem) (laws : AreQuorums q) (w : Network) (inv : Kept q w)
     -- an effect whose new messages propose nothing
     plain_deed : (commits : Option Record) (sends : List Send)
         (says : Result (Option Line) SiteFault) (new : Body)
-        → Tells q w (notice_of n input says)
+        → ReportsChosen q w (notice_of n input says)
         → Sound q w n (MayDeposit input) commits slot new sends → NoAccept new
         → Deed q w n input
         (record { commits = commits; sends = sends; says = says; session = now })
-    plain_deed commits sends says new told s other = record {
+    plain_deed commits sends says new reports s other = record {
       slot = slot;
       body = new;
       sound = s;
       recalls =
           hears_recalls q w n laws (inv.sessions n) m sent member commits slot new
           (λ k c bag f i. absurd (not_new new other i));
-      told = told;
+      reports = reports;
     }
 
     quiet_deed : Deed q w n input (quiet now)
     quiet_deed =
-        plain_deed None [] (Ok None) (Ask n) tells_nothing
+        plain_deed None [] (Ok None) (Ask n) reports_nothing
         (nothing_sent q w n (MayDeposit input) slot) tt
 
     -- ---- the acceptor
@@ -132,13 +133,14 @@ module _ (q : QuorumSystem) (laws : AreQuorums q) (w : Network) (inv : Kept q w)
         → ((sites : List ℕ) → DecisionSound q w n (MayDeposit input) slot sites d)
         → Deed q w n input (decided q n slot asker d now)
     decided_deed asker d s =
-        plain_deed _ _ (Ok None) _ tells_nothing (s (addressees q asker d.answer))
+        plain_deed _ _ (Ok None) _ reports_nothing (s (addressees q asker d.answer))
         (no_accept d.answer)
 
     -- ---- the learner
 
-    reports : {bag : BagId} → IsChosen q w slot bag → Tells q w (Some (Learned n slot bag))
-    reports {bag} c = record { tells = λ l r e f. go l r (some_same e) f }
+    learned_chosen : {bag : BagId} → IsChosen q w slot bag
+        → ReportsChosen q w (Some (Learned n slot bag))
+    learned_chosen {bag} c = record { chosen = λ l r e f. go l r (some_same e) f }
       where
         go : (l : Notice) (r : Report) → Learned n slot bag ≡ l → report_of l ≡ Some r
             → IsChosen q w r.slot r.bag
@@ -150,7 +152,8 @@ module _ (q : QuorumSystem) (laws : AreQuorums q) (w : Network) (inv : Kept q w)
         → Deed q w n input (learning slot o now)
     learning_deed None chosen = quiet_deed
     learning_deed (Some bag) chosen =
-        plain_deed _ [] (Ok (Some (lines.Known slot bag))) (Ask n) (reports (chosen bag refl))
+        plain_deed _ [] (Ok (Some (lines.Known slot bag))) (Ask n)
+        (learned_chosen (chosen bag refl))
         (keeps_one q w n (MayDeposit input) slot (entry.Known bag) (Ask n) []
         (λ e h. absurd (has_none h)) refl
         (λ x g. chosen_extends g (chosen bag refl)) (λ x g. tt))
@@ -160,7 +163,7 @@ module _ (q : QuorumSystem) (laws : AreQuorums q) (w : Network) (inv : Kept q w)
         → Deed q w n input (telling n slot asker o now)
     telling_deed asker None e = quiet_deed
     telling_deed asker (Some bag) e =
-        plain_deed None _ (Ok None) (Known n bag) tells_nothing
+        plain_deed None _ (Ok None) (Known n bag) reports_nothing
         (only_sends q w n (MayDeposit input) slot (Known n bag)
         (to_each slot (Known n bag) (asker ∷ []))
         (carries_each slot (Known n bag) (asker ∷ [])) refl
@@ -273,7 +276,7 @@ module _ (q : QuorumSystem) (laws : AreQuorums q) (w : Network) (inv : Kept q w)
             (λ x g. record { says = proposes x g; own = cur.own; unsent = unsent });
         recalls =
             hears_recalls q w n laws (inv.sessions n) m sent member None slot (Accept vote) fine;
-        told = tells_nothing;
+        reports = reports_nothing;
       }
         where
           vote : Vote
@@ -331,18 +334,18 @@ module _ (q : QuorumSystem) (laws : AreQuorums q) (w : Network) (inv : Kept q w)
 
   -- it says this, and nothing else comes of it
   pub says_deed : (input : Input) (says : Result (Option Line) SiteFault)
-      → Tells q w (notice_of n input says)
+      → ReportsChosen q w (notice_of n input says)
       → Deed q w n input
       (record { commits = None; sends = []; says = says; session = old })
-  says_deed input says told =
-      still_deed input None [] says any_slot (Ask n) told
+  says_deed input says reports =
+      still_deed input None [] says any_slot (Ask n) reports
       (nothing_sent q w n (MayDeposit input) any_slot) tt
     where
       any_slot : SlotName
       any_slot = record { object = []; version = 0 }
 
   dropped_deed : (input : Input) → Deed q w n input (only_says lines.Dropped old)
-  dropped_deed input = says_deed input (Ok (Some lines.Dropped)) (tells_plain _ refl)
+  dropped_deed input = says_deed input (Ok (Some lines.Dropped)) (reports_plain _ refl)
 
   body_deed : (slot : SlotName) (body : Body) → WasSent w slot body
       → is_member q (body_from body) ≡ true

@@ -28,7 +28,7 @@ use Rattle.world_law.specs.Laws.{WasSent}
 use Rattle.world_law.specs.Networks.{Network}
 use Rattle.world_law.proofs.Kept as facts
 use Rattle.world_law.proofs.Kept.{vote_for, IsCurrent, Kept}
-use Rattle.world_law.proofs.Step.{Extends, Splits, tells_nothing, tells_plain}
+use Rattle.world_law.proofs.Step.{Extends, Splits, reports_nothing, reports_plain}
 use Rattle.world_law.proofs.Deeds.{MayDeposit, Deed, some_same, sent_extends, carries_each}
 use Rattle.world_law.proofs.Deeds.{only_sends, keeps_one, not_new}
 use Rattle.world_law.proofs.Arriving.{still_deed, says_deed}
@@ -41,7 +41,7 @@ module _ (q : QuorumSystem) (laws : AreQuorums q) (w : Network) (inv : Kept q w)
   before = (w.sites n).session
 
   pub refuses_deed : (input : Input) (fault : SiteFault) → Deed q w n input (refuses fault before)
-  refuses_deed input fault = says_deed q laws w inv n input (Err fault) (tells_plain _ refl)
+  refuses_deed input fault = says_deed q laws w inv n input (Err fault) (reports_plain _ refl)
 
   module _ (slot : SlotName) where
     -- ---- a deposit
@@ -51,13 +51,13 @@ module _ (q : QuorumSystem) (laws : AreQuorums q) (w : Network) (inv : Kept q w)
     registering_deed own bag (Some fault) = refuses_deed (Deposits slot (Ok bag)) fault
     registering_deed None bag None =
         still_deed q laws w inv n (Deposits slot (Ok bag)) _ [] (Ok (Some (lines.Registered bag)))
-        slot (Ask n) (tells_plain _ refl)
+        slot (Ask n) (reports_plain _ refl)
         (keeps_one q w n (MayDeposit (Deposits slot (Ok bag))) slot (entry.Deposit bag) (Ask n) []
         (λ e h. absurd (has_none h)) refl (λ x g. (refl, refl)) (λ x g. tt))
         tt
     registering_deed (Some u) bag None =
         says_deed q laws w inv n (Deposits slot (Ok bag)) (Ok (Some (lines.Registered bag)))
-        (tells_plain _ refl)
+        (reports_plain _ refl)
 
     pub deposit_deed : (checked : Result BagId BagFault)
         → Deed q w n (Deposits slot checked) (on_deposit records before slot checked)
@@ -132,7 +132,7 @@ module _ (q : QuorumSystem) (laws : AreQuorums q) (w : Network) (inv : Kept q w)
             current = current_now x g splits;
           };
         };
-        told = tells_nothing;
+        reports = reports_nothing;
       }
 
     -- the next ballot, where there is one, is such a ballot
@@ -163,7 +163,7 @@ module _ (q : QuorumSystem) (laws : AreQuorums q) (w : Network) (inv : Kept q w)
     pub ask_deed : (member : ℕ) → Deed q w n (Asks slot member) (on_ask n before slot member)
     unfolding on_ask
     ask_deed member =
-        still_deed q laws w inv n (Asks slot member) None _ (Ok None) slot (Ask n) tells_nothing
+        still_deed q laws w inv n (Asks slot member) None _ (Ok None) slot (Ask n) reports_nothing
         (only_sends q w n (MayDeposit (Asks slot member)) slot (Ask n)
         (to_each slot (Ask n) (member ∷ []))
         (carries_each slot (Ask n) (member ∷ [])) refl (λ x g. tt))

@@ -26,7 +26,7 @@ use Rattle.world_law.specs.Networks.{Network, notice_of}
 use Rattle.world_law.proofs.Heard.{gathered_stays}
 use Rattle.world_law.proofs.Kept.{Remembers}
 use Rattle.world_law.proofs.Step.{Extends, Deposits, NewEntry, NewBody, Carries, Sound, IsNew}
-use Rattle.world_law.proofs.Step.{Recalls, Tells}
+use Rattle.world_law.proofs.Step.{Recalls, ReportsChosen}
 
 -- the deposit that an input may make: that of a tree that is a valid bag
 abbrev pub MayDeposit : Input → Deposits
@@ -39,7 +39,7 @@ pub record Deed (q : QuorumSystem) (w : Network) (n : ℕ) (input : Input) (e : 
   pub body : Body
   pub sound : Sound q w n (MayDeposit input) e.commits slot body e.sends
   pub recalls : Recalls q w n e.commits slot body e.session
-  pub told : Tells q w (notice_of n input e.says)
+  pub reports : ReportsChosen q w (notice_of n input e.says)
 
 pub some_same : {A : Type 0} {x y : A} → Some x ≡ Some y → x ≡ y
 some_same e = cc

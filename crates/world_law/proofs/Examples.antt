@@ -5,7 +5,7 @@ use Rattle.std.specs.Prelude.{Ok}
 use Rattle.fed_types.specs.declared.bag_id.BagId.{BagId}
 use Rattle.fed_types.specs.Ballots.{BallotNumber, ballot_cmp}
 use Rattle.fed_types.specs.Lists.{is_in}
-use Rattle.fed_types.specs.Quorums.{quorums_of}
+use Rattle.fed_types.specs.Quorums.{QuorumSystem, quorums_of}
 use Rattle.fed_types.specs.Sites.{sites_to}
 use Rattle.fed_types.specs.Slots.{SlotName, same_slot}
 use Rattle.records.specs.declared.entry.Entry.TheVariants as entry
@@ -36,7 +36,8 @@ use Rattle.world_law.specs.declared.line.Line.TheVariants as lines
 use Rattle.world_law.specs.declared.line.NamedBag.{NamedBag}
 use Rattle.world_law.specs.declared.line.NamedReply.TheVariants as named
 use Rattle.world_law.specs.declared.line.Reason.TheVariants as reasons
-use Rattle.world_law.specs.Networks.{new_site, new_network, outcome, happens}
+use Rattle.world_law.specs.Networks.{new_site, new_network, outcome, happens, run, Ask}
+use Rattle.world_law.specs.Networks.{Deliver}
 use Rattle.world_law.specs.Trees.{tree_at, put_tree, first_tree}
 use Rattle.world_law.specs.Worlds.{World, new_world, sent_lines, after_event, on_tree, on_folder}
 use Rattle.world_law.specs.Worlds.{on_added, on_file, on_checked, on_deposit as on_deposited}
@@ -111,17 +112,23 @@ abbrev play : World → List Step → World
 play w [] = w
 play w (step ∷ steps) = play (step w) steps
 
--- the world of so many members of weight 1 after these steps
+-- the world of members of these weights after these steps; of so many members of weight 1
+abbrev after_of : List ℕ → List Step → World
+after_of weights steps = play (new_world (record { federation = 7; weights = weights })) steps
+
 abbrev after : ℕ → List Step → World
-after count steps = play (new_world (record { federation = 7; weights = replicate count 1 })) steps
+after count steps = after_of (replicate count 1) steps
 
 -- its lines, without those of datagrams
 abbrev own : Line → Option Line
 own (lines.Sent number from to bytes) = None
 own line = Some line
 
+abbrev says_of : List ℕ → List Step → List Line
+says_of weights steps = filter_map own (after_of weights steps).lines
+
 abbrev says : ℕ → List Step → List Line
-says count steps = filter_map own (after count steps).lines
+says count steps = says_of (replicate count 1) steps
 
 abbrev registered : (site tree : ℕ) → Line
 registered site tree = lines.Registered site a (named_bag tree)
@@ -163,11 +170,15 @@ promise site = promise_message a site (ballot 1 1) None
 abbrev promised_by : (site : ℕ) → Session
 promised_by site = hears new_session (promise site)
 
+-- the quorums of three members of weight 1
+abbrev three : QuorumSystem
+three = quorums_of (record { federation = 7; weights = replicate 3 1 })
+
 -- what site 1 of three sends when it is promised its ballot by itself, where it had this session
 -- when it issued the ballot, and then heard more
 abbrev sends_of : Session → (Session → Session) → List Send
 sends_of before more =
-    (on_arrival (quorums_of (record { federation = 7; weights = replicate 3 1 })) 1
+    (on_arrival three 1
     (record { slot = a; body = entry.Deposit (bag 1) }
     ∷ record { slot = a; body = entry.Round 1 } ∷ [])
     (more (issues before a (ballot 1 1))) (Some (promise 1))).sends
@@ -186,6 +197,19 @@ pub record Examples : Type 0 where
   three_of_four :
       says 4 (deposit 1 1 ∷ propose 1 ∷ pump 7 ∷ delivers (9 ∷ 10 ∷ 13 ∷ 17 ∷ 11 ∷ 21 ∷ []))
       ≡ registered 1 1 ∷ known 1 1 ∷ []
+  -- of weights 2 and 1 the first member is a quorum; of weights 2, 1 and 1 two members of weight 1
+  -- aren't: their promises propose nothing, and their votes choose nothing
+  heavy_member :
+      says_of (2 ∷ 1 ∷ []) (deposit 1 1 ∷ propose 1 ∷ delivers (1 ∷ 3 ∷ 4 ∷ 6 ∷ []))
+      ≡ registered 1 1 ∷ known 1 1 ∷ []
+  light_members :
+      says_of (2 ∷ 1 ∷ 1 ∷ []) (deposit 1 1 ∷ propose 1 ∷ delivers (2 ∷ 3 ∷ 4 ∷ 5 ∷ 6 ∷ 1 ∷ 6 ∷ 8
+      ∷ 9 ∷ 10 ∷ 13 ∷ []) ++ query 1 ∷ delivers (7 ∷ 16 ∷ []))
+      ≡ registered 1 1 ∷ lines.Skip 16 reasons.Datagram
+      ∷ lines.Replied 1 a (named.Pending (named_bag 1)) ∷ known 1 1 ∷ []
+  -- a site that is no member hears nothing, even where a member has asked it
+  stranger :
+      ((run three new_network (Ask 1 9 a Whole ∷ Deliver 1 Whole ∷ [])).sites 9).session.heard ≡ []
   -- a prior vote wins over the own deposit, which then is another bag than the known one
   prior_wins :
       says 3 (five_turns ++ delivers (7 ∷ 8 ∷ []) ++ deposit 3 2 ∷ propose 3
@@ -212,7 +236,7 @@ pub record Examples : Type 0 where
   early_promise :
       (sends_of (promised_by 2) (λ session. session) ≡ [])
       × (length (sends_of new_session (λ session. hears session (promise 2))) ≡ 3)
-  -- a vote that is lost is told to nobody; a kept one is named in the next promise; a torn one is
+  -- a vote that is lost was named to nobody; a kept one is named in the next promise; a torn one is
   -- lost
   lost_vote : says 3 (vote_cut_at 0)
       ≡ registered 1 1 ∷ registered 3 2 ∷ lines.Down 2 ∷ lines.Up 2 1 ∷ known 3 2 ∷ []
@@ -298,13 +322,16 @@ unfolding ballot_cmp is_in sites_to same_slot record_bytes promised_of vote_of u
     on_arrival on_deposit on_propose on_ask reply_of to_each new_site new_network outcome happens
     tree_at put_tree first_tree new_world sent_lines after_event on_tree on_folder on_added on_file
     on_deposited on_datagram on_deliver on_call on_raw numbers_to on_turn pumped on_start
-    after_command fault_of_added
+    after_command fault_of_added run
 all = record {
   three_sites_agree = refl;
   eighteen_datagrams = refl;
   one_site = refl;
   half_of_four = refl;
   three_of_four = refl;
+  heavy_member = refl;
+  light_members = refl;
+  stranger = refl;
   prior_wins = refl;
   highest_wins = refl;
   one_promise_thrice = refl;

@@ -26,13 +26,14 @@ use Rattle.world_law.specs.Laws.{IsChosen, Report, report_of}
 use Rattle.world_law.specs.Networks.{Mode, Up, Down, NeedsOpening, Network, new_site, new_network}
 use Rattle.world_law.specs.Networks.{Event, Deposit, Propose, Query, Deliver, Raw, Stop, Start}
 use Rattle.world_law.specs.Networks.{Notice, Replied, Refused, GoesDown, ComesUp, notice_of}
-use Rattle.world_law.specs.Networks.{Outcome, Happening, happening, outcome, nothing, at_member}
+use Rattle.world_law.specs.Networks.{Outcome, Happening, happening, outcome, nothing, if_member}
 use Rattle.world_law.specs.Networks.{undergoes, reaches, takes, says, datagram_at, arrives, stops}
 use Rattle.world_law.specs.Networks.{opened, starts, happens, run}
 use Rattle.world_law.specs.Networks as networks
 use Rattle.world_law.proofs.Kept.{Kept}
 use Rattle.world_law.proofs.Grows.{grows_itself}
-use Rattle.world_law.proofs.Step.{moved, Deposits as Allowed, Tells, tells_nothing, tells_plain}
+use Rattle.world_law.proofs.Step.{moved, Deposits as Allowed, ReportsChosen, reports_nothing}
+use Rattle.world_law.proofs.Step.{reports_plain}
 use Rattle.world_law.proofs.Step.{Next, Sound, nothing_recalled, kept_moved}
 use Rattle.world_law.proofs.Deeds.{MayDeposit, Deed, some_same, nothing_sent}
 use Rattle.world_law.proofs.Calls.{refuses_deed}
@@ -55,18 +56,19 @@ fewer some among s = record {
 
 module _ (q : QuorumSystem) (w : Network) (inv : Kept q w) where
   -- nothing happens, but that something is said
-  pub said_kept : (D : Allowed) (place : Option ℕ) (notice : Option Notice) → Tells q w notice
+  pub said_kept : (D : Allowed) (place : Option ℕ) (notice : Option Notice)
+      → ReportsChosen q w notice
       → Next q w place D (record { network = w; sends = []; notice = notice })
-  said_kept D place notice told = record {
+  said_kept D place notice reports = record {
     kept = inv;
     grows = grows_itself;
-    told = told;
+    reports = reports;
     names = λ d h. absurd (has_none h);
     deposits = λ n slot bag h. inl h;
   }
 
   pub stays : (D : Allowed) (place : Option ℕ) → Next q w place D (nothing w)
-  stays D place = said_kept D place None tells_nothing
+  stays D place = said_kept D place None reports_nothing
 
   module _ (n : ℕ) (D : Allowed) where
     -- the site loses its session, with what it keeps
@@ -76,7 +78,7 @@ module _ (q : QuorumSystem) (w : Network) (inv : Kept q w) where
         → Next q w (Some n) D (moved w n kept new_session mode some (Some notice))
     lost_kept kept slot body sends s mode notice e some among =
         kept_moved q w n kept new_session mode some (Some notice) D slot body
-        (fewer some among s) inv nothing_recalled (tells_plain notice e)
+        (fewer some among s) inv nothing_recalled (reports_plain notice e)
 
     -- it keeps nothing
     idle_kept : (mode : Mode) (notice : Notice) → report_of notice ≡ None
@@ -96,7 +98,7 @@ module _ (q : QuorumSystem) (w : Network) (inv : Kept q w) where
     left_kept r slot body sends s mode notice e false = idle_kept mode notice e
 
     pub member_kept : (h : Happening) → Next q w (Some n) D h
-        → Next q w (Some n) D (at_member q w n h)
+        → Next q w (Some n) D (if_member q w n h)
     member_kept h next = go (is_in q.members n)
       where
         go : (t : Bool) → Next q w (Some n) D (cond t h (nothing w))
@@ -116,16 +118,16 @@ module _ (q : QuorumSystem) (w : Network) (inv : Kept q w) where
             inv.records n slot (entry.Known bag) (known_among slot (w.sites n).records bag e)
 
         go : (known own : _) → known_of slot (w.sites n).records ≡ known
-            → Tells q w (Some (Replied n slot (reply_by known own)))
+            → ReportsChosen q w (Some (Replied n slot (reply_by known own)))
         go (Some bag) own e = record {
-          tells = λ m r f g.
+          chosen = λ m r f g.
               let h : Some (record { slot = slot; bag = bag }) ≡ Some r =
               ap report_of (some_same f) ∙ g in
               subst (λ (r : Report). IsChosen q w r.slot r.bag) (some_same h) (known bag e);
         }
-        go None (Some bag) e = tells_plain _ refl
-        go None None e = tells_plain _ refl
-    replies_kept slot NeedsOpening = said_kept D (Some n) _ (tells_plain _ refl)
+        go None (Some bag) e = reports_plain _ refl
+        go None None e = reports_plain _ refl
+    replies_kept slot NeedsOpening = said_kept D (Some n) _ (reports_plain _ refl)
     replies_kept slot Down = stays D (Some n)
 
     pub stops_kept : (mode : Mode) → Next q w (Some n) D (stops w n mode)
@@ -164,7 +166,7 @@ module _ (q : QuorumSystem) (w : Network) (inv : Kept q w) where
         whole : Next q w (Some n) May (happening w n (networks.goes_on n (w.sites n) input e))
         whole =
             kept_moved q w n e.commits e.session (w.sites n).mode e.sends
-            (notice_of n input e.says) May d.slot d.body d.sound inv d.recalls d.told
+            (notice_of n input e.says) May d.slot d.body d.sound inv d.recalls d.reports
 
         sound_of : (commits : Option Record) → e.commits ≡ commits
             → Sound q w n May commits d.slot d.body e.sends

@@ -122,5 +122,5 @@ module _ (plan : Plan) where
         asked = asked;
         voted = λ n slot vote k. asked slot vote (inv.records n slot _ k);
         known = λ n slot bag k. known slot bag (inv.records n slot _ k);
-        told = λ n slot bag s. known slot bag (inv.sent _ s.is_sent);
+        said = λ n slot bag s. known slot bag (inv.sent _ s.is_sent);
       }

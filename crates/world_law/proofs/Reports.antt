@@ -39,7 +39,7 @@ module _ (q : QuorumSystem) (laws : AreQuorums q) where
         | inl first ↦
             chosen_from es (happens q w e).network next.kept r.slot r.bag
             (chosen_grows next.grows
-            (next.told.tells m r (has_notice (happens q w e).notice m first) is))
+            (next.reports.chosen m r (has_notice (happens q w e).notice m first) is))
         | inr later ↦ reported_from es (happens q w e).network next.kept m r later is
       ]
 

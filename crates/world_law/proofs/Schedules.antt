@@ -158,7 +158,7 @@ module _ (w : World) (h : Holds w) where
     ]
       where
         at_notice : ByNotice next.notice r → IsChosen (quorums w) w.network r.slot r.bag
-        at_notice b = fact.told.tells b.notice r b.is b.reports
+        at_notice b = fact.reports.chosen b.notice r b.is b.reports
 
     event_holds : Holds (after_event before e)
     unfolding after_event

@@ -43,8 +43,8 @@ moved w n kept session mode sends notice = happening w n (record {
 })
 
 -- what the notice reports was chosen before
-pub record Tells (q : QuorumSystem) (w : Network) (notice : Option Notice) : Type 0 where
-  pub tells : (m : Notice) (r : Report) → notice ≡ Some m → report_of m ≡ Some r
+pub record ReportsChosen (q : QuorumSystem) (w : Network) (notice : Option Notice) : Type 0 where
+  pub chosen : (m : Notice) (r : Report) → notice ≡ Some m → report_of m ≡ Some r
       → IsChosen q w r.slot r.bag
 
 -- these messages name site n as their sender
@@ -61,18 +61,18 @@ pub record Next (q : QuorumSystem) (w : Network) (place : Option ℕ) (D : Depos
     : Type 0 where
   pub kept : Kept q h.network
   pub grows : Grows w h.network
-  pub told : Tells q w h.notice
+  pub reports : ReportsChosen q w h.notice
   pub names : Names h.sends place
   pub deposits : (n : ℕ) (slot : SlotName) (bag : BagId)
       → OnRecord h.network n slot (entry.Deposit bag)
       → OnRecord w n slot (entry.Deposit bag) ⊎ ((place ≡ Some n) × D slot bag)
 
-pub tells_nothing : {q : QuorumSystem} {w : Network} → Tells q w None
-tells_nothing = record { tells = λ m r e f. absurd (cc e) }
+pub reports_nothing : {q : QuorumSystem} {w : Network} → ReportsChosen q w None
+reports_nothing = record { chosen = λ m r e f. absurd (cc e) }
 
-pub tells_plain : {q : QuorumSystem} {w : Network} (m : Notice) → report_of m ≡ None
-    → Tells q w (Some m)
-tells_plain m e = record { tells = λ k r f g. absurd (reports_none k r f g) }
+pub reports_plain : {q : QuorumSystem} {w : Network} (m : Notice) → report_of m ≡ None
+    → ReportsChosen q w (Some m)
+reports_plain m e = record { chosen = λ k r f g. absurd (reports_none k r f g) }
   where
     reports_none : (k : Notice) (r : Report) → Some m ≡ Some k → report_of k ≡ Some r → ⊥
     reports_none k r f g =
@@ -299,7 +299,7 @@ module _ (q : QuorumSystem) (w : Network) (n : ℕ) (kept : Option Record) (sess
         ap (λ (y : Vote). y.bag) f
 
     module _ (inv : Kept q w) (recalls : Recalls q w n kept slot0 body0 session)
-        (told : Tells q w notice) where
+        (reports : ReportsChosen q w notice) where
       other_session : (k : ℕ) → k ≢ n → Remembers q x k (w.sites k).session
       other_session k other =
           remembers_grows moved_grows q k (w.sites k).session cases (inv.sessions k)
@@ -343,7 +343,7 @@ module _ (q : QuorumSystem) (w : Network) (n : ℕ) (kept : Option Record) (sess
       kept_moved = record {
         kept = all_kept;
         grows = moved_grows;
-        told = told;
+        reports = reports;
         names = λ d h. names_from d (s.each d h);
         deposits = λ k slot bag h. elim (record_cases k _ h) [
           | inl old ↦ inl old

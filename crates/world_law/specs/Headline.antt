@@ -122,6 +122,6 @@ pub record BagsWereDeposited (plan : Plan) : Type 0 where
   pub known : (n : ℕ) (slot : SlotName) (bag : BagId)
       → OnRecord (run_of plan).network n slot (entry.Known bag)
       → DepositedBefore plan plan.lines slot bag
-  pub told : (n : ℕ) (slot : SlotName) (bag : BagId)
+  pub said : (n : ℕ) (slot : SlotName) (bag : BagId)
       → WasSent (run_of plan).network slot (Known n bag)
       → DepositedBefore plan plan.lines slot bag

@@ -93,7 +93,8 @@ pub record Happening : Type 0 where
 
 -- ---- a call, under a fate
 
--- what a site's line says: that of a deposit names no slot, since who calls does
+-- What a site's line says. That of a deposit names no slot, since who calls does; no other input
+-- registers a bag.
 abbrev pub line_notice : (site : ℕ) → Line → Input → Option Notice
 line_notice site (lines.Registered bag) (Deposits slot checked) = Some (Registered site slot bag)
 line_notice site (lines.Registered bag) input = None
@@ -173,8 +174,8 @@ happening w site o = record {
 }
 
 -- only members do anything
-abbrev pub at_member : QuorumSystem → Network → (site : ℕ) → Happening → Happening
-at_member q w site h = if is_in q.members site then h else nothing w
+abbrev pub if_member : QuorumSystem → Network → (site : ℕ) → Happening → Happening
+if_member q w site h = if is_in q.members site then h else nothing w
 
 -- an effect at a site, under a fate
 abbrev pub undergoes : Network → (site : ℕ) → Input → Effect → Fate → Happening
@@ -193,7 +194,7 @@ reaches q w site Down input fate = nothing w
 
 abbrev pub takes : QuorumSystem → Network → (site : ℕ) → Input → Fate → Happening
 takes q w site input fate =
-    at_member q w site (reaches q w site (w.sites site).mode input fate)
+    if_member q w site (reaches q w site (w.sites site).mode input fate)
 
 -- a site says this, and nothing else comes of it
 abbrev pub says : Network → Notice → Happening
@@ -238,11 +239,11 @@ unfoldable pub happens : QuorumSystem → Network → Event → Happening
 happens q w (Deposit site slot checked fate) = takes q w site (Deposits slot checked) fate
 happens q w (Propose site slot fate) = takes q w site (Proposes slot) fate
 happens q w (Ask site member slot fate) = takes q w site (Asks slot member) fate
-happens q w (Query site slot) = at_member q w site (replies w site (w.sites site).mode slot)
+happens q w (Query site slot) = if_member q w site (replies w site (w.sites site).mode slot)
 happens q w (Deliver number fate) = arrives q w (datagram_at number w.sent) fate
 happens q w (Raw site) = takes q w site (Arrives None) Whole
-happens q w (Stop site) = at_member q w site (stops w site (w.sites site).mode)
-happens q w (Start site) = at_member q w site (starts w site (w.sites site).mode)
+happens q w (Stop site) = if_member q w site (stops w site (w.sites site).mode)
+happens q w (Start site) = if_member q w site (starts w site (w.sites site).mode)
 
 -- the network after these events
 unfoldable pub run : QuorumSystem → Network → List Event → Network

@@ -149,8 +149,8 @@ unless_down w number NeedsOpening next = next
 unless_down w number Down next = skips w number reasons.Down
 
 -- an event at a site, unless the site is down
-abbrev pub unless_down_after : World → (number : ℕ) → (site : ℕ) → Event → World
-unless_down_after w number site e = unless_down w number (mode_of w site) (after_event w e)
+abbrev pub event_at : World → (number : ℕ) → (site : ℕ) → Event → World
+event_at w number site e = unless_down w number (mode_of w site) (after_event w e)
 
 -- ---- trees
 
@@ -199,7 +199,7 @@ on_deposit w number site tree slot fate (Some files) =
 -- the datagram of a number that is named arrives
 unfoldable pub on_datagram : World → (number k : ℕ) → Fate → Option Send → World
 on_datagram w number k fate None = skips w number reasons.Datagram
-on_datagram w number k fate (Some d) = unless_down_after w number d.to (Deliver k fate)
+on_datagram w number k fate (Some d) = event_at w number d.to (Deliver k fate)
 
 -- `deliver K` names the number, and then the datagram of this number arrives
 unfoldable pub on_deliver : World → (number k : ℕ) → Fate → World
@@ -212,15 +212,15 @@ on_call w number (calls.Deposit site tree slot) fate =
     at_member w number site
     (on_deposit w number site tree slot fate (tree_at tree w.trees))
 on_call w number (calls.Propose site slot) fate =
-    at_member w number site (unless_down_after w number site (Propose site slot fate))
+    at_member w number site (event_at w number site (Propose site slot fate))
 on_call w number (calls.Deliver k) fate = on_deliver w number k fate
 on_call w number (calls.Ask site member slot) fate =
     at_member w number site (at_member w number member
-    (unless_down_after w number site (Ask site member slot fate)))
+    (event_at w number site (Ask site member slot fate)))
 
 -- `raw S HEX`: bytes that no site sent reach a site, unless they are a message
 unfoldable pub on_raw : World → (number site : ℕ) → Option Message → World
-on_raw w number site None = unless_down_after w number site (Raw site)
+on_raw w number site None = event_at w number site (Raw site)
 on_raw w number site (Some m) = skips w number reasons.Formed
 
 -- ---- a pump
@@ -262,12 +262,12 @@ after_command w number (commands.File tree path content) =
     on_file w number tree path content (tree_at tree w.trees)
 after_command w number (commands.Call call fate) = on_call w number call fate
 after_command w number (commands.Query site slot) =
-    at_member w number site (unless_down_after w number site (Query site slot))
+    at_member w number site (event_at w number site (Query site slot))
 after_command w number (commands.Raw site bytes) =
     at_member w number site (on_raw w number site (message_of w.members.federation bytes))
 after_command w number (commands.Pump turns) = pumped w number turns
 after_command w number (commands.Stop site) =
-    at_member w number site (unless_down_after w number site (Stop site))
+    at_member w number site (event_at w number site (Stop site))
 after_command w number (commands.Start site) =
     at_member w number site (on_start w number site (mode_of w site))
 
