@@ -84,3 +84,7 @@ pub record IsAnswered
     : Type 0 where
   pub keeps : Keeps device e.commits result old.book new.book
   pub gives : Gives old new session e result
+
+-- where the definitions refuse, the call refuses so, whatever memory there is
+abbrev pub IsRefused : Effect → Result Answer SiteFault → Type 0
+IsRefused e result = (fault : SiteFault) → e.says ≡ Err fault → result ≡ Err fault
