@@ -105,6 +105,7 @@ impl From<ToolFault> for Fault {
     fn from(e: ToolFault) -> Fault {
         match e {
             ToolFault::Line => Fault::Script,
+            ToolFault::Clock => Fault::Input,
             ToolFault::Memory => Fault::Memory,
             ToolFault::Wrong => Fault::Wrong,
         }

@@ -3,27 +3,22 @@ use fed_types::{BagId, Slot};
 use site::{Answer, Line, Reply, Sealed, SiteFault};
 use std::alloc::Global;
 
-/// What a call answers: the line or the refusal, and then each datagram, with its number among all
-/// that were sent, of which there were so many before.
+/// What a call answers: the line, if any, and then each datagram, with its number among all that
+/// were sent, of which there were so many before.
 pub(crate) fn answer_text(
     alloc: Global,
-    answer: &Result<Answer, SiteFault>,
+    answer: &Answer,
     sent: usize,
 ) -> Result<String, ToolFault> {
-    match answer {
-        Err(fault) => refusal(alloc, *fault),
-        Ok(answer) => {
-            let mut text = line_text(alloc, &answer.line)?;
-            for (place, datagram) in answer.sends.iter().enumerate() {
-                let number = sent.saturating_add(place).saturating_add(1);
-                text.push_str(sent_text(alloc, number, datagram)?.as_str())?;
-            }
-            if text.is_empty() {
-                text.push_str("nothing\n")?;
-            }
-            Ok(text)
-        }
+    let mut text = line_text(alloc, &answer.line)?;
+    for (place, datagram) in answer.sends.iter().enumerate() {
+        let number = sent.saturating_add(place).saturating_add(1);
+        text.push_str(sent_text(alloc, number, datagram)?.as_str())?;
     }
+    if text.is_empty() {
+        text.push_str("nothing\n")?;
+    }
+    Ok(text)
 }
 
 fn line_text(alloc: Global, line: &Option<Line>) -> Result<String, ToolFault> {
@@ -61,7 +56,7 @@ pub(crate) fn reply_text(
 }
 
 /// A refusal by its number, and by the bag's fault or the bag that is in the way.
-fn refusal(alloc: Global, fault: SiteFault) -> Result<String, ToolFault> {
+pub(crate) fn refusal(alloc: Global, fault: SiteFault) -> Result<String, ToolFault> {
     let number = fault.number();
     match fault {
         SiteFault::InvalidBag(fault) => {

@@ -6,6 +6,7 @@ use site::{Answer, Reply, Site, SiteFault};
 use std::alloc::Global;
 
 /// A call of a site.
+#[derive(Clone, Copy)]
 pub(crate) enum Call<'a> {
     Deposit(&'a Slot, &'a Facts),
     Propose(&'a Slot),

@@ -2,18 +2,23 @@ use bag_tree::TreeFault;
 use fed_types::TypeFault;
 use hex::FromHexError;
 use std::alloc::{AllocError, AllocFailed};
+use std::io;
 use thiserror::Error;
 
-/// Why a script has no answers.
+/// Why a script has no answers, or a measure no figures.
 #[derive(Clone, Copy, Debug, PartialEq, Eq, Error)]
 pub enum ToolFault {
-    /// The script has no such line, or names what there isn't.
+    /// A line that a script can't have, or that names what there isn't.
     #[error("a line that the script can't have")]
     Line,
+    /// The clock couldn't be read.
+    #[error("no clock")]
+    Clock,
     /// An allocation failed.
     #[error("memory")]
     Memory,
-    /// A call that found no memory changed what a query or the records show, or found none again.
+    /// A call that found no memory changed what a query or the records show, or found none again; or
+    /// a call that is timed was refused.
     #[error("a wrong answer")]
     Wrong,
 }
@@ -27,6 +32,12 @@ impl From<AllocError> for ToolFault {
 impl<T: Drop> From<AllocFailed<T>> for ToolFault {
     fn from(_e: AllocFailed<T>) -> ToolFault {
         ToolFault::Memory
+    }
+}
+
+impl From<io::Error> for ToolFault {
+    fn from(_e: io::Error) -> ToolFault {
+        ToolFault::Clock
     }
 }
 

@@ -1,4 +1,4 @@
-use crate::answer_text::{answer_text, reply_text};
+use crate::answer_text::{answer_text, refusal, reply_text};
 use crate::call::{Call, make};
 use crate::fault::ToolFault;
 use crate::place::{Place, open};
@@ -6,7 +6,6 @@ use crate::words::{bytes_of, fuse_of, number_of, site_of, slot_of};
 use bag_tree::{Facts, Tree, facts_of};
 use cell_device::MemoryCell;
 use fed_types::{Members, SiteNo};
-use records::Owner;
 use site::Sealed;
 use std::alloc::Global;
 
@@ -27,11 +26,8 @@ impl Federation {
     pub(crate) fn new(alloc: Global, members: Members) -> Result<Federation, ToolFault> {
         let mut places = Vec::new(alloc);
         for number in 1..=members.count() {
-            let owner = Owner {
-                members,
-                site: SiteNo::new(number)?,
-            };
-            let (place, _) = open(alloc, MemoryCell::new(alloc, Vec::new(alloc)), owner)?;
+            let cell = MemoryCell::new(alloc, Vec::new(alloc));
+            let (place, _) = open(alloc, cell, members, SiteNo::new(number)?)?;
             places.push(place)?;
         }
         Ok(Federation {
@@ -112,7 +108,11 @@ impl Federation {
     pub(crate) fn deliver(&mut self, number: &str) -> Result<String, ToolFault> {
         let place = number_of(number)?.checked_sub(1).ok_or(ToolFault::Line)?;
         let datagram = self.sent.get(place).ok_or(ToolFault::Line)?;
-        let called = self.places.get_mut(place_of(datagram.to)).ok_or(ToolFault::Line)?.site()?;
+        let called = self
+            .places
+            .get_mut(place_of(datagram.to))
+            .ok_or(ToolFault::Line)?
+            .site()?;
         let answer = make(self.alloc, called, &Call::Arrive(datagram.bytes.as_slice()))?;
         hand_out(self.alloc, &mut self.sent, answer)
     }
@@ -157,12 +157,9 @@ impl Federation {
 
     /// Opens a site over its cell.
     pub(crate) fn open(&mut self, site: &str) -> Result<String, ToolFault> {
-        let owner = Owner {
-            members: self.members,
-            site: site_of(site)?,
-        };
+        let number = site_of(site)?;
         let cell = self.taken(site)?.closed();
-        let (place, said) = open(self.alloc, cell, owner)?;
+        let (place, said) = open(self.alloc, cell, self.members, number)?;
         self.put(site, place)?;
         Ok(said)
     }
@@ -209,11 +206,21 @@ fn hand_out(
     sent: &mut Vec<Sealed>,
     answer: Result<site::Answer, site::SiteFault>,
 ) -> Result<String, ToolFault> {
-    let text = answer_text(alloc, &answer, sent.len())?;
-    if let Ok(site::Answer { sends, .. }) = answer {
-        for datagram in sends {
-            sent.push(datagram)?;
+    match answer {
+        Err(fault) => refusal(alloc, fault),
+        Ok(answer) => {
+            let text = answer_text(alloc, &answer, sent.len());
+            keep(sent, answer)?;
+            text
         }
     }
-    Ok(text)
+}
+
+fn keep(sent: &mut Vec<Sealed>, answer: site::Answer) -> Result<(), ToolFault> {
+    for datagram in answer.sends {
+        if sent.push(datagram).is_err() {
+            return Err(ToolFault::Memory);
+        }
+    }
+    Ok(())
 }

@@ -1,6 +1,7 @@
 use crate::fault::ToolFault;
 use book::OpenFault;
 use cell_device::{Fuse, MemoryCell};
+use fed_types::{Members, SiteNo};
 use records::Owner;
 use site::Site;
 use std::alloc::Global;
@@ -37,15 +38,18 @@ impl Place {
     }
 }
 
-/// Opens the cell, and says how many records it has, or why it is refused. Where that finds no
-/// memory it is opened again.
+/// Opens the cell of this site, and says how many records it has, or why it is refused. Where that
+/// finds no memory it is opened again.
 pub(crate) fn open(
     alloc: Global,
     cell: MemoryCell,
-    owner: Owner,
+    members: Members,
+    site: SiteNo,
 ) -> Result<(Place, String), ToolFault> {
-    match Site::open(alloc, cell, owner) {
-        Err((cell, OpenFault::Memory)) => opened(alloc, Site::open(alloc, cell, owner)),
+    match Site::open(alloc, cell, Owner { members, site }) {
+        Err((cell, OpenFault::Memory)) => {
+            opened(alloc, Site::open(alloc, cell, Owner { members, site }))
+        }
         answer => opened(alloc, answer),
     }
 }
@@ -62,7 +66,10 @@ fn opened(
         Err((_cell, OpenFault::Memory)) => Err(ToolFault::Wrong),
         Err((cell, fault)) => {
             let number = fault.number();
-            Ok((Place::Closed(cell), format!(in alloc; "unopened {number}\n")?))
+            Ok((
+                Place::Closed(cell),
+                format!(in alloc; "unopened {number}\n")?,
+            ))
         }
     }
 }

@@ -27,22 +27,36 @@ pub fn answers(alloc: Global, script: &str) -> Result<String, ToolFault> {
     let mut text = String::new(alloc);
     let mut federation: Option<Federation> = None;
     for line in script.lines() {
-        if line.is_empty() || line.starts_with("#") {
-            continue;
-        }
-        let mut words = Vec::new(alloc);
-        for word in line.split_whitespace() {
-            words.push(word)?;
-        }
-        match (words.as_slice(), &mut federation) {
-            (["sites", number, count], _) => {
-                federation = Some(Federation::new(alloc, members_of(number, count)?)?);
-            }
-            (words, Some(federation)) => text.push_str(answer(federation, words)?.as_str())?,
-            _ => return Err(ToolFault::Line),
-        }
+        run_line(alloc, line, &mut federation, &mut text)?;
     }
     Ok(text)
+}
+
+/// Runs a line, and appends what it prints.
+fn run_line(
+    alloc: Global,
+    line: &str,
+    federation: &mut Option<Federation>,
+    text: &mut String,
+) -> Result<(), ToolFault> {
+    if line.is_empty() || line.starts_with("#") {
+        return Ok(());
+    }
+    let mut words = Vec::new(alloc);
+    for word in line.split_whitespace() {
+        words.push(word)?;
+    }
+    if let ["sites", number, count] = words.as_slice() {
+        *federation = Some(Federation::new(alloc, members_of(number, count)?)?);
+        return Ok(());
+    }
+    match federation {
+        Some(federation) => {
+            text.push_str(answer(federation, words.as_slice())?.as_str())?;
+            Ok(())
+        }
+        None => Err(ToolFault::Line),
+    }
 }
 
 /// What a command prints.

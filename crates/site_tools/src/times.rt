@@ -39,16 +39,50 @@ fn owner(members: Members) -> Result<Owner, ToolFault> {
 /// The lines of these members.
 fn round_text(rt: &HostRuntime, count: u32, members: Members) -> Result<String, ToolFault> {
     let alloc = rt.alloc();
-    let cell = MemoryCell::new(alloc, Vec::new(alloc));
-    let Ok(mut site) = Site::open(alloc, cell, owner(members)?) else {
-        return Err(ToolFault::Wrong);
-    };
     let number = members.count();
     let mut text = format!(in alloc; "of {number} members\n")?;
-    let rate = deposits(rt, &mut site, count)?;
-    push_row(alloc, &mut text, "deposit", rate)?;
-    let rate = proposals(rt, &mut site, count)?;
-    push_row(alloc, &mut text, "propose", rate)?;
+    let cell = MemoryCell::new(alloc, Vec::new(alloc));
+    match Site::open(alloc, cell, owner(members)?) {
+        Ok(site) => time_site(rt, site, count, &mut text)?,
+        Err(_) => return Err(ToolFault::Wrong),
+    }
+    Ok(text)
+}
+
+/// Appends the lines of a new site, and the time in which it is opened again.
+fn time_site(
+    rt: &HostRuntime,
+    site: Site<MemoryCell>,
+    count: u32,
+    text: &mut String,
+) -> Result<(), ToolFault> {
+    let mut site = site;
+    time_calls(rt, &mut site, count, text)?;
+    let (records, members) = (site.records().len(), site.members());
+    let seconds = opening(rt, site.close(), owner(members)?)?;
+    text.push_str(format!(in rt.alloc(); "open {records} records: {seconds:.2} s\n")?.as_str())?;
+    Ok(())
+}
+
+/// The seconds in which a site is opened.
+fn opening(rt: &HostRuntime, cell: MemoryCell, owner: Owner) -> Result<f64, ToolFault> {
+    let start = Instant::now(rt)?;
+    check(Site::open(rt.alloc(), cell, owner).is_ok())?;
+    Ok(start.elapsed(rt)?.as_secs_f64())
+}
+
+/// Appends the lines of the calls.
+fn time_calls(
+    rt: &HostRuntime,
+    site: &mut Site<MemoryCell>,
+    count: u32,
+    text: &mut String,
+) -> Result<(), ToolFault> {
+    let alloc = rt.alloc();
+    let rate = deposits(rt, site, count)?;
+    push_row(alloc, text, "deposit", rate)?;
+    let rate = proposals(rt, site, count)?;
+    push_row(alloc, text, "propose", rate)?;
     for kind in [
         Kind::Prepare,
         Kind::Promise,
@@ -58,19 +92,10 @@ fn round_text(rt: &HostRuntime, count: u32, members: Members) -> Result<String, 
         Kind::Ask,
         Kind::Known,
     ] {
-        let rate = arrivals(rt, &mut site, count, &kind)?;
-        push_row(alloc, &mut text, kind.name(), rate)?;
+        let rate = arrivals(rt, site, count, &kind)?;
+        push_row(alloc, text, kind.name(), rate)?;
     }
-    let records = site.records().len();
-    let cell = site.close();
-    let start = Instant::now(rt)?;
-    let opened = Site::open(alloc, cell, owner(members)?).is_ok();
-    let seconds = start.elapsed(rt)?.as_secs_f64();
-    if !opened {
-        return Err(ToolFault::Wrong);
-    }
-    text.push_str(format!(in alloc; "open {records} records: {seconds:.2} s\n")?.as_str())?;
-    Ok(text)
+    Ok(())
 }
 
 fn push_row(alloc: Global, text: &mut String, call: &str, rate: f64) -> Result<(), ToolFault> {
@@ -79,6 +104,7 @@ fn push_row(alloc: Global, text: &mut String, call: &str, rate: f64) -> Result<(
 }
 
 /// A kind of message that site 1 takes in for each slot.
+#[derive(Clone, Copy)]
 enum Kind {
     Prepare,
     Promise,
