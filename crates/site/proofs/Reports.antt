@@ -2,6 +2,7 @@
 use Rattle.std.proofs.Common.{◌≡◌, ◌⊎◌, inl, inr, ℕ, Bool, true, false, cond, List, [], ◌∷◌, ◌++◌, Option, Some, None}
 use Rattle.std.proofs.Common.{Result, Ok, Err, refl, sym, ap, subst, ◌∙◌}
 use Rattle.std.specs.Option.{option_to_list}
+use Rattle.std.specs.Prelude.{IfOk}
 use Rattle.std.proofs.lemmas.List.{append-nil}
 use Rattle.fed_types.specs.declared.bag_id.BagId.{BagId}
 use Rattle.fed_types.specs.Lists.{Has}
@@ -22,7 +23,15 @@ use Rattle.dgram.specs.Encoding.{body_from}
 use Rattle.proposer.specs.Proposals.{ready, next_ballot}
 use Rattle.proposer.specs.Sessions.{Session, hears}
 use Rattle.learner.specs.Learning.{unless_known, chosen_by, with_vote}
+use Rattle.cell_device.specs.Devices.{Device}
+use Rattle.book.specs.Volumes.{Volume}
+use Rattle.fed_types.specs.Quorums.{quorums_of}
+use Rattle.site.specs.declared.answer.Answer.{Answer}
+use Rattle.site.specs.declared.answer.Line.{Line}
 use Rattle.site.specs.declared.fault.SiteFault.{SiteFault}
+use Rattle.site.specs.declared.fault.SiteFault.TheVariants as faults
+use Rattle.site.specs.Answered.{IsAnswered, Keeps, SaysWhatIsKnown}
+use Rattle.site.specs.Sites.{OpenSite, effect}
 use Rattle.site.specs.Arrivals.{on_arrival, on_body, learning, proposing, telling, is_member}
 use Rattle.site.specs.Calls.{Input, Deposits, Proposes, Asks, Arrives, effect_of, on_deposit, on_propose, on_ask}
 use Rattle.site.specs.Calls.{registering, deposit_fault, other_than, issuing_if, reply_by, reply_of}
@@ -160,7 +169,7 @@ module _ (q : QuorumSystem) (site : ℕ) where
       go true = heard q site records (hears session m) session m.slot m.body
       go false = says_nothing records (only_says lines.Dropped session) refl
 
-  answered : (records : List Record) (session : Session) (input : Input)
+  pub answered : (records : List Record) (session : Session) (input : Input)
       → IsKnown records (effect_of q site records session input)
   answered records session (Deposits slot checked) = deposited q site records session slot checked
   answered records session (Proposes slot) = proposed q site records session slot
@@ -186,7 +195,7 @@ module _ (q : QuorumSystem) (site : ℕ) where
       differ e = cc
 
   -- what a turn reports is known after it
-  reported : (records : List Record) (turn : Turn) (r : Report)
+  pub reported : (records : List Record) (turn : Turn) (r : Report)
       → report_of q site records turn ≡ Some r
       → known_of r.slot (records_after q site records turn) ≡ Some r.bag
   unfolding report_of records_after reply_of
@@ -276,3 +285,52 @@ module _ (q : QuorumSystem) (site : ℕ) where
       go later (Some x) is (inr a) (inl b) =
           names_known s.slot s.bag turns (records_after q site records turn) (known x s is (has_one b)) r a e
       go later (Some x) is (inr a) (inr b) = later a b
+
+  -- the records only grow
+  pub records_grow : (records : List Record) (turn : Turn)
+      → (more : List Record) × (records_after q site records turn ≡ records ++ more)
+  unfolding records_after
+  records_grow records (Called session input Answered) =
+      (option_to_list (effect_of q site records session input).commits, refl)
+  records_grow records (Called session input Kept) =
+      (option_to_list (effect_of q site records session input).commits, refl)
+  records_grow records (Called session input Lost) = ([], sym (append-nil records))
+  records_grow records (Queried slot) = ([], sym (append-nil records))
+
+-- what a call that is answered reports is known then
+module _ {C : Type 0} (device : C → Device) (old new : OpenSite C) (session : Session)
+    (input : Input) (a : Answer)
+    (answer : IsAnswered device old new session (effect old session input) (Ok a)) where
+  grown : (commits : Option Record) → Keeps device commits (Ok a) old.book new.book
+      → new.book.records ≡ old.book.records ++ option_to_list commits
+  grown None keeps = ap (λ (v : Volume C). v.records) keeps ∙ sym (append-nil old.book.records)
+  grown (Some r) (inl (memory, same)) = absurd (differ memory)
+    where
+      differ : ◌≡◌ {A = Result Answer SiteFault} (Ok a) (Err faults.Memory) → ⊥
+      differ e = cc
+  grown (Some r) (inr commits) = commits.committed.0
+
+  line_is_known : (slot : SlotName) (bag : BagId) → a.line ≡ Some (lines.Known slot bag)
+      → known_of slot new.book.records ≡ Some bag
+  line_is_known slot bag line = rw (grown (effect old session input).commits answer.keeps)
+      (answered (quorums_of old.book.owner.members) old.book.owner.site old.book.records session
+      input (record { slot = slot; bag = bag })
+      (ap line_report (answer.gives.0 ∙ ap (λ (l : Option Line). Ok l) line)))
+
+  pub says_what_is_known : SaysWhatIsKnown a.line new.book.records
+  says_what_is_known = go a.line refl
+    where
+      go : (l : Option Line) → a.line ≡ l → SaysWhatIsKnown l new.book.records
+      go (Some (lines.Known slot bag)) is = line_is_known slot bag is
+      go (Some (lines.Registered bag)) is = tt
+      go (Some lines.Dropped) is = tt
+      go None is = tt
+
+-- and so it is of each result
+pub reported_of : {C : Type 0} (device : C → Device) (old new : OpenSite C) (session : Session)
+    (input : Input) (result : Result Answer SiteFault)
+    → IsAnswered device old new session (effect old session input) result
+    → IfOk result (λ a. SaysWhatIsKnown a.line new.book.records)
+reported_of device old new session input (Ok a) answer =
+    says_what_is_known device old new session input a answer
+reported_of device old new session input (Err fault) answer = tt

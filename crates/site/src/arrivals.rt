@@ -9,7 +9,7 @@ ghost use Rattle.dgram.specs.declared.body.Body.TheVariants as bodies;
 ghost use Rattle.dgram.specs.Decoded.{message_of};
 ghost use Rattle.dgram.specs.Encoding.{body_from};
 ghost use Rattle.proposer.specs.Sessions.{Session};
-ghost use Rattle.site.specs.Answered.{IsAnswered};
+ghost use Rattle.site.specs.Answered.{IsAnswered, SaysWhatIsKnown};
 ghost use Rattle.site.specs.Arrivals.{answer_body, addressees, is_member, on_arrival};
 ghost use Rattle.site.specs.Calls.{Arrives};
 ghost use Rattle.site.specs.Datagrams.{handed_out, datagram};
@@ -36,6 +36,8 @@ impl<C: Cell> Site<C> {
             → IsAnswered C.device self.old self.new session
             (effect self.old session
             (Arrives (message_of self.old.book.owner.members.federation bytes.now))) result }
+        ensures reported { self.old.book.needs_opening ≡ false → IfOk result
+            (λ a. SaysWhatIsKnown a.line self.new.book.records) }
         ensures no_message { self.old.book.needs_opening ≡ false
             → message_of self.old.book.owner.members.federation bytes.now ≡ None → IsOk result }
         ensures needs_open { IsErrOf result SiteFault.NeedsOpen

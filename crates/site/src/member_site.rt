@@ -94,7 +94,7 @@ impl<C: Cell> Site<C> {
         self.book.members()
     }
 
-    /// The records, in order.
+    /// The records, in order. Where the site needs opening, the cell may hold one more.
     pub fn records(&self) -> &[Record]
         ensures { result.now ≡ self.now.book.records }
     {
@@ -108,8 +108,8 @@ impl<C: Cell> Site<C> {
         self.book.needs_opening()
     }
 
-    /// The slot at this place, counted from 0, of those that have a deposit here, in the order of
-    /// their records.
+    /// The slot at this place, counted from 0, of those that have a deposit among the records, in the
+    /// order of these.
     pub fn deposited(&self, place: usize) -> Option<&Slot>
         ensures { option_copied result ≡ slot_at (deposits_of self.now.book.records) place }
     {
