@@ -3,6 +3,7 @@ use cell_device::CellFault;
 use dgram::DgramFault;
 use fed_types::TypeFault;
 use hex::FromHexError;
+use site_tools::ToolFault;
 use std::alloc::AllocError;
 use std::io;
 use thiserror::Error;
@@ -11,12 +12,15 @@ use thiserror::Error;
 #[derive(Clone, Copy, Debug, PartialEq, Eq, Error)]
 pub enum Fault {
     /// The arguments are not those of a task.
-    #[error("tasks: encode|decode|decide N, file|commit|turns PATH SITE, bench|fill PATH N, open PATH, memory, deciding")]
+    #[error("tasks: encode|decode|decide|arrive N, file|commit|turns PATH SITE, bench|fill PATH N, open PATH, memory, deciding, sites")]
     Arguments,
     /// A line is no comment, no federation with the hex digits of a datagram, and no site with
     /// those of a cell.
     #[error("a line that is neither FEDERATION HEX nor SITE | HEX")]
     Line,
+    /// A script has a line that it can't have.
+    #[error("a line that no script has")]
+    Script,
     /// A line asks for no turn.
     #[error("a line that is neither commit nor open")]
     Turn,
@@ -93,6 +97,17 @@ impl From<OpenFault> for Fault {
             OpenFault::Device => Fault::Device,
             OpenFault::Memory => Fault::Memory,
             fault => Fault::Refused(fault),
+        }
+    }
+}
+
+impl From<ToolFault> for Fault {
+    fn from(e: ToolFault) -> Fault {
+        match e {
+            ToolFault::Line => Fault::Script,
+            ToolFault::Clock => Fault::Input,
+            ToolFault::Memory => Fault::Memory,
+            ToolFault::Wrong => Fault::Wrong,
         }
     }
 }

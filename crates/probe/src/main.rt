@@ -1,4 +1,5 @@
-//! A tool of the tests, beside the crates `dgram`, `book`, `acceptor`, `proposer` and `learner`.
+//! A tool of the tests, beside the crates `dgram`, `book`, `acceptor`, `proposer`, `learner` and
+//! `site`.
 //! Without arguments it reads datagrams and cells from standard input, one a line, and prints what
 //! each says. Its tasks (`task` lists them) call those crates, some on files, time them, and let
 //! allocations fail.
@@ -65,5 +66,10 @@ fn text(rt: &HostRuntime) -> Result<String, Fault> {
         Task::Memory => voted_line(alloc),
         Task::Deciding => decided_line(alloc),
         Task::Decide { count } => decisions_text(rt, count),
+        Task::Arrive { count } => Ok(site_tools::arrivals_text(rt, count)?),
+        Task::Sites => Ok(site_tools::answers(
+            alloc,
+            io::read_to_string(alloc, rt.reader())?.as_str(),
+        )?),
     }
 }

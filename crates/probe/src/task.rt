@@ -31,6 +31,10 @@ pub enum Task {
     Deciding,
     /// Call them on so many slots, and take the time.
     Decide { count: u32 },
+    /// Call a site on so many slots, and take the time.
+    Arrive { count: u32 },
+    /// Call sites as the script on standard input says.
+    Sites,
 }
 
 /// The task that the program's arguments name.
@@ -70,6 +74,10 @@ pub fn task_of(words: &mut Args) -> Result<Task, Fault> {
         "memory" => Task::Memory,
         "deciding" => Task::Deciding,
         "decide" => Task::Decide {
+            count: count(words)?,
+        },
+        "sites" => Task::Sites,
+        "arrive" => Task::Arrive {
             count: count(words)?,
         },
         _ => return Err(Fault::Arguments),

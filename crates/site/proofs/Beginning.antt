@@ -1,7 +1,7 @@
 -- How beginning a ballot comes out.
 use Rattle.std.proofs.Common.{◌≡◌, inl, inr, Option, Some, None, Result, Ok, Err, refl, sym}
 use Rattle.std.proofs.Common.{ap, subst, List}
-use Rattle.std.specs.Prelude.{IsErrAnd}
+use Rattle.std.specs.Prelude.{IsErrAnd, IsSome}
 use Rattle.fed_types.specs.declared.bag_id.BagId.{BagId}
 use Rattle.fed_types.specs.Ballots.{BallotNumber}
 use Rattle.fed_types.specs.Slots.{SlotName}
@@ -55,6 +55,17 @@ none_left (Some b) (inr e) = absurd (differ e)
         (Err proposals.Memory) → ⊥
     differ e = cc
 
+-- memory runs out only where a ballot is left
+pub one_left : (n : Option BallotNumber)
+    → (n ≡ None → ◌≡◌ {A = Result BallotNumber ProposeFault} (Err proposals.Memory)
+    (Err proposals.RoundsSpent)) → IsSome n
+one_left None spent = absurd (differ (spent refl))
+  where
+    differ : ◌≡◌ {A = Result BallotNumber ProposeFault} (Err proposals.Memory)
+        (Err proposals.RoundsSpent) → ⊥
+    differ e = cc
+one_left (Some b) spent = refl
+
 -- the result of a `?`
 pub begun_err_of : (r : Result (Record × Answer) SiteFault) (fault : SiteFault)
     → IsErrAnd r (λ e. e ≡ fault) → r ≡ Err fault
@@ -69,21 +80,29 @@ module _ (owner : Owner) (old new : Contents) (slot : SlotName) (own : BagId)
       → ((records : List Record) (session : Session) (under : UnderWay) → IsOf old owner records
       → StandsFor old records session under
       → IsOrMemory (Err fault) (next_or_spent (next_ballot owner.site slot records session.heard)))
+      → ((records : List Record) (session : Session) (under : UnderWay) → IsOf old owner records
+      → StandsFor old records session under
+      → next_ballot owner.site slot records session.heard ≡ None
+      → ◌≡◌ {A = Result BallotNumber ProposeFault} (Err fault) (Err proposals.RoundsSpent))
       → BeginsBallot owner old new slot own result
-  not_begun fault is same answer =
+  not_begun fault is same answer spent =
       subst (λ (r : Result (Record × Answer) SiteFault). BeginsBallot owner old new slot own r)
       (sym is) (record {
         order = same.of owner;
         begun = λ records session under of stands deposit. go fault records session under
-            (answer records session under of stands) (same.stands records session under stands);
+            (answer records session under of stands) (spent records session under of stands)
+            (same.stands records session under stands);
       })
     where
       go : (f : ProposeFault) (records : List Record) (session : Session) (under : UnderWay)
           → IsOrMemory (Err f) (next_or_spent (next_ballot owner.site slot records session.heard))
+          → (next_ballot owner.site slot records session.heard ≡ None
+          → ◌≡◌ {A = Result BallotNumber ProposeFault} (Err f) (Err proposals.RoundsSpent))
           → StandsFor new records session under
           → Begins owner new slot records session under (Err (propose_fault f))
-      go proposals.RoundsSpent records session under is stands = (none_left _ is, stands)
-      go proposals.Memory records session under is stands = (under, stands)
+      go proposals.RoundsSpent records session under is spent stands = (none_left _ is, stands)
+      go proposals.Memory records session under is spent stands =
+          (one_left _ spent, under, stands)
 
   module _ (ballot : BallotNumber)
       (order : (records : List Record) → IsOf old owner records → IsOf new owner records)
@@ -91,13 +110,21 @@ module _ (owner : Owner) (old new : Contents) (slot : SlotName) (own : BagId)
       → StandsFor old records session under → deposit_of slot records ≡ Some own
       → StandsFor new records session (begins under slot ballot)) where
     -- memory ran out for the answer
-    pub begun_in_vain : result ≡ Err faults.Memory → BeginsBallot owner old new slot own result
-    begun_in_vain is =
+    pub begun_in_vain : result ≡ Err faults.Memory
+        → ((records : List Record) (session : Session) (under : UnderWay)
+        → IsOf old owner records → StandsFor old records session under
+        → IsOrMemory (Ok ballot)
+        (next_or_spent (next_ballot owner.site slot records session.heard)))
+        → BeginsBallot owner old new slot own result
+    begun_in_vain is next =
         subst (λ (r : Result (Record × Answer) SiteFault). BeginsBallot owner old new slot own r)
         (sym is) (record {
           order = order;
-          begun = λ records session under of stands deposit.
-              (begins under slot ballot, begun records session under stands deposit);
+          begun = λ records session under of stands deposit. (
+            subst IsSome (sym (next_of _ ballot (next records session under of stands))) refl,
+            begins under slot ballot,
+            begun records session under stands deposit,
+          );
         })
 
     -- a ballot was begun

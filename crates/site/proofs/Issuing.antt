@@ -1,6 +1,7 @@
 -- A ballot is issued, or why it isn't.
-use Rattle.std.proofs.Common.{◌≡◌, inl, Bool, cond, map, Option, Some}
+use Rattle.std.proofs.Common.{◌≡◌, inl, Bool, true, false, cond, map, Option, Some}
 use Rattle.std.proofs.Common.{None, Result, Ok, Err, refl, sym, ap, subst, ◌∙◌}
+use Rattle.std.specs.Prelude.{IsSome}
 use Rattle.std.proofs.lemmas.Bool.Decides.{Decides-eqb}
 use Rattle.fed_types.specs.declared.bag_id.BagId.{BagId}
 use Rattle.fed_types.specs.Ballots.{BallotNumber}
@@ -16,7 +17,8 @@ use Rattle.proposer.proofs.Stands.{at_here}
 use Rattle.site.specs.declared.answer.Answer.{Answer}
 use Rattle.site.specs.declared.fault.SiteFault.{SiteFault}
 use Rattle.site.specs.declared.fault.SiteFault.TheVariants as faults
-use Rattle.site.specs.Answered.{Keeps, IsAnswered}
+use Rattle.site.specs.declared.answer.Line.{Line}
+use Rattle.site.specs.Answered.{Keeps, IsAnswered, IsRefused}
 use Rattle.site.specs.Calls.{Proposes, on_propose, issuing_if}
 use Rattle.site.specs.Datagrams.{handed_out}
 use Rattle.site.specs.Effects.{Effect}
@@ -31,6 +33,23 @@ issued_is : (slot : SlotName) (ballot : BallotNumber) (under : UnderWay)
 issued_is slot ballot under =
     ap (λ (b : Option BallotNumber). of_round b ballot.round) (at_here slot (Some ballot) under.begun)
     ∙ ap (λ (t : Bool). cond t (Some ballot) None) ((Decides-eqb ballot.round ballot.round).1 refl)
+
+-- what was begun is one thing
+pub refused_as : (begun : Result (Record × Answer) SiteFault) (result : Result Answer SiteFault)
+    (is fault : SiteFault) → begun ≡ Err is → result ≡ Err is → begun ≡ Err fault
+    → result ≡ Err fault
+refused_as begun result is fault e r f = r ∙ ap (λ (x : SiteFault). Err x) (same (sym e ∙ f))
+  where
+    same : ◌≡◌ {A = Result (Record × Answer) SiteFault} (Err is) (Err fault) → is ≡ fault
+    same e = cc
+
+pub not_refused : (begun : Result (Record × Answer) SiteFault) (result : Result Answer SiteFault)
+    (x : Record × Answer) (fault : SiteFault) → begun ≡ Ok x → begun ≡ Err fault
+    → result ≡ Err fault
+not_refused begun result x fault e f = absurd (differ (sym e ∙ f))
+  where
+    differ : ◌≡◌ {A = Result (Record × Answer) SiteFault} (Ok x) (Err fault) → ⊥
+    differ e = cc
 
 module _ {C : Type 0} (device : C → Device) (old mid : OpenSite C) (slot : SlotName) (own : BagId)
     (book : mid.book ≡ old.book) (begun : Result (Record × Answer) SiteFault)
@@ -54,7 +73,7 @@ module _ {C : Type 0} (device : C → Device) (old mid : OpenSite C) (slot : Slo
       some (Ok x) (ballot, next, of_ballot, stands) =
           (begins order.session.1.0 slot ballot, stands)
       some (Err faults.RoundsSpent) (none, stands) = (order.session.1.0, stands)
-      some (Err faults.Memory) (after, stands) = (after, stands)
+      some (Err faults.Memory) (left, after, stands) = (after, stands)
       some (Err (faults.InvalidBag f)) x = absurd x
       some (Err (faults.OtherDeposit other)) x = absurd x
       some (Err (faults.OtherKnown other)) x = absurd x
@@ -92,7 +111,7 @@ module _ {C : Type 0} (device : C → Device) (old mid : OpenSite C) (slot : Slo
             subst (λ (e : Effect). IsAnswered device old mid session e (Err faults.RoundsSpent))
             (propose_effect None none)
             (record { keeps = book; gives = (refl, rw book (stands.0, s)) })
-        go faults.Memory (after, s) = record {
+        go faults.Memory (left, after, s) = record {
           keeps = keeps (effect old session (Proposes slot)).commits;
           gives = rw book (after, s);
         }
@@ -133,3 +152,50 @@ module _ {C : Type 0} (device : C → Device) (old mid : OpenSite C) (slot : Slo
                   (record { slot = slot; body = entry.Round ballot.round })))
                   (issued_is slot ballot stands.0) after,
             )))
+
+    -- that no round is left is answered
+    pub refused_or_issued : (result : Result Answer SiteFault)
+        → ((fault : SiteFault) → begun ≡ Err fault → result ≡ Err fault)
+        → IsRefused (effect old session (Proposes slot)) result
+    refused_or_issued result err = go begun refl
+        (b.begun old.book.records session stands.0 order.of stands.1 deposit)
+      where
+        issues : (ballot : BallotNumber)
+            → next_ballot old.book.owner.site slot old.book.records session.heard ≡ Some ballot
+            → IsRefused (effect old session (Proposes slot)) result
+        issues ballot next = subst (λ (e : Effect). IsRefused e result)
+            (propose_effect (Some ballot) next) (λ fault is. absurd (differ fault is))
+          where
+            differ : (fault : SiteFault)
+                → ◌≡◌ {A = Result (Option Line) SiteFault} (Ok None) (Err fault) → ⊥
+            differ fault e = cc
+
+        left : (next : Option BallotNumber)
+            → next_ballot old.book.owner.site slot old.book.records session.heard ≡ next
+            → IsSome next → IsRefused (effect old session (Proposes slot)) result
+        left None is some = absurd (differ some)
+          where
+            differ : false ≡ true → ⊥
+            differ e = cc
+        left (Some ballot) is some = issues ballot is
+
+        go : (r : Result (Record × Answer) SiteFault) → begun ≡ r
+            → Begins old.book.owner mid.tables slot old.book.records session stands.0 r
+            → IsRefused (effect old session (Proposes slot)) result
+        go (Ok x) is (ballot, next, of_ballot, s) = issues ballot next
+        go (Err faults.RoundsSpent) is (none, s) = subst (λ (e : Effect). IsRefused e result)
+            (propose_effect None none)
+            (λ fault says. err faults.RoundsSpent is ∙ ap (λ (f : SiteFault). Err f) (same fault says))
+          where
+            same : (fault : SiteFault)
+                → ◌≡◌ {A = Result (Option Line) SiteFault} (Err faults.RoundsSpent) (Err fault)
+                → faults.RoundsSpent ≡ fault
+            same fault e = cc
+        go (Err faults.Memory) is (some, after, s) = left _ refl some
+        go (Err (faults.InvalidBag f)) is x = absurd x
+        go (Err (faults.OtherDeposit other)) is x = absurd x
+        go (Err (faults.OtherKnown other)) is x = absurd x
+        go (Err faults.Device) is x = absurd x
+        go (Err faults.NeedsOpen) is x = absurd x
+        go (Err faults.NoDeposit) is x = absurd x
+        go (Err faults.AlreadyKnown) is x = absurd x

@@ -10,3 +10,4 @@ pub mod Reopened
 pub mod Beginning
 pub mod Issuing
 pub mod Proposed
+pub mod Reports

@@ -1,5 +1,5 @@
 -- Why nothing is proposed.
-use Rattle.std.proofs.Common.{◌≡◌, Option, Some, None, Err, refl, subst}
+use Rattle.std.proofs.Common.{◌≡◌, Option, Some, None, Result, Err, refl, subst}
 use Rattle.fed_types.specs.declared.bag_id.BagId.{BagId}
 use Rattle.fed_types.specs.Quorums.{quorums_of}
 use Rattle.fed_types.specs.Slots.{SlotName}
@@ -7,8 +7,11 @@ use Rattle.cell_device.specs.Devices.{Device}
 use Rattle.records.specs.Words.{known_of, deposit_of}
 use Rattle.proposer.specs.Proposals.{next_ballot}
 use Rattle.proposer.specs.Sessions.{Session}
+use Rattle.site.specs.declared.answer.Answer.{Answer}
+use Rattle.site.specs.declared.answer.Line.{Line}
+use Rattle.site.specs.declared.fault.SiteFault.{SiteFault}
 use Rattle.site.specs.declared.fault.SiteFault.TheVariants as faults
-use Rattle.site.specs.Answered.{IsAnswered}
+use Rattle.site.specs.Answered.{IsAnswered, IsRefused}
 use Rattle.site.specs.Calls.{Proposes, on_propose, issuing_if}
 use Rattle.site.specs.Effects.{Effect}
 use Rattle.site.specs.Sites.{OpenSite, StandsFor, effect}
@@ -40,3 +43,20 @@ module _ {C : Type 0} (device : C → Device) (s : OpenSite C) (session : Sessio
       subst (λ (e : Effect). IsAnswered device s s session e (Err faults.NoDeposit))
       (by_bags None None known own)
       (record { keeps = refl; gives = (refl, stands) })
+
+  -- a refusal is answered as it is
+  answered : (f fault : SiteFault) → ◌≡◌ {A = Result (Option Line) SiteFault} (Err f) (Err fault)
+      → ◌≡◌ {A = Result Answer SiteFault} (Err f) (Err fault)
+  answered f fault e = cc
+
+  pub known_refused : (bag : BagId) → Some bag ≡ known_of slot s.book.records
+      → IsRefused (effect s session (Proposes slot)) (Err faults.AlreadyKnown)
+  known_refused bag known = subst (λ (e : Effect). IsRefused e (Err faults.AlreadyKnown))
+      (by_bags (Some bag) (deposit_of slot s.book.records) known refl)
+      (answered faults.AlreadyKnown)
+
+  pub no_deposit_refused : None ≡ known_of slot s.book.records
+      → None ≡ deposit_of slot s.book.records
+      → IsRefused (effect s session (Proposes slot)) (Err faults.NoDeposit)
+  no_deposit_refused known own = subst (λ (e : Effect). IsRefused e (Err faults.NoDeposit))
+      (by_bags None None known own) (answered faults.NoDeposit)

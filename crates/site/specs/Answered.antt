@@ -1,6 +1,6 @@
 -- When a call answers as the definitions say: its record is committed first, and then what it says
 -- and its datagrams are handed out.
-use Rattle.std.specs.Prelude.{◌≡◌, ◌⊎◌, true, false, [], ◌∷◌, ◌++◌, map}
+use Rattle.std.specs.Prelude.{◌≡◌, ◌⊎◌, ⊤, true, false, List, [], ◌∷◌, ◌++◌, map}
 use Rattle.std.specs.Prelude.{Option, Some, None, IsSome, Result, Ok, Err, OnOk, IsErrOf}
 use Rattle.cell_device.specs.declared.fuse.FuseState.{FuseState}
 use Rattle.cell_device.specs.Calls.{HasCause}
@@ -8,12 +8,15 @@ use Rattle.cell_device.specs.Devices.{Device}
 use Rattle.cell_device.specs.Images.{IfKnown}
 use Rattle.cell_device.specs.Time.{LeavesOnly}
 use Rattle.records.specs.declared.record.Record.{Record}
+use Rattle.records.specs.Words.{known_of}
 use Rattle.book.specs.declared.fault.CommitFault.{CommitFault}
 use Rattle.book.specs.declared.fault.CommitFault.TheVariants as commits
 use Rattle.book.specs.Committed.{SaysWithOrWithout, IsUnchanged, CameOut, commit_outcome}
 use Rattle.book.specs.Volumes.{Volume, LeavesText, RecoversTo}
 use Rattle.proposer.specs.Sessions.{Session}
 use Rattle.site.specs.declared.answer.Answer.{Answer}
+use Rattle.site.specs.declared.answer.Line.{Line}
+use Rattle.site.specs.declared.answer.Line.TheVariants as lines
 use Rattle.site.specs.declared.fault.SiteFault.{SiteFault}
 use Rattle.site.specs.declared.fault.SiteFault.TheVariants as faults
 use Rattle.site.specs.Datagrams.{handed_out, datagram}
@@ -84,3 +87,12 @@ pub record IsAnswered
     : Type 0 where
   pub keeps : Keeps device e.commits result old.book new.book
   pub gives : Gives old new session e result
+
+-- where the definitions refuse, the call refuses so, whatever memory there is
+abbrev pub IsRefused : Effect → Result Answer SiteFault → Type 0
+IsRefused e result = (fault : SiteFault) → e.says ≡ Err fault → result ≡ Err fault
+
+-- a line that reports a bag names the known bag of these records
+abbrev pub SaysWhatIsKnown : Option Line → List Record → Type 0
+SaysWhatIsKnown (Some (lines.Known slot bag)) records = known_of slot records ≡ Some bag
+SaysWhatIsKnown line records = ⊤

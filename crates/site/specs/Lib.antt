@@ -10,4 +10,5 @@ pub mod Sites
 pub mod Answered
 pub mod Opened
 pub mod Faults
+pub mod Reported
 pub mod inner

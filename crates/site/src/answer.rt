@@ -12,9 +12,9 @@ pub struct Sealed {
 pub enum Line {
     /// The bag is the site's deposit.
     Registered(BagId),
-    /// The site has learned that this bag was chosen for the slot.
+    /// The site has learned this bag for the slot, and has it on record.
     Known(Slot, BagId),
-    /// What arrived is no message from one member to another.
+    /// What arrived is no message of the federation's protocol from a member: it isn't heard.
     Dropped,
 }
 

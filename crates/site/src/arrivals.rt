@@ -1,7 +1,7 @@
 //! What a site does with a message of a member.
 
 ghost use Rattle.std.specs.Prelude.{ℕ, ◌≡◌, ◌↔◌, true, false, [], None, Some, map};
-ghost use Rattle.std.specs.Prelude.{IfOk, IfErr, IsErrOf};
+ghost use Rattle.std.specs.Prelude.{IfOk, IfErr, IsErrOf, IsOk};
 ghost use Rattle.fed_types.specs.Quorums.{quorums_of};
 ghost use Rattle.fed_types.specs.Ballots.{BallotNumber};
 ghost use Rattle.records.specs.declared.entry.Entry.TheVariants as entries;
@@ -9,7 +9,7 @@ ghost use Rattle.dgram.specs.declared.body.Body.TheVariants as bodies;
 ghost use Rattle.dgram.specs.Decoded.{message_of};
 ghost use Rattle.dgram.specs.Encoding.{body_from};
 ghost use Rattle.proposer.specs.Sessions.{Session};
-ghost use Rattle.site.specs.Answered.{IsAnswered};
+ghost use Rattle.site.specs.Answered.{IsAnswered, SaysWhatIsKnown};
 ghost use Rattle.site.specs.Arrivals.{answer_body, addressees, is_member, on_arrival};
 ghost use Rattle.site.specs.Calls.{Arrives};
 ghost use Rattle.site.specs.Datagrams.{handed_out, datagram};
@@ -29,13 +29,17 @@ use records::{Entry, Record};
 use std::alloc::AllocError;
 
 impl<C: Cell> Site<C> {
-    /// A datagram arrives.
+    /// A datagram arrives. Bytes that are no message of the federation take no memory.
     pub fn arrive(&mut self, bytes: &[u8]) -> Result<Answer, SiteFault>
         ensures answer { self.old.book.needs_opening ≡ false → (session : Session)
             → StandsFor self.old session
             → IsAnswered C.device self.old self.new session
             (effect self.old session
             (Arrives (message_of self.old.book.owner.members.federation bytes.now))) result }
+        ensures reported { self.old.book.needs_opening ≡ false → IfOk result
+            (λ a. SaysWhatIsKnown a.line self.new.book.records) }
+        ensures no_message { self.old.book.needs_opening ≡ false
+            → message_of self.old.book.owner.members.federation bytes.now ≡ None → IsOk result }
         ensures needs_open { IsErrOf result SiteFault.NeedsOpen
             ↔ (self.old.book.needs_opening ≡ true) }
         ensures untouched { self.old.book.needs_opening ≡ true → self.new ≡ self.old }
@@ -54,6 +58,8 @@ impl<C: Cell> Site<C> {
         ensures message { IfOk result (λ m. m
             ≡ message_of self.now.book.owner.members.federation bytes.now) }
         ensures memory { IfErr result (λ fault. fault ≡ SiteFault.Memory) }
+        ensures no_message { message_of self.now.book.owner.members.federation bytes.now ≡ None
+            → IsOk result }
     {
         match decode(self.alloc, self.members().federation(), bytes) {
             Ok(message) => Ok(Some(message)),

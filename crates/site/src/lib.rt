@@ -7,10 +7,12 @@ mod answer;
 mod arrivals;
 mod committing;
 mod fault;
+mod law;
 mod member_site;
 mod proposing;
 mod sealing;
 
 pub use answer::{Answer, Line, Reply, Sealed};
 pub use fault::SiteFault;
+pub use law::a_site_reports_one_bag;
 pub use member_site::Site;

@@ -1,10 +1,12 @@
 ghost use Rattle.std.specs.Prelude.{◌≡◌, ◌↔◌, true, false, List, ◌∷◌, [], None, Some, Ok, Err, map};
 ghost use Rattle.std.specs.Prelude.{Result, IfOk, IsErrOf, IsOk};
+ghost use Rattle.std.specs.Option.{option_copied};
+ghost use Rattle.site_tables.specs.Contents.{deposits_of, slot_at};
 ghost use Rattle.bag_check.specs.Check.{check_of};
 ghost use Rattle.book.specs.Volumes.{HoldsText, RecoversTo};
 ghost use Rattle.cell_device.specs.Memory.{fuse_of, failures_of, fuse_after_set, IsSameMedium};
 ghost use Rattle.proposer.specs.Sessions.{Session, new_session};
-ghost use Rattle.site.specs.Answered.{IsAnswered};
+ghost use Rattle.site.specs.Answered.{IsAnswered, IsRefused};
 ghost use Rattle.records.specs.Words.{deposit_of, known_of};
 ghost use Rattle.site.specs.Calls.{Deposits, Proposes, Asks, reply_of, other_than, deposit_fault};
 ghost use Rattle.site.specs.declared.answer.Line.TheVariants as lines;
@@ -92,7 +94,7 @@ impl<C: Cell> Site<C> {
         self.book.members()
     }
 
-    /// The records, in order.
+    /// The records, in order. Where the site needs opening, the cell may hold one more.
     pub fn records(&self) -> &[Record]
         ensures { result.now ≡ self.now.book.records }
     {
@@ -104,6 +106,14 @@ impl<C: Cell> Site<C> {
         ensures { result ≡ self.now.book.needs_opening }
     {
         self.book.needs_opening()
+    }
+
+    /// The slot at this place, counted from 0, of those that have a deposit among the records, in the
+    /// order of these.
+    pub fn deposited(&self, place: usize) -> Option<&Slot>
+        ensures { option_copied result ≡ slot_at (deposits_of self.now.book.records) place }
+    {
+        self.tables.deposited(place)
     }
 
     /// What the site knows of the slot. It takes no memory.
@@ -165,11 +175,15 @@ impl<C: Cell> Site<C> {
     }
 
     /// Proposes the slot's deposit: issues the next ballot, and asks all members to promise it.
+    /// Where that is refused, it takes no memory.
     pub fn propose(&mut self, slot: &Slot) -> Result<Answer, SiteFault>
         ensures answer { self.old.book.needs_opening ≡ false → (session : Session)
             → StandsFor self.old session
             → IsAnswered C.device self.old self.new session
             (effect self.old session (Proposes slot.now)) result }
+        ensures refused { self.old.book.needs_opening ≡ false → (session : Session)
+            → StandsFor self.old session
+            → IsRefused (effect self.old session (Proposes slot.now)) result }
         ensures needs_open { IsErrOf result SiteFault.NeedsOpen
             ↔ (self.old.book.needs_opening ≡ true) }
         ensures untouched { self.old.book.needs_opening ≡ true → self.new ≡ self.old }
@@ -213,10 +227,13 @@ impl<C: Cell> Site<C> {
     fn issue(&mut self, slot: &Slot, own: BagId) -> Result<Answer, SiteFault>
         requires opened { self.old.book.needs_opening ≡ false }
         requires deposit { deposit_of slot.now self.old.book.records ≡ Some own }
-        ensures { (session : Session) → StandsFor self.old session
+        ensures answer { (session : Session) → StandsFor self.old session
             → known_of slot.now self.old.book.records ≡ None
             → IsAnswered C.device self.old self.new session
             (effect self.old session (Proposes slot.now)) result }
+        ensures refused { (session : Session) → StandsFor self.old session
+            → known_of slot.now self.old.book.records ≡ None
+            → IsRefused (effect self.old session (Proposes slot.now)) result }
     {
         let owner = self.book.owner();
         let (new, answer) = begin_ballot(self.alloc, &owner, &mut self.tables, slot, own)?;

@@ -1,5 +1,6 @@
 -- What a site's tables hold, and what they stand for.
-use Rattle.std.specs.Prelude.{◌≡◌, ℕ, ◌<◌, List, [], ◌∷◌, ◌++◌, Option, Some, None, IsSome, fold}
+use Rattle.std.specs.Prelude.{◌≡◌, ℕ, ◌<◌, List, [], ◌∷◌, ◌++◌, Option, Some, None, IsSome, fold, slice_get}
+use Rattle.std.specs.Option.{option_map}
 use Rattle.fed_types.specs.declared.bag_id.BagId.{BagId}
 use Rattle.fed_types.specs.Sites.{Membership}
 use Rattle.fed_types.specs.Slots.{SlotName}
@@ -38,6 +39,10 @@ with_deposit rows r = with_bag rows r.slot (deposit_in r.body)
 -- the slots that have a Deposit record, in the order of their first ones, with the bag of each
 unfoldable pub deposits_of : List Record → Rows BagId
 deposits_of records = fold with_deposit [] records
+
+-- the slot at this place, counted from 0, of those that have a deposit
+abbrev pub slot_at : Rows BagId → ℕ → Option SlotName
+slot_at rows place = option_map (λ row. row.0) (slice_get rows place)
 
 -- The tables of this owner say what these records say: what follows of the records alone. Whatever
 -- the learner has heard, it knows the bags that they say are known.

@@ -1,6 +1,7 @@
 ghost use Rattle.std.specs.Prelude.{◌≡◌, ◌<◌, [], OnOk, IsOk};
 ghost use Rattle.slot_table.specs.Rows.{row_at};
-ghost use Rattle.site_tables.specs.Contents.{unless_there};
+ghost use Rattle.std.specs.Option.{option_copied};
+ghost use Rattle.site_tables.specs.Contents.{slot_at, unless_there};
 
 use fed_types::{BagId, Slot};
 use indexmap::IndexMap;
@@ -37,6 +38,14 @@ impl Deposits {
         ensures { result ≡ row_at self.now.bags slot.now }
     {
         self.bags.get(slot).copied()
+    }
+
+    /// The slot at this place, counted from 0.
+    pub(crate) fn slot_at(&self, place: usize) -> Option<&Slot>
+        ensures { option_copied result ≡ slot_at self.now.bags place }
+    {
+        let (slot, _) = self.bags.get_index(place)?;
+        Some(slot)
     }
 
     /// Makes room for one more.

@@ -16,6 +16,7 @@ ghost use Rattle.proposer.specs.Sessions.{issued_by, issued_if, under_way_if};
 ghost use Rattle.learner.specs.Learning.{learned_from, learned_of_known};
 ghost use Rattle.dgram.specs.declared.body.Body.TheVariants.{Accepted};
 ghost use Rattle.site_tables.specs.Contents.{IsOf, StandsFor, StandsForSame, HasRoom};
+ghost use Rattle.site_tables.specs.Contents.{deposits_of, slot_at};
 
 use crate::deposits::Deposits;
 use acceptor::{Acceptor, Decision};
@@ -82,6 +83,16 @@ impl Tables {
             → IsOf self.now owner records → result ≡ deposit_of slot.now records }
     {
         self.deposits.of(slot)
+    }
+
+    /// The slot at this place, counted from 0, of those that have a deposit, in the order of their
+    /// records.
+    pub fn deposited(&self, place: usize) -> Option<&Slot>
+        ensures { (owner : declared_owner) (records : List declared_record)
+            → IsOf self.now owner records
+            → option_copied result ≡ slot_at (deposits_of records) place }
+    {
+        self.deposits.slot_at(place)
     }
 
     /// The slot's known bag.

@@ -1,5 +1,5 @@
 -- What beginning a ballot does to the tables, and the record and answer that it gives.
-use Rattle.std.specs.Prelude.{◌≡◌, List, map, Some, None, Result, Ok, Err}
+use Rattle.std.specs.Prelude.{◌≡◌, List, map, Some, None, IsSome, Result, Ok, Err}
 use Rattle.fed_types.specs.declared.bag_id.BagId.{BagId}
 use Rattle.fed_types.specs.Ballots.{BallotNumber}
 use Rattle.fed_types.specs.Sites.{members_of}
@@ -28,7 +28,8 @@ pub record IsOfBallot
       ≡ map (datagram owner.members.federation)
       (to_each slot (Prepare ballot) (members_of owner.members))
 
--- the next ballot is begun; or none is left; or memory ran out, before it was begun or after
+-- the next ballot is begun; or none is left; or one is, and memory ran out, before it was begun or
+-- after
 abbrev pub Begins :
     Owner → Contents → SlotName → List Record → Session → UnderWay
     → Result (Record × Answer) SiteFault → Type 0
@@ -41,7 +42,8 @@ Begins owner tables slot records session under (Err faults.RoundsSpent) =
     (next_ballot owner.site slot records session.heard ≡ None)
     × StandsFor tables records session under
 Begins owner tables slot records session under (Err faults.Memory) =
-    (after : UnderWay) × StandsFor tables records session after
+    IsSome (next_ballot owner.site slot records session.heard)
+    × (after : UnderWay) × StandsFor tables records session after
 Begins owner tables slot records session under (Err fault) = ⊥
 
 -- so it is of each session that the tables stand for, where this bag is the slot's deposit

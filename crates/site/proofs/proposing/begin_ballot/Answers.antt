@@ -18,6 +18,8 @@ returns-in_err-ballot c =
     c.from_residual.ensures.1) c.in_err-ballot.ensures.same
     (λ records session under of stands.
     c.in_err-ballot.ensures.answer c.args.owner.now records session under of stands)
+    (λ records session under of stands.
+    c.in_err-ballot.ensures.spent c.args.owner.now records session under of stands)
 
 pub returns-in_err-slot : goal.returns-in_err-slot
 returns-in_err-slot c =
@@ -26,6 +28,8 @@ returns-in_err-slot c =
     (c.in_ok-ballot.ensures.of c.args.owner.now) c.in_ok-ballot.ensures.begun
     (begun_err_of c.from_residual-in_err-slot.result faults.Memory
     c.from_residual-in_err-slot.ensures.1)
+    (λ records session under of stands.
+    c.in_ok-ballot.ensures.answer c.args.owner.now records session under of stands)
 
 pub returns-in_err-sends : goal.returns-in_err-sends
 returns-in_err-sends c =
@@ -34,6 +38,8 @@ returns-in_err-sends c =
     (c.in_ok-ballot.ensures.of c.args.owner.now) c.in_ok-ballot.ensures.begun
     (begun_err_of c.from_residual-in_err-sends.result faults.Memory
     c.from_residual-in_err-sends.ensures.1)
+    (λ records session under of stands.
+    c.in_ok-ballot.ensures.answer c.args.owner.now records session under of stands)
 
 pub returns : goal.returns
 returns c =

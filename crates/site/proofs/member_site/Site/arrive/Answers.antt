@@ -1,6 +1,10 @@
-use Rattle.std.proofs.Common.{refl, sym, ◌∙◌}
+use Rattle.std.proofs.Common.{Some, refl, sym, subst, ◌∙◌}
 use Rattle.dgram.specs.Decoded.{message_of}
+use Rattle.proposer.specs.Sessions.{Session}
+use Rattle.site.specs.Calls.{Arrives}
+use Rattle.site.specs.Sites.{OpenSite, StandsFor}
 use Rattle.site.proofs.Hearing.{drops_bytes}
+use Rattle.site.proofs.Reports.{reported_of}
 use Rattle.site.proofs.member_site.Site.arrive.Goals as goal
 
 pub returns-in-None-clause-answer : goal.returns-in-None-clause-answer
@@ -8,3 +12,12 @@ returns-in-None-clause-answer g c =
     λ opened. drops_bytes g.C.Cell.device c.args.self.now c.args.self.now
     (message_of c.args.self.now.book.owner.members.federation c.args.bytes.now) c.dropped.result
     (sym c.in_ok-message.ensures.message ∙ c.in-None.is) c.dropped.ensures refl
+
+pub returns-in-Some-clause-reported : goal.returns-in-Some-clause-reported
+returns-in-Some-clause-reported g c opened =
+    reported_of g.C.Cell.device c.args.self.now c.take_in.new.self some.0
+    (Arrives (Some c.in-Some.message)) c.take_in.result (c.take_in.ensures.answer some.0 some.1)
+  where
+    some : (session : Session) × StandsFor c.args.self.now session
+    some = subst (λ (s : OpenSite g.row.C.Denot). (session : Session) × StandsFor s session)
+        c.self.view_is c.self.invariant.session

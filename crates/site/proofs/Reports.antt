@@ -1,0 +1,336 @@
+-- What a site reports is the bag of the slot's first Known record, which stays.
+use Rattle.std.proofs.Common.{◌≡◌, ◌⊎◌, inl, inr, ℕ, Bool, true, false, cond, List, [], ◌∷◌, ◌++◌, Option, Some, None}
+use Rattle.std.proofs.Common.{Result, Ok, Err, refl, sym, ap, subst, ◌∙◌}
+use Rattle.std.specs.Option.{option_to_list}
+use Rattle.std.specs.Prelude.{IfOk}
+use Rattle.std.proofs.lemmas.List.{append-nil}
+use Rattle.fed_types.specs.declared.bag_id.BagId.{BagId}
+use Rattle.fed_types.specs.Lists.{Has}
+use Rattle.fed_types.specs.Laws.Lists.{has_cases, has_none, has_one}
+use Rattle.fed_types.specs.Laws.Slots.{same_slot_decides}
+use Rattle.fed_types.specs.Ballots.{BallotNumber}
+use Rattle.fed_types.specs.Quorums.{QuorumSystem}
+use Rattle.fed_types.specs.Slots.{SlotName}
+use Rattle.bag_check.specs.declared.fault.BagFault.{BagFault}
+use Rattle.records.specs.declared.record.Record.{Record}
+use Rattle.records.specs.declared.entry.Entry.TheVariants as entry
+use Rattle.records.specs.Words.{known_of, deposit_of, known_in, said_in, if_some, with_one, earlier}
+use Rattle.records.proofs.Words.{known-push}
+use Rattle.dgram.specs.declared.body.Body.{Body}
+use Rattle.dgram.specs.declared.body.Body.TheVariants as bodies
+use Rattle.dgram.specs.declared.message.Message.{Message}
+use Rattle.dgram.specs.Encoding.{body_from}
+use Rattle.proposer.specs.Proposals.{ready, next_ballot}
+use Rattle.proposer.specs.Sessions.{Session, hears}
+use Rattle.learner.specs.Learning.{unless_known, chosen_by, with_vote}
+use Rattle.cell_device.specs.Devices.{Device}
+use Rattle.book.specs.Volumes.{Volume}
+use Rattle.fed_types.specs.Quorums.{quorums_of}
+use Rattle.site.specs.declared.answer.Answer.{Answer}
+use Rattle.site.specs.declared.answer.Line.{Line}
+use Rattle.site.specs.declared.fault.SiteFault.{SiteFault}
+use Rattle.site.specs.declared.fault.SiteFault.TheVariants as faults
+use Rattle.site.specs.Answered.{IsAnswered, Keeps, SaysWhatIsKnown}
+use Rattle.site.specs.Sites.{OpenSite, effect}
+use Rattle.site.specs.Arrivals.{on_arrival, on_body, learning, proposing, telling, is_member}
+use Rattle.site.specs.Calls.{Input, Deposits, Proposes, Asks, Arrives, effect_of, on_deposit, on_propose, on_ask}
+use Rattle.site.specs.Calls.{registering, deposit_fault, other_than, issuing_if, reply_by, reply_of}
+use Rattle.site.specs.declared.answer.Line.TheVariants as lines
+use Rattle.site.specs.Effects.{Effect, only_says}
+use Rattle.site.specs.Reported.{Answered, Kept, Lost, Turn, Called, Queried, Report}
+use Rattle.site.specs.Reported.{line_report, reply_report, records_after, report_of, reports_of, Agree}
+
+-- a known bag stays, whatever is recorded
+pub known_stays : (slot : SlotName) (bag : BagId) (records : List Record) (new : Option Record)
+    → known_of slot records ≡ Some bag
+    → known_of slot (records ++ option_to_list new) ≡ Some bag
+known_stays slot bag records None e =
+    subst (λ (rs : List Record). known_of slot rs ≡ Some bag) (sym (append-nil records)) e
+known_stays slot bag records (Some r) e =
+    known-push slot records r ∙ ap (λ k. with_one earlier k (said_in known_in slot r)) e
+    ∙ stays (said_in known_in slot r)
+  where
+    stays : (o : Option BagId) → with_one earlier (Some bag) o ≡ Some bag
+    stays None = refl
+    stays (Some x) = refl
+
+-- the first bag that is recorded as known is known
+pub known_noted : (slot : SlotName) (bag : BagId) (records : List Record)
+    → known_of slot records ≡ None
+    → known_of slot (records ++ record { slot = slot; body = entry.Known bag } ∷ []) ≡ Some bag
+known_noted slot bag records none =
+    known-push slot records (record { slot = slot; body = entry.Known bag })
+    ∙ ap (λ k. with_one earlier k
+    (said_in known_in slot (record { slot = slot; body = entry.Known bag }))) none
+    ∙ ap (λ (t : Bool). with_one earlier None
+    (if_some known_in (cond t (Some (entry.Known bag)) None))) ((same_slot_decides slot slot).1 refl)
+
+-- what an effect reports is known once its record is kept
+abbrev IsKnown : List Record → Effect → Type 0
+IsKnown records e = (r : Report) → line_report e.says ≡ Some r
+    → known_of r.slot (records ++ option_to_list e.commits) ≡ Some r.bag
+
+-- an effect that reports nothing
+says_nothing : (records : List Record) (e : Effect) → line_report e.says ≡ None → IsKnown records e
+says_nothing records e none r some = absurd (differ (sym none ∙ some))
+  where
+    differ : {r : Report} → None ≡ Some r → ⊥
+    differ e = cc
+
+module _ (q : QuorumSystem) (site : ℕ) (records : List Record) (session : Session) where
+  learned : (slot : SlotName) (known bag : Option BagId) → known_of slot records ≡ known
+      → IsKnown records (learning slot (unless_known known bag) session)
+  learned slot (Some k) bag e = says_nothing records (learning slot None session) refl
+  learned slot None None e = says_nothing records (learning slot None session) refl
+  learned slot None (Some bag) e = λ r is.
+      subst (λ (x : Report). known_of x.slot (records ++ record { slot = slot; body = entry.Known bag } ∷ [])
+      ≡ Some x.bag) (same r is) (known_noted slot bag records e)
+    where
+      same : (r : Report) → Some (record { slot = slot; bag = bag }) ≡ Some r
+          → record { slot = slot; bag = bag } ≡ r
+      same r e = cc
+
+  registered : (slot : SlotName) (own : Option BagId) (bag : BagId) (fault : Option SiteFault)
+      → IsKnown records (registering slot own bag fault session)
+  registered slot own bag (Some fault) = says_nothing records (registering slot own bag (Some fault) session) refl
+  registered slot own bag None = says_nothing records (registering slot own bag None session) refl
+
+  deposited : (slot : SlotName) (checked : Result BagId BagFault)
+      → IsKnown records (on_deposit records session slot checked)
+  unfolding on_deposit
+  deposited slot (Err fault) = says_nothing records (on_deposit records session slot (Err fault)) refl
+  deposited slot (Ok bag) = registered slot (deposit_of slot records) bag
+      (deposit_fault (other_than bag (deposit_of slot records))
+      (other_than bag (known_of slot records)))
+
+  issued : (slot : SlotName) (known own : Option BagId) (next : Option BallotNumber)
+      → IsKnown records (issuing_if q slot known own next session)
+  issued slot (Some known) own next = says_nothing records (issuing_if q slot (Some known) own next session) refl
+  issued slot None None next = says_nothing records (issuing_if q slot None None next session) refl
+  issued slot None (Some own) None = says_nothing records (issuing_if q slot None (Some own) None session) refl
+  issued slot None (Some own) (Some ballot) =
+      says_nothing records (issuing_if q slot None (Some own) (Some ballot) session) refl
+
+  proposed : (slot : SlotName) → IsKnown records (on_propose q site records session slot)
+  unfolding on_propose
+  proposed slot = issued slot (known_of slot records) (deposit_of slot records)
+      (next_ballot site slot records session.heard)
+
+  asked : (slot : SlotName) (member : ℕ) → IsKnown records (on_ask site session slot member)
+  unfolding on_ask
+  asked slot member = says_nothing records (on_ask site session slot member) refl
+
+  proposal : (slot : SlotName) (ballot : BallotNumber) (bag : Option BagId)
+      → IsKnown records (proposing q slot ballot bag session)
+  proposal slot ballot None = says_nothing records (proposing q slot ballot None session) refl
+  proposal slot ballot (Some bag) = says_nothing records (proposing q slot ballot (Some bag) session) refl
+
+  told : (slot : SlotName) (asker : ℕ) (bag : Option BagId)
+      → IsKnown records (telling site slot asker bag session)
+  told slot asker None = says_nothing records (telling site slot asker None session) refl
+  told slot asker (Some bag) = says_nothing records (telling site slot asker (Some bag) session) refl
+
+  -- `session` has heard the message, and `old` is the one before it
+  heard : (old : Session) (slot : SlotName) (body : Body)
+      → IsKnown records (on_body q site records old session slot body)
+  unfolding on_body
+  heard old slot (bodies.Prepare ballot) =
+      says_nothing records (on_body q site records old session slot (bodies.Prepare ballot)) refl
+  heard old slot (bodies.Accept vote) =
+      says_nothing records (on_body q site records old session slot (bodies.Accept vote)) refl
+  heard old slot (bodies.Promise from ballot prior) = proposal slot ballot
+      (ready q (deposit_of slot records) slot (old.current slot) old.heard ballot
+      (record { site = from; prior = prior }))
+  heard old slot (bodies.Accepted from vote) = learned slot (known_of slot records)
+      (chosen_by q slot (with_vote old.heard slot from vote) vote) refl
+  heard old slot (bodies.Known from bag) = learned slot (known_of slot records) (Some bag) refl
+  heard old slot (bodies.Refused from asked standing) =
+      says_nothing records (on_body q site records old session slot (bodies.Refused from asked standing)) refl
+  heard old slot (bodies.Ask from) = told slot from (known_of slot records)
+  heard old slot (bodies.Deposit path) =
+      says_nothing records (on_body q site records old session slot (bodies.Deposit path)) refl
+  heard old slot bodies.Query =
+      says_nothing records (on_body q site records old session slot bodies.Query) refl
+  heard old slot (bodies.DepositReply from answer) =
+      says_nothing records (on_body q site records old session slot (bodies.DepositReply from answer)) refl
+  heard old slot (bodies.QueryReply from answer) =
+      says_nothing records (on_body q site records old session slot (bodies.QueryReply from answer)) refl
+
+module _ (q : QuorumSystem) (site : ℕ) where
+  arrived : (records : List Record) (session : Session) (message : Option Message)
+      → IsKnown records (on_arrival q site records session message)
+  unfolding on_arrival
+  arrived records session None = says_nothing records (only_says lines.Dropped session) refl
+  arrived records session (Some m) = go (is_member q (body_from m.body))
+    where
+      go : (t : Bool) → IsKnown records
+          (cond t (on_body q site records session (hears session m) m.slot m.body)
+          (only_says lines.Dropped session))
+      go true = heard q site records (hears session m) session m.slot m.body
+      go false = says_nothing records (only_says lines.Dropped session) refl
+
+  pub answered : (records : List Record) (session : Session) (input : Input)
+      → IsKnown records (effect_of q site records session input)
+  answered records session (Deposits slot checked) = deposited q site records session slot checked
+  answered records session (Proposes slot) = proposed q site records session slot
+  answered records session (Asks slot member) = asked q site records session slot member
+  answered records session (Arrives message) = arrived records session message
+
+  -- what a query reports is known
+  queried : (slot : SlotName) (records : List Record) (known own : Option BagId)
+      → known_of slot records ≡ known → (r : Report)
+      → reply_report slot (reply_by known own) ≡ Some r → known_of r.slot records ≡ Some r.bag
+  queried slot records (Some bag) own e r is =
+      subst (λ (x : Report). known_of x.slot records ≡ Some x.bag) (same is) e
+    where
+      same : Some (record { slot = slot; bag = bag }) ≡ Some r → record { slot = slot; bag = bag } ≡ r
+      same e = cc
+  queried slot records None (Some own) e r is = absurd (differ is)
+    where
+      differ : None ≡ Some r → ⊥
+      differ e = cc
+  queried slot records None None e r is = absurd (differ is)
+    where
+      differ : None ≡ Some r → ⊥
+      differ e = cc
+
+  -- what a turn reports is known after it
+  pub reported : (records : List Record) (turn : Turn) (r : Report)
+      → report_of q site records turn ≡ Some r
+      → known_of r.slot (records_after q site records turn) ≡ Some r.bag
+  unfolding report_of records_after reply_of
+  reported records (Called session input Answered) r is = answered records session input r is
+  reported records (Called session input Kept) r is = absurd (differ is)
+    where
+      differ : None ≡ Some r → ⊥
+      differ e = cc
+  reported records (Called session input Lost) r is = absurd (differ is)
+    where
+      differ : None ≡ Some r → ⊥
+      differ e = cc
+  reported records (Queried slot) r is =
+      queried slot records (known_of slot records) (deposit_of slot records) refl r is
+
+  -- what is known stays so after a turn
+  stays_after : (slot : SlotName) (bag : BagId) (records : List Record) (turn : Turn)
+      → known_of slot records ≡ Some bag
+      → known_of slot (records_after q site records turn) ≡ Some bag
+  unfolding records_after
+  stays_after slot bag records (Called session input Answered) e =
+      known_stays slot bag records (effect_of q site records session input).commits e
+  stays_after slot bag records (Called session input Kept) e =
+      known_stays slot bag records (effect_of q site records session input).commits e
+  stays_after slot bag records (Called session input Lost) e = e
+  stays_after slot bag records (Queried other) e = e
+
+  -- where a bag is known, each report of its slot names it
+  names_known : (slot : SlotName) (bag : BagId) (turns : List Turn) (records : List Record)
+      → known_of slot records ≡ Some bag → (r : Report) → Has r (reports_of q site records turns)
+      → r.slot ≡ slot → r.bag ≡ bag
+  unfolding reports_of
+  names_known slot bag [] records e r has is = absurd (has_none has)
+  names_known slot bag (turn ∷ turns) records e r has is =
+      go (λ h. names_known slot bag turns (records_after q site records turn)
+      (stays_after slot bag records turn e) r h is) (report_of q site records turn) refl
+      (has_cases (option_to_list (report_of q site records turn))
+      (reports_of q site (records_after q site records turn) turns) has)
+    where
+      after : known_of slot (records_after q site records turn) ≡ Some bag
+      after = stays_after slot bag records turn e
+
+      some_same : (a b : BagId) → Some a ≡ Some b → a ≡ b
+      some_same a b e = cc
+
+      named : known_of r.slot (records_after q site records turn) ≡ Some r.bag → r.bag ≡ bag
+      named k = some_same r.bag bag (sym k
+          ∙ ap (λ (s : SlotName). known_of s (records_after q site records turn)) is ∙ after)
+
+      go : (Has r (reports_of q site (records_after q site records turn) turns) → r.bag ≡ bag)
+          → (o : Option Report) → report_of q site records turn ≡ o
+          → Has r (option_to_list o)
+          ⊎ Has r (reports_of q site (records_after q site records turn) turns)
+          → r.bag ≡ bag
+      go later None f (inl h) = absurd (has_none h)
+      go later (Some x) f (inl h) =
+          named (reported records turn r (f ∙ ap (λ (y : Report). Some y) (has_one h)))
+      go later o f (inr h) = later h
+
+  pub reports_agree : (turns : List Turn) (records : List Record)
+      → Agree (reports_of q site records turns)
+  unfolding reports_of
+  reports_agree [] records r s hr hs e = absurd (has_none hr)
+  reports_agree (turn ∷ turns) records r s hr hs e =
+      go (λ a b. reports_agree turns (records_after q site records turn) r s a b e)
+      (report_of q site records turn) refl
+      (has_cases (option_to_list (report_of q site records turn))
+      (reports_of q site (records_after q site records turn) turns) hr)
+      (has_cases (option_to_list (report_of q site records turn))
+      (reports_of q site (records_after q site records turn) turns) hs)
+    where
+      known : (x y : Report) → report_of q site records turn ≡ Some x → x ≡ y
+          → known_of y.slot (records_after q site records turn) ≡ Some y.bag
+      known x y is same = reported records turn y (is ∙ ap (λ (z : Report). Some z) same)
+
+      go : (Has r (reports_of q site (records_after q site records turn) turns)
+          → Has s (reports_of q site (records_after q site records turn) turns) → r.bag ≡ s.bag)
+          → (o : Option Report) → report_of q site records turn ≡ o
+          → Has r (option_to_list o) ⊎ Has r (reports_of q site (records_after q site records turn) turns)
+          → Has s (option_to_list o) ⊎ Has s (reports_of q site (records_after q site records turn) turns) → r.bag ≡ s.bag
+      go later None is (inl a) b = absurd (has_none a)
+      go later None is (inr a) (inl b) = absurd (has_none b)
+      go later None is (inr a) (inr b) = later a b
+      go later (Some x) is (inl a) (inl b) = ap (λ (z : Report). z.bag) (sym (has_one a) ∙ has_one b)
+      go later (Some x) is (inl a) (inr b) =
+          sym (names_known r.slot r.bag turns (records_after q site records turn) (known x r is (has_one a)) s b (sym e))
+      go later (Some x) is (inr a) (inl b) =
+          names_known s.slot s.bag turns (records_after q site records turn) (known x s is (has_one b)) r a e
+      go later (Some x) is (inr a) (inr b) = later a b
+
+  -- the records only grow
+  pub records_grow : (records : List Record) (turn : Turn)
+      → (more : List Record) × (records_after q site records turn ≡ records ++ more)
+  unfolding records_after
+  records_grow records (Called session input Answered) =
+      (option_to_list (effect_of q site records session input).commits, refl)
+  records_grow records (Called session input Kept) =
+      (option_to_list (effect_of q site records session input).commits, refl)
+  records_grow records (Called session input Lost) = ([], sym (append-nil records))
+  records_grow records (Queried slot) = ([], sym (append-nil records))
+
+-- what a call that is answered reports is known then
+module _ {C : Type 0} (device : C → Device) (old new : OpenSite C) (session : Session)
+    (input : Input) (a : Answer)
+    (answer : IsAnswered device old new session (effect old session input) (Ok a)) where
+  grown : (commits : Option Record) → Keeps device commits (Ok a) old.book new.book
+      → new.book.records ≡ old.book.records ++ option_to_list commits
+  grown None keeps = ap (λ (v : Volume C). v.records) keeps ∙ sym (append-nil old.book.records)
+  grown (Some r) (inl (memory, same)) = absurd (differ memory)
+    where
+      differ : ◌≡◌ {A = Result Answer SiteFault} (Ok a) (Err faults.Memory) → ⊥
+      differ e = cc
+  grown (Some r) (inr commits) = commits.committed.0
+
+  line_is_known : (slot : SlotName) (bag : BagId) → a.line ≡ Some (lines.Known slot bag)
+      → known_of slot new.book.records ≡ Some bag
+  line_is_known slot bag line = rw (grown (effect old session input).commits answer.keeps)
+      (answered (quorums_of old.book.owner.members) old.book.owner.site old.book.records session
+      input (record { slot = slot; bag = bag })
+      (ap line_report (answer.gives.0 ∙ ap (λ (l : Option Line). Ok l) line)))
+
+  pub says_what_is_known : SaysWhatIsKnown a.line new.book.records
+  says_what_is_known = go a.line refl
+    where
+      go : (l : Option Line) → a.line ≡ l → SaysWhatIsKnown l new.book.records
+      go (Some (lines.Known slot bag)) is = line_is_known slot bag is
+      go (Some (lines.Registered bag)) is = tt
+      go (Some lines.Dropped) is = tt
+      go None is = tt
+
+-- and so it is of each result
+pub reported_of : {C : Type 0} (device : C → Device) (old new : OpenSite C) (session : Session)
+    (input : Input) (result : Result Answer SiteFault)
+    → IsAnswered device old new session (effect old session input) result
+    → IfOk result (λ a. SaysWhatIsKnown a.line new.book.records)
+reported_of device old new session input (Ok a) answer =
+    says_what_is_known device old new session input a answer
+reported_of device old new session input (Err fault) answer = tt
