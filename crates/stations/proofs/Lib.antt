@@ -1,0 +1,5 @@
+mod Refusals
+mod Kept
+mod GoingOn
+mod Resting
+mod Starting
