@@ -3,3 +3,4 @@ mod Kept
 mod GoingOn
 mod Resting
 mod Starting
+mod Stopping
