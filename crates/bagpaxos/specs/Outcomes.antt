@@ -3,7 +3,7 @@ use Rattle.std.specs.Prelude.{◌≡◌, ◌⊎◌, ℕ, Bool, List, [], ◌∷�
 use Rattle.std.specs.Prelude.{codes}
 use Rattle.std.specs.Io.KnownBytes.{Appends}
 use Rattle.std.specs.Fmt.{decimal}
-use Rattle.schedule.specs.Plans.{Plan, plan_of}
+use Rattle.first_schedule.specs.Plans.{Plan, plan_of}
 use Rattle.simulator.specs.Runs.{run_of}
 use Rattle.simulator.specs.Texts.{text_of}
 

@@ -2,8 +2,8 @@
 use Rattle.std.proofs.Common.{◌≡◌, ℕ, ◌+◌, ◌<◌, ◌≤◌, List, ◌∷◌, length, drop, get_or, Option, sym}
 use Rattle.std.proofs.Common.{ap, ◌∙◌, arith}
 use Rattle.std.proofs.lemmas.List.{at_drop_more, at_drop_all}
-use Rattle.schedule.specs.declared.command.Command.{Command}
-use Rattle.schedule.specs.Plans.{Plan}
+use Rattle.first_schedule.specs.declared.command.Command.{Command}
+use Rattle.first_schedule.specs.Plans.{Plan}
 use Rattle.simulator.specs.Worlds.{World, start}
 use Rattle.simulator.specs.Runs.{line_happens, run_from, run_of}
 

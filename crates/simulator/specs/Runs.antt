@@ -8,9 +8,9 @@ use Rattle.bag_tree.specs.Tree.{Files, no_files, fault_of_added, with_file, with
 use Rattle.bag_tree.specs.Facts.{facts_of_tree}
 use Rattle.bag_check.specs.declared.fault.BagFault.{BagFault}
 use Rattle.bag_check.specs.Check.{check_of}
-use Rattle.schedule.specs.declared.command.Command.{Command}
-use Rattle.schedule.specs.declared.command.Command.TheVariants as commands
-use Rattle.schedule.specs.Plans.{Plan}
+use Rattle.first_schedule.specs.declared.command.Command.{Command}
+use Rattle.first_schedule.specs.declared.command.Command.TheVariants as commands
+use Rattle.first_schedule.specs.Plans.{Plan}
 use Rattle.simulator.specs.declared.line.Line.TheVariants.{Registered, Replied, Refused}
 use Rattle.simulator.specs.declared.line.Reply.TheVariants.{Pending, Nothing}
 use Rattle.simulator.specs.declared.line.Reply.{Reply}

@@ -4,7 +4,7 @@ use Rattle.std.specs.List.{flat_map}
 use Rattle.std.specs.Fmt.{decimal}
 use Rattle.hex.specs.Hex.{encode_lower}
 use Rattle.fed_types.specs.Slots.{SlotName}
-use Rattle.schedule.specs.Escapes.{escaped_text}
+use Rattle.first_schedule.specs.Escapes.{escaped_text}
 use Rattle.bag_check.specs.Fault.{number_of}
 use Rattle.simulator.specs.declared.line.Line.{Line}
 use Rattle.simulator.specs.declared.line.Line.TheVariants.{Registered, Replied, Refused, Skip}

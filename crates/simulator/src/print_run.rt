@@ -1,12 +1,12 @@
 ghost use Rattle.std.specs.Prelude.{◌≡◌, ◌∷◌, [], IfOk, string_bytes};
-ghost use Rattle.schedule.specs.Pushes.{Pushes};
+ghost use Rattle.first_schedule.specs.Pushes.{Pushes};
 ghost use Rattle.simulator.specs.Texts.{text_of, line_text, words_text, bag_word, slot_words};
 ghost use Rattle.simulator.specs.Texts.{reply_words, refusal_words, reason_word, spaced_words};
 
 use crate::line::{Line, NamedBag, Reason, Refusal, Reply};
 use crate::trace::Trace;
 use fed_types::Slot;
-use schedule::push_escaped;
+use first_schedule::push_escaped;
 use std::alloc::{AllocError, Global};
 
 /// How the text of a run is written.

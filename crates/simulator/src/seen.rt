@@ -2,7 +2,7 @@ ghost use Rattle.std.specs.Prelude.{◌≡◌};
 ghost use Rattle.simulator.specs.Worlds.{first_tree};
 
 use fed_types::BagId;
-use schedule::TreeNo;
+use first_schedule::TreeNo;
 use std::marker::Model;
 
 /// A valid bag that was deposited, and the number of the tree that held it then.

@@ -1,5 +1,5 @@
 use super::*;
-use schedule::parse;
+use first_schedule::parse;
 use std::alloc::Global;
 use std::process::Abort;
 use std::test::Fail;

@@ -4,7 +4,7 @@ ghost use Rattle.simulator.specs.Runs.{run_of};
 use crate::fault::RunFault;
 use crate::line::Line;
 use crate::world::Federation;
-use schedule::Schedule;
+use first_schedule::Schedule;
 use std::alloc::Global;
 use std::marker::Model;
 

@@ -5,7 +5,7 @@ ghost use Rattle.simulator.specs.Worlds.{NumberedTree, tree_at};
 ghost use Rattle.simulator.specs.inner.Trees.{outcome_unless, files_after, IsPlace};
 
 use bag_tree::{Tree, TreeFault};
-use schedule::TreeNo;
+use first_schedule::TreeNo;
 use std::alloc::{AllocError, Global};
 use std::marker::Model;
 

@@ -10,7 +10,7 @@ use crate::trees::{Added, Trees};
 use bag_check::{BagFault, check};
 use bag_tree::facts_of;
 use fed_types::{BagId, Members, Slot};
-use schedule::{Command, Content, FilePath, TreeNo};
+use first_schedule::{Command, Content, FilePath, TreeNo};
 use std::alloc::{AllocError, Global};
 use std::marker::Model;
 
