@@ -1,0 +1,218 @@
+-- The commands, each by its words: the function that reads a line. `Lines` has the grammar as a
+-- table, and `commands_law` says that the two are one.
+use Rattle.std.specs.Prelude.{ℕ, List, [], ◌∷◌, length, replicate, codes}
+use Rattle.std.specs.Prelude.{◌==◌, if◌then◌else◌, Option, Some, None}
+use Rattle.std.specs.Option.{option_map}
+use Rattle.std.specs.Str.{bytes_eq}
+use Rattle.fed_types.specs.Limits.{most_members, greatest_weight, greatest_version}
+use Rattle.fed_types.specs.Sites.{Membership, membership_of}
+use Rattle.fed_types.specs.Slots.{SlotName}
+use Rattle.schedule.specs.declared.call.Call.{Call}
+use Rattle.schedule.specs.declared.call.Call.TheVariants.{Deposit, Propose, Deliver, Ask}
+use Rattle.schedule.specs.declared.command.Command.{Command}
+use Rattle.schedule.specs.declared.command.Command.TheVariants as commands
+use Rattle.schedule.specs.declared.fate.DeviceCall.{DeviceCall}
+use Rattle.schedule.specs.declared.fate.DeviceCall.TheVariants.{Append, Sync}
+use Rattle.schedule.specs.declared.fate.Fate.{Fate}
+use Rattle.schedule.specs.declared.fate.Fate.TheVariants.{Whole, StopsIn, StopsAfter, FailsIn}
+use Rattle.schedule.specs.Limits.{greatest_federation, greatest_site, greatest_tree}
+use Rattle.schedule.specs.Limits.{greatest_amount}
+use Rattle.schedule.specs.Words.{◌>>=◌, number_in, text_of, object_of, bytes_of}
+
+-- S
+abbrev pub site_of : List ℕ → Option ℕ
+site_of word = number_in 0 greatest_site word
+
+-- T
+abbrev pub tree_of : List ℕ → Option ℕ
+tree_of word = number_in 1 greatest_tree word
+
+-- K, J, and the N of `pump`
+abbrev pub amount_of : List ℕ → Option ℕ
+amount_of word = number_in 0 greatest_amount word
+
+-- OBJ V
+unfoldable pub slot_of : List ℕ → List ℕ → Option SlotName
+slot_of object version = do
+  o ← object_of object
+  v ← number_in 1 greatest_version version
+  Some (record { object = o; version = v })
+
+-- W1 .. WN: the weight of each word, in order
+unfoldable pub weights_in : List (List ℕ) → Option (List ℕ)
+weights_in [] = Some []
+weights_in (word ∷ words) = do
+  w ← number_in 1 greatest_weight word
+  ws ← weights_in words
+  Some (w ∷ ws)
+
+-- the weights of n members: 1 for each where no word names one, else each has a word of its own
+unfoldable pub weights_of : ℕ → List (List ℕ) → Option (List ℕ)
+weights_of n words =
+    if length words == 0 then Some (replicate n 1)
+    else if length words == n then weights_in words
+    else None
+
+-- `federation F N` or `federation F N W1 .. WN`
+unfoldable pub federation_of : List (List ℕ) → Option Membership
+federation_of (name ∷ federation ∷ count ∷ weights) =
+    if bytes_eq name (codes "federation")
+    then (do
+      f ← number_in 0 greatest_federation federation
+      n ← number_in 1 most_members count
+      option_map (membership_of f) (weights_of n weights))
+    else None
+federation_of words = None
+
+-- `tree T`
+unfoldable pub tree_command : List (List ℕ) → Option Command
+tree_command (tree ∷ []) = do
+  t ← tree_of tree
+  Some (commands.Tree t)
+tree_command words = None
+
+-- `folder T`
+unfoldable pub folder_command : List (List ℕ) → Option Command
+folder_command (tree ∷ []) = do
+  t ← tree_of tree
+  Some (commands.Folder t)
+folder_command words = None
+
+-- `file T PATH HEX`
+unfoldable pub file_command : List (List ℕ) → Option Command
+file_command (tree ∷ path ∷ content ∷ []) = do
+  t ← tree_of tree
+  p ← text_of path
+  c ← bytes_of content
+  Some (commands.File t p c)
+file_command words = None
+
+-- `1` is the append, `2` the sync
+abbrev pub device_of : List ℕ → Option DeviceCall
+device_of word =
+    if bytes_eq word (codes "1") then Some Append
+    else if bytes_eq word (codes "2") then Some Sync
+    else None
+
+-- `stop 1 K`, `stop 2 K` or `stop 3 J`, by its words after the first
+unfoldable pub stop_of : List ℕ → List ℕ → Option Fate
+stop_of at number =
+    if bytes_eq at (codes "3")
+    then (do
+      sent ← amount_of number
+      Some (StopsAfter sent))
+    else (do
+      device ← device_of at
+      kept ← amount_of number
+      Some (StopsIn device kept))
+
+-- `fail 1 K` or `fail 2 K`, by its words after the first
+unfoldable pub fail_of : List ℕ → List ℕ → Option Fate
+fail_of at number = do
+  device ← device_of at
+  kept ← amount_of number
+  Some (FailsIn device kept)
+
+-- the fate of a call, by the words that follow the call's own: where there are none, nothing
+-- befalls the site
+unfoldable pub fate_of : List (List ℕ) → Option Fate
+fate_of [] = Some Whole
+fate_of (what ∷ at ∷ number ∷ []) =
+    if bytes_eq what (codes "stop") then stop_of at number
+    else if bytes_eq what (codes "fail") then fail_of at number
+    else None
+fate_of words = None
+
+-- the command of a call and of the fate that these words name
+unfoldable pub call_command : Call → List (List ℕ) → Option Command
+call_command call words = do
+  fate ← fate_of words
+  Some (commands.Call call fate)
+
+-- `deposit S T OBJ V`, and a fate
+unfoldable pub deposit_command : List (List ℕ) → Option Command
+deposit_command (site ∷ tree ∷ object ∷ version ∷ fate) = do
+  s ← site_of site
+  t ← tree_of tree
+  slot ← slot_of object version
+  call_command (Deposit s t slot) fate
+deposit_command words = None
+
+-- `propose S OBJ V`, and a fate
+unfoldable pub propose_command : List (List ℕ) → Option Command
+propose_command (site ∷ object ∷ version ∷ fate) = do
+  s ← site_of site
+  slot ← slot_of object version
+  call_command (Propose s slot) fate
+propose_command words = None
+
+-- `deliver K`, and a fate
+unfoldable pub deliver_command : List (List ℕ) → Option Command
+deliver_command (datagram ∷ fate) = do
+  k ← amount_of datagram
+  call_command (Deliver k) fate
+deliver_command words = None
+
+-- `ask S TO OBJ V`, and a fate
+unfoldable pub ask_command : List (List ℕ) → Option Command
+ask_command (site ∷ to ∷ object ∷ version ∷ fate) = do
+  s ← site_of site
+  other ← site_of to
+  slot ← slot_of object version
+  call_command (Ask s other slot) fate
+ask_command words = None
+
+-- `query S OBJ V`
+unfoldable pub query_command : List (List ℕ) → Option Command
+query_command (site ∷ object ∷ version ∷ []) = do
+  s ← site_of site
+  slot ← slot_of object version
+  Some (commands.Query s slot)
+query_command words = None
+
+-- `raw S HEX`
+unfoldable pub raw_command : List (List ℕ) → Option Command
+raw_command (site ∷ bytes ∷ []) = do
+  s ← site_of site
+  b ← bytes_of bytes
+  Some (commands.Raw s b)
+raw_command words = None
+
+-- `pump N`
+unfoldable pub pump_command : List (List ℕ) → Option Command
+pump_command (turns ∷ []) = do
+  n ← amount_of turns
+  Some (commands.Pump n)
+pump_command words = None
+
+-- `stop S`
+unfoldable pub stop_command : List (List ℕ) → Option Command
+stop_command (site ∷ []) = do
+  s ← site_of site
+  Some (commands.Stop s)
+stop_command words = None
+
+-- `start S`
+unfoldable pub start_command : List (List ℕ) → Option Command
+start_command (site ∷ []) = do
+  s ← site_of site
+  Some (commands.Start s)
+start_command words = None
+
+-- the command of these words, if they are one's
+unfoldable pub command_of : List (List ℕ) → Option Command
+command_of [] = None
+command_of (name ∷ arguments) =
+    if bytes_eq name (codes "tree") then tree_command arguments
+    else if bytes_eq name (codes "folder") then folder_command arguments
+    else if bytes_eq name (codes "file") then file_command arguments
+    else if bytes_eq name (codes "deposit") then deposit_command arguments
+    else if bytes_eq name (codes "propose") then propose_command arguments
+    else if bytes_eq name (codes "deliver") then deliver_command arguments
+    else if bytes_eq name (codes "ask") then ask_command arguments
+    else if bytes_eq name (codes "query") then query_command arguments
+    else if bytes_eq name (codes "raw") then raw_command arguments
+    else if bytes_eq name (codes "pump") then pump_command arguments
+    else if bytes_eq name (codes "stop") then stop_command arguments
+    else if bytes_eq name (codes "start") then start_command arguments
+    else None

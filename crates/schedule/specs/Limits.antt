@@ -1,0 +1,21 @@
+-- The ranges of the numbers in a schedule, beside those that `fed_types` gives members, objects and
+-- versions.
+use Rattle.std.specs.Prelude.{ℕ, ◌-◌, ◌^◌}
+use Rattle.fed_types.specs.Limits.{federation_bits}
+
+-- F is 0 to this, the greatest that a federation's field of a datagram and of a cell holds
+abbrev pub greatest_federation : ℕ
+greatest_federation = 2 ^ federation_bits - 1
+
+-- S is 0 to this, which a byte holds: whether it is a member is asked when the schedule runs
+abbrev pub greatest_site : ℕ
+greatest_site = 255
+
+-- T is 1 to this, which four bytes hold: more trees than a schedule has lines to declare
+abbrev pub greatest_tree : ℕ
+greatest_tree = 4294967295
+
+-- K, J and the N of `pump` are 0 to this, which four bytes hold: the number of a datagram or of a
+-- pump's turns, and how many bytes are kept or datagrams sent
+abbrev pub greatest_amount : ℕ
+greatest_amount = 4294967295

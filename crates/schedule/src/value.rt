@@ -1,0 +1,117 @@
+ghost use Rattle.std.specs.Prelude.{◌≡◌, ◌≤◌, ◌<◌, length, string_bytes, IfOk, IfSome, option_map};
+ghost use Rattle.fed_types.specs.Limits.{greatest_weight};
+ghost use Rattle.fed_types.specs.Sites.{IsWeight};
+ghost use Rattle.schedule.specs.Words.{number_in, text_of, bytes_of};
+ghost use Rattle.schedule.specs.Commands.{site_of, tree_of, amount_of, slot_of};
+
+use crate::file_path::FilePath;
+use crate::hex_bytes::HexBytes;
+use crate::tree_no::TreeNo;
+use fed_types::{GREATEST_WEIGHT, Slot};
+use hex::FromHexError;
+use percent_encoding::percent_decode;
+use std::alloc::{AllocError, Global};
+
+/// The number of a word of one or more digits, if it is from `low` to `high`.
+pub(crate) fn parse_number(low: u64, high: u64, word: &[u8]) -> Option<u64>
+    ensures value { result ≡ number_in low high word.now }
+    ensures in_range { IfSome result (λ n. (low ≤ n) × (n ≤ high)) }
+{
+    if word.is_empty() {
+        return None;
+    }
+    let mut value: u64 = 0;
+    for byte in word {
+        if !byte.is_ascii_digit() {
+            return None;
+        }
+        value = value.checked_mul(10)?.checked_add(u64::from(*byte - b'0'))?;
+    }
+    if low <= value && value <= high {
+        Some(value)
+    } else {
+        None
+    }
+}
+
+/// The number of a site, a member or not.
+pub(crate) fn parse_site(word: &[u8]) -> Option<u8>
+    ensures { result ≡ site_of word.now }
+{
+    Some(parse_number(0, u64::from(u8::MAX), word)? as u8)
+}
+
+/// The weight of a member.
+pub(crate) fn parse_weight(word: &[u8]) -> Option<u8>
+    ensures value { result ≡ number_in 1 greatest_weight word.now }
+    ensures in_range { IfSome result IsWeight }
+{
+    Some(parse_number(1, u64::from(GREATEST_WEIGHT), word)? as u8)
+}
+
+/// The number of a tree.
+pub(crate) fn parse_tree_no(word: &[u8]) -> Option<TreeNo>
+    ensures { result ≡ tree_of word.now }
+{
+    TreeNo::new(parse_number(1, u64::from(u32::MAX), word)? as u32)
+}
+
+/// How many bytes, datagrams or turns, or the number of a datagram.
+pub(crate) fn parse_amount(word: &[u8]) -> Option<u32>
+    ensures { result ≡ amount_of word.now }
+{
+    Some(parse_number(0, u64::from(u32::MAX), word)? as u32)
+}
+
+/// The slot of an object's name and a version.
+#[tactic(auto, unfolding(crate::specs::Commands::slot_of, crate::specs::Words::object_of))]
+pub(crate) fn parse_slot(
+    alloc: Global,
+    object: &[u8],
+    version: &[u8],
+) -> Result<Option<Slot>, AllocError>
+    ensures { IfOk result (λ slot. slot ≡ slot_of object.now version.now) }
+{
+    let Some(name) = parse_text(alloc, object)? else {
+        return Ok(None);
+    };
+    let Some(version) = parse_number(1, u64::from(u32::MAX), version) else {
+        return Ok(None);
+    };
+    Ok(Slot::new(name, version as u32).ok())
+}
+
+/// The path of a file.
+pub(crate) fn parse_path(alloc: Global, word: &[u8]) -> Result<Option<FilePath>, AllocError>
+    requires { 0 < length word.now }
+    ensures { IfOk result (λ path. path ≡ text_of word.now) }
+{
+    let Some(path) = parse_text(alloc, word)? else {
+        return Ok(None);
+    };
+    Ok(FilePath::new(path))
+}
+
+// A word with its escapes undone, if that is UTF-8.
+fn parse_text(alloc: Global, word: &[u8]) -> Result<Option<String>, AllocError>
+    ensures { IfOk result (λ text. option_map string_bytes text ≡ text_of word.now) }
+{
+    let mut bytes = Vec::new(alloc);
+    percent_decode(word).append_to(&mut bytes)?;
+    Ok(String::from_utf8(bytes).ok())
+}
+
+/// Bytes, by their hex digits.
+#[tactic(auto, unfolding(crate::specs::Words::bytes_of))]
+pub(crate) fn parse_bytes(alloc: Global, word: &[u8]) -> Result<Option<HexBytes>, AllocError>
+    ensures { IfOk result (λ bytes. bytes ≡ bytes_of word.now) }
+{
+    if word == b"-".as_slice() {
+        return Ok(Some(HexBytes::new(Vec::new(alloc))));
+    }
+    match hex::decode(alloc, word) {
+        Ok(bytes) => Ok(Some(HexBytes::new(bytes))),
+        Err(FromHexError::OutOfMemory) => Err(AllocError),
+        Err(_) => Ok(None),
+    }
+}

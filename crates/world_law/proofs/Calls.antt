@@ -1,0 +1,170 @@
+-- What a site does when it is called agrees with a network that is kept.
+use Rattle.std.proofs.Common.{ℕ, ◌≡◌, ◌≤◌, ◌+◌, Bool, true, false, cond, inl, inr, refl, subst}
+use Rattle.std.proofs.Common.{List, [], ◌∷◌, length, Option, None, Some, arith}
+use Rattle.std.specs.Prelude.{Result, Ok, Err}
+use Rattle.std.specs.Bool.{nat_lt}
+use Rattle.fed_types.specs.declared.bag_id.BagId.{BagId}
+use Rattle.fed_types.specs.Ballots.{BallotNumber}
+use Rattle.fed_types.specs.Limits.{greatest_round}
+use Rattle.fed_types.specs.Quorums.{QuorumSystem, AreQuorums}
+use Rattle.fed_types.specs.Slots.{SlotName, same_slot}
+use Rattle.fed_types.specs.Laws.Lists.{has_none}
+use Rattle.fed_types.specs.Laws.Slots.{same_slot_decides}
+use Rattle.bag_check.specs.declared.fault.BagFault.{BagFault}
+use Rattle.records.specs.declared.entry.Entry.TheVariants as entry
+use Rattle.records.specs.declared.record.Record.{Record}
+use Rattle.records.specs.Words.{used_of, deposit_of, known_of}
+use Rattle.records.proofs.Bounds.{used_bounds}
+use Rattle.dgram.specs.declared.body.Body.TheVariants.{Prepare, Accept, Ask}
+use Rattle.proposer.specs.Proposals.{Current, last_round, next_ballot}
+use Rattle.proposer.specs.Sessions.{Session, issues}
+use Rattle.site.specs.declared.answer.Line.TheVariants as lines
+use Rattle.site.specs.declared.fault.SiteFault.{SiteFault}
+use Rattle.site.specs.declared.fault.SiteFault.TheVariants as faults
+use Rattle.site.specs.Calls.{Input, Deposits, Proposes, Asks, registering, on_deposit, issuing}
+use Rattle.site.specs.Calls.{issuing_if, on_propose, on_ask}
+use Rattle.site.specs.Effects.{to_each, record_of, refuses}
+use Rattle.world_law.specs.Laws.{WasSent}
+use Rattle.world_law.specs.Networks.{Network}
+use Rattle.world_law.proofs.Kept as facts
+use Rattle.world_law.proofs.Kept.{vote_for, IsCurrent, Kept}
+use Rattle.world_law.proofs.Step.{Extends, Splits, reports_nothing, reports_plain}
+use Rattle.world_law.proofs.Deeds.{MayDeposit, Deed, some_same, sent_extends, carries_each}
+use Rattle.world_law.proofs.Deeds.{only_sends, keeps_one, not_new}
+use Rattle.world_law.proofs.Arriving.{still_deed, says_deed}
+
+module _ (q : QuorumSystem) (laws : AreQuorums q) (w : Network) (inv : Kept q w) (n : ℕ) where
+  abbrev records : List Record
+  records = (w.sites n).records
+
+  abbrev before : Session
+  before = (w.sites n).session
+
+  pub refuses_deed : (input : Input) (fault : SiteFault) → Deed q w n input (refuses fault before)
+  refuses_deed input fault = says_deed q laws w inv n input (Err fault) (reports_plain _ refl)
+
+  module _ (slot : SlotName) where
+    -- ---- a deposit
+
+    registering_deed : (own : Option BagId) (bag : BagId) (fault : Option SiteFault)
+        → Deed q w n (Deposits slot (Ok bag)) (registering slot own bag fault before)
+    registering_deed own bag (Some fault) = refuses_deed (Deposits slot (Ok bag)) fault
+    registering_deed None bag None =
+        still_deed q laws w inv n (Deposits slot (Ok bag)) _ [] (Ok (Some (lines.Registered bag)))
+        slot (Ask n) (reports_plain _ refl)
+        (keeps_one q w n (MayDeposit (Deposits slot (Ok bag))) slot (entry.Deposit bag) (Ask n) []
+        (λ e h. absurd (has_none h)) refl (λ x g. (refl, refl)) (λ x g. tt))
+        tt
+    registering_deed (Some u) bag None =
+        says_deed q laws w inv n (Deposits slot (Ok bag)) (Ok (Some (lines.Registered bag)))
+        (reports_plain _ refl)
+
+    pub deposit_deed : (checked : Result BagId BagFault)
+        → Deed q w n (Deposits slot checked) (on_deposit records before slot checked)
+    unfolding on_deposit
+    deposit_deed (Err fault) = refuses_deed (Deposits slot (Err fault)) _
+    deposit_deed (Ok bag) = registering_deed (deposit_of slot records) bag _
+
+    -- ---- a proposal: a ballot above every round that was used
+
+    module _ (round : ℕ) (above : used_of slot records ≤ round) where
+      abbrev b : BallotNumber
+      b = record { round = 1 + round; site = n }
+
+      abbrev new : Current
+      new = record { ballot = b; since = length before.heard }
+
+      abbrev after : Session
+      after = issues before slot b
+
+      unsent : (bag : BagId) → ¬ WasSent w slot (Accept (vote_for b bag))
+      unsent bag t =
+          let says : facts.Proposes q w slot (vote_for b bag) = inv.sent _ t.is_sent in
+          let l = used_bounds slot records (1 + round) says.issued in
+          omega arith
+
+      current_now : (x : Network) → Extends w x n (record_of slot (Some (entry.Round b.round)))
+          → Splits w x slot (Prepare b) → (k : SlotName) (c : Current)
+          → after.current k ≡ Some c → IsCurrent q x n k before.heard c
+      current_now x g splits k c = go (same_slot slot k) refl
+        where
+          at_slot : IsCurrent q x n slot before.heard new
+          at_slot = record {
+            own = refl;
+            issued = g.added _ refl;
+            within = omega arith;
+            spent = λ bag t. elim (splits slot b bag t) [
+              | inl h ↦ absurd (unsent bag h)
+              | inr i ↦ absurd (not_new (Prepare b) tt i)
+            ];
+          }
+
+          go : (t : Bool) → same_slot slot k ≡ t → cond t (Some new) (before.current k) ≡ Some c
+              → IsCurrent q x n k before.heard c
+          go true e f =
+              subst (λ (c : Current). IsCurrent q x n k before.heard c) (some_same f)
+              (subst (λ (k : SlotName). IsCurrent q x n k before.heard new)
+              ((same_slot_decides slot k).0 e) at_slot)
+          go false e f =
+              let old = (inv.sessions n).current k c f in
+              record {
+                own = old.own;
+                issued = g.keeps n k _ old.issued;
+                within = old.within;
+                spent = λ bag t. elim (splits k c.ballot bag t) [
+                  | inl h ↦ old.spent bag h
+                  | inr i ↦ absurd (not_new (Prepare b) tt i)
+                ];
+              }
+
+      issuing_deed : Deed q w n (Proposes slot) (issuing q slot b before)
+      issuing_deed = record {
+        slot = slot;
+        body = Prepare b;
+        sound =
+            keeps_one q w n (MayDeposit (Proposes slot)) slot (entry.Round b.round) (Prepare b)
+            (to_each slot (Prepare b) q.members) (carries_each slot (Prepare b) q.members) refl
+            (λ x g. tt) (λ x g. tt);
+        recalls = record {
+          recalls = λ x g splits. record {
+            heard = λ d h. sent_extends g ((inv.sessions n).heard d h);
+            members = (inv.sessions n).members;
+            current = current_now x g splits;
+          };
+        };
+        reports = reports_nothing;
+      }
+
+    -- the next ballot, where there is one, is such a ballot
+    issuing_if_deed : (known own : Option BagId)
+        → Deed q w n (Proposes slot)
+        (issuing_if q slot known own (next_ballot n slot records before.heard) before)
+    unfolding next_ballot
+    issuing_if_deed (Some bag) own = refuses_deed (Proposes slot) faults.AlreadyKnown
+    issuing_if_deed None None = refuses_deed (Proposes slot) faults.NoDeposit
+    issuing_if_deed None (Some bag) =
+        go (nat_lt (last_round slot records before.heard) greatest_round)
+      where
+        round : ℕ
+        round = last_round slot records before.heard
+
+        go : (t : Bool)
+            → Deed q w n (Proposes slot)
+            (issuing_if q slot None (Some bag)
+            (cond t (Some (record { round = 1 + round; site = n })) None) before)
+        go true = issuing_deed round (omega arith)
+        go false = refuses_deed (Proposes slot) faults.RoundsSpent
+
+    pub propose_deed : Deed q w n (Proposes slot) (on_propose q n records before slot)
+    unfolding on_propose
+    propose_deed = issuing_if_deed (known_of slot records) (deposit_of slot records)
+
+    -- ---- a question
+    pub ask_deed : (member : ℕ) → Deed q w n (Asks slot member) (on_ask n before slot member)
+    unfolding on_ask
+    ask_deed member =
+        still_deed q laws w inv n (Asks slot member) None _ (Ok None) slot (Ask n) reports_nothing
+        (only_sends q w n (MayDeposit (Asks slot member)) slot (Ask n)
+        (to_each slot (Ask n) (member ∷ []))
+        (carries_each slot (Ask n) (member ∷ [])) refl (λ x g. tt))
+        tt

@@ -1,0 +1,88 @@
+-- What was heard, as the laws need it: what was gathered was heard, and the highest vote that
+-- promises name.
+use Rattle.std.proofs.Common.{◌≡◌, ◌≤◌, ℕ, refl, ap, subst, ◌∙◌, List, [], ◌∷◌, ◌++◌}
+use Rattle.std.proofs.Common.{length, map, drop, Option, Some}
+use Rattle.fed_types.specs.declared.vote.Vote.{Vote}
+use Rattle.fed_types.specs.Lists.{Has}
+use Rattle.fed_types.specs.Slots.{SlotName}
+use Rattle.fed_types.specs.Laws.Ballots.{same_ballot_decides}
+use Rattle.fed_types.specs.Laws.Lists.{has_left, has_drop, has_map, map_has, filter_map_has}
+use Rattle.fed_types.specs.Laws.Lists.{has_filter_map}
+use Rattle.fed_types.specs.Laws.Slots.{same_slot_decides}
+use Rattle.records.specs.Bounds.{AtLeast}
+use Rattle.records.specs.Words.{if_some}
+use Rattle.records.proofs.Highest.{highest_is}
+use Rattle.dgram.specs.declared.body.Body.TheVariants.{Promise}
+use Rattle.dgram.specs.declared.message.Message.{Message}
+use Rattle.dgram.specs.Heard.{body_in, bodies_of, PromiseFrom, promise_in, promisers}
+use Rattle.dgram.specs.Heard.{priors}
+use Rattle.dgram.proofs.Heard.{has_message, has_promise}
+use Rattle.proposer.specs.Proposals.{Current, gathered, highest_prior}
+use Rattle.proposer.specs.Sessions.{promise_message}
+use Rattle.proposer.proofs.Gathered.{one_of, gathered-push}
+
+-- what was gathered was heard
+pub gathered_heard : (slot : SlotName) (c : Current) (heard : List Message) (p : PromiseFrom)
+    → Has p (gathered slot c heard)
+    → Has (promise_message slot p.site c.ballot p.prior) heard
+unfolding gathered
+gathered_heard slot c heard p h =
+    has_drop c.since heard
+    (has_message slot (drop c.since heard) (Promise p.site c.ballot p.prior)
+    (has_promise c.ballot (bodies_of slot (drop c.since heard)) p h))
+
+-- who was gathered stays so, whatever is heard besides
+pub gathered_stays : (slot : SlotName) (c : Current) (heard : List Message) (m : Message)
+    → c.since ≤ length heard → (n : ℕ) → Has n (promisers (gathered slot c heard))
+    → Has n (promisers (gathered slot c (heard ++ m ∷ [])))
+unfolding promisers
+gathered_stays slot c heard m within n h =
+    let f = has_map (λ (p : PromiseFrom). p.site) (gathered slot c heard) h in
+    let more : Has f.0 (gathered slot c (heard ++ m ∷ [])) =
+    rw (gathered-push slot c heard m within)
+    (has_left (one_of (if_some (promise_in c.ballot) (body_in slot m))) f.1) in
+    subst (λ (k : ℕ). Has k (map (λ (p : PromiseFrom). p.site) (gathered slot c (heard ++ m ∷ []))))
+    f.2 (map_has (λ (p : PromiseFrom). p.site) more)
+
+-- one promise more for the current ballot
+pub gathered_promise : (slot : SlotName) (c : Current) (heard : List Message) (from : ℕ)
+    (prior : Option Vote)
+    → c.since ≤ length heard
+    → gathered slot c (heard ++ promise_message slot from c.ballot prior ∷ [])
+    ≡ gathered slot c heard ++ record { site = from; prior = prior } ∷ []
+gathered_promise slot c heard from prior within =
+    gathered-push slot c heard (promise_message slot from c.ballot prior) within
+    ∙ ap (λ (o : Option PromiseFrom). gathered slot c heard ++ one_of o) promise_is
+  where
+    promise_is : if_some (promise_in c.ballot)
+        (body_in slot (promise_message slot from c.ballot prior))
+        ≡ Some (record { site = from; prior = prior })
+    promise_is = rw ((same_slot_decides slot slot).1 refl)
+        (rw ((same_ballot_decides c.ballot c.ballot).1 refl) refl)
+
+-- ---- the highest vote that promises name
+
+-- a promise of these names the vote
+pub record IsNamed (promises : List PromiseFrom) (vote : Vote) : Type 0 where
+  pub promise : PromiseFrom
+  pub among : Has promise promises
+  pub names : promise.prior ≡ Some vote
+
+-- no named vote is above it, and it is one of them
+pub record IsHighestPrior (promises : List PromiseFrom) (o : Option Vote) : Type 0 where
+  pub bounds : (p : PromiseFrom) (vote : Vote) → Has p promises → p.prior ≡ Some vote
+      → AtLeast (λ (v : Vote). v.ballot) o vote
+  pub named : (vote : Vote) → o ≡ Some vote → IsNamed promises vote
+
+pub highest_prior_is : (promises : List PromiseFrom)
+    → IsHighestPrior promises (highest_prior promises)
+unfolding highest_prior priors
+highest_prior_is promises =
+    let best = highest_is (λ (v : Vote). v.ballot) (priors promises) in
+    record {
+      bounds = λ p vote h e. best.bounds vote
+          (filter_map_has (λ (p : PromiseFrom). p.prior) p vote promises h e);
+      named = λ vote e.
+          let f = has_filter_map (λ (p : PromiseFrom). p.prior) vote promises (best.among vote e) in
+          record { promise = f.0; among = f.1; names = f.2 };
+    }

@@ -1,0 +1,205 @@
+-- What an event at a site brings about keeps the network: an effect under a fate, a reply, a stop,
+-- a start.
+use Rattle.std.proofs.Common.{ℕ, ◌≡◌, Bool, true, false, cond, inl, refl}
+use Rattle.std.proofs.Common.{ap, subst, List, [], length, take, Option, None, Some}
+use Rattle.std.proofs.Common.{append-nil, ◌∙◌}
+use Rattle.std.specs.Bool.{nat_le}
+use Rattle.fed_types.specs.Lists.{Has, is_in}
+use Rattle.fed_types.specs.Quorums.{QuorumSystem, AreQuorums}
+use Rattle.fed_types.specs.Slots.{SlotName}
+use Rattle.fed_types.specs.Laws.Lists.{has_take, has_none}
+use Rattle.records.specs.declared.entry.Entry.TheVariants as entry
+use Rattle.records.specs.declared.record.Record.{Record}
+use Rattle.records.specs.Layout.{record_bytes}
+use Rattle.records.specs.Words.{known_of, deposit_of}
+use Rattle.records.proofs.Bounds.{known_among}
+use Rattle.dgram.specs.declared.body.Body.{Body}
+use Rattle.dgram.specs.declared.body.Body.TheVariants.{Ask}
+use Rattle.proposer.specs.Sessions.{new_session}
+use Rattle.site.specs.declared.fault.SiteFault.TheVariants as faults
+use Rattle.site.specs.Calls.{Input, reply_by, reply_of}
+use Rattle.site.specs.Calls.{effect_of}
+use Rattle.site.specs.Effects.{Effect, Send}
+use Rattle.schedule.specs.declared.fate.Fate.{Fate}
+use Rattle.schedule.specs.declared.fate.Fate.TheVariants.{Whole, StopsIn, StopsAfter, FailsIn}
+use Rattle.world_law.specs.Laws.{IsChosen, Report, report_of}
+use Rattle.world_law.specs.Networks.{Mode, Up, Down, NeedsOpening, Network, new_site, new_network}
+use Rattle.world_law.specs.Networks.{Event, Deposit, Propose, Query, Deliver, Raw, Stop, Start}
+use Rattle.world_law.specs.Networks.{Notice, Replied, Refused, GoesDown, ComesUp, notice_of}
+use Rattle.world_law.specs.Networks.{Outcome, Happening, happening, outcome, nothing, if_member}
+use Rattle.world_law.specs.Networks.{undergoes, reaches, takes, says, datagram_at, arrives, stops}
+use Rattle.world_law.specs.Networks.{opened, starts, happens, run}
+use Rattle.world_law.specs.Networks as networks
+use Rattle.world_law.proofs.Kept.{Kept}
+use Rattle.world_law.proofs.Grows.{grows_itself}
+use Rattle.world_law.proofs.Step.{moved, Deposits as Allowed, ReportsChosen, reports_nothing}
+use Rattle.world_law.proofs.Step.{reports_plain}
+use Rattle.world_law.proofs.Step.{Next, Sound, nothing_recalled, kept_moved}
+use Rattle.world_law.proofs.Deeds.{MayDeposit, Deed, some_same, nothing_sent}
+use Rattle.world_law.proofs.Calls.{refuses_deed}
+
+-- some slot, for what is of none
+any_slot : SlotName
+any_slot = record { object = []; version = 0 }
+
+-- fewer messages
+fewer : {q : QuorumSystem} {w : Network} {n : ℕ} {D : Allowed} {kept : Option Record}
+    {slot : SlotName} {body : Body} {sends : List Send} (some : List Send)
+    → ((d : Send) → Has d some → Has d sends)
+    → Sound q w n D kept slot body sends → Sound q w n D kept slot body some
+fewer some among s = record {
+  each = λ d h. s.each d (among d h);
+  own = s.own;
+  entry = s.entry;
+  says = s.says;
+}
+
+module _ (q : QuorumSystem) (w : Network) (inv : Kept q w) where
+  -- nothing happens, but that something is said
+  pub said_kept : (D : Allowed) (place : Option ℕ) (notice : Option Notice)
+      → ReportsChosen q w notice
+      → Next q w place D (record { network = w; sends = []; notice = notice })
+  said_kept D place notice reports = record {
+    kept = inv;
+    grows = grows_itself;
+    reports = reports;
+    names = λ d h. absurd (has_none h);
+    deposits = λ n slot bag h. inl h;
+  }
+
+  pub stays : (D : Allowed) (place : Option ℕ) → Next q w place D (nothing w)
+  stays D place = said_kept D place None reports_nothing
+
+  module _ (n : ℕ) (D : Allowed) where
+    -- the site loses its session, with what it keeps
+    lost_kept : (kept : Option Record) (slot : SlotName) (body : Body) (sends : List Send)
+        → Sound q w n D kept slot body sends → (mode : Mode) (notice : Notice)
+        → report_of notice ≡ None → (some : List Send) → ((d : Send) → Has d some → Has d sends)
+        → Next q w (Some n) D (moved w n kept new_session mode some (Some notice))
+    lost_kept kept slot body sends s mode notice e some among =
+        kept_moved q w n kept new_session mode some (Some notice) D slot body
+        (fewer some among s) inv nothing_recalled (reports_plain notice e)
+
+    -- it keeps nothing
+    idle_kept : (mode : Mode) (notice : Notice) → report_of notice ≡ None
+        → Next q w (Some n) D (moved w n None new_session mode [] (Some notice))
+    idle_kept mode notice e =
+        lost_kept None any_slot (Ask n) [] (nothing_sent q w n D any_slot) mode notice e []
+        (λ d h. h)
+
+    -- it keeps the record, or it doesn't
+    left_kept : (r : Record) (slot : SlotName) (body : Body) (sends : List Send)
+        → Sound q w n D (Some r) slot body sends → (mode : Mode) (notice : Notice)
+        → report_of notice ≡ None → (t : Bool)
+        → Next q w (Some n) D
+        (moved w n (cond t (Some r) None) new_session mode [] (Some notice))
+    left_kept r slot body sends s mode notice e true =
+        lost_kept (Some r) slot body sends s mode notice e [] (λ d h. absurd (has_none h))
+    left_kept r slot body sends s mode notice e false = idle_kept mode notice e
+
+    pub member_kept : (h : Happening) → Next q w (Some n) D h
+        → Next q w (Some n) D (if_member q w n h)
+    member_kept h next = go (is_in q.members n)
+      where
+        go : (t : Bool) → Next q w (Some n) D (cond t h (nothing w))
+        go true = next
+        go false = stays D (Some n)
+
+    -- what it replies as known is on its record
+    pub replies_kept : (slot : SlotName) (mode : Mode)
+        → Next q w (Some n) D (networks.replies w n mode slot)
+    unfolding reply_of
+    replies_kept slot Up =
+        said_kept D (Some n) _
+        (go (known_of slot (w.sites n).records) (deposit_of slot (w.sites n).records) refl)
+      where
+        known : (bag : _) → known_of slot (w.sites n).records ≡ Some bag → IsChosen q w slot bag
+        known bag e =
+            inv.records n slot (entry.Known bag) (known_among slot (w.sites n).records bag e)
+
+        go : (known own : _) → known_of slot (w.sites n).records ≡ known
+            → ReportsChosen q w (Some (Replied n slot (reply_by known own)))
+        go (Some bag) own e = record {
+          chosen = λ m r f g.
+              let h : Some (record { slot = slot; bag = bag }) ≡ Some r =
+              ap report_of (some_same f) ∙ g in
+              subst (λ (r : Report). IsChosen q w r.slot r.bag) (some_same h) (known bag e);
+        }
+        go None (Some bag) e = reports_plain _ refl
+        go None None e = reports_plain _ refl
+    replies_kept slot NeedsOpening = said_kept D (Some n) _ (reports_plain _ refl)
+    replies_kept slot Down = stays D (Some n)
+
+    pub stops_kept : (mode : Mode) → Next q w (Some n) D (stops w n mode)
+    stops_kept Up = idle_kept Down (GoesDown n) refl
+    stops_kept NeedsOpening = idle_kept Down (GoesDown n) refl
+    stops_kept Down = stays D (Some n)
+
+    opened_kept : Next q w (Some n) D (happening w n (opened n (w.sites n)))
+    opened_kept =
+        subst
+        (λ (rs : List Record). Next q w (Some n) D (happening w n (record {
+          site = record { records = rs; session = new_session; mode = Up };
+          sends = [];
+          notice = Some (ComesUp n (length (w.sites n).records));
+        })))
+        (append-nil (w.sites n).records)
+        (idle_kept Up (ComesUp n (length (w.sites n).records)) refl)
+
+    pub starts_kept : (mode : Mode) → Next q w (Some n) D (starts w n mode)
+    starts_kept Up = stays D (Some n)
+    starts_kept NeedsOpening = opened_kept
+    starts_kept Down = opened_kept
+
+  -- ---- an effect, under a fate
+
+  module _ (n : ℕ) (input : Input) where
+    abbrev pub May : Allowed
+    May = MayDeposit input
+
+    outcome_kept : (e : Effect) (commits : Option Record) → e.commits ≡ commits
+        → Deed q w n input e → (fate : Fate)
+        → Next q w (Some n) May (happening w n (outcome n (w.sites n) input e commits fate))
+    unfolding outcome
+    outcome_kept e commits is d fate = go commits is fate
+      where
+        whole : Next q w (Some n) May (happening w n (networks.goes_on n (w.sites n) input e))
+        whole =
+            kept_moved q w n e.commits e.session (w.sites n).mode e.sends
+            (notice_of n input e.says) May d.slot d.body d.sound inv d.recalls d.reports
+
+        sound_of : (commits : Option Record) → e.commits ≡ commits
+            → Sound q w n May commits d.slot d.body e.sends
+        sound_of commits is =
+            subst (λ (o : Option Record). Sound q w n May o d.slot d.body e.sends) is d.sound
+
+        go : (commits : Option Record) → e.commits ≡ commits → (fate : Fate)
+            → Next q w (Some n) May (happening w n (outcome n (w.sites n) input e commits fate))
+        go commits is Whole = whole
+        go None is (StopsIn device k) = idle_kept n May Down (GoesDown n) refl
+        go (Some r) is (StopsIn device k) =
+            left_kept n May r d.slot d.body e.sends (sound_of (Some r) is) Down (GoesDown n) refl
+            (nat_le (length (record_bytes r)) k)
+        go commits is (StopsAfter j) =
+            lost_kept n May commits d.slot d.body e.sends (sound_of commits is) Down (GoesDown n)
+            refl (take j e.sends) (λ f h. has_take j e.sends h)
+        go None is (FailsIn device k) = whole
+        go (Some r) is (FailsIn device k) =
+            left_kept n May r d.slot d.body e.sends (sound_of (Some r) is) NeedsOpening
+            (Refused n faults.Device) refl (nat_le (length (record_bytes r)) k)
+
+    undergoes_kept : (e : Effect) → Deed q w n input e → (fate : Fate)
+        → Next q w (Some n) May (undergoes w n input e fate)
+    undergoes_kept e d fate = outcome_kept e e.commits refl d fate
+
+    pub takes_kept : AreQuorums q
+        → Deed q w n input (effect_of q n (w.sites n).records (w.sites n).session input)
+        → (fate : Fate) → Next q w (Some n) May (takes q w n input fate)
+    takes_kept laws d fate =
+        member_kept n May (reaches q w n (w.sites n).mode input fate) (go (w.sites n).mode)
+      where
+        go : (mode : Mode) → Next q w (Some n) May (reaches q w n mode input fate)
+        go Up = undergoes_kept _ d fate
+        go NeedsOpening =
+            undergoes_kept _ (refuses_deed q laws w inv n input faults.NeedsOpen) fate
+        go Down = stays May (Some n)

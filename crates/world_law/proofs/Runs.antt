@@ -1,0 +1,106 @@
+-- Every network of a run is kept.
+use Rattle.std.proofs.Common.{ℕ, zero, suc, ◌≡◌, refl}
+use Rattle.std.proofs.Common.{subst, List, [], ◌∷◌, Option, None, Some}
+use Rattle.std.specs.List.{slice_get}
+use Rattle.std.specs.Option.{option_map}
+use Rattle.fed_types.specs.Lists.{Has, here, there}
+use Rattle.fed_types.specs.Quorums.{QuorumSystem, AreQuorums}
+use Rattle.fed_types.specs.Laws.Lists.{has_none}
+use Rattle.dgram.specs.declared.message.Message.{Message}
+use Rattle.site.specs.Calls.{Deposits, Proposes, Asks, Arrives}
+use Rattle.site.specs.Effects.{Send}
+use Rattle.schedule.specs.declared.fate.Fate.{Fate}
+use Rattle.schedule.specs.declared.fate.Fate.TheVariants.{Whole}
+use Rattle.world_law.specs.Laws.{WasSent, site_of}
+use Rattle.world_law.specs.Networks.{Mode, Up, Down, NeedsOpening, Network, new_site, new_network}
+use Rattle.world_law.specs.Networks.{Event, Deposit, Propose, Query, Deliver, Raw, Stop, Start}
+use Rattle.world_law.specs.Networks.{Notice, Replied, Refused, GoesDown, ComesUp, notice_of}
+use Rattle.world_law.specs.Networks.{Outcome, Happening, happening, outcome, nothing, if_member}
+use Rattle.world_law.specs.Networks.{undergoes, reaches, takes, says, datagram_at, arrives, stops}
+use Rattle.world_law.specs.Networks.{opened, starts, happens, run}
+use Rattle.world_law.specs.Networks as networks
+use Rattle.world_law.proofs.Kept.{Kept}
+use Rattle.world_law.proofs.Step.{Deposits as Allowed}
+use Rattle.world_law.proofs.Step.{Next}
+use Rattle.world_law.proofs.Deeds.{MayDeposit, some_same}
+use Rattle.world_law.proofs.Arriving.{arrival_deed}
+use Rattle.world_law.proofs.Outcomes.{stays, member_kept, takes_kept, replies_kept, stops_kept}
+use Rattle.world_law.proofs.Outcomes.{starts_kept}
+use Rattle.world_law.proofs.Calls.{deposit_deed, propose_deed, ask_deed}
+
+-- nothing may be deposited
+abbrev NoDeposit : Allowed
+NoDeposit slot bag = ⊥
+
+-- what an event may deposit
+abbrev pub DepositOf : Event → Allowed
+DepositOf (Deposit site slot checked fate) = MayDeposit (Deposits slot checked)
+DepositOf _ = NoDeposit
+
+module _ (q : QuorumSystem) (w : Network) (inv : Kept q w) where
+  find : {X : Type 0} (xs : List X) (k : ℕ) (x : X) → slice_get xs k ≡ Some x → Has x xs
+  find [] k x e = absurd (cc e)
+  find (y ∷ ys) zero x e = let f : y ≡ x = cc in here f
+  find (y ∷ ys) (suc k) x e = there (find ys k x e)
+
+  at_number : (k : ℕ) (sent : List Send) (d : Send) → datagram_at k sent ≡ Some d → Has d sent
+  at_number zero sent d e = absurd (cc e)
+  at_number (suc k) sent d e = find sent k d e
+
+  arrives_kept : AreQuorums q → (o : Option Send) → ((d : Send) → o ≡ Some d → Has d w.sent)
+      → (fate : Fate) → Next q w (option_map (λ d. d.to) o) NoDeposit (arrives q w o fate)
+  arrives_kept laws None sent fate = stays q w inv NoDeposit None
+  arrives_kept laws (Some d) sent fate =
+      takes_kept q w inv d.to (Arrives (Some d.message)) laws
+      (arrival_deed q laws w inv d.to (Some d.message) was_sent) fate
+    where
+      was_sent : (m : Message) → Some d.message ≡ Some m → WasSent w m.slot m.body
+      was_sent m e =
+          subst (λ (m : Message). WasSent w m.slot m.body)
+          (some_same e) (record { to = d.to; is_sent = sent d refl })
+
+pub happens_kept : (q : QuorumSystem) → AreQuorums q → (w : Network) → Kept q w → (e : Event)
+    → Next q w (site_of w e) (DepositOf e) (happens q w e)
+unfolding happens
+happens_kept q laws w inv (Deposit n slot checked fate) =
+    takes_kept q w inv n (Deposits slot checked) laws (deposit_deed q laws w inv n slot checked)
+    fate
+happens_kept q laws w inv (Propose n slot fate) =
+    takes_kept q w inv n (Proposes slot) laws (propose_deed q laws w inv n slot) fate
+happens_kept q laws w inv (networks.Ask n member slot fate) =
+    takes_kept q w inv n (Asks slot member) laws (ask_deed q laws w inv n slot member) fate
+happens_kept q laws w inv (Query n slot) =
+    member_kept q w inv n NoDeposit _ (replies_kept q w inv n NoDeposit slot (w.sites n).mode)
+happens_kept q laws w inv (Deliver k fate) =
+    arrives_kept q w inv laws (datagram_at k w.sent) (λ d e. at_number q w inv k w.sent d e) fate
+happens_kept q laws w inv (Raw n) =
+    takes_kept q w inv n (Arrives None) laws
+    (arrival_deed q laws w inv n None (λ m e. absurd (cc e))) Whole
+happens_kept q laws w inv (Stop n) =
+    member_kept q w inv n NoDeposit _ (stops_kept q w inv n NoDeposit (w.sites n).mode)
+happens_kept q laws w inv (Start n) =
+    member_kept q w inv n NoDeposit _ (starts_kept q w inv n NoDeposit (w.sites n).mode)
+
+pub new_kept : (q : QuorumSystem) → Kept q new_network
+unfolding new_network new_site
+new_kept q = record {
+  sessions = λ n. record {
+    heard = λ d h. absurd (has_none h);
+    members = λ d h. absurd (has_none h);
+    current = λ slot c f. absurd (cc f);
+  };
+  sent = λ d h. absurd (has_none h);
+  records = λ n slot e h. absurd (has_none h);
+  one = λ slot b u v g h. absurd (has_none g.is_sent);
+}
+
+run_from : (q : QuorumSystem) → AreQuorums q → (events : List Event) (w : Network) → Kept q w
+    → Kept q (run q w events)
+unfolding run
+run_from q laws [] w inv = inv
+run_from q laws (e ∷ es) w inv =
+    run_from q laws es (happens q w e).network (happens_kept q laws w inv e).kept
+
+pub run_kept : (q : QuorumSystem) → AreQuorums q → (events : List Event)
+    → Kept q (run q new_network events)
+run_kept q laws events = run_from q laws events new_network (new_kept q)

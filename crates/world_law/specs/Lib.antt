@@ -1,0 +1,8 @@
+-- The reference run is read in this order: Networks (sites, datagrams, events), Trees, Worlds (what
+-- each command makes of a federation). Then what is promised: Laws of a network and its events,
+-- Headline of a schedule and its lines.
+pub mod Networks
+pub mod Trees
+pub mod Worlds
+pub mod Laws
+pub mod Headline

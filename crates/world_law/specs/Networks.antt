@@ -1,0 +1,251 @@
+-- The sites of a federation, all datagrams that were ever sent, and what each event brings about: a
+-- call of a site, a datagram's arrival, a stop, a start.
+use Rattle.std.specs.Prelude.{ℕ, zero, suc, ◌==◌, List, [], ◌∷◌, ◌++◌, length, take, slice_get}
+use Rattle.std.specs.Prelude.{Option, Some, None, Result, Ok, Err, if◌then◌else◌}
+use Rattle.std.specs.Option.{option_to_list}
+use Rattle.fed_types.specs.declared.bag_id.BagId.{BagId}
+use Rattle.fed_types.specs.Lists.{is_in}
+use Rattle.fed_types.specs.Quorums.{QuorumSystem}
+use Rattle.fed_types.specs.Slots.{SlotName}
+use Rattle.bag_check.specs.declared.fault.BagFault.{BagFault}
+use Rattle.records.specs.declared.record.Record.{Record}
+use Rattle.records.specs.Texts.{kept_record}
+use Rattle.proposer.specs.Sessions.{Session, new_session}
+use Rattle.site.specs.declared.answer.Line.{Line}
+use Rattle.site.specs.declared.answer.Line.TheVariants as lines
+use Rattle.site.specs.declared.answer.Reply.{Reply}
+use Rattle.site.specs.declared.fault.SiteFault.{SiteFault}
+use Rattle.site.specs.declared.fault.SiteFault.TheVariants as faults
+use Rattle.site.specs.Calls.{Input, Deposits, Proposes, Asks, Arrives, effect_of, reply_of}
+use Rattle.site.specs.Effects.{Effect, Send, refuses}
+use Rattle.schedule.specs.declared.fate.Fate.{Fate}
+use Rattle.schedule.specs.declared.fate.Fate.TheVariants.{Whole, StopsIn, StopsAfter, FailsIn}
+
+-- ---- sites and datagrams
+
+-- a site is up; or it is down; or its device has failed, and it needs opening
+pub data Mode : Type 0 where
+  Up : Mode
+  Down : Mode
+  NeedsOpening : Mode
+
+-- What is on its record; what it has heard since it was opened, and which ballots are current; and
+-- its mode. One that isn't up has forgotten what it had heard.
+pub record SiteState : Type 0 where
+  pub records : List Record
+  pub session : Session
+  pub mode : Mode
+
+-- Each site by its number: numbers that are no member's are there too, and stay new. And all
+-- datagrams, in the order in which they were sent, each as the message that its bytes decode to
+-- (`message_of_its_datagram` of `dgram`); its sender is the site that the message names. None is
+-- ever taken away: it may arrive once, often or never, in any order.
+pub record Network : Type 0 where
+  pub sites : ℕ → SiteState
+  pub sent : List Send
+
+-- a site that is up and has no records
+unfoldable pub new_site : SiteState
+new_site = record { records = []; session = new_session; mode = Up }
+
+-- every site is new, and nothing was sent
+unfoldable pub new_network : Network
+new_network = record { sites = λ site. new_site; sent = [] }
+
+-- ---- events
+
+-- A site is called to take a tree as its deposit, of which the check gave this answer; to propose;
+-- to ask a member; to reply to a query. The datagram of this number, of all that were ever sent,
+-- counted from 1, arrives at its addressee; bytes arrive that are no message. A site stops between
+-- calls; it is opened again.
+pub data Event : Type 0 where
+  Deposit : (site : ℕ) → SlotName → Result BagId BagFault → Fate → Event
+  Propose : (site : ℕ) → SlotName → Fate → Event
+  Ask : (site : ℕ) → (member : ℕ) → SlotName → Fate → Event
+  Query : (site : ℕ) → SlotName → Event
+  Deliver : (number : ℕ) → Fate → Event
+  Raw : (site : ℕ) → Event
+  Stop : (site : ℕ) → Event
+  Start : (site : ℕ) → Event
+
+-- What is said of an event: that a site registered a deposit, learned a bag, replied, refused, or
+-- dropped what arrived; that it is down; that it is up, with so many records.
+pub data Notice : Type 0 where
+  Registered : (site : ℕ) → SlotName → BagId → Notice
+  Learned : (site : ℕ) → SlotName → BagId → Notice
+  Replied : (site : ℕ) → SlotName → Reply → Notice
+  Refused : (site : ℕ) → SiteFault → Notice
+  Dropped : (site : ℕ) → Notice
+  GoesDown : (site : ℕ) → Notice
+  ComesUp : (site : ℕ) → (records : ℕ) → Notice
+
+-- what an event brings about at a site: what the site is then, what it sent, and what is said
+pub record Outcome : Type 0 where
+  pub site : SiteState
+  pub sends : List Send
+  pub notice : Option Notice
+
+-- what an event brings about in the network
+pub record Happening : Type 0 where
+  pub network : Network
+  pub sends : List Send
+  pub notice : Option Notice
+
+-- ---- a call, under a fate
+
+-- What a site's line says. That of a deposit names no slot, since who calls does; no other input
+-- registers a bag.
+abbrev pub line_notice : (site : ℕ) → Line → Input → Option Notice
+line_notice site (lines.Registered bag) (Deposits slot checked) = Some (Registered site slot bag)
+line_notice site (lines.Registered bag) input = None
+line_notice site (lines.Known slot bag) input = Some (Learned site slot bag)
+line_notice site lines.Dropped input = Some (Dropped site)
+
+-- what a site says of an input: a line, if any, or a refusal
+abbrev pub notice_of : (site : ℕ) → Input → Result (Option Line) SiteFault → Option Notice
+notice_of site input (Ok None) = None
+notice_of site input (Ok (Some line)) = line_notice site line input
+notice_of site input (Err fault) = Some (Refused site fault)
+
+-- the call is done, and the site goes on
+abbrev pub goes_on : (site : ℕ) → SiteState → Input → Effect → Outcome
+goes_on site s input e = record {
+  site = record {
+    records = s.records ++ option_to_list e.commits;
+    session = e.session;
+    mode = s.mode;
+  };
+  sends = e.sends;
+  notice = notice_of site input e.says;
+}
+
+-- the site is down, with this record more, if there is one; so much was sent before
+abbrev pub goes_down : (site : ℕ) → SiteState → Option Record → List Send → Outcome
+goes_down site s kept sends = record {
+  site = record {
+    records = s.records ++ option_to_list kept;
+    session = new_session;
+    mode = Down;
+  };
+  sends = sends;
+  notice = Some (GoesDown site);
+}
+
+-- the site's device has failed, and keeps this record more, if there is one; nothing was sent
+abbrev pub fails : (site : ℕ) → SiteState → Option Record → Outcome
+fails site s kept = record {
+  site = record {
+    records = s.records ++ option_to_list kept;
+    session = new_session;
+    mode = NeedsOpening;
+  };
+  sends = [];
+  notice = Some (Refused site faults.Device);
+}
+
+-- What comes of a call under a fate, by the record that the call commits. A stop or a failure in a
+-- device call leaves the record where at least as many bytes are kept as it has, and nothing is
+-- sent. Where there is no record there is no device call: a stop there is one before any datagram
+-- is sent, and a failure changes nothing.
+unfoldable pub outcome :
+    (site : ℕ) → SiteState → Input → Effect → (commits : Option Record) → Fate → Outcome
+outcome site s input e commits Whole = goes_on site s input e
+outcome site s input e None (StopsIn device k) = goes_down site s None []
+outcome site s input e (Some r) (StopsIn device k) = goes_down site s (kept_record k r) []
+outcome site s input e commits (StopsAfter j) = goes_down site s commits (take j e.sends)
+outcome site s input e None (FailsIn device k) = goes_on site s input e
+outcome site s input e (Some r) (FailsIn device k) = fails site s (kept_record k r)
+
+-- ---- what happens
+
+-- nothing does
+abbrev pub nothing : Network → Happening
+nothing w = record { network = w; sends = []; notice = None }
+
+-- an outcome at a site; the other sites are as they were
+abbrev pub happening : Network → (site : ℕ) → Outcome → Happening
+happening w site o = record {
+  network = record {
+    sites = λ n. if n == site then o.site else w.sites n;
+    sent = w.sent ++ o.sends;
+  };
+  sends = o.sends;
+  notice = o.notice;
+}
+
+-- only members do anything
+abbrev pub if_member : QuorumSystem → Network → (site : ℕ) → Happening → Happening
+if_member q w site h = if is_in q.members site then h else nothing w
+
+-- an effect at a site, under a fate
+abbrev pub undergoes : Network → (site : ℕ) → Input → Effect → Fate → Happening
+undergoes w site input e fate =
+    happening w site (outcome site (w.sites site) input e e.commits fate)
+
+-- an input reaches a site: one that is up does what it says; one that needs opening refuses, and
+-- doesn't hear it; one that is down does nothing
+abbrev pub reaches : QuorumSystem → Network → (site : ℕ) → Mode → Input → Fate → Happening
+reaches q w site Up input fate =
+    undergoes w site input
+    (effect_of q site (w.sites site).records (w.sites site).session input) fate
+reaches q w site NeedsOpening input fate =
+    undergoes w site input (refuses faults.NeedsOpen (w.sites site).session) fate
+reaches q w site Down input fate = nothing w
+
+abbrev pub takes : QuorumSystem → Network → (site : ℕ) → Input → Fate → Happening
+takes q w site input fate =
+    if_member q w site (reaches q w site (w.sites site).mode input fate)
+
+-- a site says this, and nothing else comes of it
+abbrev pub says : Network → Notice → Happening
+says w notice = record { network = w; sends = []; notice = Some notice }
+
+-- a query: nothing but a reply comes of it
+abbrev pub replies : Network → (site : ℕ) → Mode → SlotName → Happening
+replies w site Up slot = says w (Replied site slot (reply_of slot (w.sites site).records))
+replies w site NeedsOpening slot = says w (Refused site faults.NeedsOpen)
+replies w site Down slot = nothing w
+
+-- the datagram of this number, counted from 1
+abbrev pub datagram_at : (number : ℕ) → List Send → Option Send
+datagram_at zero sent = None
+datagram_at (suc before) sent = slice_get sent before
+
+-- a datagram, if there is one, arrives at its addressee
+abbrev pub arrives : QuorumSystem → Network → Option Send → Fate → Happening
+arrives q w None fate = nothing w
+arrives q w (Some d) fate = takes q w d.to (Arrives (Some d.message)) fate
+
+-- a site stops between calls
+abbrev pub stops : Network → (site : ℕ) → Mode → Happening
+stops w site Down = nothing w
+stops w site mode = happening w site (goes_down site (w.sites site) None [])
+
+-- it is up, with the records that it has
+abbrev pub opened : (site : ℕ) → SiteState → Outcome
+opened site s = record {
+  site = record { records = s.records; session = new_session; mode = Up };
+  sends = [];
+  notice = Some (ComesUp site (length s.records));
+}
+
+-- a site that isn't up is opened
+abbrev pub starts : Network → (site : ℕ) → Mode → Happening
+starts w site Up = nothing w
+starts w site mode = happening w site (opened site (w.sites site))
+
+-- what an event brings about
+unfoldable pub happens : QuorumSystem → Network → Event → Happening
+happens q w (Deposit site slot checked fate) = takes q w site (Deposits slot checked) fate
+happens q w (Propose site slot fate) = takes q w site (Proposes slot) fate
+happens q w (Ask site member slot fate) = takes q w site (Asks slot member) fate
+happens q w (Query site slot) = if_member q w site (replies w site (w.sites site).mode slot)
+happens q w (Deliver number fate) = arrives q w (datagram_at number w.sent) fate
+happens q w (Raw site) = takes q w site (Arrives None) Whole
+happens q w (Stop site) = if_member q w site (stops w site (w.sites site).mode)
+happens q w (Start site) = if_member q w site (starts w site (w.sites site).mode)
+
+-- the network after these events
+unfoldable pub run : QuorumSystem → Network → List Event → Network
+run q w [] = w
+run q w (e ∷ events) = run q (happens q w e).network events

@@ -1,0 +1,18 @@
+//! What a federation does with every schedule, and the laws of its agreement: the definitions of
+//! the reference run in specs/, and functions that do nothing, whose contracts are the laws.
+#![tactic(auto)]
+
+mod law;
+mod line;
+mod sent_bytes;
+
+pub use law::{
+    bags_were_deposited, chosen_stays, known_was_chosen, lines_agree, one_bag_a_ballot,
+    one_bag_a_slot, priors_stay, proposals_are_backed, reports_agree, reports_were_deposited,
+    senders_are_named, votes_were_asked_for,
+};
+pub use line::{Line, NamedBag, NamedReply, Reason};
+pub use sent_bytes::SentBytes;
+
+#[cfg(test)]
+mod tests;
