@@ -99,7 +99,7 @@ sent_lines federation number (d ∷ sends) =
 abbrev pub with_line : World → Line → World
 with_line w line = record w { lines = w.lines ++ line ∷ [] }
 
--- a command that can't apply changes nothing but its line
+-- a command that can't apply changes nothing but its line; a `deliver` has named its number by then
 abbrev pub skips : World → (number : ℕ) → Reason → World
 skips w number reason = with_line w (lines.Skip number reason)
 
@@ -281,6 +281,10 @@ unfoldable pub run_from : (number : ℕ) → World → List (Option Command) →
 run_from number w [] = w
 run_from number w (line ∷ others) = run_from (number + 1) (after_line w number line) others
 
+-- the number of the line after the one that names the federation
+abbrev pub first_number : Plan → ℕ
+first_number plan = plan.skipped + 2
+
 -- the world after a schedule
 unfoldable pub run_of : Plan → World
-run_of plan = run_from (plan.skipped + 2) (new_world plan.members) plan.lines
+run_of plan = run_from (first_number plan) (new_world plan.members) plan.lines
