@@ -99,7 +99,7 @@ sent_lines federation number (d ∷ sends) =
 abbrev pub with_line : World → Line → World
 with_line w line = record w { lines = w.lines ++ line ∷ [] }
 
--- a command that can't apply changes nothing but its line; a `deliver` has named its number by then
+-- a command that can't apply changes nothing but its line; a `deliver` has named its number then
 abbrev pub skips : World → (number : ℕ) → Reason → World
 skips w number reason = with_line w (lines.Skip number reason)
 
