@@ -8,10 +8,10 @@ returns-in-Some g c = record {
   heard = heard_at (g.Q.Quorums.quorum_system c.args.members.now) c.args.ballot c.args.promise.now
       c.args.table.now (c.get_mut.follows.lender c.promise.new.self) c.args.slot.now
       c.in-Some.row.now c.promise.new.self c.promise.result c.in-Some.ensures.value
-      (c.get_mut.follows.holds c.promise.new.self) c.promise.ensures;
+      (c.get_mut.follows.holds c.promise.new.self).0 c.promise.ensures;
   rooms = rooms_put c.args.table.now (c.get_mut.follows.lender c.promise.new.self)
       c.args.slot.now c.in-Some.row.now c.promise.new.self c.in-Some.ensures.value
-      (c.get_mut.follows.holds c.promise.new.self);
+      (c.get_mut.follows.holds c.promise.new.self).0;
 }
 
 pub returns-in-None : goal.returns-in-None
