@@ -1,13 +1,10 @@
 -- What a learner stands for after it has heard of one more vote.
-use Rattle.std.proofs.Common.{◌≡◌, ℕ, ◌&&◌, ◌||◌, Bool, true, false, cond, List, [], ◌∷◌, ◌++◌}
+use Rattle.std.proofs.Common.{◌≡◌, ℕ, ◌&&◌, ◌||◌, Bool, true, false, cond, List, [], ◌∷◌}
 use Rattle.std.proofs.Common.{Option, Some, None, refl, sym, ap, subst, ◌∙◌}
 use Rattle.std.specs.Bool.{◌==◌, Decides}
-use Rattle.std.specs.List.{cons_option}
-use Rattle.std.proofs.lemmas.Bool.Decides.{Decides-eqb, Decides-and}
+use Rattle.std.proofs.lemmas.Bool.Decides.{Decides-and}
 use Rattle.fed_types.specs.declared.bag_id.BagId.{BagId}
 use Rattle.fed_types.specs.declared.vote.Vote.{Vote}
-use Rattle.fed_types.specs.Bags.{same_bag}
-use Rattle.fed_types.specs.Ballots.{BallotNumber, same_ballot}
 use Rattle.fed_types.specs.Laws.Bags.{same_bag_decides}
 use Rattle.fed_types.specs.Laws.Ballots.{same_ballot_decides}
 use Rattle.fed_types.specs.Laws.Lists.{is_in-append}
