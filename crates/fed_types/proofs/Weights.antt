@@ -1,6 +1,6 @@
 -- The weights of members in a slice and in the array that keeps them.
-use Rattle.std.specs.Prelude.{◌≡◌, ℕ, ◌<◌, ◌≤◌, ◌+◌, ◌-◌, ◌==◌, false, List, ◌++◌, length, take, drop}
-use Rattle.std.specs.Prelude.{replicate, slice_index, refl}
+use Rattle.std.specs.Prelude.{◌≡◌, ℕ, ◌<◌, ◌≤◌, ◌+◌, ◌-◌, ◌==◌, false, List, ◌++◌, length, take}
+use Rattle.std.specs.Prelude.{drop, replicate, slice_index, refl}
 use Rattle.std.specs.List.{All, Contains, list_any}
 use Rattle.std.proofs.Common.{arith, sym, ap, ◌∙◌, inl, inr, eq-eqb, length-append}
 use Rattle.std.proofs.Math.Seq.{drop-append_seam}

@@ -111,7 +111,14 @@ impl<Q: Quorums + Drop> Learner<Q> {
         ensures members { self.new.members ≡ self.old.members }
     {
         let vote = Vote { ballot, bag };
-        let learned = hear(self.alloc, &mut self.table, &self.members, slot, &vote, from)?;
+        let learned = hear(
+            self.alloc,
+            &mut self.table,
+            &self.members,
+            slot,
+            &vote,
+            from,
+        )?;
         if learned {
             return Ok(Some(bag));
         }

@@ -14,8 +14,8 @@ use std::alloc::{AllocError, Global};
 pub(crate) enum Row {
     /// This bag is known; votes aren't counted any more.
     Known(BagId),
-    /// No bag is known; the votes that were heard of, if one was. They are boxed, so that the row of
-    /// a slot that was only asked about is no larger than that of a known bag.
+    /// No bag is known; the votes that were heard of, if one was. They are boxed, so that the row
+    /// of a slot that was only asked about is no larger than that of a known bag.
     Heard(Option<Box<Votes>>),
 }
 
@@ -40,7 +40,8 @@ impl Row {
         }
     }
 
-    /// Hears that a site cast a vote. Whether the vote's bag is learned by it: then nothing changes.
+    /// Hears that a site cast a vote. Whether the vote's bag is learned by it: then nothing
+    /// changes.
     pub(crate) fn hear<Q: Quorums>(
         &mut self,
         alloc: Global,

@@ -8,25 +8,27 @@ use Rattle.learner.proofs.Rows.{err_of}
 use Rattle.learner.proofs.learner.Learner.accepted.Goals as goal
 
 pub returns-in_err-learned-clause-no_memory : goal.returns-in_err-learned-clause-no_memory
-returns-in_err-learned-clause-no_memory g c = err_of c.from_residual.result (λ records heard stands. (
-  sym (stands.known c.args.slot.now)
-      ∙ sym (ap (λ (l : Ledger g.row.Q.Denot). known_in (row_at l.rows c.args.slot.now))
-      c.self.view_is)
-      ∙ c.in_err-learned.ensures.unknown,
-  sym (learned_as c.args.self.now.rows records heard c.args.slot.now c.args.from
-    (record { ballot = c.args.ballot; bag = c.args.bag }) stands
-    (g.Q.Quorums.quorum_system c.args.self.now.members)
-    (record {
-      meet = g.met.Q.Quorums.quorums_meet c.args.self.now.members;
-      grow = g.met.Q.Quorums.quorum_grows c.args.self.now.members;
-    })
-    false
-    (subst (λ (l : Ledger g.row.Q.Denot). false
-    ≡ is_learned (g.Q.Quorums.quorum_system l.members)
-    (known_in (row_at l.rows c.args.slot.now))
-    (with_voter (counted_in (row_at l.rows c.args.slot.now)
-    (record { ballot = c.args.ballot; bag = c.args.bag })) c.args.from)) c.self.view_is c.in_err-learned.ensures.memory)),
-))
+returns-in_err-learned-clause-no_memory g c =
+    err_of c.from_residual.result (λ records heard stands. (
+      sym (stands.known c.args.slot.now)
+          ∙ sym (ap (λ (l : Ledger g.row.Q.Denot). known_in (row_at l.rows c.args.slot.now))
+          c.self.view_is)
+          ∙ c.in_err-learned.ensures.unknown,
+      sym (learned_as c.args.self.now.rows records heard c.args.slot.now c.args.from
+          (record { ballot = c.args.ballot; bag = c.args.bag }) stands
+          (g.Q.Quorums.quorum_system c.args.self.now.members)
+          (record {
+            meet = g.met.Q.Quorums.quorums_meet c.args.self.now.members;
+            grow = g.met.Q.Quorums.quorum_grows c.args.self.now.members;
+          })
+          false
+          (subst (λ (l : Ledger g.row.Q.Denot). false
+          ≡ is_learned (g.Q.Quorums.quorum_system l.members)
+          (known_in (row_at l.rows c.args.slot.now))
+          (with_voter (counted_in (row_at l.rows c.args.slot.now)
+          (record { ballot = c.args.ballot; bag = c.args.bag })) c.args.from)) c.self.view_is
+          c.in_err-learned.ensures.memory)),
+    ))
 
 pub returns-then-learned-clause-learned : goal.returns-then-learned-clause-learned
 returns-then-learned-clause-learned g c records heard stands =
@@ -42,7 +44,8 @@ returns-then-learned-clause-learned g c records heard stands =
     ≡ is_learned (g.Q.Quorums.quorum_system l.members)
     (known_in (row_at l.rows c.args.slot.now))
     (with_voter (counted_in (row_at l.rows c.args.slot.now)
-    (record { ballot = c.args.ballot; bag = c.args.bag })) c.args.from)) c.self.view_is (sym c.if-learned.true ∙ c.in_ok-learned.ensures.learned))
+    (record { ballot = c.args.ballot; bag = c.args.bag })) c.args.from)) c.self.view_is
+    (sym c.if-learned.true ∙ c.in_ok-learned.ensures.learned))
 
 pub returns-clause-learned : goal.returns-clause-learned
 returns-clause-learned g c records heard stands =
@@ -58,7 +61,8 @@ returns-clause-learned g c records heard stands =
     ≡ is_learned (g.Q.Quorums.quorum_system l.members)
     (known_in (row_at l.rows c.args.slot.now))
     (with_voter (counted_in (row_at l.rows c.args.slot.now)
-    (record { ballot = c.args.ballot; bag = c.args.bag })) c.args.from)) c.self.view_is (sym c.if-learned.false ∙ c.in_ok-learned.ensures.learned))
+    (record { ballot = c.args.ballot; bag = c.args.bag })) c.args.from)) c.self.view_is
+    (sym c.if-learned.false ∙ c.in_ok-learned.ensures.learned))
 
 pub returns-clause-heard : goal.returns-clause-heard
 returns-clause-heard g c none records heard stands =
