@@ -1,5 +1,5 @@
 -- The weights of a federation's members, from the array that keeps them, and back.
-use Rattle.std.specs.Prelude.{◌≡◌, ℕ, ◌≤◌, ◌-◌, List, ◌++◌, length, take, drop, replicate}
+use Rattle.std.specs.Prelude.{◌≡◌, ℕ, ◌≤◌, List, length, take}
 use Rattle.std.proofs.Common.{arith, ◌∙◌, sym, ap}
 use Rattle.std.proofs.lemmas.List.{take-append-drop, length-take-le}
 use Rattle.fed_types.specs.inner.Padded.{AreKept, IsPadded, padded, room, total_of}

@@ -1,4 +1,4 @@
-use Rattle.std.proofs.Common.{◌≡◌, ◌-◌, ℕ, suc, List, arith, slice_index, ap, ◌∙◌}
+use Rattle.std.proofs.Common.{◌≡◌, ◌-◌, suc, arith, slice_index}
 use Rattle.fed_types.proofs.Sums.{sum_none, sum_next}
 use Rattle.fed_types.proofs.members.total_of.Goals as goal
 
