@@ -172,6 +172,9 @@ fn promises(rt: &HostRuntime, records: &[Record], members: u8) -> Result<f64, Fa
     let federation = Members::new(FEDERATION, members)?;
     let mut proposer = Proposer::new(rt.alloc(), federation, site()?);
     for record in records.iter() {
+        proposer.reserve(&record.slot)?;
+    }
+    for record in records.iter() {
         check(proposer.begin(&record.slot, BAG) == Ok(ballot))?;
         proposer.note(record)?;
     }
