@@ -1,11 +1,11 @@
 -- The sites in a word, one after the other from the lowest: each is cleared once it is counted.
-use Rattle.std.specs.Prelude.{◌≡◌, ◌≢◌, ℕ, ◌*◌, ◌%◌, ◌^◌, ◌+◌, ◌<◌, ◌≤◌, Bool, ◌==◌}
+use Rattle.std.specs.Prelude.{◌≡◌, ◌≢◌, ℕ, ◌*◌, ◌%◌, ◌/◌, ◌^◌, ◌+◌, ◌-◌, ◌<◌, ◌≤◌, Bool, ◌==◌, refl}
 use Rattle.std.specs.Prelude.{zero, suc, ◌&&◌, bit_and}
 use Rattle.std.specs.Int.{bit_at, bit_not, trailing_zeros, w64}
-use Rattle.std.proofs.Common.{arith, sym, ap, inl, inr, ◌∙◌, lt-ltb}
-use Rattle.std.proofs.lemmas.Bool.{cases_order}
-use Rattle.std.proofs.lemmas.Nat.{and_le_l}
-use Rattle.std.proofs.lemmas.Nat.Bits.{bit_at-zero, bit_at-trailing_zeros}
+use Rattle.std.proofs.Common.{arith, sym, ap, ◌∙◌, lt-ltb}
+use Rattle.std.proofs.lemmas.Nat.{and_le_l, and_le_r}
+use Rattle.std.proofs.lemmas.Nat.Bits.{bit_at-zero, bit_at-suc, bit_at_and, bit_at_lowest}
+use Rattle.std.proofs.lemmas.Nat.Bits.{bit_at-trailing_zeros}
 use Rattle.std.proofs.lemmas.Nat.Bits.{bit_at_clear_same, bit_at_clear_other}
 use Rattle.fed_types.specs.Lists.{is_in}
 use Rattle.fed_types.specs.inner.Words.{bits_below}
@@ -31,42 +31,78 @@ sites_first word fits = (
   bit_at_clear_same w64 word 0 (omega arith),
 )
 
--- the lowest of them
+-- the lowest of them: below it there is none
 pub lowest : (rest : ℕ) → 0 < rest → AreSites rest
     → (1 ≤ trailing_zeros w64 rest) × (trailing_zeros w64 rest < 64)
     × (bit_at rest (trailing_zeros w64 rest) ≡ 1)
+    × ((i : ℕ) → i < trailing_zeros w64 rest → bit_at rest i ≡ 0)
 lowest rest some sites = go (trailing_zeros w64 rest)
     (bit_at-trailing_zeros w64 rest some sites.0).0 (bit_at-trailing_zeros w64 rest some sites.0).1
+    (bit_at-trailing_zeros w64 rest some sites.0).2
   where
-    go : (k : ℕ) → k < 64 → bit_at rest k ≡ 1 → (1 ≤ k) × (k < 64) × (bit_at rest k ≡ 1)
-    go zero l one = absurd (omega (arith, sites.1))
-    go (suc k) l one = (omega arith, l, one)
+    go : (k : ℕ) → k < 64 → bit_at rest k ≡ 1 → ((i : ℕ) → i < k → bit_at rest i ≡ 0)
+        → (1 ≤ k) × (k < 64) × (bit_at rest k ≡ 1) × ((i : ℕ) → i < k → bit_at rest i ≡ 0)
+    go zero l one none = absurd (omega (arith, sites.1))
+    go (suc k) l one none = (omega arith, l, one, none)
+
+-- the word without its lowest one
+abbrev pub without_lowest : ℕ → ℕ
+without_lowest rest = bit_and rest (rest - 1)
+
+-- an even word's places from 1 on, by its half
+half_of : (b j : ℕ) → b % 2 ≡ 0 → bit_at (without_lowest b) (suc j)
+    ≡ bit_at (without_lowest (b / 2)) j
+half_of b j even =
+    let half : (b - 1) / 2 ≡ b / 2 - 1 = omega (arith, even) in
+    let below : bit_at (b - 1) (suc j) ≡ bit_at (b / 2 - 1) j =
+    bit_at-suc (b - 1) j ∙ ap (λ (x : ℕ). bit_at x j) half in
+    omega (
+      arith,
+      bit_at_and b (b - 1) (suc j),
+      bit_at_and (b / 2) (b / 2 - 1) j,
+      bit_at-suc b j,
+      below,
+    )
+
+-- it has no one where the lowest stood, and is the same at each other place
+pub lowest_gone : (k b : ℕ) → bit_at b k ≡ 1 → ((i : ℕ) → i < k → bit_at b i ≡ 0)
+    → (bit_at (without_lowest b) k ≡ 0)
+    × ((i : ℕ) → i ≢ k → bit_at (without_lowest b) i ≡ bit_at b i)
+lowest_gone zero b one none = (
+  let last : bit_at (b - 1) 0 ≡ 0 = omega (arith, one, bit_at_lowest b, bit_at_lowest (b - 1)) in
+      omega (arith, bit_at_and b (b - 1) 0, last),
+  other,
+)
+  where
+    other : (i : ℕ) → i ≢ 0 → bit_at (without_lowest b) i ≡ bit_at b i
+    other zero differ = absurd (differ refl)
+    other (suc j) differ =
+        let half : (b - 1) / 2 ≡ b / 2 = omega (arith, one, bit_at_lowest b) in
+        let same : bit_at (b - 1) (suc j) ≡ bit_at b (suc j) =
+        bit_at-suc (b - 1) j ∙ ap (λ (x : ℕ). bit_at x j) half ∙ sym (bit_at-suc b j) in
+        omega (arith, bit_at_and b (b - 1) (suc j), same)
+lowest_gone (suc k) b one none =
+    let even : b % 2 ≡ 0 = sym (bit_at_lowest b) ∙ none 0 (omega arith) in
+    let later = lowest_gone k (b / 2) (sym (bit_at-suc b k) ∙ one)
+    (λ i l. sym (bit_at-suc b i) ∙ none (suc i) (omega (arith, l))) in
+    (half_of b k even ∙ later.0, other even later.1)
+  where
+    other : b % 2 ≡ 0 → ((i : ℕ) → i ≢ k → bit_at (without_lowest (b / 2)) i ≡ bit_at (b / 2) i)
+        → (i : ℕ) → i ≢ suc k → bit_at (without_lowest b) i ≡ bit_at b i
+    other even later zero differ = omega (arith, bit_at_and b (b - 1) 0, none 0 (omega arith))
+    other even later (suc j) differ =
+        half_of b j even ∙ later j (λ e. differ (ap suc e)) ∙ sym (bit_at-suc b j)
 
 -- without it they are sites still
-pub sites_next : (rest k : ℕ) → AreSites rest → 1 ≤ k → k < 64 → AreSites (cleared rest k)
-sites_next rest k sites low l = (
-  omega (arith, and_le_l rest (bit_not w64 (1 * 2 ^ k % 2 ^ 64)), sites.0),
-  bit_at_clear_other w64 rest k l 0 (omega arith) (λ e. omega arith) ∙ sites.1,
+pub sites_next : (rest : ℕ) → AreSites rest → AreSites (without_lowest rest)
+sites_next rest sites = (
+  omega (arith, and_le_l rest (rest - 1), sites.0),
+  omega (arith, bit_at_and rest (rest - 1) 0, sites.1),
 )
 
 -- and the word is less
-pub less_cleared : (rest k : ℕ) → k < 64 → bit_at rest k ≡ 1 → cleared rest k < rest
-less_cleared rest k l one =
-    let most = and_le_l rest (bit_not w64 (1 * 2 ^ k % 2 ^ 64)) in
-    let differ : cleared rest k ≢ rest =
-    λ e. absurd (omega (
-      arith,
-      one,
-      bit_at_clear_same w64 rest k l,
-      ap (λ (w : ℕ). bit_at w k) e,
-    )) in
-    elim (cases_order (cleared rest k) rest) [
-      | inl same ↦ absurd (differ same)
-      | inr other ↦ elim other [
-        | inl less ↦ less
-        | inr more ↦ absurd (omega arith)
-      ]
-    ]
+pub less_next : (rest : ℕ) → 0 < rest → without_lowest rest < rest
+less_next rest some = omega (arith, and_le_r rest (rest - 1), some)
 
 -- ---- what the sites of a word count, of the sites 1 to n
 -- at first they count what those in the set do
@@ -82,16 +118,16 @@ counted_first f word n l =
     )) in
     omega (arith, same)
 
--- the site that is cleared
-pub counted_next : (f : ℕ → ℕ) (rest k n : ℕ) → n < 64 → 1 ≤ k → k < 64 → bit_at rest k ≡ 1
-    → (n < k → f k ≡ 0)
-    → among f (has_one rest) n ≡ f k + among f (has_one (cleared rest k)) n
-counted_next f rest k n most low l one beyond =
-    among_without f (has_one rest) (has_one (cleared rest k)) k n low
+-- the lowest site
+pub counted_next : (f : ℕ → ℕ) (rest k n : ℕ) → n < 64 → 1 ≤ k → bit_at rest k ≡ 1
+    → ((i : ℕ) → i < k → bit_at rest i ≡ 0) → (n < k → f k ≡ 0)
+    → among f (has_one rest) n ≡ f k + among f (has_one (without_lowest rest)) n
+counted_next f rest k n most low one none beyond =
+    let gone = lowest_gone k rest one none in
+    among_without f (has_one rest) (has_one (without_lowest rest)) k n low
     (ap (λ (b : ℕ). b == 1) one)
-    (ap (λ (b : ℕ). b == 1) (bit_at_clear_same w64 rest k l))
-    (λ i less differ. ap (λ (b : ℕ). b == 1)
-    (bit_at_clear_other w64 rest k l i (omega arith) differ)) beyond
+    (ap (λ (b : ℕ). b == 1) gone.0)
+    (λ i less differ. ap (λ (b : ℕ). b == 1) (gone.1 i differ)) beyond
 
 -- none is left
 pub counted_none : (f : ℕ → ℕ) (n : ℕ) → among f (has_one 0) n ≡ 0

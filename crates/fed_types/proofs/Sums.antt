@@ -1,5 +1,5 @@
 -- Steps of a sum over the sites 1 to n.
-use Rattle.std.specs.Prelude.{◌≡◌, ◌≢◌, ℕ, zero, suc, ◌+◌, ◌-◌, ◌*◌, ◌<◌, ◌≤◌, Bool, true, false}
+use Rattle.std.specs.Prelude.{◌≡◌, ◌≢◌, ℕ, zero, suc, ◌+◌, ◌*◌, ◌<◌, ◌≤◌, Bool, true, false}
 use Rattle.std.specs.Prelude.{cond, [], ◌∷◌, ◌++◌, refl}
 use Rattle.std.specs.List.{filter, sum_by}
 use Rattle.std.proofs.Common.{arith, sym, ap, subst, inl, inr, append-nil}

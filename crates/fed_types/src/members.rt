@@ -5,6 +5,7 @@ ghost use Rattle.fed_types.specs.Lists.{is_in};
 ghost use Rattle.fed_types.specs.Sites.{AreWeights, CountFits, HasZeroWeight, IsMemberCount};
 ghost use Rattle.fed_types.specs.Sites.{IsSiteNumber, count_of, members_of, membership_of};
 ghost use Rattle.fed_types.specs.Sites.{weight_of, weight_sum};
+ghost use Rattle.fed_types.specs.inner.Padded.{total_of};
 
 use crate::limits::MOST_MEMBERS;
 use crate::site_no::SiteNo;
@@ -20,6 +21,8 @@ const ROOM: usize = 63;
 pub struct Members {
     federation: u64,
     count: u8,
+    // The weights of all members, added: each test of a quorum asks for it.
+    total: u16,
     // The weights of the members, that of site 1 first, and then zeros.
     weights: [u8; ROOM],
 }
@@ -27,26 +30,28 @@ pub struct Members {
 impl Model for Members {
     ghost use Rattle.std.specs.Prelude.{length, take};
     ghost use Rattle.fed_types.specs.Sites.{Membership};
-    ghost use Rattle.fed_types.specs.inner.Padded.{AreKept, padded};
+    ghost use Rattle.fed_types.specs.inner.Padded.{AreKept, padded, total_of};
     ghost use Rattle.fed_types.specs.inner.PaddedLaws.{given_back};
 
     ghost Value = { Membership };
 
     ghost view = { λ m. record { federation = m.federation; weights = take m.count m.weights } };
 
-    ghost invariant = { λ m. AreKept m.count m.weights };
+    ghost invariant = { λ m. AreKept m.count m.total m.weights };
 
     ghost inverse = { λ m. record {
       federation = m.federation;
       count = length m.weights;
+      total = total_of m.weights;
       weights = padded m.weights;
     } };
 
-    ghost inverse_ok = { λ m h. given_back (λ c ws. record {
+    ghost inverse_ok = { λ m h. given_back (λ c t ws. record {
       federation = m.federation;
       count = c;
+      total = t;
       weights = ws;
-    }) m.count m.weights h.0.1 h.2 };
+    }) m.count m.total m.weights h };
 }
 
 impl Members {
@@ -83,6 +88,7 @@ impl Members {
         Ok(Members {
             federation,
             count: weights.len() as u8,
+            total: total_of(weights),
             weights: padded,
         })
     }
@@ -121,11 +127,7 @@ impl Members {
     pub fn total_weight(self) -> u16
         ensures { result ≡ weight_sum self (members_of self) }
     {
-        let mut total = 0;
-        for weight in self.weights() {
-            total += u16::from(*weight);
-        }
-        total
+        self.total
     }
 
     /// Whether the site is a member.
@@ -137,10 +139,22 @@ impl Members {
     }
 
     // The weight of the site of this number.
-    pub(crate) fn weight_at(self, number: u8) -> u8
+    pub(crate) fn weight_at(&self, number: u8) -> u8
         requires { IsSiteNumber number }
-        ensures { result ≡ weight_of self number }
+        ensures { result ≡ weight_of self.now number }
     {
         self.weights[usize::from(number) - 1]
     }
+}
+
+// The weights, added.
+fn total_of(weights: &[u8]) -> u16
+    requires { CountFits weights.now }
+    ensures { result ≡ total_of weights.now }
+{
+    let mut total = 0;
+    for weight in weights {
+        total += u16::from(*weight);
+    }
+    total
 }

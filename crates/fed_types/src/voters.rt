@@ -79,7 +79,7 @@ impl Voters {
         while rest != 0 {
             let number = rest.trailing_zeros() as u8;
             sum += u16::from(members.weight_at(number));
-            rest &= !(1 << number);
+            rest &= rest - 1;
         }
         sum
     }

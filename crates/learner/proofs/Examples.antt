@@ -1,14 +1,11 @@
 -- What a learner learns of one slot in a federation of four, computed.
-use Rattle.std.proofs.Common.{◌≡◌, ℕ, List, [], ◌∷◌, ◌++◌, replicate, Option, Some, None, refl}
-use Rattle.fed_types.specs.declared.bag_id.BagId.{BagId}
+use Rattle.std.proofs.Common.{◌≡◌, ℕ, List, [], ◌∷◌, replicate, Some, None, refl}
 use Rattle.fed_types.specs.declared.vote.Vote.{Vote}
-use Rattle.fed_types.specs.Ballots.{BallotNumber}
 use Rattle.fed_types.specs.Lists.{is_in}
 use Rattle.fed_types.specs.Quorums.{QuorumSystem, quorums_of}
 use Rattle.fed_types.specs.Sites.{sites_to}
 use Rattle.fed_types.specs.Slots.{SlotName, same_slot}
 use Rattle.records.specs.declared.entry.Entry.TheVariants as entry
-use Rattle.records.specs.declared.record.Record.{Record}
 use Rattle.records.specs.Words.{known_of}
 use Rattle.dgram.specs.declared.message.Message.{Message}
 use Rattle.dgram.specs.Heard.{bodies_of, voters_for}

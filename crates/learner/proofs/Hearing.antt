@@ -1,13 +1,10 @@
 -- What a learner stands for after it has heard of one more vote.
-use Rattle.std.proofs.Common.{◌≡◌, ℕ, ◌&&◌, ◌||◌, Bool, true, false, cond, List, [], ◌∷◌, ◌++◌}
+use Rattle.std.proofs.Common.{◌≡◌, ℕ, ◌&&◌, ◌||◌, Bool, true, false, cond, List, [], ◌∷◌}
 use Rattle.std.proofs.Common.{Option, Some, None, refl, sym, ap, subst, ◌∙◌}
 use Rattle.std.specs.Bool.{◌==◌, Decides}
-use Rattle.std.specs.List.{cons_option}
-use Rattle.std.proofs.lemmas.Bool.Decides.{Decides-eqb, Decides-and}
+use Rattle.std.proofs.lemmas.Bool.Decides.{Decides-and}
 use Rattle.fed_types.specs.declared.bag_id.BagId.{BagId}
 use Rattle.fed_types.specs.declared.vote.Vote.{Vote}
-use Rattle.fed_types.specs.Bags.{same_bag}
-use Rattle.fed_types.specs.Ballots.{BallotNumber, same_ballot}
 use Rattle.fed_types.specs.Laws.Bags.{same_bag_decides}
 use Rattle.fed_types.specs.Laws.Ballots.{same_ballot_decides}
 use Rattle.fed_types.specs.Laws.Lists.{is_in-append}
@@ -26,8 +23,9 @@ use Rattle.dgram.specs.Heard.{same_vote, bodies_of, voters_for}
 use Rattle.dgram.proofs.Heard.{bodies_of-append, voters_for-append}
 use Rattle.slot_table.specs.Rows.{Rows, row_at}
 use Rattle.learner.specs.declared.row.Row.{Row}
-use Rattle.learner.specs.inner.Counts.{KnowsSame, CountsSame, IsCounted, unless_settled}
-use Rattle.learner.specs.Learning.{with_vote, chosen_by, learned_from}
+use Rattle.learner.specs.inner.Counts.{KnowsSame, CountsSame, IsCounted, UnlessKnown}
+use Rattle.learner.specs.inner.Counts.{is_learned}
+use Rattle.learner.specs.Learning.{with_vote, chosen_by, learned_from, unless_known}
 use Rattle.learner.specs.Ledgers.{known_in, counted_in, StandsFor}
 
 -- two votes are one exactly where the test says so
@@ -187,53 +185,35 @@ module _ (old : Rows Row) (records : List Record) (heard : List Message) (slot :
           ∙ rw ((same_slot_decides slot slot).1 refl, (same_vote_decides vote vote).1 refl)
           refl)
 
-  -- the voters, with this one, while no bag is known
-  abbrev counting : Option (List ℕ)
-  counting =
-      unless_settled (known_in (row_at old slot))
+  -- what is learned, as the code finds it
+  pub learned_as : (quorums : QuorumSystem) → AreQuorums quorums → (learned : Bool)
+      → learned ≡ is_learned quorums (known_in (row_at old slot))
       (with_voter (counted_in (row_at old slot) vote) from)
-
-  -- no vote is counted where a bag is known
-  pub heard_settled : (o : Option (List ℕ)) → o ≡ counting
-      → ((voters : List ℕ) → o ≡ Some voters → ⊥)
-      → StandsFor old records (with_vote heard slot from vote)
-  heard_settled o is nobody = go (known_in (row_at old slot)) refl
+      → cond learned (Some vote.bag) None ≡ learned_from quorums slot records heard from vote
+  learned_as quorums laws learned is = go (known_in (row_at old slot)) refl is
     where
       go : (k : Option BagId) → known_in (row_at old slot) ≡ k
-          → StandsFor old records (with_vote heard slot from vote)
-      go None e =
-          absurd (nobody (with_voter (counted_in (row_at old slot) vote) from)
-          (is ∙ ap (λ (k : Option BagId). unless_settled k
-          (with_voter (counted_in (row_at old slot) vote) from)) e))
-      go (Some bag) e = heard_known bag e
+          → learned ≡ is_learned quorums k (with_voter (counted_in (row_at old slot) vote) from)
+          → cond learned (Some vote.bag) None ≡ learned_from quorums slot records heard from vote
+      go None e test =
+          ap (λ (t : Bool). cond t (Some vote.bag) None) test ∙ sym (learned_is quorums laws e)
+      go (Some bag) e test =
+          ap (λ (t : Bool). cond t (Some vote.bag) None) test
+          ∙ sym (ap (λ (k : Option BagId). unless_known k
+          (chosen_by quorums slot (with_vote heard slot from vote) vote))
+          (sym (stands.known slot) ∙ e))
 
-  -- and none is known where one is
-  pub unsettled : (voters : List ℕ) → Some voters ≡ counting
-      → (known_in (row_at old slot) ≡ None)
-      × (voters ≡ with_voter (counted_in (row_at old slot) vote) from)
-  unsettled voters is = go (known_in (row_at old slot)) is
+  -- what the learner stands for, once the vote counts wherever no bag is known
+  pub heard_as : (new : Rows Row) → KnowsSame old new
+      → UnlessKnown (known_in (row_at old slot)) (CountsSame old new)
+      (IsCounted old new slot vote (with_voter (counted_in (row_at old slot) vote) from))
+      → StandsFor new records (with_vote heard slot from vote)
+  heard_as new known counted = go (known_in (row_at old slot)) refl counted
     where
-      go : (k : Option BagId)
-          → Some voters ≡ unless_settled k (with_voter (counted_in (row_at old slot) vote) from)
-          → (k ≡ None) × (voters ≡ with_voter (counted_in (row_at old slot) vote) from)
-      go None e = (refl, cc e)
-      go (Some bag) e = absurd (cc e)
-
-  -- what is learned, as the code finds it
-  pub learned_by : (quorums : QuorumSystem) → AreQuorums quorums → (voters : List ℕ)
-      → Some voters ≡ counting → (t : Bool) → quorums.is_quorum voters ≡ t
-      → cond t (Some vote.bag) None ≡ learned_from quorums slot records heard from vote
-  learned_by quorums laws voters is t test =
-      ap (λ (u : Bool). cond u (Some vote.bag) None)
-      (sym test ∙ ap quorums.is_quorum (unsettled voters is).1)
-      ∙ sym (learned_is quorums laws (unsettled voters is).0)
-
-  -- where the voters aren't a quorum
-  pub learned_nothing : (quorums : QuorumSystem) → AreQuorums quorums → (voters : List ℕ)
-      → Some voters ≡ counting → quorums.is_quorum voters ≡ false
-      → (known_of slot records ≡ None)
-      × (learned_from quorums slot records heard from vote ≡ None)
-  learned_nothing quorums laws voters is test = (
-    sym (stands.known slot) ∙ (unsettled voters is).0,
-    sym (learned_by quorums laws voters is false test),
-  )
+      go : (k : Option BagId) → known_in (row_at old slot) ≡ k
+          → UnlessKnown k (CountsSame old new)
+          (IsCounted old new slot vote (with_voter (counted_in (row_at old slot) vote) from))
+          → StandsFor new records (with_vote heard slot from vote)
+      go None e h = heard_counted new known h
+      go (Some bag) e h =
+          same_stands old new known h records (with_vote heard slot from vote) (heard_known bag e)

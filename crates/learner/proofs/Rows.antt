@@ -1,16 +1,18 @@
 -- Rows that say the same.
-use Rattle.std.proofs.Common.{◌≡◌, ℕ, ◌&&◌, Bool, true, false, cond, List, [], Option, Some, None}
-use Rattle.std.proofs.Common.{Result, Ok, Err, refl, sym, ap, ◌∙◌}
-use Rattle.std.specs.Prelude.{OnOk, OnErr}
+use Rattle.std.proofs.Common.{◌≡◌, ℕ, ◌&&◌, Bool, true, false, cond, List, Option, Some, None}
+use Rattle.std.proofs.Common.{Result, Ok, Err, refl, sym, ap, subst, ◌∙◌}
+use Rattle.std.specs.Prelude.{IfOk, OnErr}
+use Rattle.fed_types.specs.declared.bag_id.BagId.{BagId}
 use Rattle.fed_types.specs.declared.vote.Vote.{Vote}
 use Rattle.fed_types.specs.Slots.{SlotName, same_slot}
 use Rattle.fed_types.specs.Laws.Slots.{same_slot_decides}
+use Rattle.fed_types.specs.Voters.{with_voter}
 use Rattle.dgram.specs.Heard.{same_vote}
 use Rattle.slot_table.specs.Rows.{Rows, row_at, row_or, row_of, IsWith}
 use Rattle.learner.specs.declared.row.Row.{Row}
 use Rattle.learner.specs.declared.row.Row.TheVariants as rows
 use Rattle.learner.specs.Ledgers.{known_in, counted_in}
-use Rattle.learner.specs.inner.Counts.{KnowsSame, CountsSame, IsRowCounted, IsCounted}
+use Rattle.learner.specs.inner.Counts.{KnowsSame, CountsSame, IsRowCounted, IsCounted, UnlessKnown}
 
 -- the row of a slot of which nothing was heard
 abbrev pub unheard : Row
@@ -83,14 +85,26 @@ module _ (old new : Rows Row) (slot : SlotName) (before after : Row)
       ∙ ap (λ (found : Option Row). counted_in found v) (sym (old_row s same)))
       (λ other. refl)
 
--- what follows of an Ok, and of an Err
-pub on_ok : {T E P Q : Type 0} (r : Result T E) → OnOk r P → (P → Q) → OnOk r Q
-on_ok (Ok x) p f = f p
-on_ok (Err e) p f = tt
+  -- what the row counts, the table counts
+  pub unless_known_put : (vote : Vote) (from : ℕ) (k : Option BagId) (voters : List ℕ)
+      → UnlessKnown k (after ≡ before) (IsRowCounted before after vote voters)
+      → UnlessKnown k (CountsSame old new) (IsCounted old new slot vote voters)
+  unless_known_put vote from None voters h = counts_put vote voters h
+  unless_known_put vote from (Some bag) voters h = counts_kept h
 
-pub on_err : {T E P Q : Type 0} (r : Result T E) → OnErr r P → (P → Q) → OnErr r Q
-on_err (Ok x) p f = tt
-on_err (Err e) p f = f p
+  pub heard_put : {E : Type 0} (vote : Vote) (from : ℕ) (r : Result Bool E)
+      → IfOk r (λ learned. learned ≡ false
+      → UnlessKnown (known_in (Some before)) (after ≡ before)
+      (IsRowCounted before after vote (with_voter (counted_in (Some before) vote) from)))
+      → IfOk r (λ learned. learned ≡ false
+      → UnlessKnown (known_in (row_at old slot)) (CountsSame old new)
+      (IsCounted old new slot vote (with_voter (counted_in (row_at old slot) vote) from)))
+  heard_put vote from (Ok learned) h = λ e.
+      subst (λ (found : Option Row). UnlessKnown (known_in found) (CountsSame old new)
+      (IsCounted old new slot vote (with_voter (counted_in found vote) from))) (sym there)
+      (unless_known_put vote from (known_in (Some before))
+      (with_voter (counted_in (Some before) vote) from) (h e))
+  heard_put vote from (Err x) h = tt
 
 -- what holds, holds of an Err
 pub err_of : {T E P : Type 0} (r : Result T E) → P → OnErr r P

@@ -12,18 +12,16 @@ ghost use Rattle.std.specs.Prelude.{
   IsOk,
   IsSome,
 };
-ghost use Rattle.fed_types.specs.Voters.{with_voter};
 ghost use Rattle.records.specs.declared.record.Record.{Record as declared_record};
 ghost use Rattle.records.specs.Words.{known_of, known_in as known_in_entry};
 ghost use Rattle.dgram.specs.declared.message.Message.{Message};
 ghost use Rattle.slot_table.specs.Rows.{row_at, HasRooms};
 ghost use Rattle.learner.specs.Learning.{with_vote, learned_from, learned_of_known};
-ghost use Rattle.learner.specs.Ledgers.{StandsFor, known_in, counted_in};
-ghost use Rattle.learner.specs.inner.Counts.{unless_settled};
+ghost use Rattle.learner.specs.Ledgers.{StandsFor, known_in};
 
 use crate::row::Row;
-use crate::table::{count, reserve, settle};
-use fed_types::{BagId, Ballot, Quorums, SiteNo, Slot, Vote, Voters};
+use crate::table::{hear, reserve, settle};
+use fed_types::{BagId, Ballot, Quorums, SiteNo, Slot, Vote};
 use records::{Entry, Record};
 use slot_table::SlotTable;
 use std::alloc::{AllocError, Global};
@@ -113,27 +111,18 @@ impl<Q: Quorums + Drop> Learner<Q> {
         ensures members { self.new.members ≡ self.old.members }
     {
         let vote = Vote { ballot, bag };
-        let Some(voters) = self.counted_with(from, slot, &vote) else {
-            return Ok(None);
-        };
-        if self.members.is_quorum(&voters) {
+        let learned = hear(
+            self.alloc,
+            &mut self.table,
+            &self.members,
+            slot,
+            &vote,
+            from,
+        )?;
+        if learned {
             return Ok(Some(bag));
         }
-        count(self.alloc, &mut self.table, slot, &vote, &voters)?;
         Ok(None)
-    }
-
-    // The sites counted for a vote, with this one, while no bag is known.
-    fn counted_with(&self, from: SiteNo, slot: &Slot, vote: &Vote) -> Option<Voters>
-        ensures { result ≡ unless_settled (known_in (row_at self.now.rows slot.now))
-            (with_voter (counted_in (row_at self.now.rows slot.now) vote.now) from) }
-    {
-        let mut voters = match self.table.get(slot) {
-            Some(row) => row.counted(vote)?,
-            None => Voters::new(),
-        };
-        voters.add(from);
-        Some(voters)
     }
 
     /// Makes room for the slot, so that `note` of its records takes no memory. It says nothing of

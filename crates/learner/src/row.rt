@@ -1,10 +1,12 @@
-ghost use Rattle.std.specs.Prelude.{◌≡◌, [], Some, None, OnOk, OnErr, IfOk};
+ghost use Rattle.std.specs.Prelude.{◌≡◌, [], Some, None, false, IsTrue, OnOk, OnErr, IfOk};
+ghost use Rattle.fed_types.specs.Voters.{with_voter};
 ghost use Rattle.learner.specs.Ledgers.{known_in, counted_in};
-ghost use Rattle.learner.specs.inner.Counts.{IsRowCounted, first_known, unless_settled};
+ghost use Rattle.learner.specs.inner.Counts.{IsRowCounted, UnlessKnown, first_known};
+ghost use Rattle.learner.specs.inner.Counts.{is_learned, unless_settled};
 ghost use Rattle.learner.specs.declared.row.Row.TheVariants as rows;
 
 use crate::votes::Votes;
-use fed_types::{BagId, Vote, Voters};
+use fed_types::{BagId, Quorums, SiteNo, Vote, Voters};
 use std::alloc::{AllocError, Global};
 
 /// What a learner knows of a slot.
@@ -12,22 +14,22 @@ use std::alloc::{AllocError, Global};
 pub(crate) enum Row {
     /// This bag is known; votes aren't counted any more.
     Known(BagId),
-    /// No bag is known; the votes that were heard of, if one was. They are boxed, so that the row of
-    /// a slot that was only asked about is no larger than that of a known bag.
+    /// No bag is known; the votes that were heard of, if one was. They are boxed, so that the row
+    /// of a slot that was only asked about is no larger than that of a known bag.
     Heard(Option<Box<Votes>>),
 }
 
 impl Row {
-    /// Of a slot in which these sites cast a vote.
-    pub(crate) fn of(alloc: Global, vote: Vote, voters: Voters) -> Result<Row, AllocError>
+    // Of a slot in which these sites cast a vote.
+    fn of(alloc: Global, vote: Vote, voters: Voters) -> Result<Row, AllocError>
         ensures known { IfOk result (λ row. known_in (Some row) ≡ None) }
         ensures counted { IfOk result (λ row. IsRowCounted (rows.Heard None) row vote voters) }
     {
         Ok(Row::Heard(Some(Box::new(alloc, Votes::of(alloc, vote, voters))?)))
     }
 
-    /// The sites counted for a vote, while no bag is known.
-    pub(crate) fn counted(&self, vote: &Vote) -> Option<Voters>
+    // The sites counted for a vote, while no bag is known.
+    fn counted(&self, vote: &Vote) -> Option<Voters>
         ensures { result
             ≡ unless_settled (known_in (Some self.now)) (counted_in (Some self.now) vote.now) }
     {
@@ -38,22 +40,52 @@ impl Row {
         }
     }
 
-    /// Counts these sites for a vote. Where a bag is known it changes nothing.
-    pub(crate) fn count(
+    /// Hears that a site cast a vote. Whether the vote's bag is learned by it: then nothing
+    /// changes.
+    pub(crate) fn hear<Q: Quorums>(
         &mut self,
         alloc: Global,
-        vote: Vote,
-        voters: Voters,
-    ) -> Result<(), AllocError>
+        members: &Q,
+        vote: &Vote,
+        from: SiteNo,
+    ) -> Result<bool, AllocError>
+        ensures known { known_in (Some self.new) ≡ known_in (Some self.old) }
+        ensures learned { IfOk result (λ learned. learned
+            ≡ is_learned (Q.quorum_system members.now) (known_in (Some self.old))
+            (with_voter (counted_in (Some self.old) vote.now) from)) }
+        ensures unchanged { IfOk result (λ learned. IsTrue learned → self.new ≡ self.old) }
+        ensures counted { IfOk result (λ learned. learned ≡ false
+            → UnlessKnown (known_in (Some self.old)) (self.new ≡ self.old)
+            (IsRowCounted self.old self.new vote.now
+            (with_voter (counted_in (Some self.old) vote.now) from))) }
+        ensures err { OnErr result (self.new ≡ self.old) }
+        ensures memory { OnErr result (false
+            ≡ is_learned (Q.quorum_system members.now) (known_in (Some self.old))
+            (with_voter (counted_in (Some self.old) vote.now) from)) }
+        ensures unknown { OnErr result (known_in (Some self.old) ≡ None) }
+    {
+        let Some(mut voters) = self.counted(vote) else {
+            return Ok(false);
+        };
+        voters.add(from);
+        if members.is_quorum(&voters) {
+            return Ok(true);
+        }
+        self.count(alloc, vote, voters)?;
+        Ok(false)
+    }
+
+    // Counts these sites for a vote. Where a bag is known it changes nothing.
+    fn count(&mut self, alloc: Global, vote: &Vote, voters: Voters) -> Result<(), AllocError>
         ensures known { known_in (Some self.new) ≡ known_in (Some self.old) }
         ensures ok { known_in (Some self.old) ≡ None
-            → OnOk result (IsRowCounted self.old self.new vote voters) }
+            → OnOk result (IsRowCounted self.old self.new vote.now voters) }
         ensures err { OnErr result (self.new ≡ self.old) }
     {
         match self {
             Row::Known(_) => {}
             Row::Heard(Some(votes)) => votes.set(vote, voters)?,
-            Row::Heard(None) => *self = Row::of(alloc, vote, voters)?,
+            Row::Heard(None) => *self = Row::of(alloc, *vote, voters)?,
         }
         Ok(())
     }

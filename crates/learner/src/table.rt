@@ -1,13 +1,16 @@
 //! What a learner does to the rows of slots.
 
-ghost use Rattle.std.specs.Prelude.{◌≡◌, Some, None, [], OnOk, OnErr, IsOk, IsSome};
+ghost use Rattle.std.specs.Prelude.{◌≡◌, Some, None, [], false, IsTrue, OnOk, OnErr, IfOk, IsOk};
+ghost use Rattle.std.specs.Prelude.{IsSome};
+ghost use Rattle.fed_types.specs.Voters.{with_voter};
 ghost use Rattle.slot_table.specs.Rows.{row_at, IsWith, HasRooms};
 ghost use Rattle.learner.specs.Ledgers.{known_in, counted_in};
-ghost use Rattle.learner.specs.inner.Counts.{KnowsSame, CountsSame, IsCounted, first_known};
+ghost use Rattle.learner.specs.inner.Counts.{KnowsSame, CountsSame, IsCounted, UnlessKnown};
+ghost use Rattle.learner.specs.inner.Counts.{first_known, is_learned};
 ghost use Rattle.learner.specs.declared.row.Row.TheVariants as rows;
 
 use crate::row::Row;
-use fed_types::{BagId, Slot, Vote, Voters};
+use fed_types::{BagId, Quorums, SiteNo, Slot, Vote};
 use slot_table::SlotTable;
 use std::alloc::{AllocError, Global};
 
@@ -23,24 +26,70 @@ pub(crate) fn reserve(table: &mut SlotTable<Row>, slot: &Slot) -> Result<(), All
     table.reserve(slot, Row::Heard(None))
 }
 
-/// Counts these sites for a vote of a slot whose bag isn't known.
-pub(crate) fn count(
+/// Hears that a site cast a vote of the slot. Whether the vote's bag is learned by it: then nothing
+/// changes.
+pub(crate) fn hear<Q: Quorums>(
     alloc: Global,
     table: &mut SlotTable<Row>,
+    members: &Q,
     slot: &Slot,
     vote: &Vote,
-    voters: &Voters,
-) -> Result<(), AllocError>
-    requires unknown { known_in (row_at table.old slot.now) ≡ None }
+    from: SiteNo,
+) -> Result<bool, AllocError>
     ensures known { KnowsSame table.old table.new }
-    ensures ok { OnOk result (IsCounted table.old table.new slot.now vote.now voters.now) }
+    ensures learned { IfOk result (λ learned. learned
+        ≡ is_learned (Q.quorum_system members.now) (known_in (row_at table.old slot.now))
+        (with_voter (counted_in (row_at table.old slot.now) vote.now) from)) }
+    ensures unchanged { IfOk result (λ learned. IsTrue learned → table.new ≡ table.old) }
+    ensures counted { IfOk result (λ learned. learned ≡ false
+        → UnlessKnown (known_in (row_at table.old slot.now)) (CountsSame table.old table.new)
+        (IsCounted table.old table.new slot.now vote.now
+        (with_voter (counted_in (row_at table.old slot.now) vote.now) from))) }
     ensures err { OnErr result (CountsSame table.old table.new) }
+    ensures memory { OnErr result (false
+        ≡ is_learned (Q.quorum_system members.now) (known_in (row_at table.old slot.now))
+        (with_voter (counted_in (row_at table.old slot.now) vote.now) from)) }
+    ensures unknown { OnErr result (known_in (row_at table.old slot.now) ≡ None) }
     ensures rooms { HasRooms table.old table.new }
 {
     match table.get_mut(slot) {
-        Some(row) => row.count(alloc, *vote, *voters),
-        None => table.reserve(slot, Row::of(alloc, *vote, *voters)?),
+        Some(row) => row.hear(alloc, members, vote, from),
+        None => hear_first(alloc, table, members, slot, vote, from),
     }
+}
+
+// The same of a slot without a row.
+fn hear_first<Q: Quorums>(
+    alloc: Global,
+    table: &mut SlotTable<Row>,
+    members: &Q,
+    slot: &Slot,
+    vote: &Vote,
+    from: SiteNo,
+) -> Result<bool, AllocError>
+    requires { row_at table.old slot.now ≡ None }
+    ensures known { KnowsSame table.old table.new }
+    ensures learned { IfOk result (λ learned. learned
+        ≡ is_learned (Q.quorum_system members.now) (known_in (row_at table.old slot.now))
+        (with_voter (counted_in (row_at table.old slot.now) vote.now) from)) }
+    ensures unchanged { IfOk result (λ learned. IsTrue learned → table.new ≡ table.old) }
+    ensures counted { IfOk result (λ learned. learned ≡ false
+        → UnlessKnown (known_in (row_at table.old slot.now)) (CountsSame table.old table.new)
+        (IsCounted table.old table.new slot.now vote.now
+        (with_voter (counted_in (row_at table.old slot.now) vote.now) from))) }
+    ensures err { OnErr result (CountsSame table.old table.new) }
+    ensures memory { OnErr result (false
+        ≡ is_learned (Q.quorum_system members.now) (known_in (row_at table.old slot.now))
+        (with_voter (counted_in (row_at table.old slot.now) vote.now) from)) }
+    ensures unknown { OnErr result (known_in (row_at table.old slot.now) ≡ None) }
+    ensures rooms { HasRooms table.old table.new }
+{
+    let mut row = Row::Heard(None);
+    let learned = row.hear(alloc, members, vote, from)?;
+    if !learned {
+        table.reserve(slot, row)?;
+    }
+    Ok(learned)
 }
 
 /// The bag of a slot that has a row is known, unless another was known before.

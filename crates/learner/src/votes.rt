@@ -54,16 +54,16 @@ impl Votes {
     }
 
     /// These are the sites that cast this vote. It takes no memory for a vote that was heard of.
-    pub(crate) fn set(&mut self, vote: Vote, voters: Voters) -> Result<(), AllocError>
-        ensures ok { OnOk result (IsCountedWith self.old self.new vote voters) }
+    pub(crate) fn set(&mut self, vote: &Vote, voters: Voters) -> Result<(), AllocError>
+        ensures ok { OnOk result (IsCountedWith self.old self.new vote.now voters) }
         ensures err { OnErr result (self.new ≡ self.old) }
-        ensures memory { OnErr result (lookup (same_vote vote) self.old ≡ None) }
+        ensures memory { OnErr result (lookup (same_vote vote.now) self.old ≡ None) }
     {
-        if vote == self.first {
+        if self.first == *vote {
             self.voters = voters;
             return Ok(());
         }
-        set_in(&mut self.others, vote, voters)
+        set_in(&mut self.others, *vote, voters)
     }
 }
 

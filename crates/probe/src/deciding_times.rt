@@ -14,36 +14,66 @@ use std::time::Instant;
 
 const BAG: BagId = BagId([0xaa; 64]);
 
+/// How often each call is timed, over fresh tables: the best time counts.
+const ROUNDS: u32 = 5;
+
+/// The calls that are timed, that of a bare table first.
+static CALLS: [&str; 11] = [
+    "look-up",
+    "prepare",
+    "note of a Promise",
+    "accept",
+    "note of a Vote",
+    "promise, of 3 members",
+    "accepted, of 3 members",
+    "promise, of 15 members",
+    "accepted, of 15 members",
+    "promise, of 63 members",
+    "accepted, of 63 members",
+];
+
 /// Millions of calls a second, a kind of call a line.
 pub fn decisions_text(rt: &HostRuntime, count: u32) -> Result<String, Fault> {
     let alloc = rt.alloc();
     let records = records_of(alloc, count, &Entry::Round(Round::of(ballot()?)))?;
-    let bare = lookups(rt, records.as_slice())?;
+    let mut best = [0.0; 11];
+    for _ in 0..ROUNDS {
+        let rates = rates(rt, count, records.as_slice())?;
+        for call in 0..CALLS.len() {
+            if rates[call] > best[call] {
+                best[call] = rates[call];
+            }
+        }
+    }
+    let bare = best[0];
     let mut text = format!(in alloc; "look-up: {bare:.1}\n")?;
-    accept_rows(rt, count, bare, &mut text)?;
-    for members in [3u8, 15, 63] {
-        let rate = promises(rt, records.as_slice(), members)?;
-        let call = format!(in alloc; "promise, of {members} members")?;
-        push_row(alloc, &mut text, call.as_str(), rate, bare)?;
-        let rate = votes(rt, records.as_slice(), members)?;
-        let call = format!(in alloc; "accepted, of {members} members")?;
-        push_row(alloc, &mut text, call.as_str(), rate, bare)?;
+    for call in 1..CALLS.len() {
+        let name = CALLS[call];
+        let rate = best[call];
+        let part = rate / bare;
+        let row = format!(in alloc; "{name}: {rate:.1}, {part:.2}\n")?;
+        text.push_str(row.as_str())?;
     }
     Ok(text)
 }
 
-/// Appends a line: the call, the rate, and its part of the bare one.
-fn push_row(
-    alloc: Global,
-    text: &mut String,
-    call: &str,
-    rate: f64,
-    bare: f64,
-) -> Result<(), Fault> {
-    let part = rate / bare;
-    let row = format!(in alloc; "{call}: {rate:.1}, {part:.2}\n")?;
-    text.push_str(row.as_str())?;
-    Ok(())
+/// The rate of each call.
+fn rates(rt: &HostRuntime, count: u32, records: &[Record]) -> Result<[f64; 11], Fault> {
+    let bare = lookups(rt, records)?;
+    let [prepare, promise_note, accept, vote_note] = accept_rates(rt, count)?;
+    Ok([
+        bare,
+        prepare,
+        promise_note,
+        accept,
+        vote_note,
+        promises(rt, records, 3)?,
+        votes(rt, records, 3)?,
+        promises(rt, records, 15)?,
+        votes(rt, records, 15)?,
+        promises(rt, records, 63)?,
+        votes(rt, records, 63)?,
+    ])
 }
 
 /// A record of this body for each slot.
@@ -82,8 +112,8 @@ fn lookups(rt: &HostRuntime, records: &[Record]) -> Result<f64, Fault> {
     Ok(rate(records.len(), taken))
 }
 
-/// The lines of prepare and accept, and of the notes of their records.
-fn accept_rows(rt: &HostRuntime, count: u32, bare: f64, text: &mut String) -> Result<(), Fault> {
+/// The rates of prepare, of the note of its record, of accept, and of the note of its record.
+fn accept_rates(rt: &HostRuntime, count: u32) -> Result<[f64; 4], Fault> {
     let alloc = rt.alloc();
     let ballot = ballot()?;
     let promises = records_of(alloc, count, &Entry::Promise(ballot))?;
@@ -92,14 +122,12 @@ fn accept_rows(rt: &HostRuntime, count: u32, bare: f64, text: &mut String) -> Re
     for record in promises.iter() {
         acceptor.reserve(&record.slot)?;
     }
-    let rate = prepares(rt, &acceptor, promises.as_slice(), ballot)?;
-    push_row(alloc, text, "prepare", rate, bare)?;
-    let rate = notes(rt, &mut acceptor, promises.as_slice())?;
-    push_row(alloc, text, "note of a Promise", rate, bare)?;
-    let rate = accepts(rt, &acceptor, votes.as_slice(), ballot)?;
-    push_row(alloc, text, "accept", rate, bare)?;
-    let rate = notes(rt, &mut acceptor, votes.as_slice())?;
-    push_row(alloc, text, "note of a Vote", rate, bare)
+    Ok([
+        prepares(rt, &acceptor, promises.as_slice(), ballot)?,
+        notes(rt, &mut acceptor, promises.as_slice())?,
+        accepts(rt, &acceptor, votes.as_slice(), ballot)?,
+        notes(rt, &mut acceptor, votes.as_slice())?,
+    ])
 }
 
 fn prepares(
@@ -143,6 +171,9 @@ fn promises(rt: &HostRuntime, records: &[Record], members: u8) -> Result<f64, Fa
     let ballot = ballot()?;
     let federation = Members::new(FEDERATION, members)?;
     let mut proposer = Proposer::new(rt.alloc(), federation, site()?);
+    for record in records.iter() {
+        proposer.reserve(&record.slot)?;
+    }
     for record in records.iter() {
         check(proposer.begin(&record.slot, BAG) == Ok(ballot))?;
         proposer.note(record)?;

@@ -123,7 +123,7 @@ impl<Q: Quorums + Drop> Proposer<Q> {
         ensures whose { IsOfSameSite self.old self.new }
     {
         let promise = Promise { site: from, prior };
-        promise_in(&mut self.table, &self.members, slot, ballot, promise)
+        promise_in(&mut self.table, &self.members, slot, ballot, &promise)
     }
 
     /// The proposal that became ready is sent: the promise that waits counts from now on, if one
@@ -255,9 +255,9 @@ fn promise_in<Q: Quorums>(
     members: &Q,
     slot: &Slot,
     ballot: Ballot,
-    promise: Promise,
+    promise: &Promise,
 ) -> Option<BagId>
-    ensures heard { HeardAt (Q.quorum_system members.now) ballot promise table.old table.new
+    ensures heard { HeardAt (Q.quorum_system members.now) ballot promise.now table.old table.new
         slot.now result }
     ensures rooms { HasRooms table.old table.new }
 {

@@ -2,8 +2,8 @@ ghost use Rattle.std.specs.Prelude.{◌≡◌, Some};
 ghost use Rattle.fed_types.specs.Voters.{with_voter};
 ghost use Rattle.proposer.specs.Rows.{fresh};
 ghost use Rattle.proposer.specs.inner.Rounds.{counted, higher_prior, becomes_quorum, issued};
-ghost use Rattle.proposer.specs.inner.Rounds.{round_after, bag_or, bag_after, after_promise};
-ghost use Rattle.proposer.specs.inner.Rounds.{given_bag};
+ghost use Rattle.proposer.specs.inner.Rounds.{is_ready, round_after, bag_or, after_promise};
+ghost use Rattle.proposer.specs.inner.Rounds.{makes_ready};
 
 use fed_types::{BagId, Ballot, Quorums, SiteNo, Vote, Voters};
 
@@ -19,9 +19,9 @@ pub(crate) struct Promise {
 #[derive(Clone, Copy, Debug)]
 pub(crate) struct Round {
     pub(crate) ballot: Ballot,
+    voters: Voters,
     /// The bag that is proposed where no vote was named.
     own: BagId,
-    voters: Voters,
     best: Option<Vote>,
     /// The promise that made the proposal ready, until the proposal is issued.
     pub(crate) waiting: Option<Promise>,
@@ -34,44 +34,47 @@ impl Round {
     {
         Round {
             ballot,
-            own,
             voters: Voters::new(),
+            own,
             best: None,
             waiting: None,
         }
     }
 
-    /// Hears a promise: only one for this ballot counts.
+    /// Hears a promise: only one for this ballot counts. Whether it makes the proposal ready.
     pub(crate) fn promise_for<Q: Quorums>(
         &mut self,
         members: &Q,
         ballot: Ballot,
-        promise: Promise,
-    ) -> Option<BagId>
+        promise: &Promise,
+    ) -> bool
         ensures round { Some self.new
-            ≡ after_promise (Q.quorum_system members.now) ballot promise (Some self.old) }
-        ensures bag { result
-            ≡ given_bag (Q.quorum_system members.now) ballot promise (Some self.old) }
+            ≡ after_promise (Q.quorum_system members.now) ballot promise.now (Some self.old) }
+        ensures ready { result
+            ≡ makes_ready (Q.quorum_system members.now) ballot promise.now self.old }
     {
-        if self.ballot == ballot {
-            self.promise(members, promise)
-        } else {
-            None
-        }
+        self.ballot == ballot && self.promise(members, promise)
     }
 
-    /// Hears a promise of the ballot: it counts, unless it makes the proposal ready; then it waits,
-    /// and this is the bag to propose.
-    pub(crate) fn promise<Q: Quorums>(&mut self, members: &Q, promise: Promise) -> Option<BagId>
-        ensures bag { result ≡ bag_after (Q.quorum_system members.now) self.old promise }
-        ensures round { self.new ≡ round_after (Q.quorum_system members.now) self.old promise }
+    /// Hears a promise of the ballot: it counts, unless it makes the proposal ready; then it waits.
+    pub(crate) fn promise<Q: Quorums>(&mut self, members: &Q, promise: &Promise) -> bool
+        ensures ready { result ≡ is_ready (Q.quorum_system members.now) self.old promise.now }
+        ensures round { self.new ≡ round_after (Q.quorum_system members.now) self.old promise.now }
     {
-        if becomes_quorum(members, self.voters, self.voters_with(promise.site)) {
-            self.waiting = Some(promise);
-            return Some(bag_or(higher(self.best, promise.prior), self.own));
+        let ready = becomes_quorum(members, self.voters, self.voters_with(promise.site));
+        if ready {
+            self.waiting = Some(*promise);
+        } else {
+            self.count(promise);
         }
-        self.count(&promise);
-        None
+        ready
+    }
+
+    /// The bag to propose, with this vote among those that were named.
+    pub(crate) fn bag_with(&self, prior: &Option<Vote>) -> BagId
+        ensures { result ≡ bag_or (higher_prior self.now.best prior.now) self.now.own }
+    {
+        bag_or(higher(self.best, *prior), self.own)
     }
 
     /// The promise that waits counts from now on, if one waits.
@@ -89,7 +92,9 @@ impl Round {
         ensures { self.new ≡ counted self.old promise.now }
     {
         self.voters = self.voters_with(promise.site);
-        self.best = higher(self.best, promise.prior);
+        if promise.prior.is_some() {
+            self.best = higher(self.best, promise.prior);
+        }
     }
 
     // The sites that promised, and this one.

@@ -45,13 +45,19 @@ impl Row {
         &mut self,
         members: &Q,
         ballot: Ballot,
-        promise: Promise,
+        promise: &Promise,
     ) -> Option<BagId>
-        ensures { HeardPromise (Q.quorum_system members.now) ballot promise self.old self.new
+        ensures { HeardPromise (Q.quorum_system members.now) ballot promise.now self.old self.new
             result }
     {
         match &mut self.current {
-            Some(round) => round.promise_for(members, ballot, promise),
+            Some(round) => {
+                if round.promise_for(members, ballot, promise) {
+                    Some(round.bag_with(&promise.prior))
+                } else {
+                    None
+                }
+            }
             None => None,
         }
     }

@@ -21,6 +21,18 @@ fn write(table: &mut SlotTable<u32>, slot: &Slot, row: u32)
     }
 }
 
+// And where it doesn't write.
+fn look(table: &mut SlotTable<u32>, slot: &Slot) -> u32
+    requires { IsSome (row_at table.old slot.now) }
+    ensures value { Some result ≡ row_at table.old slot.now }
+    ensures unchanged { table.new ≡ table.old }
+{
+    match table.get_mut(slot) {
+        Some(row) => *row,
+        None => 0,
+    }
+}
+
 // Objects, versions, and the rows that are written there.
 static WRITTEN: [(&str, u32, u32); 3] = [("a", 1, 5), ("a", 2, 6), ("b", 1, 7)];
 
@@ -83,6 +95,7 @@ fn keeps_its_row(rt: &impl Abort, table: &mut SlotTable<u32>, slot: &Slot) -> Re
     assert!(rt; table.get_mut(slot).is_none());
     table.reserve(slot, 1)?;
     assert_eq!(rt; table.get(slot).copied(), Some(1));
+    assert_eq!(rt; look(table, slot), 1);
     write(table, slot, 2);
     table.reserve(slot, 3)?;
     assert_eq!(rt; table.get(slot).copied(), Some(2));

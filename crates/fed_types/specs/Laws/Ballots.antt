@@ -1,5 +1,5 @@
 -- The order of ballots is total.
-use Rattle.std.specs.Prelude.{◌≡◌, ℕ, ◌⊎◌, true, false, not, ◌&&◌, ◌==◌, Decides, refl}
+use Rattle.std.specs.Prelude.{◌≡◌, ℕ, ◌⊎◌, true, false, not, ◌==◌, Decides, refl}
 use Rattle.std.proofs.Common.{arith, inl, inr, subst, ap, eq-eqb}
 use Rattle.std.specs.Cmp.{IsTotalOrder, IsPartialOrder, partial_order_from_agreeing_total}
 use Rattle.std.specs.Ordering.{as_partial_cmp, is_gt, is_le, is_ge, is_eq}

@@ -1,7 +1,8 @@
 -- What one call makes of the words of a learner's rows.
-use Rattle.std.specs.Prelude.{◌≡◌, ℕ, ◌&&◌, List, Option, Some, None, if◌then◌else◌}
+use Rattle.std.specs.Prelude.{◌≡◌, ℕ, ◌&&◌, Bool, false, List, Option, Some, None, if◌then◌else◌}
 use Rattle.fed_types.specs.declared.bag_id.BagId.{BagId}
 use Rattle.fed_types.specs.declared.vote.Vote.{Vote}
+use Rattle.fed_types.specs.Quorums.{QuorumSystem}
 use Rattle.fed_types.specs.Slots.{SlotName, same_slot}
 use Rattle.dgram.specs.Heard.{same_vote}
 use Rattle.slot_table.specs.Rows.{Rows, row_at}
@@ -34,6 +35,17 @@ IsCounted old new slot vote voters =
 abbrev pub unless_settled : Option BagId → List ℕ → Option (List ℕ)
 unless_settled None voters = Some voters
 unless_settled (Some known) voters = None
+
+-- whether a vote's bag is learned, once these sites have cast the vote: nothing is where a bag is
+-- known
+abbrev pub is_learned : QuorumSystem → Option BagId → List ℕ → Bool
+is_learned quorums None voters = quorums.is_quorum voters
+is_learned quorums (Some known) voters = false
+
+-- one fact where no bag is known, and another where one is
+abbrev pub UnlessKnown : Option BagId → (known unknown : Type 0) → Type 0
+UnlessKnown None known unknown = unknown
+UnlessKnown (Some bag) known unknown = known
 
 -- the bag that was known first
 abbrev pub first_known : Option BagId → BagId → BagId

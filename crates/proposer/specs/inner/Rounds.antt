@@ -64,6 +64,10 @@ abbrev pub issued : Round → Round
 issued round = issued_with round round.waiting
 
 -- ---- a promise for a ballot, where there is a current round
+-- whether it makes the round's proposal ready
+abbrev pub makes_ready : QuorumSystem → BallotNumber → Promise → Round → Bool
+makes_ready q ballot p round = same_ballot round.ballot ballot && is_ready q round p
+
 abbrev pub given_bag : QuorumSystem → BallotNumber → Promise → Option Round → Option BagId
 given_bag q ballot p None = None
 given_bag q ballot p (Some round) =

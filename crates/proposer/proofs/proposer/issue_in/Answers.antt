@@ -7,10 +7,10 @@ pub returns-in-Some : goal.returns-in-Some
 returns-in-Some c = record {
   issued = issued_at c.args.table.now (c.get_mut.follows.lender c.issued.new.self)
       c.args.slot.now c.in-Some.row.now c.issued.new.self c.in-Some.ensures.value
-      (c.get_mut.follows.holds c.issued.new.self) c.issued.ensures;
+      (c.get_mut.follows.holds c.issued.new.self).0 c.issued.ensures;
   rooms = rooms_put c.args.table.now (c.get_mut.follows.lender c.issued.new.self)
       c.args.slot.now c.in-Some.row.now c.issued.new.self c.in-Some.ensures.value
-      (c.get_mut.follows.holds c.issued.new.self);
+      (c.get_mut.follows.holds c.issued.new.self).0;
 }
 
 pub returns-in-None : goal.returns-in-None

@@ -1,4 +1,4 @@
-use Rattle.std.proofs.Common.{◌≡◌, ◌≤◌, ◌↔◌, ℕ, List, length, take, replicate, IsOk, IfOk, IsErrOf}
+use Rattle.std.proofs.Common.{◌≡◌, ◌≤◌, ◌↔◌, ℕ, List, length, take, replicate, IfOk, IsErrOf}
 use Rattle.std.proofs.Common.{arith, sym, subst, ap, ◌∙◌}
 use Rattle.std.specs.List.{Contains}
 use Rattle.std.proofs.lemmas.List.{length-replicate}

@@ -3,7 +3,7 @@ use Rattle.std.specs.Int.{trailing_zeros, w64}
 use Rattle.fed_types.specs.Lists.{is_in}
 use Rattle.fed_types.specs.Sites.{AreWeights, count_of, weight_of}
 use Rattle.fed_types.proofs.Ones.{has_one, lowest, sites_first, sites_next}
-use Rattle.fed_types.proofs.Ones.{counted_first, counted_next, counted_none, less_cleared}
+use Rattle.fed_types.proofs.Ones.{counted_first, counted_next, counted_none, less_next}
 use Rattle.fed_types.proofs.Sums.{among, among_most}
 use Rattle.fed_types.proofs.Weights.{weight_most, weight_past}
 use Rattle.fed_types.proofs.voters.Voters.weight.Goals as goal
@@ -32,14 +32,13 @@ overflow_add-sum c =
     (count_of c.args.members.now) (weight_most c.args.members.now weights) in
     let next = counted_next (weight_of c.args.members.now) c.loop-rest.rest
     (trailing_zeros w64 c.loop-rest.rest) (count_of c.args.members.now)
-    (omega (arith, weights.0.1)) k.0 k.1 k.2
+    (omega (arith, weights.0.1)) k.0 k.2 k.3
     (weight_past c.args.members.now (trailing_zeros w64 c.loop-rest.rest)) in
     omega (arith, weights.0.1, c.loop-rest.invariant.1, c.from-sum.ensures, c.weight_at.ensures)
 
 pub loop-rest-smaller : goal.loop-rest-smaller
 loop-rest-smaller c =
-    let k = lowest c.loop-rest.rest (omega (arith, c.loop-rest-test.true)) c.loop-rest.invariant.0 in
-    less_cleared c.loop-rest.rest (trailing_zeros w64 c.loop-rest.rest) k.1 k.2
+    less_next c.loop-rest.rest (omega (arith, c.loop-rest-test.true))
 
 pub loop-rest-preserved : goal.loop-rest-preserved
 loop-rest-preserved c =
@@ -48,10 +47,9 @@ loop-rest-preserved c =
     let k = lowest c.loop-rest.rest (omega (arith, c.loop-rest-test.true)) c.loop-rest.invariant.0 in
     let next = counted_next (weight_of c.args.members.now) c.loop-rest.rest
     (trailing_zeros w64 c.loop-rest.rest) (count_of c.args.members.now)
-    (omega (arith, weights.0.1)) k.0 k.1 k.2
+    (omega (arith, weights.0.1)) k.0 k.2 k.3
     (weight_past c.args.members.now (trailing_zeros w64 c.loop-rest.rest)) in (
-      sites_next c.loop-rest.rest (trailing_zeros w64 c.loop-rest.rest) c.loop-rest.invariant.0
-          k.0 k.1,
+      sites_next c.loop-rest.rest c.loop-rest.invariant.0,
       omega (arith, c.loop-rest.invariant.1, c.from-sum.ensures, c.weight_at.ensures),
     )
 

@@ -1,74 +1,73 @@
-use Rattle.std.proofs.Common.{◌≡◌, ℕ, true, false, List, sym, ap, subst, ◌∙◌}
+use Rattle.std.proofs.Common.{◌≡◌, true, false, sym, ap, subst, ◌∙◌}
 use Rattle.fed_types.specs.Voters.{with_voter}
 use Rattle.slot_table.specs.Rows.{row_at}
-use Rattle.learner.specs.Ledgers.{Ledger, StandsFor, counted_in}
-use Rattle.learner.specs.inner.Counts.{IsCounted}
-use Rattle.learner.proofs.Hearing.{heard_settled, heard_counted, unsettled}
-use Rattle.learner.proofs.Hearing.{learned_by, learned_nothing}
+use Rattle.learner.specs.Ledgers.{Ledger, StandsFor, known_in, counted_in}
+use Rattle.learner.specs.inner.Counts.{is_learned}
+use Rattle.learner.proofs.Hearing.{heard_as, learned_as}
 use Rattle.learner.proofs.Rows.{err_of}
 use Rattle.learner.proofs.learner.Learner.accepted.Goals as goal
 
-pub returns-in_default-clause-heard : goal.returns-in_default-clause-heard
-returns-in_default-clause-heard g c none records heard stands =
-    heard_settled c.args.self.now.rows records heard c.args.slot.now c.args.from
-    (record { ballot = c.args.ballot; bag = c.args.bag }) stands
-    c.counted_with.result c.counted_with.ensures c.in_default.not-Some
+pub returns-in_err-learned-clause-no_memory : goal.returns-in_err-learned-clause-no_memory
+returns-in_err-learned-clause-no_memory g c =
+    err_of c.from_residual.result (λ records heard stands. (
+      sym (stands.known c.args.slot.now)
+          ∙ sym (ap (λ (l : Ledger g.row.Q.Denot). known_in (row_at l.rows c.args.slot.now))
+          c.self.view_is)
+          ∙ c.in_err-learned.ensures.unknown,
+      sym (learned_as c.args.self.now.rows records heard c.args.slot.now c.args.from
+          (record { ballot = c.args.ballot; bag = c.args.bag }) stands
+          (g.Q.Quorums.quorum_system c.args.self.now.members)
+          (record {
+            meet = g.met.Q.Quorums.quorums_meet c.args.self.now.members;
+            grow = g.met.Q.Quorums.quorum_grows c.args.self.now.members;
+          })
+          false
+          (subst (λ (l : Ledger g.row.Q.Denot). false
+          ≡ is_learned (g.Q.Quorums.quorum_system l.members)
+          (known_in (row_at l.rows c.args.slot.now))
+          (with_voter (counted_in (row_at l.rows c.args.slot.now)
+          (record { ballot = c.args.ballot; bag = c.args.bag })) c.args.from)) c.self.view_is
+          c.in_err-learned.ensures.memory)),
+    ))
 
-pub returns-then-is_quorum-clause-learned : goal.returns-then-is_quorum-clause-learned
-returns-then-is_quorum-clause-learned g c records heard stands =
-    learned_by c.args.self.now.rows records heard c.args.slot.now c.args.from
+pub returns-then-learned-clause-learned : goal.returns-then-learned-clause-learned
+returns-then-learned-clause-learned g c records heard stands =
+    learned_as c.args.self.now.rows records heard c.args.slot.now c.args.from
     (record { ballot = c.args.ballot; bag = c.args.bag }) stands
     (g.Q.Quorums.quorum_system c.args.self.now.members)
     (record {
       meet = g.met.Q.Quorums.quorums_meet c.args.self.now.members;
       grow = g.met.Q.Quorums.quorum_grows c.args.self.now.members;
     })
-    c.in-Some.voters c.in-Some.ensures true
-    (sym (ap (λ (l : Ledger g.row.Q.Denot).
-    (g.Q.Quorums.quorum_system l.members).is_quorum c.in-Some.voters) c.self.view_is)
-    ∙ sym c.is_quorum.ensures ∙ c.if-is_quorum.true)
+    true
+    (subst (λ (l : Ledger g.row.Q.Denot). true
+    ≡ is_learned (g.Q.Quorums.quorum_system l.members)
+    (known_in (row_at l.rows c.args.slot.now))
+    (with_voter (counted_in (row_at l.rows c.args.slot.now)
+    (record { ballot = c.args.ballot; bag = c.args.bag })) c.args.from)) c.self.view_is
+    (sym c.if-learned.true ∙ c.in_ok-learned.ensures.learned))
 
 pub returns-clause-learned : goal.returns-clause-learned
 returns-clause-learned g c records heard stands =
-    sym (learned_nothing c.args.self.now.rows records heard c.args.slot.now c.args.from
+    learned_as c.args.self.now.rows records heard c.args.slot.now c.args.from
     (record { ballot = c.args.ballot; bag = c.args.bag }) stands
     (g.Q.Quorums.quorum_system c.args.self.now.members)
     (record {
       meet = g.met.Q.Quorums.quorums_meet c.args.self.now.members;
       grow = g.met.Q.Quorums.quorum_grows c.args.self.now.members;
     })
-    c.in-Some.voters c.in-Some.ensures
-    (sym (ap (λ (l : Ledger g.row.Q.Denot).
-    (g.Q.Quorums.quorum_system l.members).is_quorum c.in-Some.voters) c.self.view_is)
-    ∙ sym c.is_quorum.ensures ∙ c.if-is_quorum.false)).1
-
-pub returns-in_err-count-clause-no_memory : goal.returns-in_err-count-clause-no_memory
-returns-in_err-count-clause-no_memory g c = err_of c.from_residual.result (λ records heard stands.
-    learned_nothing c.args.self.now.rows records heard c.args.slot.now c.args.from
-    (record { ballot = c.args.ballot; bag = c.args.bag }) stands
-    (g.Q.Quorums.quorum_system c.args.self.now.members)
-    (record {
-      meet = g.met.Q.Quorums.quorums_meet c.args.self.now.members;
-      grow = g.met.Q.Quorums.quorum_grows c.args.self.now.members;
-    })
-    c.in-Some.voters c.in-Some.ensures
-    (sym (ap (λ (l : Ledger g.row.Q.Denot).
-    (g.Q.Quorums.quorum_system l.members).is_quorum c.in-Some.voters) c.self.view_is)
-    ∙ sym c.is_quorum.ensures ∙ c.if-is_quorum.false))
+    false
+    (subst (λ (l : Ledger g.row.Q.Denot). false
+    ≡ is_learned (g.Q.Quorums.quorum_system l.members)
+    (known_in (row_at l.rows c.args.slot.now))
+    (with_voter (counted_in (row_at l.rows c.args.slot.now)
+    (record { ballot = c.args.ballot; bag = c.args.bag })) c.args.from)) c.self.view_is
+    (sym c.if-learned.false ∙ c.in_ok-learned.ensures.learned))
 
 pub returns-clause-heard : goal.returns-clause-heard
 returns-clause-heard g c none records heard stands =
-    heard_counted c.self.inside.table records heard c.args.slot.now c.args.from
+    heard_as c.self.inside.table records heard c.args.slot.now c.args.from
     (record { ballot = c.args.ballot; bag = c.args.bag })
-    (subst (λ (l : Ledger g.row.Q.Denot). StandsFor l.rows records heard)
-    (sym c.self.view_is) stands)
-    c.count.new.table c.count.ensures.known
-    (subst (λ (voters : List ℕ). IsCounted c.self.inside.table c.count.new.table c.args.slot.now
-    (record { ballot = c.args.ballot; bag = c.args.bag }) voters)
-    ((unsettled c.args.self.now.rows records heard c.args.slot.now c.args.from
-    (record { ballot = c.args.ballot; bag = c.args.bag }) stands
-    c.in-Some.voters c.in-Some.ensures).1
-    ∙ sym (ap (λ (l : Ledger g.row.Q.Denot).
-    with_voter (counted_in (row_at l.rows c.args.slot.now)
-    (record { ballot = c.args.ballot; bag = c.args.bag })) c.args.from) c.self.view_is))
-    c.in_ok-count.ensures.ok)
+    (subst (λ (l : Ledger g.row.Q.Denot). StandsFor l.rows records heard) (sym c.self.view_is)
+    stands)
+    c.hear.new.table c.hear.ensures.known (c.in_ok-learned.ensures.counted c.if-learned.false)

@@ -1,6 +1,4 @@
-use Rattle.std.proofs.Common.{◌≡◌, ◌∙◌, true, sym, ap, subst}
-use Rattle.slot_table.specs.Rows.{Rows}
-use Rattle.learner.specs.declared.row.Row.{Row}
+use Rattle.std.proofs.Common.{true, sym, subst}
 use Rattle.learner.specs.Ledgers.{Ledger, StandsFor}
 use Rattle.learner.proofs.Hearing.{same_stands}
 use Rattle.learner.proofs.Noting.{noted_known, noted_other, says_none}

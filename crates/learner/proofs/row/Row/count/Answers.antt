@@ -1,4 +1,4 @@
-use Rattle.std.proofs.Common.{◌≡◌, Option, Some, Box, sym, ap, ◌∙◌}
+use Rattle.std.proofs.Common.{Option, Some, Box, sym, ap, ◌∙◌}
 use Rattle.std.specs.Box.{with_value}
 use Rattle.std.specs.declared.alloc.Global.{Global}
 use Rattle.learner.specs.Ledgers.{Votes}
