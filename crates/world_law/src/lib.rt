@@ -13,3 +13,6 @@ pub use law::{
 };
 pub use line::{Line, NamedBag, NamedReply, Reason};
 pub use sent_bytes::SentBytes;
+
+#[cfg(test)]
+mod tests;
