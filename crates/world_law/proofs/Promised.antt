@@ -11,13 +11,13 @@ use Rattle.records.specs.declared.entry.Entry.TheVariants as entry
 use Rattle.schedule.specs.declared.command.Command.{Command}
 use Rattle.schedule.specs.Plans.{Plan}
 use Rattle.world_law.specs.declared.line.Line.{Line}
-use Rattle.world_law.specs.Headline.{LinesAgree, first_number, world_after}
+use Rattle.world_law.specs.Headline.{LinesAgree, world_after}
 use Rattle.world_law.specs.Headline.{DepositedBefore, LinesStay, ReportsWereDeposited}
 use Rattle.world_law.specs.Headline.{BagsWereDeposited}
 use Rattle.world_law.specs.Laws.{OnRecord}
 use Rattle.world_law.specs.Networks.{Event, Happening, happens}
 use Rattle.world_law.specs.Worlds.{World, new_world, own_lines, sent_lines, after_event, quorums}
-use Rattle.world_law.specs.Worlds.{next_unnamed, on_turn, pumped, after_line, run_of}
+use Rattle.world_law.specs.Worlds.{first_number, next_unnamed, on_turn, pumped, after_line, run_of}
 use Rattle.world_law.proofs.Commands.{turn_is, command_is}
 use Rattle.world_law.proofs.Induction.{chosen_once, proposed_came, chosen_came}
 use Rattle.world_law.proofs.Schedules.{Holds, new_holds, holds_from, line_then, deposited}

@@ -24,7 +24,7 @@ use Rattle.world_law.specs.Laws.{OnRecord, WasSent, Report}
 use Rattle.world_law.specs.Networks.{Down}
 use Rattle.world_law.specs.Trees.{tree_at}
 use Rattle.world_law.specs.Worlds.{World, new_world, mode_of, is_member, after_line, run_from}
-use Rattle.world_law.specs.Worlds.{run_of}
+use Rattle.world_law.specs.Worlds.{first_number, run_of}
 
 -- ---- agreement
 
@@ -77,10 +77,6 @@ DepositedIn number w (line ∷ others) slot bag =
     ⊎ DepositedIn (number + 1) (after_line w number line) others slot bag
 
 -- ---- the lines of a schedule
-
--- the number of the first line after the one that names the federation
-abbrev pub first_number : Plan → ℕ
-first_number plan = plan.skipped + 2
 
 -- the world after these first lines of a schedule
 abbrev pub world_after : Plan → List (Option Command) → World

@@ -33,7 +33,7 @@ pub record WasSent (w : Network) (slot : SlotName) (body : Body) : Type 0 where
 
 -- ---- what is chosen
 
--- each site of a quorum has this vote on record
+-- each of these voters, which are a quorum, has the vote on record
 pub record IsChosenBy (q : QuorumSystem) (w : Network) (slot : SlotName) (vote : Vote) : Type 0
   where
     pub voters : List ℕ

@@ -281,6 +281,10 @@ unfoldable pub run_from : (number : ℕ) → World → List (Option Command) →
 run_from number w [] = w
 run_from number w (line ∷ others) = run_from (number + 1) (after_line w number line) others
 
+-- the number of the line after the one that names the federation
+abbrev pub first_number : Plan → ℕ
+first_number plan = plan.skipped + 2
+
 -- the world after a schedule
 unfoldable pub run_of : Plan → World
-run_of plan = run_from (plan.skipped + 2) (new_world plan.members) plan.lines
+run_of plan = run_from (first_number plan) (new_world plan.members) plan.lines
