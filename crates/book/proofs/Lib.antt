@@ -3,6 +3,8 @@ pub mod AtRest
 pub mod Repairs
 pub mod Alike
 pub mod Fuses
+pub mod States
 pub mod Commits
 pub mod Refused
+pub mod LastCall
 pub mod Reopened

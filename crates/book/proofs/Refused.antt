@@ -13,7 +13,8 @@ use Rattle.book.specs.Opened.{LeavesAlike}
 use Rattle.book.specs.Committed.{SaysWithOrWithout}
 use Rattle.book.proofs.AtRest.{keeps_appended, keeps_cut, rest_leaves}
 
-none_more : (text bytes : List ℕ) → text ≡ text ++ bytes → bytes ≡ []
+-- bytes that leave a text as it is
+pub none_more : (text bytes : List ℕ) → text ≡ text ++ bytes → bytes ≡ []
 none_more text [] e = refl
 none_more text (b ∷ bytes) e = absurd (omega (arith, ap length e, length-append text (b ∷ bytes)))
 

@@ -1,7 +1,7 @@
 -- What a call answers, and what it does. What it tries, and where it fails may have done in part, is
 -- one thing, and what it has done where it answers Ok another: an append tries to append, and has
 -- appended; a sync tries no change of the bytes, and has kept what a read gives.
-use Rattle.std.specs.Prelude.{◌≡◌, ◌≢◌, ◌⊎◌, ◌<◌, ◌≤◌, ◌-◌, ◌^◌, ℕ, List, true, false}
+use Rattle.std.specs.Prelude.{◌≡◌, ◌≢◌, ◌⊎◌, ◌≤◌, ◌+◌, ◌-◌, ◌^◌, min, ℕ, List, true, false}
 use Rattle.std.specs.Prelude.{Option, Some, None, Result, Ok, Err, IsErrOf}
 use Rattle.cell_device.specs.declared.fault.CellFault.{CellFault}
 use Rattle.cell_device.specs.declared.fault.CellFault.TheVariants.{Device, Memory}
@@ -53,16 +53,16 @@ Follows result tried done (Some f) fuse old new = Burns result tried done f fuse
 abbrev pub most_failures : ℕ
 most_failures = 2 ^ 64 - 1
 
--- the count grew, or was the greatest
-abbrev pub HasGrown : ℕ → ℕ → Type 0
-HasGrown before now = (before < now) ⊎ (most_failures ≤ before)
+-- the count with one failure more, at most the greatest
+abbrev pub one_more : ℕ → ℕ
+one_more before = min (before + 1) most_failures
 
 -- The fault for a failure of the device is answered exactly where the device failed, by the count
--- of its failures; no failure is answered as anything else.
+-- of its failures, and then it failed once; no failure is answered as anything else.
 pub record HasCause {T E : Type 0} (device : E) (before now : ℕ) (result : Result T E) : Type 0
   where
     pub later : before ≤ now
-    pub failed : IsErrOf result device → HasGrown before now
+    pub failed : IsErrOf result device → now ≡ one_more before
     pub same : ¬ IsErrOf result device → now ≡ before
 
 -- what a read gives, where the bytes are known

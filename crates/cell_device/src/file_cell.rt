@@ -43,7 +43,7 @@ enum State {
 impl FileCell {
     ghost use Rattle.std.specs.Prelude.{◌≡◌, ◌≤◌, IfOk, IfErr};
     ghost use Rattle.cell_device.specs.declared.fault.CellFault.TheVariants.{Device};
-    ghost use Rattle.cell_device.specs.Calls.{HasGrown, HasCause};
+    ghost use Rattle.cell_device.specs.Calls.{one_more, HasCause};
     ghost use Rattle.cell_device.specs.FileCells.{failures_of};
 
     /// The cell in the file of this path, which is made where it is missing; a path without a
@@ -104,7 +104,7 @@ impl FileCell {
     fn fail_change(&mut self) -> CellFault
         ensures fault { result ≡ Device }
         ensures later { failures_of self.old ≤ failures_of self.new }
-        ensures count { HasGrown (failures_of self.old) (failures_of self.new) }
+        ensures count { failures_of self.new ≡ one_more (failures_of self.old) }
     {
         self.state = match cut_back(&self.file, self.sure) {
             Ok(()) => State::Sound,
@@ -117,7 +117,7 @@ impl FileCell {
     fn fail(&mut self) -> CellFault
         ensures fault { result ≡ Device }
         ensures later { failures_of self.old ≤ failures_of self.new }
-        ensures count { HasGrown (failures_of self.old) (failures_of self.new) }
+        ensures count { failures_of self.new ≡ one_more (failures_of self.old) }
     {
         self.failures = self.failures.saturating_add(1);
         CellFault::Device

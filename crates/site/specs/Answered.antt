@@ -6,12 +6,14 @@ use Rattle.cell_device.specs.declared.fuse.FuseState.{FuseState}
 use Rattle.cell_device.specs.Calls.{HasCause}
 use Rattle.cell_device.specs.Devices.{Device}
 use Rattle.cell_device.specs.Images.{IfKnown}
+use Rattle.cell_device.specs.States.{IsIn, state_of}
 use Rattle.cell_device.specs.Time.{LeavesOnly}
 use Rattle.records.specs.declared.record.Record.{Record}
 use Rattle.records.specs.Words.{known_of}
 use Rattle.book.specs.declared.fault.CommitFault.{CommitFault}
 use Rattle.book.specs.declared.fault.CommitFault.TheVariants as commits
 use Rattle.book.specs.Committed.{SaysWithOrWithout, IsUnchanged, CameOut, commit_outcome}
+use Rattle.book.specs.Committed.{after_commit}
 use Rattle.book.specs.Volumes.{Volume, LeavesText, RecoversTo}
 use Rattle.proposer.specs.Sessions.{Session}
 use Rattle.site.specs.declared.answer.Answer.{Answer}
@@ -28,7 +30,8 @@ use Rattle.site.specs.Sites.{OpenSite, StandsFor}
 -- The book and its cell after the commit of a record that answered so: what the book promises. After
 -- Ok every crash leaves the record, and the book has it; a crash at any moment leaves the records
 -- from before, with the new one or without; Device comes where the device failed, and then the book
--- needs opening; where it is known which call fails, it is known what comes of it.
+-- needs opening; where it is known which call fails, it is known what comes of it, and nothing is
+-- called after that one.
 pub record Commits
     {C : Type 0} (device : C → Device) (old : Volume C) (r : Record)
     (result : Result (Unit {0}) CommitFault) (new : Volume C)
@@ -45,6 +48,8 @@ pub record Commits
   pub fuse : (f : FuseState) → (device old.cell).fuse ≡ Some f
       → CameOut (commit_outcome f old.records r) old.owner result (device old.cell)
       (device new.cell)
+  pub calls : (f : FuseState) → (device old.cell).fuse ≡ Some f
+      → IsIn (after_commit r result (state_of (device old.cell) f)) (device new.cell)
   pub whose : new.owner ≡ old.owner
 
 -- what a call's answer says of the commit of its record

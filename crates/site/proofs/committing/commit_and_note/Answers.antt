@@ -41,6 +41,7 @@ returns-in_err-commit g c =
       any_moment = c.in_err-commit.ensures.any_moment c.requires;
       cause = c.in_err-commit.ensures.cause;
       fuse = c.in_err-commit.ensures.fuse;
+      calls = c.in_err-commit.ensures.calls;
       whose = c.in_err-commit.ensures.whose;
     }) c.reserve.ensures.same
   where
@@ -60,6 +61,7 @@ returns g c =
       any_moment = c.in_ok-commit.ensures.any_moment c.requires;
       cause = c.in_ok-commit.ensures.cause;
       fuse = c.in_ok-commit.ensures.fuse;
+      calls = c.in_ok-commit.ensures.calls;
       whose = c.in_ok-commit.ensures.whose;
     }) c.reserve.ensures.same
     (λ of. subst (λ (r : Record). IsOf c.note.new.self c.args.book.now.owner
