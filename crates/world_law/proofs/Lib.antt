@@ -9,6 +9,7 @@ pub mod Conditions
 pub mod Arriving
 pub mod Calls
 pub mod Outcomes
+pub mod Sends
 pub mod Runs
 pub mod Induction
 pub mod Reports
@@ -16,4 +17,10 @@ pub mod Commands
 pub mod Schedules
 pub mod Promised
 pub mod Pumps
+pub mod WellFormedWords
+pub mod WellFormedEffects
+pub mod WellFormedArrivals
+pub mod WellFormedCalls
+pub mod WellFormed
+pub mod NonMembers
 mod Examples

@@ -1,9 +1,8 @@
 -- Every network of a run is kept.
-use Rattle.std.proofs.Common.{ℕ, zero, suc, ◌≡◌, refl}
+use Rattle.std.proofs.Common.{◌≡◌, refl}
 use Rattle.std.proofs.Common.{subst, List, [], ◌∷◌, Option, None, Some}
-use Rattle.std.specs.List.{slice_get}
 use Rattle.std.specs.Option.{option_map}
-use Rattle.fed_types.specs.Lists.{Has, here, there}
+use Rattle.fed_types.specs.Lists.{Has}
 use Rattle.fed_types.specs.Quorums.{QuorumSystem, AreQuorums}
 use Rattle.fed_types.specs.Laws.Lists.{has_none}
 use Rattle.dgram.specs.declared.message.Message.{Message}
@@ -23,6 +22,7 @@ use Rattle.world_law.proofs.Kept.{Kept}
 use Rattle.world_law.proofs.Step.{Deposits as Allowed}
 use Rattle.world_law.proofs.Step.{Next}
 use Rattle.world_law.proofs.Deeds.{MayDeposit, some_same}
+use Rattle.world_law.proofs.Sends.{at_number}
 use Rattle.world_law.proofs.Arriving.{arrival_deed}
 use Rattle.world_law.proofs.Outcomes.{stays, member_kept, takes_kept, replies_kept, stops_kept}
 use Rattle.world_law.proofs.Outcomes.{starts_kept}
@@ -38,15 +38,6 @@ DepositOf (Deposit site slot checked fate) = MayDeposit (Deposits slot checked)
 DepositOf _ = NoDeposit
 
 module _ (q : QuorumSystem) (w : Network) (inv : Kept q w) where
-  find : {X : Type 0} (xs : List X) (k : ℕ) (x : X) → slice_get xs k ≡ Some x → Has x xs
-  find [] k x e = absurd (cc e)
-  find (y ∷ ys) zero x e = let f : y ≡ x = cc in here f
-  find (y ∷ ys) (suc k) x e = there (find ys k x e)
-
-  at_number : (k : ℕ) (sent : List Send) (d : Send) → datagram_at k sent ≡ Some d → Has d sent
-  at_number zero sent d e = absurd (cc e)
-  at_number (suc k) sent d e = find sent k d e
-
   arrives_kept : AreQuorums q → (o : Option Send) → ((d : Send) → o ≡ Some d → Has d w.sent)
       → (fate : Fate) → Next q w (option_map (λ d. d.to) o) NoDeposit (arrives q w o fate)
   arrives_kept laws None sent fate = stays q w inv NoDeposit None
@@ -72,7 +63,7 @@ happens_kept q laws w inv (networks.Ask n member slot fate) =
 happens_kept q laws w inv (Query n slot) =
     member_kept q w inv n NoDeposit _ (replies_kept q w inv n NoDeposit slot (w.sites n).mode)
 happens_kept q laws w inv (Deliver k fate) =
-    arrives_kept q w inv laws (datagram_at k w.sent) (λ d e. at_number q w inv k w.sent d e) fate
+    arrives_kept q w inv laws (datagram_at k w.sent) (λ d e. at_number k w.sent d e) fate
 happens_kept q laws w inv (Raw n) =
     takes_kept q w inv n (Arrives None) laws
     (arrival_deed q laws w inv n None (λ m e. absurd (cc e))) Whole

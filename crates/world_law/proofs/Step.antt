@@ -164,7 +164,7 @@ nothing_recalled = record {
 
 -- ---- the site that moved, and the others
 
-site_cases : (P : SiteState → Type 0) (w : Network) (n k : ℕ) (o : Outcome)
+pub site_cases : (P : SiteState → Type 0) (w : Network) (n k : ℕ) (o : Outcome)
     → (k ≡ n → P o.site) → (k ≢ n → P (w.sites k)) → P ((happening w n o).network.sites k)
 site_cases P w n k o same other = go (k == n) refl
   where

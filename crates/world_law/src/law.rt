@@ -8,6 +8,7 @@ ghost use Rattle.schedule.specs.Plans.{Plan};
 ghost use Rattle.world_law.specs.Headline.{LinesAgree, LinesStay, ReportsWereDeposited};
 ghost use Rattle.world_law.specs.Headline.{BagsWereDeposited};
 ghost use Rattle.world_law.specs.Networks.{Event, new_network, run};
+ghost use Rattle.world_law.specs.WellFormed.{SentMessagesAreWellFormed};
 ghost use Rattle.world_law.specs.Worlds.{run_of};
 
 // A function here does nothing: its contract is the law.
@@ -71,6 +72,12 @@ pub fn reports_agree()
 pub fn senders_are_named()
     ensures { (q : QuorumSystem) (events : List Event) (e : Event) → AreQuorums q
         → SendersAreNamed q (run q new_network events) e }
+{}
+
+/// Where the events bring in nothing else, each message that is sent is well-formed, so that its
+/// datagram is read as this message; and it goes to the number of a site.
+pub fn sent_messages_are_well_formed()
+    ensures { SentMessagesAreWellFormed }
 {}
 
 // ---- of every schedule

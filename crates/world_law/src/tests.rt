@@ -20,6 +20,7 @@ fn laws_are_called() {
     one_bag_a_slot();
     reports_agree();
     senders_are_named();
+    sent_messages_are_well_formed();
     lines_agree();
     reports_were_deposited();
     bags_were_deposited();

@@ -1,0 +1,216 @@
+-- A network stays well-formed, whatever well-formed events happen.
+use Rattle.std.proofs.Common.{ℕ, ◌≡◌, Bool, true, false, cond, inl, inr, refl, arith}
+use Rattle.std.proofs.Common.{length, take, List, [], ◌∷◌, ◌++◌, Option, None, Some}
+use Rattle.std.specs.Bool.{nat_le}
+use Rattle.std.specs.Option.{IfSome, option_to_list}
+use Rattle.fed_types.specs.Lists.{Has, is_in}
+use Rattle.fed_types.specs.Quorums.{QuorumSystem, quorums_of}
+use Rattle.fed_types.specs.Sites.{Membership, IsSiteNumber, count_of}
+use Rattle.fed_types.specs.Values.{IsMembership}
+use Rattle.fed_types.specs.Laws.Lists.{is_in_decides, has_take, has_cases, has_none}
+use Rattle.fed_types.specs.Laws.Sites.{has_sites_to}
+use Rattle.records.specs.declared.record.Record.{Record}
+use Rattle.records.specs.Layout.{record_bytes}
+use Rattle.records.specs.Records.{IsRecord, AreRecords}
+use Rattle.proposer.specs.Sessions.{Session, new_session}
+use Rattle.site.specs.declared.fault.SiteFault.TheVariants as faults
+use Rattle.site.specs.Calls.{Input, Deposits, Proposes, Asks, Arrives, effect_of}
+use Rattle.site.specs.Effects.{Effect, Send, refuses}
+use Rattle.schedule.specs.declared.fate.Fate.{Fate}
+use Rattle.schedule.specs.declared.fate.Fate.TheVariants.{Whole, StopsIn, StopsAfter, FailsIn}
+use Rattle.world_law.specs.Networks.{Mode, Up, Down, NeedsOpening, SiteState, Network, new_site}
+use Rattle.world_law.specs.Networks.{new_network, Event, Deposit, Propose, Query, Deliver, Raw}
+use Rattle.world_law.specs.Networks.{Stop, Start, Notice, GoesDown, Outcome, Happening}
+use Rattle.world_law.specs.Networks.{happening, outcome}
+use Rattle.world_law.specs.Networks.{nothing, if_member, undergoes, reaches, takes, replies}
+use Rattle.world_law.specs.Networks.{datagram_at, arrives, stops, starts, opened, happens, run}
+use Rattle.world_law.specs.Networks as networks
+use Rattle.world_law.specs.WellFormed.{MembersAreSites, AreMessages, IsSend, IsWellFormed}
+use Rattle.world_law.specs.WellFormed.{IsWellFormedEvent, AreWellFormedEvents}
+use Rattle.world_law.proofs.Sends.{at_number}
+use Rattle.world_law.proofs.Step.{site_cases}
+use Rattle.world_law.proofs.WellFormedWords.{all_with, if_given}
+use Rattle.world_law.proofs.WellFormedEffects.{IsWellFormedEffect}
+use Rattle.world_law.proofs.WellFormedCalls.{IsWellFormedInput, refuses_is, effect_is}
+
+-- the members of a federation are the sites 1 to its count
+pub members_are_sites : (m : Membership) → IsMembership m → MembersAreSites (quorums_of m)
+members_are_sites m h n has =
+    let f = has_sites_to (count_of m) n has in
+    let most = h.1.0.1 in
+    (f.0, omega (arith, f.1, most))
+
+-- ---- an outcome at a site
+
+-- what a site is then, and what it sent, is well-formed
+record IsWellFormedOutcome (o : Outcome) : Type 0 where
+  records : AreRecords o.site.records
+  heard : AreMessages o.site.session.heard
+  sends : (d : Send) → Has d o.sends → IsSend d
+
+module _ (w : Network) (inv : IsWellFormed w) (n : ℕ) where
+  happening_is : (o : Outcome) → IsWellFormedOutcome o → IsWellFormed (happening w n o).network
+  happening_is o is = record {
+    sent = λ d h. elim (has_cases w.sent o.sends h) [
+      | inl old ↦ inv.sent d old
+      | inr new ↦ is.sends d new
+    ];
+    records = λ k.
+        site_cases (λ s. AreRecords s.records) w n k o (λ e. is.records) (λ e. inv.records k);
+    heard = λ k.
+        site_cases (λ s. AreMessages s.session.heard) w n k o (λ e. is.heard) (λ e. inv.heard k);
+  }
+
+  abbrev s : SiteState
+  s = w.sites n
+
+  -- a record more, if there is one
+  moved_is : (kept : Option Record) → IfSome kept IsRecord → (session : Session)
+      → AreMessages session.heard → (mode : Mode) (sends : List Send)
+      → ((d : Send) → Has d sends → IsSend d) → (notice : Option Notice)
+      → IsWellFormedOutcome (record {
+        site = record {
+          records = s.records ++ option_to_list kept;
+          session = session;
+          mode = mode;
+        };
+        sends = sends;
+        notice = notice;
+      })
+  moved_is kept is_kept session heard mode sends each notice = record {
+    records = all_with IsRecord s.records kept (inv.records n) is_kept;
+    heard = heard;
+    sends = each;
+  }
+
+  -- the site loses its session, and sends nothing
+  lost_is : (kept : Option Record) → IfSome kept IsRecord → (mode : Mode) (notice : Option Notice)
+      → IsWellFormedOutcome (record {
+        site = record {
+          records = s.records ++ option_to_list kept;
+          session = new_session;
+          mode = mode;
+        };
+        sends = [];
+        notice = notice;
+      })
+  lost_is kept is_kept mode notice =
+      moved_is kept is_kept new_session tt mode [] (λ d h. absurd (has_none h)) notice
+
+  module _ (input : Input) (e : Effect) (is : IsWellFormedEffect e) where
+    outcome_is : (commits : Option Record) → IfSome commits IsRecord
+        → IsWellFormedOutcome (networks.goes_on n s input e) → (fate : Fate)
+        → IsWellFormedOutcome (outcome n s input e commits fate)
+    unfolding outcome
+    outcome_is commits h whole Whole = whole
+    outcome_is None h whole (StopsIn device k) = lost_is None tt Down _
+    outcome_is (Some r) h whole (StopsIn device k) =
+        lost_is _ (if_given IsRecord (nat_le (length (record_bytes r)) k) (Some r) h) Down _
+    outcome_is commits h whole (StopsAfter j) =
+        moved_is commits h new_session tt Down (take j e.sends)
+        (λ d f. is.sends d (has_take j e.sends f)) _
+    outcome_is None h whole (FailsIn device k) = whole
+    outcome_is (Some r) h whole (FailsIn device k) =
+        lost_is _ (if_given IsRecord (nat_le (length (record_bytes r)) k) (Some r) h) NeedsOpening _
+
+    undergoes_is : (fate : Fate) → IsWellFormed (undergoes w n input e fate).network
+    undergoes_is fate =
+        happening_is _
+        (outcome_is e.commits is.commits
+        (moved_is e.commits is.commits e.session is.heard s.mode e.sends is.sends _) fate)
+
+  opened_is : IsWellFormed (happening w n (opened n s)).network
+  opened_is = happening_is (opened n s) (record {
+    records = inv.records n;
+    heard = tt;
+    sends = λ d h. absurd (has_none h);
+  })
+
+  starts_is : (mode : Mode) → IsWellFormed (starts w n mode).network
+  starts_is Up = inv
+  starts_is NeedsOpening = opened_is
+  starts_is Down = opened_is
+
+  stops_is : (mode : Mode) → IsWellFormed (stops w n mode).network
+  stops_is Up = happening_is _ (lost_is None tt Down (Some (GoesDown n)))
+  stops_is NeedsOpening = happening_is _ (lost_is None tt Down (Some (GoesDown n)))
+  stops_is Down = inv
+
+  replies_is : (slot : _) (mode : Mode) → IsWellFormed (replies w n mode slot).network
+  replies_is slot Up = inv
+  replies_is slot NeedsOpening = inv
+  replies_is slot Down = inv
+
+  -- ---- only at a member, whose number is a site's
+
+  module _ (q : QuorumSystem) (members : MembersAreSites q) where
+    member_is : (h : Happening) → (IsSiteNumber n → IsWellFormed h.network)
+        → IsWellFormed (if_member q w n h).network
+    member_is h is = go (is_in q.members n) refl
+      where
+        go : (t : Bool) → is_in q.members n ≡ t → IsWellFormed (cond t h (nothing w)).network
+        go true e = is (members n ((is_in_decides q.members n).0 e))
+        go false e = inv
+
+    takes_is : (input : Input) → IsWellFormedInput input → (fate : Fate)
+        → IsWellFormed (takes q w n input fate).network
+    takes_is input is_input fate =
+        member_is (reaches q w n s.mode input fate) (λ is_site. go is_site s.mode)
+      where
+        go : IsSiteNumber n → (mode : Mode) → IsWellFormed (reaches q w n mode input fate).network
+        go is_site Up =
+            undergoes_is input (effect_of q n s.records s.session input)
+            (effect_is q members n is_site s.records (inv.records n) s.session (inv.heard n) input
+            is_input)
+            fate
+        go is_site NeedsOpening =
+            undergoes_is input (refuses faults.NeedsOpen s.session)
+            (refuses_is s.session (inv.heard n) faults.NeedsOpen) fate
+        go is_site Down = inv
+
+-- ---- events
+
+arrives_is : (q : QuorumSystem) (w : Network) → MembersAreSites q → IsWellFormed w
+    → (o : Option Send) → ((d : Send) → o ≡ Some d → Has d w.sent) → (fate : Fate)
+    → IsWellFormed (arrives q w o fate).network
+arrives_is q w members inv None sent fate = inv
+arrives_is q w members inv (Some d) sent fate =
+    takes_is w inv d.to q members (Arrives (Some d.message)) (inv.sent d (sent d refl)).1 fate
+
+pub happens_well_formed : (q : QuorumSystem) (w : Network) (e : Event) → MembersAreSites q
+    → IsWellFormedEvent e → IsWellFormed w → IsWellFormed (happens q w e).network
+unfolding happens
+happens_well_formed q w (Deposit n slot checked fate) members h inv =
+    takes_is w inv n q members (Deposits slot checked) h fate
+happens_well_formed q w (Propose n slot fate) members h inv =
+    takes_is w inv n q members (Proposes slot) h fate
+happens_well_formed q w (networks.Ask n member slot fate) members h inv =
+    takes_is w inv n q members (Asks slot member) h fate
+happens_well_formed q w (Query n slot) members h inv =
+    member_is w inv n q members _ (λ is_site. replies_is w inv n slot (w.sites n).mode)
+happens_well_formed q w (Deliver k fate) members h inv =
+    arrives_is q w members inv (datagram_at k w.sent) (λ d e. at_number k w.sent d e) fate
+happens_well_formed q w (Raw n) members h inv =
+    takes_is w inv n q members (Arrives None) tt Whole
+happens_well_formed q w (Stop n) members h inv =
+    member_is w inv n q members _ (λ is_site. stops_is w inv n (w.sites n).mode)
+happens_well_formed q w (Start n) members h inv =
+    member_is w inv n q members _ (λ is_site. starts_is w inv n (w.sites n).mode)
+
+-- ---- a run
+
+pub new_is_well_formed : IsWellFormed new_network
+unfolding new_network new_site
+new_is_well_formed = record {
+  sent = λ d h. absurd (has_none h);
+  records = λ n. tt;
+  heard = λ n. tt;
+}
+
+pub run_well_formed : (q : QuorumSystem) (events : List Event) (w : Network) → MembersAreSites q
+    → AreWellFormedEvents events → IsWellFormed w → IsWellFormed (run q w events)
+unfolding run
+run_well_formed q [] w members h inv = inv
+run_well_formed q (e ∷ events) w members h inv =
+    run_well_formed q events (happens q w e).network members h.1
+    (happens_well_formed q w e members h.0 inv)
