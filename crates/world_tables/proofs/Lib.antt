@@ -1,0 +1,4 @@
+pub mod Seen
+pub mod Named
+pub mod Found
+pub mod Entries

@@ -1,0 +1,23 @@
+-- The first deposit of each bag.
+use Rattle.std.specs.Prelude.{◌≡◌, ℕ, List, [], ◌∷◌, Option, Some, None, if◌then◌else◌}
+use Rattle.std.specs.Map.{lookup}
+use Rattle.fed_types.specs.declared.bag_id.BagId.{BagId}
+use Rattle.fed_types.specs.Bags.{same_bag}
+use Rattle.world_law.specs.Trees.{SeenBag}
+
+-- bags, each with the tree of its first deposit
+abbrev pub Firsts : Type 0
+Firsts = List (BagId × ℕ)
+
+-- the tree in which a bag was seen first, if it was seen
+unfoldable pub first_of : BagId → List SeenBag → Option ℕ
+first_of bag [] = None
+first_of bag (seen ∷ others) = if same_bag seen.bag bag then Some seen.tree else first_of bag others
+
+-- the firsts of these bags, in the order of their deposits
+abbrev pub StandsFor : Firsts → List SeenBag → Type 0
+StandsFor firsts seen = (bag : BagId) → lookup (same_bag bag) firsts ≡ first_of bag seen
+
+-- whatever bags the old firsts stand for, the new ones stand for
+abbrev pub StandsForSame : (old new : Firsts) → Type 0
+StandsForSame old new = (seen : List SeenBag) → StandsFor old seen → StandsFor new seen

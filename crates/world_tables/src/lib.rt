@@ -1,0 +1,15 @@
+//! The tables of a run: the declared trees by their numbers, the bags that were seen in deposits,
+//! and the datagrams that were sent, with which of their numbers were named. Each call takes
+//! constant time, amortized, however much went before.
+#![tactic(auto)]
+
+mod datagrams;
+mod seen_bags;
+mod trees;
+
+pub use datagrams::Datagrams;
+pub use seen_bags::SeenBags;
+pub use trees::{Added, Trees};
+
+#[cfg(test)]
+mod tests;
