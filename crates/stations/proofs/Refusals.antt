@@ -1,0 +1,125 @@
+-- A refusal brings about nothing else.
+use Rattle.std.specs.Prelude.{◌≡◌, ℕ, Bool, true, false, List, Option, Some, None, Result, Ok, Err}
+use Rattle.std.proofs.Common.{cond, ap}
+use Rattle.fed_types.specs.declared.bag_id.BagId.{BagId}
+use Rattle.fed_types.specs.Ballots.{BallotNumber}
+use Rattle.fed_types.specs.Quorums.{QuorumSystem}
+use Rattle.fed_types.specs.Slots.{SlotName}
+use Rattle.bag_check.specs.declared.fault.BagFault.{BagFault}
+use Rattle.dgram.specs.declared.body.Body.{Body}
+use Rattle.dgram.specs.declared.body.Body.TheVariants as bodies
+use Rattle.dgram.specs.declared.message.Message.{Message}
+use Rattle.dgram.specs.Encoding.{body_from}
+use Rattle.records.specs.declared.record.Record.{Record}
+use Rattle.records.specs.Words.{deposit_of, known_of}
+use Rattle.proposer.specs.Proposals.{next_ballot, ready}
+use Rattle.proposer.specs.Sessions.{Session, hears}
+use Rattle.learner.specs.Learning.{learned_from, learned_of_known}
+use Rattle.site.specs.declared.answer.Line.{Line}
+use Rattle.site.specs.declared.fault.SiteFault.{SiteFault}
+use Rattle.site.specs.Arrivals.{on_arrival, on_body, proposing, learning, telling, is_member}
+use Rattle.site.specs.Calls.{Input, Deposits, Proposes, Asks, Arrives, effect_of, on_deposit}
+use Rattle.site.specs.Calls.{on_propose, on_ask, registering, deposit_fault, other_than, issuing_if}
+use Rattle.site.specs.Effects.{Effect, refuses, only_says}
+use Rattle.site.specs.declared.answer.Line.TheVariants as lines
+
+-- where it refuses, it does no more
+abbrev pub RefusesOnly : Session → Effect → Type 0
+RefusesOnly session e = (fault : SiteFault) → e.says ≡ Err fault → e ≡ refuses fault session
+
+no_answer : {T : Type 0} {x : Option Line} {f : SiteFault}
+    → ◌≡◌ {A = Result (Option Line) SiteFault} (Ok x) (Err f) → T
+no_answer e = absurd (differ e)
+  where
+    differ : {x : Option Line} {f : SiteFault}
+        → ◌≡◌ {A = Result (Option Line) SiteFault} (Ok x) (Err f) → ⊥
+    differ e = cc
+
+refusal : (session : Session) (f : SiteFault) → RefusesOnly session (refuses f session)
+refusal session f fault e = ap (λ (x : SiteFault). refuses x session) (fault_of e)
+  where
+    fault_of : {f g : SiteFault} → ◌≡◌ {A = Result (Option Line) SiteFault} (Err f) (Err g) → f ≡ g
+    fault_of e = cc
+
+module _ (q : QuorumSystem) (site : ℕ) (records : List Record) (session : Session) where
+  on_deposit_refuses : (slot : SlotName) (checked : Result BagId BagFault)
+      → RefusesOnly session (on_deposit records session slot checked)
+  unfolding on_deposit
+  on_deposit_refuses slot (Err fault) = refusal session _
+  on_deposit_refuses slot (Ok bag) = go (deposit_fault (other_than bag (deposit_of slot records))
+      (other_than bag (known_of slot records)))
+    where
+      go : (f : Option SiteFault)
+          → RefusesOnly session (registering slot (deposit_of slot records) bag f session)
+      go (Some fault) = refusal session fault
+      go None = λ fault e. no_answer e
+
+  on_propose_refuses : (slot : SlotName)
+      → RefusesOnly session (on_propose q site records session slot)
+  unfolding on_propose
+  on_propose_refuses slot = go (known_of slot records) (deposit_of slot records)
+      (next_ballot site slot records session.heard)
+    where
+      go : (known own : Option BagId) (next : Option BallotNumber)
+          → RefusesOnly session (issuing_if q slot known own next session)
+      go (Some known) own next = refusal session _
+      go None None next = refusal session _
+      go None (Some own) None = refusal session _
+      go None (Some own) (Some ballot) = λ fault e. no_answer e
+
+  on_ask_refuses : (slot : SlotName) (member : ℕ)
+      → RefusesOnly session (on_ask site session slot member)
+  unfolding on_ask
+  on_ask_refuses slot member = λ fault e. no_answer e
+
+  module _ (slot : SlotName) (now : Session) where
+    proposes : (ballot : BallotNumber) (bag : Option BagId)
+        → RefusesOnly session (proposing q slot ballot bag now)
+    proposes ballot None = λ fault e. no_answer e
+    proposes ballot (Some bag) = λ fault e. no_answer e
+
+    learns : (bag : Option BagId) → RefusesOnly session (learning slot bag now)
+    learns None = λ fault e. no_answer e
+    learns (Some bag) = λ fault e. no_answer e
+
+    tells : (asker : ℕ) (bag : Option BagId)
+        → RefusesOnly session (telling site slot asker bag now)
+    tells asker None = λ fault e. no_answer e
+    tells asker (Some bag) = λ fault e. no_answer e
+
+    on_body_refuses : (body : Body)
+        → RefusesOnly session (on_body q site records session now slot body)
+    unfolding on_body
+    on_body_refuses (bodies.Prepare ballot) = λ fault e. no_answer e
+    on_body_refuses (bodies.Accept vote) = λ fault e. no_answer e
+    on_body_refuses (bodies.Promise from ballot prior) = proposes ballot
+        (ready q (deposit_of slot records) slot (session.current slot) session.heard ballot
+        (record { site = from; prior = prior }))
+    on_body_refuses (bodies.Accepted from vote) =
+        learns (learned_from q slot records session.heard from vote)
+    on_body_refuses (bodies.Known from bag) = learns (learned_of_known slot records bag)
+    on_body_refuses (bodies.Refused from asked standing) = λ fault e. no_answer e
+    on_body_refuses (bodies.Ask from) = tells from (known_of slot records)
+    on_body_refuses (bodies.Deposit path) = λ fault e. no_answer e
+    on_body_refuses bodies.Query = λ fault e. no_answer e
+    on_body_refuses (bodies.DepositReply from answer) = λ fault e. no_answer e
+    on_body_refuses (bodies.QueryReply from answer) = λ fault e. no_answer e
+
+  on_arrival_refuses : (message : Option Message)
+      → RefusesOnly session (on_arrival q site records session message)
+  unfolding on_arrival
+  on_arrival_refuses None = λ fault e. no_answer e
+  on_arrival_refuses (Some m) = go (is_member q (body_from m.body))
+    where
+      go : (t : Bool) → RefusesOnly session (cond t
+          (on_body q site records session (hears session m) m.slot m.body)
+          (only_says lines.Dropped session))
+      go true = on_body_refuses m.slot (hears session m) m.body
+      go false = λ fault e. no_answer e
+
+  -- no input brings about more than its refusal, where it is refused
+  pub refuses_only : (input : Input) → RefusesOnly session (effect_of q site records session input)
+  refuses_only (Deposits slot checked) = on_deposit_refuses slot checked
+  refuses_only (Proposes slot) = on_propose_refuses slot
+  refuses_only (Asks slot member) = on_ask_refuses slot member
+  refuses_only (Arrives message) = on_arrival_refuses message

@@ -1,0 +1,8 @@
+-- Stations says what a station stands for and what comes of each of its calls; before it come Calls,
+-- and `Networks` of `world_law`.
+pub mod Calls
+pub mod Told
+pub mod Fuses
+pub mod Modes
+pub mod Stations
+pub mod Owners
