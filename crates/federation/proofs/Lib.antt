@@ -1,0 +1,10 @@
+pub mod Answers
+pub mod Sent
+pub mod Places
+pub mod Stands
+pub mod Sound
+pub mod Trees
+pub mod Arriving
+pub mod Called
+pub mod Delivered
+pub mod Pumped

@@ -1,0 +1,78 @@
+use Rattle.std.proofs.Common.{ℕ, ◌+◌}
+use Rattle.world_law.specs.Networks.{Propose, Ask, Query, Stop}
+use Rattle.world_law.specs.Trees.{tree_at}
+use Rattle.dgram.specs.Decoded.{message_of}
+use Rattle.world_law.specs.Worlds.{after_command, event_at, on_raw, on_start, mode_of}
+use Rattle.federation.proofs.Answers.{then_ok}
+use Rattle.federation.proofs.Called.{at_place, nowhere}
+use Rattle.federation.proofs.federation.Federation.run_command.Goals as goal
+
+pub returns-in-Tree : goal.returns-in-Tree
+unfolding after_command
+returns-in-Tree c = rw c.in-Tree.is c.declare_tree.ensures
+
+pub returns-in-Folder : goal.returns-in-Folder
+unfolding after_command
+returns-in-Folder c = rw c.in-Folder.is c.add_folder.ensures
+
+pub returns-in-File : goal.returns-in-File
+unfolding after_command
+returns-in-File c =
+    rw c.in-File.is (rw (← c.as_str.ensures.value, ← c.as_slice.ensures) c.add_file.ensures)
+
+pub returns-in-Call : goal.returns-in-Call
+unfolding after_command
+returns-in-Call c = rw c.in-Call.is c.run_call.ensures
+
+pub returns-in-Pump : goal.returns-in-Pump
+unfolding after_command
+returns-in-Pump c = rw c.in-Pump.is c.pump.ensures
+
+pub returns-in-Some : goal.returns-in-Some
+unfolding after_command
+returns-in-Some c =
+    rw c.in-Query.is (then_ok c.query.result (λ done w is. at_place c.args.self.now _ w c.args.number
+    c.in-Query.site is c.in-Some.place (λ (n : ℕ). event_at w c.args.number n (Query n c.in-Query.slot)) c.in-Some.ensures (λ within. done w is)) c.query.ensures)
+
+pub returns-in-None : goal.returns-in-None
+unfolding after_command
+returns-in-None c =
+    rw c.in-Query.is (then_ok c.skip.result (λ skips w is. nowhere c.args.self.now _ w c.args.number
+    c.in-Query.site is _ c.in-None.ensures (skips w is)) c.skip.ensures)
+
+pub returns-in-Some-place_of : goal.returns-in-Some-place_of
+unfolding after_command
+returns-in-Some-place_of c =
+    rw c.in-Raw.is (then_ok c.raw.result (λ done w is. at_place c.args.self.now _ w c.args.number
+    c.in-Raw.site is c.in-Some-place_of.place (λ (n : ℕ). on_raw w c.args.number n (message_of w.members.federation c.in-Raw.bytes)) c.in-Some-place_of.ensures (λ within. rw (← c.as_slice-in-Some-place_of.ensures)
+    (done w is))) c.raw.ensures)
+
+pub returns-in-None-place_of : goal.returns-in-None-place_of
+unfolding after_command
+returns-in-None-place_of c =
+    rw c.in-Raw.is (then_ok c.skip-in-None-place_of.result (λ skips w is. nowhere c.args.self.now _ w c.args.number
+    c.in-Raw.site is _ c.in-None-place_of.ensures (skips w is)) c.skip-in-None-place_of.ensures)
+
+pub returns-in-Some-place_of-2 : goal.returns-in-Some-place_of-2
+unfolding after_command
+returns-in-Some-place_of-2 c =
+    rw c.in-Stop.is (then_ok c.stop.result (λ done w is. at_place c.args.self.now _ w c.args.number
+    c.in-Stop.site is c.in-Some-place_of-2.place (λ (n : ℕ). event_at w c.args.number n (Stop n)) c.in-Some-place_of-2.ensures (λ within. done w is)) c.stop.ensures)
+
+pub returns-in-None-place_of-2 : goal.returns-in-None-place_of-2
+unfolding after_command
+returns-in-None-place_of-2 c =
+    rw c.in-Stop.is (then_ok c.skip-in-None-place_of-2.result (λ skips w is. nowhere c.args.self.now _ w c.args.number
+    c.in-Stop.site is _ c.in-None-place_of-2.ensures (skips w is)) c.skip-in-None-place_of-2.ensures)
+
+pub returns-in-Some-place_of-3 : goal.returns-in-Some-place_of-3
+unfolding after_command
+returns-in-Some-place_of-3 c =
+    rw c.in-Start.is (then_ok c.start.result (λ done w is. at_place c.args.self.now _ w c.args.number
+    c.in-Start.site is c.in-Some-place_of-3.place (λ (n : ℕ). on_start w c.args.number n (mode_of w n)) c.in-Some-place_of-3.ensures (λ within. done w is)) c.start.ensures)
+
+pub returns-in-None-place_of-3 : goal.returns-in-None-place_of-3
+unfolding after_command
+returns-in-None-place_of-3 c =
+    rw c.in-Start.is (then_ok c.skip-in-None-place_of-3.result (λ skips w is. nowhere c.args.self.now _ w c.args.number
+    c.in-Start.site is _ c.in-None-place_of-3.ensures (skips w is)) c.skip-in-None-place_of-3.ensures)

@@ -1,0 +1,4 @@
+pub mod Sent
+pub mod Said
+pub mod Inputs
+pub mod Federations

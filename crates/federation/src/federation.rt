@@ -1,0 +1,82 @@
+ghost use Rattle.std.specs.Prelude.{◌≡◌, IfOk};
+ghost use Rattle.world_law.specs.Worlds.{new_world};
+ghost use Rattle.fed_types.specs.Sites.{IsSiteNumber};
+ghost use Rattle.world_law.specs.Networks.{new_site};
+ghost use Rattle.federation.specs.Federations.{StandsFor, AreNew, IsStation};
+
+use fed_types::{Members, SiteNo, members_are_well_formed};
+use records::Owner;
+use stations::Station;
+use std::alloc::{AllocError, Global};
+use world_law::Line;
+use world_tables::{Datagrams, SeenBags, Trees};
+
+/// A federation as a schedule makes it: its sites, the datagrams that they sent, each by the place
+/// of its line, the trees, the bags that were seen in deposits, and the lines so far. In the words
+/// of a clause it stands for a `World`.
+#[derive(Drop)]
+pub struct Federation {
+    pub(crate) alloc: Global,
+    pub(crate) members: Members,
+    // Site 1 comes first.
+    pub(crate) stations: Vec<Station>,
+    pub(crate) sent: Datagrams<usize>,
+    pub(crate) trees: Trees,
+    pub(crate) seen: SeenBags,
+    pub(crate) lines: Vec<Line>,
+}
+
+impl Federation {
+    /// The federation of these members before anything has happened.
+    pub fn new(alloc: Global, members: Members) -> Result<Federation, AllocError>
+        ensures { IfOk result (λ f. StandsFor f (new_world members)) }
+    {
+        members_are_well_formed(&members);
+        let stations = new_stations(alloc, &members)?;
+        Ok(Federation {
+            alloc,
+            members,
+            stations,
+            sent: Datagrams::new(alloc),
+            trees: Trees::new(alloc),
+            seen: SeenBags::new(alloc),
+            lines: Vec::new(alloc),
+        })
+    }
+
+    /// What was said, in order.
+    pub fn into_lines(self) -> Vec<Line>
+        ensures { result.items ≡ self.lines.items }
+    {
+        let Federation { lines, .. } = self;
+        lines
+    }
+}
+
+// A new site for each member.
+fn new_stations(alloc: Global, members: &Members) -> Result<Vec<Station>, AllocError>
+    ensures { IfOk result (λ stations. AreNew members.now stations.items) }
+{
+    let mut stations = Vec::with_capacity(alloc, usize::from(members.count()))?;
+    'sites: for before in 0..members.count() {
+        stations.push(new_station(alloc, members, before + 1)?)?;
+    }
+    Ok(stations)
+}
+
+// The new site of this number.
+fn new_station(alloc: Global, members: &Members, number: u8) -> Result<Station, AllocError>
+    requires { IsSiteNumber number }
+    ensures { IfOk result (λ station. IsStation members.now number station new_site) }
+{
+    let Ok(site) = SiteNo::new(number) else {
+        unreachable!();
+    };
+    Station::new(
+        alloc,
+        Owner {
+            members: *members,
+            site,
+        },
+    )
+}

@@ -1,0 +1,100 @@
+//! The commands of a schedule.
+
+ghost use Rattle.std.specs.Prelude.{◌≡◌, ◌<◌, ◌+◌, length, OnOk};
+ghost use Rattle.world_law.specs.Networks.{Ask};
+ghost use Rattle.world_law.specs.Worlds.{World, after_line, after_command, on_call, at_member, event_at};
+ghost use Rattle.federation.specs.Federations.{StandsFor};
+
+use crate::federation::Federation;
+use fed_types::Slot;
+use schedule::{Call, Command, Fate};
+use std::alloc::AllocError;
+use world_law::Reason;
+
+impl Federation {
+    /// Runs the line of this number: its command, if it has one. `Err`: out of memory, and nothing
+    /// is promised.
+    pub fn run_line(&mut self, number: usize, line: &Option<Command>) -> Result<(), AllocError>
+        ensures { OnOk result ((w : World) → StandsFor self.old w
+            → StandsFor self.new (after_line w number line.now)) }
+    {
+        match line {
+            Some(command) => self.run_command(number, command),
+            None => Ok(()),
+        }
+    }
+
+    fn run_command(&mut self, number: usize, command: &Command) -> Result<(), AllocError>
+        ensures { OnOk result ((w : World) → StandsFor self.old w
+            → StandsFor self.new (after_command w number command.now)) }
+    {
+        match command {
+            Command::Tree { tree } => self.declare_tree(number, *tree),
+            Command::Folder { tree } => self.add_folder(number, *tree),
+            Command::File {
+                tree,
+                path,
+                content,
+            } => self.add_file(number, *tree, path.as_str(), content.as_slice()),
+            Command::Call { call, fate } => self.run_call(number, call, *fate),
+            Command::Query { site, slot } => match self.place_of(*site) {
+                Some(place) => self.query(number, place, slot),
+                None => self.skip(number, Reason::Site),
+            },
+            Command::Raw { site, bytes } => match self.place_of(*site) {
+                Some(place) => self.raw(number, place, bytes.as_slice()),
+                None => self.skip(number, Reason::Site),
+            },
+            Command::Pump { turns } => self.pump(number, *turns),
+            Command::Stop { site } => match self.place_of(*site) {
+                Some(place) => self.stop(number, place),
+                None => self.skip(number, Reason::Site),
+            },
+            Command::Start { site } => match self.place_of(*site) {
+                Some(place) => self.start(number, place),
+                None => self.skip(number, Reason::Site),
+            },
+        }
+    }
+
+    fn run_call(&mut self, number: usize, call: &Call, fate: Fate) -> Result<(), AllocError>
+        ensures { OnOk result ((w : World) → StandsFor self.old w
+            → StandsFor self.new (on_call w number call.now fate)) }
+    {
+        match call {
+            Call::Deposit { site, tree, slot } => match self.place_of(*site) {
+                Some(place) => self.deposit(number, place, *tree, slot, fate),
+                None => self.skip(number, Reason::Site),
+            },
+            Call::Propose { site, slot } => match self.place_of(*site) {
+                Some(place) => self.propose(number, place, slot, fate),
+                None => self.skip(number, Reason::Site),
+            },
+            Call::Deliver { datagram } => self.deliver(number, *datagram as usize, fate),
+            Call::Ask { site, to, slot } => match self.place_of(*site) {
+                Some(place) => self.ask_site(number, place, *to, slot, fate),
+                None => self.skip(number, Reason::Site),
+            },
+        }
+    }
+
+    // A member is called to ask a site.
+    fn ask_site(
+        &mut self,
+        number: usize,
+        place: usize,
+        to: u8,
+        slot: &Slot,
+        fate: Fate,
+    ) -> Result<(), AllocError>
+        requires { place < length self.old.stations.items }
+        ensures { OnOk result ((w : World) → StandsFor self.old w
+            → StandsFor self.new (at_member w number to (event_at w number (place + 1)
+            (Ask (place + 1) to slot.now fate)))) }
+    {
+        match self.place_of(to) {
+            Some(asked) => self.ask(number, place, asked, slot, fate),
+            None => self.skip(number, Reason::Site),
+        }
+    }
+}
