@@ -1,10 +1,11 @@
 -- What a run of the program answers to the bytes of a schedule.
-use Rattle.std.specs.Prelude.{◌≡◌, ◌⊎◌, ℕ, Bool, List, [], ◌∷◌, ◌++◌, take, Option, Result, Ok, Err}
+use Rattle.std.specs.Prelude.{◌≡◌, ◌⊎◌, ℕ, List, [], ◌∷◌, ◌++◌, take, Option, Result, Ok, Err}
 use Rattle.std.specs.Prelude.{codes}
 use Rattle.std.specs.Io.KnownBytes.{Appends}
 use Rattle.std.specs.Fmt.{decimal}
-use Rattle.first_schedule.specs.Plans.{Plan, plan_of}
-use Rattle.simulator.specs.Runs.{run_of}
+use Rattle.schedule.specs.Plans.{Plan, plan_of}
+use Rattle.world_law.specs.Worlds.{run_of}
+use Rattle.simulator.specs.declared.print_run.Options.{Options}
 use Rattle.simulator.specs.Texts.{text_of}
 
 -- an exit status, and what is written
@@ -13,19 +14,19 @@ pub record Outcome : Type 0 where
   pub text : List ℕ
 
 -- the text of the reference run, or the one line of the fault
-abbrev pub outcome_for : Bool → Result Plan ℕ → Outcome
-outcome_for identities (Ok plan) = record {
+abbrev pub outcome_for : Options → Result Plan ℕ → Outcome
+outcome_for options (Ok plan) = record {
   status = 0;
-  text = text_of identities (run_of plan).lines;
+  text = text_of options (run_of plan).lines;
 }
-outcome_for identities (Err line) = record {
+outcome_for options (Err line) = record {
   status = 1;
   text = codes "schedule line " ++ decimal line ++ 10 ∷ [];
 }
 
 -- the outcome for the bytes of a schedule
-unfoldable pub outcome_of : Bool → List ℕ → Outcome
-outcome_of identities bytes = outcome_for identities (plan_of bytes)
+unfoldable pub outcome_of : Options → List ℕ → Outcome
+outcome_of options bytes = outcome_for options (plan_of bytes)
 
 -- the outcome where memory ran out
 abbrev pub no_memory : Outcome
@@ -41,5 +42,5 @@ WritesPrefix old new outcome = (n : ℕ) × Appends old new (take n outcome.text
 
 -- what a run may end with, and what is written of it then: the outcome for these bytes, or that
 -- memory ran out
-abbrev pub AnswersTo : Bool → List ℕ → (Outcome → Type 0) → Type 0
-AnswersTo identities bytes P = P (outcome_of identities bytes) ⊎ P no_memory
+abbrev pub AnswersTo : Options → List ℕ → (Outcome → Type 0) → Type 0
+AnswersTo options bytes P = P (outcome_of options bytes) ⊎ P no_memory

@@ -17,10 +17,21 @@ const RUN_EXAMPLE: &str = "A schedule is a text of commands, one a line:
   federation F N W1 .. WN
                         the same, with the weights of the sites; else each has the weight 1
   tree T                declares an empty tree of files
-  folder T              makes the tree's payload folder `data` stand
+  folder T              adds the tree's payload folder `data`
   file T PATH HEX       adds a file, its bytes in hex (`-` for none)
   deposit S T OBJ V     deposits the tree at site S, as version V of the object OBJ
+  propose S OBJ V       site S proposes its deposit to all
+  deliver K             the K-th datagram that was sent arrives
+  pump N                N times: the first datagram arrives that none of these has named
+  ask S TO OBJ V        site S asks site TO which bag it knows
   query S OBJ V         asks site S which bag is version V of OBJ
+  raw S HEX             bytes that no site sent arrive at site S
+  stop S                stops site S between calls
+  start S               opens its cell again
+A deposit, propose, deliver or ask may end in a fate:
+  stop 1 K, stop 2 K    the site stops as it writes its record, or syncs it; of it K bytes are kept
+  stop 3 J              the site stops when the first J of its datagrams were sent
+  fail 1 K, fail 2 K    the write, or the sync, fails; the site has to be started again
 Lines that are blank, or begin with `#`, are skipped.
 
 The exit status is 0; 1 where the text is no schedule (`schedule line N`), memory runs out

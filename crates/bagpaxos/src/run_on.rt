@@ -7,7 +7,7 @@ ghost use Rattle.bagpaxos.specs.Outcomes.{outcome_of, AnswersTo, Writes, WritesP
 use crate::answer::{Answer, write_answer};
 use crate::fault::ProgramFault;
 use crate::read_all::{ReadFault, read_all};
-use first_schedule::{ParseFault, parse};
+use schedule::{ParseFault, parse};
 use simulator::{Options, RunFault, run, text};
 use std::alloc::{AllocError, Global};
 use std::io::{Read, Write};
@@ -22,12 +22,12 @@ pub fn run_on<R: Read, W: Write>(
     options: Options,
 ) -> Result<u8, ProgramFault>
     ensures ok { IfOk result (λ status. IfSome (R.remaining input.old) (λ bytes.
-        AnswersTo options.identities bytes
+        AnswersTo options bytes
         (Writes (W.contents output.old) (W.contents output.new) status))) }
     ensures input { IsErrOf result ProgramFault.Input
         → Keeps (W.contents output.old) (W.contents output.new) }
     ensures output { IsErrOf result ProgramFault.Output
-        → IfSome (R.remaining input.old) (λ bytes. AnswersTo options.identities bytes
+        → IfSome (R.remaining input.old) (λ bytes. AnswersTo options bytes
         (WritesPrefix (W.contents output.old) (W.contents output.new))) }
 {
     let bytes = match read_all(alloc, input) {
@@ -45,9 +45,9 @@ pub fn run_on<R: Read, W: Write>(
 #[tactic(auto, unfolding(crate::specs::Outcomes::outcome_of))]
 fn answer_to(alloc: Global, bytes: &[u8], options: Options) -> Result<Answer, AllocError>
     ensures status { IfOk result
-        (λ a. a.status ≡ (outcome_of options.identities bytes.now).status) }
+        (λ a. a.status ≡ (outcome_of options bytes.now).status) }
     ensures text { IfOk result
-        (λ a. string_bytes a.text ≡ (outcome_of options.identities bytes.now).text) }
+        (λ a. string_bytes a.text ≡ (outcome_of options bytes.now).text) }
 {
     match parse(alloc, bytes) {
         Ok(schedule) => {

@@ -3,6 +3,7 @@ use cell_device::CellFault;
 use dgram::DgramFault;
 use fed_types::TypeFault;
 use hex::FromHexError;
+use schedule::ParseFault;
 use site_tools::ToolFault;
 use std::alloc::AllocError;
 use std::io;
@@ -12,14 +13,14 @@ use thiserror::Error;
 #[derive(Clone, Copy, Debug, PartialEq, Eq, Error)]
 pub enum Fault {
     /// The arguments are not those of a task.
-    #[error("tasks: encode|decode|decide|arrive N, file|commit|turns PATH SITE, bench|fill PATH N, open PATH, memory, deciding, sites")]
+    #[error("tasks: encode|decode|decide|arrive N, file|commit|turns PATH SITE, bench|fill PATH N, open PATH, memory, deciding, sites, schedule")]
     Arguments,
     /// A line is no comment, no federation with the hex digits of a datagram, and no site with
     /// those of a cell.
     #[error("a line that is neither FEDERATION HEX nor SITE | HEX")]
     Line,
-    /// A script has a line that it can't have.
-    #[error("a line that no script has")]
+    /// A script or a schedule has a line that it can't have.
+    #[error("a line that no script and no schedule has")]
     Script,
     /// A line asks for no turn.
     #[error("a line that is neither commit nor open")]
@@ -97,6 +98,15 @@ impl From<OpenFault> for Fault {
             OpenFault::Device => Fault::Device,
             OpenFault::Memory => Fault::Memory,
             fault => Fault::Refused(fault),
+        }
+    }
+}
+
+impl From<ParseFault> for Fault {
+    fn from(e: ParseFault) -> Fault {
+        match e {
+            ParseFault::Line(_) => Fault::Script,
+            ParseFault::Memory => Fault::Memory,
         }
     }
 }

@@ -1,5 +1,5 @@
-//! A tool of the tests, beside the crates `dgram`, `book`, `acceptor`, `proposer`, `learner` and
-//! `site`.
+//! A tool of the tests, beside the crates `dgram`, `book`, `acceptor`, `proposer`, `learner`, `site`
+//! and `schedule`.
 //! Without arguments it reads datagrams and cells from standard input, one a line, and prints what
 //! each says. Its tasks (`task` lists them) call those crates, some on files, time them, and let
 //! allocations fail.
@@ -18,6 +18,7 @@ mod message_text;
 mod opening;
 mod out_of_memory;
 mod records_text;
+mod schedule_text;
 mod task;
 mod turns;
 
@@ -29,6 +30,7 @@ use fault::Fault;
 use files::{commit_line, opened_line};
 use journal_times::{commits_line, filled_line, opening_time_line};
 use out_of_memory::voted_line;
+use schedule_text::printed_again;
 use std::process::ExitCode;
 use std::{env, io};
 use task::{Task, task_of};
@@ -71,5 +73,6 @@ fn text(rt: &HostRuntime) -> Result<String, Fault> {
             alloc,
             io::read_to_string(alloc, rt.reader())?.as_str(),
         )?),
+        Task::Schedule => printed_again(alloc, io::read_to_string(alloc, rt.reader())?.as_str()),
     }
 }

@@ -35,6 +35,8 @@ pub enum Task {
     Arrive { count: u32 },
     /// Call sites as the script on standard input says.
     Sites,
+    /// Read the schedule on standard input, and print it.
+    Schedule,
 }
 
 /// The task that the program's arguments name.
@@ -77,6 +79,7 @@ pub fn task_of(words: &mut Args) -> Result<Task, Fault> {
             count: count(words)?,
         },
         "sites" => Task::Sites,
+        "schedule" => Task::Schedule,
         "arrive" => Task::Arrive {
             count: count(words)?,
         },

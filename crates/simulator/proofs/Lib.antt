@@ -1,3 +1,2 @@
-pub mod Lookups
 pub mod LineByLine
-pub mod Spaces
+pub mod TextOfLines

@@ -1,35 +1,44 @@
--- A run, one line on, and at the last.
-use Rattle.std.proofs.Common.{◌≡◌, ℕ, ◌+◌, ◌<◌, ◌≤◌, List, ◌∷◌, length, drop, get_or, Option, sym}
-use Rattle.std.proofs.Common.{ap, ◌∙◌, arith}
-use Rattle.std.proofs.lemmas.List.{at_drop_more, at_drop_all}
-use Rattle.first_schedule.specs.declared.command.Command.{Command}
-use Rattle.first_schedule.specs.Plans.{Plan}
-use Rattle.simulator.specs.Worlds.{World, start}
-use Rattle.simulator.specs.Runs.{line_happens, run_from, run_of}
+-- A run of no lines, of one line more, and of all of them.
+use Rattle.std.proofs.Common.{◌≡◌, ℕ, suc, ◌+◌, ◌<◌, ◌≤◌, List, [], ◌∷◌, ◌++◌, length, take}
+use Rattle.std.proofs.Common.{get_or, Option, sym, ap, ◌∙◌, arith, refl}
+use Rattle.std.proofs.lemmas.List.{take_more, take_all, length-take-le}
+use Rattle.schedule.specs.declared.command.Command.{Command}
+use Rattle.schedule.specs.Plans.{Plan}
+use Rattle.world_law.specs.Worlds.{World, new_world, after_line, run_from, run_of}
+
+pub run_from-none : (number : ℕ) (w : World) → run_from number w [] ≡ w
+unfolding run_from
+run_from-none number w = refl
+
+-- the last line comes after all others
+pub run_from-push : (number : ℕ) (w : World) (lines : List (Option Command))
+    (line : Option Command)
+    → after_line (run_from number w lines) (number + length lines) line
+    ≡ run_from number w (lines ++ line ∷ [])
+unfolding run_from
+run_from-push number w [] line =
+    let at : number + 0 ≡ number = omega arith in ap (λ n. after_line w n line) at
+run_from-push number w (first ∷ lines) line =
+    let at : number + suc (length lines) ≡ (number + 1) + length lines = omega arith in
+    ap (λ n. after_line (run_from (number + 1) (after_line w number first) lines) n line) at
+    ∙ run_from-push (number + 1) (after_line w number first) lines line
 
 pub run_from-more : (first index : ℕ) (w : World) (lines : List (Option Command))
-    (line : Option Command) (all : World) → index < length lines → line ≡ get_or lines index line
-    → run_from (first + index) w (drop index lines) ≡ all
-    → run_from (first + (index + 1)) (line_happens w (first + index) line)
-    (drop (index + 1) lines) ≡ all
-unfolding run_from
-run_from-more first index w lines line all within is so_far =
-    let number : first + (index + 1) ≡ first + index + 1 = omega arith in
-    let rest : drop index lines ≡ line ∷ drop (index + 1) lines =
-    at_drop_more (λ ls. ls) lines index line within
-    ∙ ap (λ l. l ∷ drop (index + 1) lines) (sym is) in
-    ap (λ n. run_from n (line_happens w (first + index) line) (drop (index + 1) lines)) number
-    ∙ (ap (run_from (first + index) w) (sym rest) ∙ so_far)
+    (line : Option Command) → index < length lines → line ≡ get_or lines index line
+    → after_line (run_from first w (take index lines)) (first + index) line
+    ≡ run_from first w (take (index + 1) lines)
+run_from-more first index w lines line within is =
+    let most : index ≤ length lines = omega (arith, within) in
+    let count : length (take index lines) ≡ index = length-take-le index lines most in
+    let more : take (index + 1) lines ≡ take index lines ++ line ∷ [] =
+    take_more lines index line within ∙ ap (λ l. take index lines ++ l ∷ []) (sym is) in
+    ap (λ k. after_line (run_from first w (take index lines)) (first + k) line) (sym count)
+    ∙ (run_from-push first w (take index lines) line ∙ ap (run_from first w) (sym more))
 
-pub run_from-all : (first index : ℕ) (w : World) (lines : List (Option Command)) (all : World)
-    → length lines ≤ index → run_from (first + index) w (drop index lines) ≡ all → w ≡ all
-unfolding run_from
-run_from-all first index w lines all past so_far =
-    sym (at_drop_all (run_from (first + index) w) lines index past) ∙ so_far
-
-pub run_of-start : (plan : Plan) (first : ℕ) → first ≡ plan.skipped + 2
-    → run_from (first + 0) (start plan.members) plan.lines ≡ run_of plan
+pub run_from-all : (plan : Plan) (first index : ℕ) → first ≡ plan.skipped + 2
+    → length plan.lines ≤ index
+    → run_from first (new_world plan.members) (take index plan.lines) ≡ run_of plan
 unfolding run_of
-run_of-start plan first is =
-    let number : first + 0 ≡ plan.skipped + 2 =
-    omega arith in ap (λ n. run_from n (start plan.members) plan.lines) number
+run_from-all plan first index is past =
+    ap (run_from first (new_world plan.members)) (take_all index plan.lines past)
+    ∙ ap (λ n. run_from n (new_world plan.members) plan.lines) is

@@ -1,20 +1,16 @@
-//! A federation of sites, run by a schedule: what each command makes of it, and the text of what it
-//! says.
+//! A federation of sites, run by a schedule, and the text of what the run says.
 #![tactic(auto)]
 
 mod fault;
-mod line;
 mod print_run;
-mod seen;
-mod site;
+mod print_words;
+mod run_schedule;
 mod trace;
-mod trees;
-mod world;
 
 pub use fault::RunFault;
-pub use line::{Line, NamedBag, Reason, Refusal, Reply};
 pub use print_run::{Options, text};
-pub use trace::{Trace, run};
+pub use run_schedule::run;
+pub use trace::Trace;
 
 #[cfg(test)]
 mod tests;

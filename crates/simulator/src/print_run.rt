@@ -1,13 +1,11 @@
-ghost use Rattle.std.specs.Prelude.{◌≡◌, ◌∷◌, [], IfOk, string_bytes};
-ghost use Rattle.first_schedule.specs.Pushes.{Pushes};
-ghost use Rattle.simulator.specs.Texts.{text_of, line_text, words_text, bag_word, slot_words};
-ghost use Rattle.simulator.specs.Texts.{reply_words, refusal_words, reason_word, spaced_words};
+ghost use Rattle.std.specs.Prelude.{◌≡◌, IfOk, string_bytes};
+ghost use Rattle.schedule.specs.Pushes.{Pushes};
+ghost use Rattle.simulator.specs.Texts.{text_of, line_text, is_printed, printed_line};
 
-use crate::line::{Line, NamedBag, Reason, Refusal, Reply};
+use crate::print_words::push_words;
 use crate::trace::Trace;
-use fed_types::Slot;
-use first_schedule::push_escaped;
 use std::alloc::{AllocError, Global};
+use world_law::Line;
 
 /// How the text of a run is written.
 #[derive(Clone, Copy, Debug)]
@@ -18,125 +16,51 @@ pub struct Options {
     pub identities: bool,
 }
 
-/// The text of a run: a line for each event that says something, each ended by LF. It fails
-/// only where memory runs out.
+/// The text of a run: its lines in order, each ended by LF; those of datagrams only where `sent`
+/// asks for them. It fails only where memory runs out.
 pub fn text(alloc: Global, trace: &Trace, options: Options) -> Result<String, AllocError>
-    ensures { IfOk result (λ text. string_bytes text ≡ text_of options.identities trace.now) }
+    ensures { IfOk result (λ text. string_bytes text ≡ text_of options trace.now) }
 {
     let mut text = String::new(alloc);
     for line in trace.lines() {
-        push_line(alloc, &mut text, options.identities, line)?;
+        push_printed(alloc, &mut text, options, line)?;
     }
     Ok(text)
+}
+
+fn push_printed(
+    alloc: Global,
+    text: &mut String,
+    options: Options,
+    line: &Line,
+) -> Result<(), AllocError>
+    ensures { Pushes result text.old text.new (printed_line options line.now) }
+{
+    if is_printed(options, line) {
+        push_line(alloc, text, options, line)
+    } else {
+        Ok(())
+    }
+}
+
+fn is_printed(options: Options, line: &Line) -> bool
+    ensures { result ≡ is_printed options line.now }
+{
+    match line {
+        Line::Sent { .. } => options.sent,
+        _ => true,
+    }
 }
 
 #[tactic(auto, using(std::proofs::Common::append_assoc))]
 fn push_line(
     alloc: Global,
     text: &mut String,
-    identities: bool,
+    options: Options,
     line: &Line,
 ) -> Result<(), AllocError>
-    ensures { Pushes result text.old text.new (line_text identities line.now) }
+    ensures { Pushes result text.old text.new (line_text options line.now) }
 {
-    push_words(alloc, text, identities, line)?;
+    push_words(alloc, text, options, line)?;
     text.push('\n')
-}
-
-#[tactic(auto, using(crate::proofs::Spaces::spaced_words_append))]
-fn push_words(
-    alloc: Global,
-    text: &mut String,
-    identities: bool,
-    line: &Line,
-) -> Result<(), AllocError>
-    ensures { Pushes result text.old text.new (words_text identities line.now) }
-{
-    match line {
-        Line::Registered { site, slot, bag } => {
-            text.push_str("registered")?;
-            push_slot(text, *site, slot)?;
-            push_bag(alloc, text, identities, *bag)
-        }
-        Line::Replied { site, slot, reply } => {
-            text.push_str("reply")?;
-            push_slot(text, *site, slot)?;
-            push_reply(alloc, text, identities, *reply)
-        }
-        Line::Refused { site, refusal } => {
-            write!(text, "refused {site}")?;
-            push_refusal(text, *refusal)
-        }
-        Line::Skip { line, reason } => {
-            write!(text, "skip {line}")?;
-            push_reason(text, *reason)
-        }
-    }
-}
-
-fn push_slot(text: &mut String, site: u8, slot: &Slot) -> Result<(), AllocError>
-    ensures { Pushes result text.old text.new (spaced_words (slot_words site slot.now)) }
-{
-    write!(text, " {site} ")?;
-    push_escaped(text, slot.object())?;
-    let version = slot.version();
-    write!(text, " {version}")?;
-    Ok(())
-}
-
-fn push_bag(
-    alloc: Global,
-    text: &mut String,
-    identities: bool,
-    named: NamedBag,
-) -> Result<(), AllocError>
-    ensures { Pushes result text.old text.new (spaced_words (bag_word identities named ∷ [])) }
-{
-    if identities {
-        let digits = hex::encode(alloc, named.bag.0)?;
-        text.push(' ')?;
-        text.push_str(digits.as_str())
-    } else {
-        let tree = named.tree;
-        write!(text, " #{tree}")
-    }
-}
-
-fn push_reply(
-    alloc: Global,
-    text: &mut String,
-    identities: bool,
-    reply: Reply,
-) -> Result<(), AllocError>
-    ensures { Pushes result text.old text.new (spaced_words (reply_words identities reply)) }
-{
-    match reply {
-        Reply::Pending(named) => {
-            text.push_str(" pending")?;
-            push_bag(alloc, text, identities, named)
-        }
-        Reply::Nothing => text.push_str(" nothing"),
-    }
-}
-
-fn push_refusal(text: &mut String, refusal: Refusal) -> Result<(), AllocError>
-    ensures { Pushes result text.old text.new (spaced_words (refusal_words refusal)) }
-{
-    match refusal {
-        Refusal::InvalidBag(fault) => {
-            let number = fault.number();
-            write!(text, " 10 {number}")
-        }
-        Refusal::OtherDeposit => text.push_str(" 11"),
-    }
-}
-
-fn push_reason(text: &mut String, reason: Reason) -> Result<(), AllocError>
-    ensures { Pushes result text.old text.new (spaced_words (reason_word reason ∷ [])) }
-{
-    match reason {
-        Reason::Site => text.push_str(" site"),
-        Reason::Tree => text.push_str(" tree"),
-        Reason::Path => text.push_str(" path"),
-    }
 }

@@ -1,12 +1,7 @@
-ghost use Rattle.std.specs.Prelude.{◌≡◌, IfOk};
-ghost use Rattle.simulator.specs.Runs.{run_of};
+ghost use Rattle.std.specs.Prelude.{◌≡◌};
 
-use crate::fault::RunFault;
-use crate::line::Line;
-use crate::world::Federation;
-use first_schedule::Schedule;
-use std::alloc::Global;
 use std::marker::Model;
+use world_law::Line;
 
 /// What a run says, line by line.
 #[derive(Drop)]
@@ -16,7 +11,7 @@ pub struct Trace {
 
 impl Model for Trace {
     ghost use Rattle.std.specs.Prelude.{List};
-    ghost use Rattle.simulator.specs.declared.line.Line.{Line};
+    ghost use Rattle.world_law.specs.declared.line.Line.{Line};
 
     ghost Value = { List Line };
 
@@ -24,26 +19,17 @@ impl Model for Trace {
 }
 
 impl Trace {
-    /// The lines, in the order of the events that say them.
+    /// The trace of these lines.
+    pub fn new(lines: Vec<Line>) -> Trace
+        ensures { result ≡ lines.items }
+    {
+        Trace { lines }
+    }
+
+    /// The lines: each event's own, and then those of the datagrams that it sent.
     pub fn lines(&self) -> &[Line]
         ensures { result.now ≡ self.now }
     {
         self.lines.as_slice()
     }
-}
-
-/// Runs a schedule: the lines are those of the reference run. The one fault is out of memory, and
-/// then there is no trace.
-#[tactic(auto, unfolding(crate::specs::Runs::run_of))]
-pub fn run(alloc: Global, schedule: &Schedule) -> Result<Trace, RunFault>
-    ensures { IfOk result (λ trace. trace ≡ (run_of schedule.now).lines) }
-{
-    let mut federation = Federation::new(alloc, schedule.members())?;
-    let first = schedule.first_line();
-    'lines: for (index, line) in schedule.lines().iter().enumerate() {
-        federation.run_line(alloc, first + index, line)?;
-    }
-    Ok(Trace {
-        lines: federation.into_lines(),
-    })
 }

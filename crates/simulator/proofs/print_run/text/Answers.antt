@@ -1,11 +1,11 @@
 use Rattle.std.proofs.Common.{◌≡◌, ◌++◌, ◌<◌, ◌≤◌, length, get_or, ap, ◌∙◌}
-use Rattle.simulator.specs.Texts.{line_text}
-use Rattle.simulator.proofs.Spaces.{text_of-more, text_of-none, text_of-all}
+use Rattle.simulator.specs.Texts.{printed_line}
+use Rattle.simulator.proofs.TextOfLines.{text_of-more, text_of-none, text_of-all}
 use Rattle.simulator.proofs.print_run.text.Goals as goal
 
 pub loop-line-init : goal.loop-line-init
 loop-line-init c =
-    c.new-text.ensures.bytes ∙ text_of-none c.args.options.identities c.args.trace.now
+    c.new-text.ensures.bytes ∙ text_of-none c.args.options c.args.trace.now
 
 pub loop-line-preserved : goal.loop-line-preserved
 loop-line-preserved c =
@@ -14,9 +14,9 @@ loop-line-preserved c =
     rw (← c.lines-line-items.ensures) c.loop-line-test.true in
     let is : c.line-item.result ≡ get_or lines c.loop-line.line-index c.line-item.result =
     rw (← c.lines-line-items.ensures) c.line-item.is in
-    c.in_ok-push_line.ensures
-    ∙ (ap (λ t. t ++ line_text c.args.options.identities c.line-item.result) c.loop-line.invariant
-    ∙ text_of-more c.args.options.identities lines c.loop-line.line-index c.line-item.result within
+    c.in_ok-push_printed.ensures
+    ∙ (ap (λ t. t ++ printed_line c.args.options c.line-item.result) c.loop-line.invariant
+    ∙ text_of-more c.args.options lines c.loop-line.line-index c.line-item.result within
     is)
 
 pub returns : goal.returns
@@ -24,4 +24,4 @@ returns c =
     let past : length c.args.trace.now ≤ c.loop-line.line-index =
     rw (← c.lines-line-items.ensures) c.loop-line-test.false in
     c.loop-line.invariant
-    ∙ text_of-all c.args.options.identities c.args.trace.now c.loop-line.line-index past
+    ∙ text_of-all c.args.options c.args.trace.now c.loop-line.line-index past

@@ -6,4 +6,4 @@ use Rattle.simulator.proofs.print_run.text.Given as goal
 -- the text of the lines so far
 abbrev pub invariant-loop-line : goal.invariant-loop-line
 invariant-loop-line l =
-    string_bytes l.text ≡ text_of l.options.identities (take l.line-index l.trace)
+    string_bytes l.text ≡ text_of l.options (take l.line-index l.trace)

@@ -1,8 +1,0 @@
-use Rattle.std.proofs.Common.{◌≡◌, ◌++◌, take, string_bytes}
-use Rattle.first_schedule.specs.inner.Printed.{spaced_weights}
-use Rattle.first_schedule.proofs.print_command.push_weights.Given as goal
-
--- the weights so far are printed
-abbrev pub invariant-loop-weight : goal.invariant-loop-weight
-invariant-loop-weight l =
-    string_bytes l.text ≡ string_bytes l.fn.text ++ spaced_weights (take l.weight-index l.weights)

@@ -1,0 +1,51 @@
+use Rattle.std.proofs.Common.{◌≡◌, ◌+◌, ◌<◌, ◌≤◌, length, take, get_or, ap, ◌∙◌, subst, sym}
+use Rattle.world_law.specs.Headline.{LinesAgree}
+use Rattle.world_law.specs.Worlds.{World, new_world, run_from}
+use Rattle.world_law.proofs.Promised as laws
+use Rattle.federation.specs.Federations.{StandsFor}
+use Rattle.simulator.proofs.LineByLine.{run_from-none, run_from-more, run_from-all}
+use Rattle.simulator.proofs.run_schedule.run.Goals as goal
+
+pub lines-init : goal.lines-init
+lines-init c =
+    let f = c.in_ok-federation.federation in
+    let w = new_world c.args.schedule.now.members in
+    subst (StandsFor f) (sym (run_from-none c.first_line-first.result w))
+    (subst (λ m. StandsFor f (new_world m)) c.members.ensures c.in_ok-federation.ensures)
+
+pub lines-preserved : goal.lines-preserved
+lines-preserved c =
+    let lines = c.args.schedule.now.lines in
+    let first = c.first_line-first.result in
+    let w = new_world c.args.schedule.now.members in
+    let within : c.lines.index < length lines =
+    rw (← c.lines-line-items.ensures.value) c.lines-test.true in
+    let is : c.line-item.result ≡ get_or lines c.lines.index c.line-item.result =
+    rw (← c.lines-line-items.ensures.value) c.line-item.is in
+    subst (StandsFor c.run_line.new.self)
+    (run_from-more first c.lines.index w lines c.line-item.result within is)
+    (c.in_ok-run_line.ensures (run_from first w (take c.lines.index lines)) c.lines.invariant)
+
+pub returns-in_err-federation-clause-deposited : goal.returns-in_err-federation-clause-deposited
+returns-in_err-federation-clause-deposited c = laws.reports_were_deposited c.args.schedule.now
+
+pub returns-in_err-run_line-clause-deposited : goal.returns-in_err-run_line-clause-deposited
+returns-in_err-run_line-clause-deposited c = laws.reports_were_deposited c.args.schedule.now
+
+pub returns-clause-lines : goal.returns-clause-lines
+returns-clause-lines c =
+    let plan = c.args.schedule.now in
+    let past : length plan.lines ≤ c.lines.index =
+    rw (← c.lines-line-items.ensures.value) c.lines-test.false in
+    c.new-2.ensures
+    ∙ (c.into_lines.ensures
+    ∙ (c.lines.invariant.lines
+    ∙ ap (λ (w : World). w.lines)
+    (run_from-all plan c.first_line-first.result c.lines.index c.first_line-first.ensures.value past)))
+
+pub returns-clause-agree : goal.returns-clause-agree
+returns-clause-agree c =
+    subst LinesAgree (sym (returns-clause-lines c)) (laws.lines_agree c.args.schedule.now)
+
+pub returns-clause-deposited : goal.returns-clause-deposited
+returns-clause-deposited c = laws.reports_were_deposited c.args.schedule.now

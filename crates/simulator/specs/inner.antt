@@ -1,2 +1,0 @@
--- What only private clauses and proofs need.
-pub mod Trees
