@@ -91,16 +91,25 @@ class Program:
     def __init__(self, command):
         self.command, self.runs, self.commands = command, 0, 0
 
+    def said_of_each(self, schedules):
+        """Each schedule, and what the program says of each slot of it."""
+        for schedule in schedules:
+            yield schedule, self.said(schedule.lines, len(schedule.worlds))
+
     def said(self, lines, slots=1):
         """What it says of each slot."""
         text = "".join(f"{it}\n" for it in lines)
         ran = subprocess.run(self.command, input=text, capture_output=True, text=True)
-        self.runs += 1
-        self.commands += len(lines)
         if ran.returncode:
             raise Wrong(f"status {ran.returncode}: {(ran.stdout + ran.stderr)[-300:]}", lines)
+        return self.read(lines, ran.stdout, slots)
+
+    def read(self, lines, printed, slots):
+        """What was printed of each slot."""
+        self.runs += 1
+        self.commands += len(lines)
         said = [Said([], []) for _ in range(slots)]
-        for line in ran.stdout.splitlines():
+        for line in printed.splitlines():
             word, *words = line.split()
             if word == "sent":
                 digits = words[3]

@@ -1,5 +1,6 @@
 """The worlds that an order of events gives, each of which a run of the program has passed."""
 import collections
+import itertools
 
 from orders import PROPOSALS
 from program import BAGS, Schedule, Wrong
@@ -36,27 +37,35 @@ class Search:
         return f"{len(self.worlds)} worlds"
 
     def run(self):
-        level = [self.courses.start(PROPOSALS, self.bounds)]
-        while level:
+        level, ended = [self.courses.start(PROPOSALS, self.bounds)], []
+        while level or ended:
             steps = [(it, *step) for it in level for step in self.order(self.sites, it)]
-            self.discover(steps)
+            self.discover(steps, ended)
             following, went_on = self.after(steps)
-            self.close([it for it in level if id(it) not in went_on])
+            ended = [it for it in level if id(it) not in went_on]
             level = following
 
-    def discover(self, steps):
-        """Runs one of the steps, after its world, for each step of a course that isn't known."""
+    def discover(self, steps, ended):
+        """Runs one of the steps, after its world, for each step of a course that isn't known; and
+        the worlds that have ended, to their ends."""
         unknown = {}
         for world, event, *_ in steps:
             step = self.courses.unknown(world, event)
             if step:
                 unknown.setdefault(step, (world, event))
-        for some in self.batches(list(unknown.items()), lambda it: it[1][0]):
+        batches = list(self.batches(list(unknown.items()), lambda it: it[1][0]))
+        asked = []
+        for some in batches:
             schedule = Schedule(self.sites, [world for _, (world, _) in some])
             for slot, (_, (_, event)) in enumerate(some):
                 schedule.add(slot, event)
-            for (step, (world, _)), said in zip(some, self.said(schedule)):
+            asked.append(schedule)
+        found = self.said(itertools.chain(asked, self.closing(ended)))
+        for some, of_each in zip(batches, found):
+            for (step, (world, _)), said in zip(some, of_each):
                 self.courses.learn(step, tuple(said.sent[len(world.sent) :]))
+        for _ in found:
+            pass
 
     def after(self, steps):
         """The worlds after these steps that weren't seen before, and the ids of those from which
@@ -74,7 +83,7 @@ class Search:
             following.append(new)
             went_on.add(id(world))
             if len(chosen(new.sent, self.sites)) > 1:
-                self.close([new])
+                list(self.said(self.closing([new])))
         return following, went_on
 
     def waiting(self, sent, first):
@@ -82,16 +91,22 @@ class Search:
         places = range(first, len(sent))
         return tuple(Event(DELIVER, it) for it in places if self.votes or not sent[it].is_vote)
 
-    def close(self, worlds):
-        """Runs worlds to their ends."""
+    def closing(self, worlds):
+        """Schedules that run worlds to their ends."""
         for some in self.batches(worlds, lambda it: it):
             schedule = Schedule(self.sites, some)
             schedule.close()
-            self.said(schedule)
+            yield schedule
 
-    def said(self, schedule):
-        """What the program says of each world: nothing wrong, and what its courses say."""
-        found = self.program.said(schedule.lines, len(schedule.worlds))
+    def said(self, schedules):
+        """What the program says of the worlds of each schedule: nothing wrong, and what their
+        courses say."""
+        for schedule, said in self.program.said_of_each(schedules):
+            self.judge(schedule, said)
+            yield said
+
+    def judge(self, schedule, found):
+        """Finds what is wrong with what was said of each world of a schedule."""
         for world, said in zip(schedule.worlds, found):
             why = fault_of(said, self.sites)
             if tuple(said.sent[: len(world.sent)]) != world.sent:
@@ -102,7 +117,6 @@ class Search:
                 alone = Schedule(self.sites, [world])
                 alone.close()
                 raise Wrong(why, alone.lines)
-        return found
 
     def batches(self, items, world_of):
         """The items in lists of those whose worlds can have one schedule."""
