@@ -9,7 +9,7 @@ use std::alloc::{AllocError, Global};
 use std::marker::Model;
 
 /// The votes of a slot beside the one that was heard of first, and the sites that were heard to
-/// have cast each. There are seldom any, and then they take a word. A clause sees the votes and
+/// have cast each. There are seldom any: until then there is no map. A clause sees the votes and
 /// their voters.
 #[derive(Drop)]
 pub(crate) struct Others {

@@ -16,8 +16,8 @@ pub(crate) enum Row {
     Known(BagId),
     /// No bag is known, and no vote was heard of.
     Unheard,
-    /// No bag is known; the votes that were heard of. They stand in the row itself: it is a few
-    /// words larger than that of a known bag, and a vote takes no other memory.
+    /// No bag is known; the votes that were heard of. They stand in the row itself, a few words
+    /// larger than that of a known bag, so that the first takes no memory.
     Heard(Votes),
 }
 
