@@ -1,4 +1,5 @@
 pub mod Ones
 pub mod SetBits
 pub mod Sums
+pub mod Numbers
 pub mod Weights

@@ -31,7 +31,7 @@ unfolding sites_to
 among_none f p = refl
 
 -- one site more counts where it passes
-among_next : (f : ℕ → ℕ) (p : ℕ → Bool) (n : ℕ)
+pub among_next : (f : ℕ → ℕ) (p : ℕ → Bool) (n : ℕ)
     → among f p (suc n) ≡ among f p n + cond (p (suc n)) (f (suc n)) 0
 unfolding sites_to
 among_next f p n = go (p (suc n)) refl

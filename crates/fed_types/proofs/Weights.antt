@@ -41,6 +41,13 @@ weight_most m weights site =
           let none = get_or_past m.weights (site - 1) 0 stranger in omega (arith, none)
     ]
 
+-- a member's is at least 1
+pub weight_least : (m : Membership) → AreWeights m.weights → (site : ℕ)
+    → 1 ≤ site → site ≤ length m.weights → 1 ≤ weight_of m site
+weight_least m weights site low high =
+    let w : IsWeight (slice_index m.weights (site - 1)) =
+    All-get_or IsWeight m.weights (site - 1) 0 (omega (arith, low, high)) weights.1 in w.0
+
 -- and a stranger's is 0
 pub weight_past : (m : Membership) (site : ℕ) → length m.weights < site → weight_of m site ≡ 0
 weight_past m site beyond = get_or_past m.weights (site - 1) 0 (omega arith)

@@ -1,8 +1,9 @@
 ghost use Rattle.std.specs.Prelude.{◌≡◌, ◌<◌, ◌≤◌, ◌*◌, ◌||◌, ◌==◌, ℕ, [], IsTrue};
+ghost use Rattle.std.specs.List.{count_by};
 ghost use Rattle.fed_types.specs.Lists.{is_in};
 ghost use Rattle.fed_types.specs.Voters.{with_voter};
 ghost use Rattle.fed_types.specs.Quorums.{members_among, quorums_of};
-ghost use Rattle.fed_types.specs.Sites.{weight_sum};
+ghost use Rattle.fed_types.specs.Sites.{IsMemberCount, sites_to, weight_sum};
 ghost use Rattle.fed_types.specs.Limits.{greatest_weight, most_members};
 
 use crate::members::Members;
@@ -68,6 +69,28 @@ impl Voters {
 
     // The weights of the members in the set, added.
     fn weight(&self, members: &Members) -> u16
+        ensures value { result ≡ weight_sum members.now (members_among members.now self.now) }
+        ensures most { result ≤ most_members * greatest_weight }
+    {
+        let _weights = members.weights();
+        if members.total_weight() == u16::from(members.count()) {
+            // Each weight is 1.
+            return self.number_to(members.count());
+        }
+        self.sum_of_weights(members)
+    }
+
+    // How many of the sites 1 to `count` are in the set.
+    fn number_to(&self, count: u8) -> u16
+        requires { IsMemberCount count }
+        ensures { result ≡ count_by (is_in self.now) (sites_to count) }
+    {
+        let members = self.word >> 1 & u64::MAX >> (64 - count);
+        members.count_ones() as u16
+    }
+
+    // The weights of the members in the set, added one by one.
+    fn sum_of_weights(&self, members: &Members) -> u16
         ensures value { result ≡ weight_sum members.now (members_among members.now self.now) }
         ensures most { result ≤ most_members * greatest_weight }
     {

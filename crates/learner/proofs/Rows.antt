@@ -16,7 +16,7 @@ use Rattle.learner.specs.inner.Counts.{KnowsSame, CountsSame, IsRowCounted, IsCo
 
 -- the row of a slot of which nothing was heard
 abbrev pub unheard : Row
-unheard = rows.Heard None
+unheard = rows.Unheard
 
 -- what a slot without a row says is what an empty row says
 known_or : (found : Option Row) → known_in found ≡ known_in (Some (row_or unheard found))

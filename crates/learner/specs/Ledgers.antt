@@ -1,7 +1,5 @@
 -- What a learner knows of each slot.
 use Rattle.std.specs.Prelude.{◌≡◌, ℕ, List, [], Option, Some, None, if◌then◌else◌}
-use Rattle.std.specs.Prelude.{Box, box_value}
-use Rattle.std.specs.declared.alloc.Global.{Global}
 use Rattle.std.specs.Map.{lookup}
 use Rattle.fed_types.specs.declared.bag_id.BagId.{BagId}
 use Rattle.fed_types.specs.declared.vote.Vote.{Vote}
@@ -24,16 +22,12 @@ pub record Ledger (Q : Type 0) : Type 0 where
 abbrev pub known_in : Option Row → Option BagId
 known_in None = None
 known_in (Some (rows.Known bag)) = Some bag
+known_in (Some rows.Unheard) = None
 known_in (Some (rows.Heard votes)) = None
 
 -- the votes that were heard of, and the sites that were heard to have cast each
 abbrev pub Votes : Type 0
 Votes = List (Vote × List ℕ)
-
--- those of a row, which has them where one was heard of
-abbrev pub votes_in : Option (Box Votes Global) → Votes
-votes_in None = []
-votes_in (Some votes) = box_value votes
 
 -- the sites counted for a vote
 abbrev pub voters_or_none : Option (List ℕ) → List ℕ
@@ -54,7 +48,8 @@ IsCountedWith old new vote voters =
 abbrev pub counted_in : Option Row → Vote → List ℕ
 counted_in None vote = []
 counted_in (Some (rows.Known bag)) vote = []
-counted_in (Some (rows.Heard votes)) vote = voters_for_vote (votes_in votes) vote
+counted_in (Some rows.Unheard) vote = []
+counted_in (Some (rows.Heard votes)) vote = voters_for_vote votes vote
 
 -- the learner knows of each slot its known bag, by the records; and, of a slot without one, for
 -- each vote the sites that were heard to have cast it

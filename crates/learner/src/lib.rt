@@ -3,6 +3,7 @@
 #![tactic(auto)]
 
 mod learner;
+mod others;
 mod row;
 mod table;
 mod votes;

@@ -14,20 +14,14 @@ use std::alloc::{AllocError, Global};
 pub(crate) enum Row {
     /// This bag is known; votes aren't counted any more.
     Known(BagId),
-    /// No bag is known; the votes that were heard of, if one was. They are boxed, so that the row
-    /// of a slot that was only asked about is no larger than that of a known bag.
-    Heard(Option<Box<Votes>>),
+    /// No bag is known, and no vote was heard of.
+    Unheard,
+    /// No bag is known; the votes that were heard of. They stand in the row itself, a few words
+    /// larger than that of a known bag, so that the first takes no memory.
+    Heard(Votes),
 }
 
 impl Row {
-    // Of a slot in which these sites cast a vote.
-    fn of(alloc: Global, vote: Vote, voters: Voters) -> Result<Row, AllocError>
-        ensures known { IfOk result (λ row. known_in (Some row) ≡ None) }
-        ensures counted { IfOk result (λ row. IsRowCounted (rows.Heard None) row vote voters) }
-    {
-        Ok(Row::Heard(Some(Box::new(alloc, Votes::of(alloc, vote, voters))?)))
-    }
-
     // The sites counted for a vote, while no bag is known.
     fn counted(&self, vote: &Vote) -> Option<Voters>
         ensures { result
@@ -35,8 +29,8 @@ impl Row {
     {
         match self {
             Row::Known(_) => None,
-            Row::Heard(None) => Some(Voters::new()),
-            Row::Heard(Some(votes)) => Some(votes.voters(vote)),
+            Row::Unheard => Some(Voters::new()),
+            Row::Heard(votes) => Some(votes.voters(vote)),
         }
     }
 
@@ -84,8 +78,8 @@ impl Row {
     {
         match self {
             Row::Known(_) => {}
-            Row::Heard(Some(votes)) => votes.set(vote, voters)?,
-            Row::Heard(None) => *self = Row::of(alloc, *vote, voters)?,
+            Row::Unheard => *self = Row::Heard(Votes::of(*vote, voters)),
+            Row::Heard(votes) => votes.set(alloc, vote, voters)?,
         }
         Ok(())
     }
@@ -94,7 +88,7 @@ impl Row {
     pub(crate) fn settle(&mut self, bag: BagId)
         ensures { self.new ≡ rows.Known (first_known (known_in (Some self.old)) bag) }
     {
-        if let Row::Heard(_) = self {
+        if let Row::Unheard | Row::Heard(_) = self {
             *self = Row::Known(bag);
         }
     }

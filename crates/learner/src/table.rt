@@ -23,7 +23,7 @@ pub(crate) fn reserve(table: &mut SlotTable<Row>, slot: &Slot) -> Result<(), All
     ensures present { OnOk result (IsSome (row_at table.new slot.now)) }
     ensures succeeds { IsSome (row_at table.old slot.now) → IsOk result }
 {
-    table.reserve(slot, Row::Heard(None))
+    table.reserve(slot, Row::Unheard)
 }
 
 /// Hears that a site cast a vote of the slot. Whether the vote's bag is learned by it: then nothing
@@ -84,7 +84,7 @@ fn hear_first<Q: Quorums>(
     ensures unknown { OnErr result (known_in (row_at table.old slot.now) ≡ None) }
     ensures rooms { HasRooms table.old table.new }
 {
-    let mut row = Row::Heard(None);
+    let mut row = Row::Unheard;
     let learned = row.hear(alloc, members, vote, from)?;
     if !learned {
         table.reserve(slot, row)?;

@@ -4,8 +4,8 @@ ghost use Rattle.dgram.specs.Heard.{same_vote};
 ghost use Rattle.fed_types.specs.declared.vote.Vote.{Vote as declared_vote};
 ghost use Rattle.learner.specs.Ledgers.{voters_for_vote, IsCountedWith};
 
+use crate::others::Others;
 use fed_types::{Vote, Voters};
-use indexmap::IndexMap;
 use std::alloc::{AllocError, Global};
 use std::marker::Model;
 
@@ -13,10 +13,11 @@ use std::marker::Model;
 /// clause sees the votes and their voters.
 #[derive(Drop)]
 pub(crate) struct Votes {
-    /// The vote that was heard of first. There is seldom another, and then no map is searched.
+    /// The vote that was heard of first. There is seldom another, and then the others aren't
+    /// searched.
     first: Vote,
     voters: Voters,
-    others: IndexMap<Vote, Voters>,
+    others: Others,
 }
 
 impl Model for Votes {
@@ -25,18 +26,18 @@ impl Model for Votes {
 
     ghost Value = { List (Vote × List ℕ) };
 
-    ghost view = { λ v. (v.first, v.voters) ∷ v.others.entries };
+    ghost view = { λ v. (v.first, v.voters) ∷ v.others };
 }
 
 impl Votes {
     /// These sites cast this vote.
-    pub(crate) fn of(alloc: Global, vote: Vote, voters: Voters) -> Votes
+    pub(crate) fn of(vote: Vote, voters: Voters) -> Votes
         ensures { result ≡ (vote, voters) ∷ [] }
     {
         Votes {
             first: vote,
             voters,
-            others: IndexMap::new(alloc),
+            others: Others::none(),
         }
     }
 
@@ -47,14 +48,16 @@ impl Votes {
         if *vote == self.first {
             return self.voters;
         }
-        match self.others.get(vote) {
-            Some(voters) => *voters,
-            None => Voters::new(),
-        }
+        self.others.voters(vote)
     }
 
     /// These are the sites that cast this vote. It takes no memory for a vote that was heard of.
-    pub(crate) fn set(&mut self, vote: &Vote, voters: Voters) -> Result<(), AllocError>
+    pub(crate) fn set(
+        &mut self,
+        alloc: Global,
+        vote: &Vote,
+        voters: Voters,
+    ) -> Result<(), AllocError>
         ensures ok { OnOk result (IsCountedWith self.old self.new vote.now voters) }
         ensures err { OnErr result (self.new ≡ self.old) }
         ensures memory { OnErr result (lookup (same_vote vote.now) self.old ≡ None) }
@@ -63,18 +66,6 @@ impl Votes {
             self.voters = voters;
             return Ok(());
         }
-        set_in(&mut self.others, *vote, voters)
-    }
-}
-
-// These are the sites that cast this vote, one of the others.
-fn set_in(others: &mut IndexMap<Vote, Voters>, vote: Vote, voters: Voters) -> Result<(), AllocError>
-    ensures ok { OnOk result (IsCountedWith others.old.entries others.new.entries vote voters) }
-    ensures err { OnErr result (others.new.entries ≡ others.old.entries) }
-    ensures memory { OnErr result (lookup (same_vote vote) others.old.entries ≡ None) }
-{
-    match others.insert(vote, voters) {
-        Ok(_) => Ok(()),
-        Err(_) => Err(AllocError),
+        self.others.set(alloc, *vote, voters)
     }
 }

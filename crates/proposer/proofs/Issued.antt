@@ -1,6 +1,6 @@
 -- What waits is counted, and what a record makes of a session.
-use Rattle.std.proofs.Common.{◌≡◌, ◌≤◌, ℕ, max, Bool, true, false, cond, ◌||◌, refl, sym, ap, subst}
-use Rattle.std.proofs.Common.{◌∙◌, List, [], ◌∷◌, ◌++◌, length, Option, None, Some, IsSome, arith}
+use Rattle.std.proofs.Common.{◌≡◌, ℕ, max, Bool, true, false, cond, refl, sym, ap, subst}
+use Rattle.std.proofs.Common.{◌∙◌, List, [], ◌∷◌, ◌++◌, length, Option, None, Some, IsSome}
 use Rattle.std.specs.Prelude.{◌==◌, option_map}
 use Rattle.fed_types.specs.declared.bag_id.BagId.{BagId}
 use Rattle.fed_types.specs.Ballots.{BallotNumber, same_ballot}
@@ -11,12 +11,11 @@ use Rattle.records.specs.declared.entry.Entry.{Entry}
 use Rattle.records.specs.declared.entry.Entry.TheVariants as entry
 use Rattle.records.specs.declared.record.Record.{Record}
 use Rattle.records.specs.Words.{with_one, if_some, entry_of, round_in, deposit_of}
-use Rattle.dgram.specs.declared.body.Body.{Body}
 use Rattle.dgram.specs.declared.message.Message.{Message}
-use Rattle.dgram.specs.Heard.{body_in, bodies_of, refused_round, floor_of}
+use Rattle.dgram.specs.Heard.{bodies_of, refused_round, floor_of}
 use Rattle.slot_table.specs.Rows.{Rows, row_at, row_or, IsWith}
 use Rattle.proposer.specs.declared.round.Promise.{Promise}
-use Rattle.proposer.specs.declared.round.Round.{Round}
+use Rattle.proposer.specs.Rounds.{Round}
 use Rattle.proposer.specs.declared.row.Row.{Row}
 use Rattle.proposer.specs.Proposals.{Current}
 use Rattle.proposer.specs.Sessions.{Session, UnderWay, at_slot, hears, issues, waits}
@@ -25,7 +24,7 @@ use Rattle.proposer.specs.Sessions.{under_way_if}
 use Rattle.proposer.specs.Rows.{empty_row, BeginsFor, Counts, CountsFor, Knows, StandsFor, row_of}
 use Rattle.proposer.specs.Rows.{begun_in, current_in, waiting_as, waiting_in}
 use Rattle.proposer.specs.inner.Rounds.{issued, issued_with}
-use Rattle.proposer.specs.inner.Rows.{IssuesWaiting, IssuesAt, is_of_round, with_round, noted_row}
+use Rattle.proposer.specs.inner.Rows.{IssuesWaiting, IssuesAt, is_of_round, noted_row}
 use Rattle.proposer.proofs.Gathered.{floor-push}
 use Rattle.proposer.proofs.Known.{other_knows}
 use Rattle.proposer.proofs.Promised.{counts_more}
@@ -253,7 +252,7 @@ module _ (old new : Rows Row) (r : Record) (records : List Record) (session : Se
   made_current : (row : Row) (n : ℕ) (b : BallotNumber) → round_in r.body ≡ Some n
       → PutsAt old new r.slot row
       → row.used ≡ max (row_of old r.slot).used n → row.floor ≡ (row_of old r.slot).floor
-      → row.begun ≡ None → row.current ≡ (row_of old r.slot).begun → under.begun r.slot ≡ Some b
+      → row.begun ≡ None → row.current ≡ begun_in (row_of old r.slot) → under.begun r.slot ≡ Some b
       → StandsFor new (records ++ r ∷ []) (issues session r.slot b)
       (under_way_if under r.slot (Some b))
   made_current row n b is puts used floor begun current next =
@@ -300,7 +299,7 @@ module _ (old new : Rows Row) (r : Record) (records : List Record) (session : Se
         floor = (row_of old r.slot).floor;
         begun =
             None;
-        current = (row_of old r.slot).begun;
+        current = begun_in (row_of old r.slot);
       })
       (record {
         used = max (row_of old r.slot).used n;
@@ -336,7 +335,7 @@ module _ (old new : Rows Row) (r : Record) (records : List Record) (session : Se
             floor =
                 (row_of old r.slot).floor;
             begun = None;
-            current = (row_of old r.slot).begun;
+            current = begun_in (row_of old r.slot);
           })
           n b is puts refl refl refl refl e
 

@@ -1,5 +1,5 @@
 -- What a row knows stays so with a message more that is no promise for the current ballot.
-use Rattle.std.proofs.Common.{◌≡◌, ◌≤◌, ℕ, max, refl, sym, ap, subst, ◌∙◌, List, [], ◌∷◌, ◌++◌}
+use Rattle.std.proofs.Common.{◌≡◌, ◌≤◌, ℕ, max, refl, sym, ap, ◌∙◌, List, [], ◌∷◌, ◌++◌}
 use Rattle.std.proofs.Common.{length, Option, None, Some, append-nil, arith, length-append}
 use Rattle.fed_types.specs.declared.bag_id.BagId.{BagId}
 use Rattle.fed_types.specs.Ballots.{BallotNumber}
@@ -8,9 +8,8 @@ use Rattle.fed_types.specs.Slots.{SlotName}
 use Rattle.records.specs.declared.record.Record.{Record}
 use Rattle.records.specs.Words.{with_one, if_some, deposit_of}
 use Rattle.dgram.specs.declared.message.Message.{Message}
-use Rattle.dgram.specs.Heard.{body_in, bodies_of, PromiseFrom, promise_in, promisers, refused_round}
-use Rattle.dgram.specs.Heard.{floor_of}
-use Rattle.proposer.specs.declared.round.Round.{Round}
+use Rattle.dgram.specs.Heard.{body_in, PromiseFrom, promise_in, promisers, refused_round}
+use Rattle.proposer.specs.Rounds.{Round}
 use Rattle.proposer.specs.declared.row.Row.{Row}
 use Rattle.proposer.specs.Proposals.{Current, gathered, highest_prior}
 use Rattle.proposer.specs.Rows.{Counts, CountsFor, Knows, current_in}

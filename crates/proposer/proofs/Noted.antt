@@ -1,26 +1,21 @@
 -- One record more.
-use Rattle.std.proofs.Common.{◌≡◌, ◌≤◌, ℕ, max, Bool, true, false, cond, refl, sym, ap, subst, ◌∙◌}
+use Rattle.std.proofs.Common.{◌≡◌, ℕ, max, refl, sym, ap, ◌∙◌}
 use Rattle.std.proofs.Common.{List, [], ◌∷◌, ◌++◌, length, drop, Option, None, Some, arith}
-use Rattle.std.specs.Prelude.{◌==◌, option_map, box_value}
 use Rattle.fed_types.specs.declared.bag_id.BagId.{BagId}
 use Rattle.fed_types.specs.Ballots.{BallotNumber}
 use Rattle.fed_types.specs.Lists.{is_in}
-use Rattle.fed_types.specs.Slots.{SlotName, same_slot}
-use Rattle.records.specs.declared.entry.Entry.{Entry}
-use Rattle.records.specs.declared.entry.Entry.TheVariants as entry
+use Rattle.fed_types.specs.Slots.{SlotName}
 use Rattle.records.specs.declared.record.Record.{Record}
-use Rattle.records.specs.Words.{earlier, with_one, if_some, entry_of, round_in, deposit_in, used_of}
+use Rattle.records.specs.Words.{earlier, with_one, if_some, entry_of, round_in, deposit_in}
 use Rattle.records.specs.Words.{deposit_of}
 use Rattle.records.proofs.Words.{used-push, deposit-push}
 use Rattle.dgram.specs.declared.message.Message.{Message}
 use Rattle.dgram.specs.Heard.{bodies_of, PromiseFrom, promises_for, promisers, priors}
-use Rattle.proposer.specs.declared.round.Round.{Round}
+use Rattle.proposer.specs.Rounds.{Round}
 use Rattle.proposer.specs.declared.row.Row.{Row}
 use Rattle.proposer.specs.Proposals.{Current, gathered, highest_prior}
-use Rattle.proposer.specs.Sessions.{issued_by}
-use Rattle.proposer.specs.Rows.{fresh, Begins, BeginsFor, Counts, CountsFor, Knows, begun_in}
+use Rattle.proposer.specs.Rows.{Begins, BeginsFor, Counts, CountsFor, Knows, begun_in}
 use Rattle.proposer.specs.Rows.{current_in, waiting_in}
-use Rattle.proposer.specs.inner.Rows.{is_of_round, with_round}
 
 -- a deposit stays
 deposit_stays : (slot : SlotName) (records : List Record) (r : Record) (own : BagId)
@@ -102,7 +97,7 @@ fresh_counts slot own b heard round h = record {
 pub issued_knows : (slot : SlotName) (records : List Record) (r : Record) (heard : List Message)
     (c : Option Current) (b : BallotNumber) (w : Option Message) (row next : Row)
     → next.used ≡ with_one max row.used (if_some round_in (entry_of slot r))
-    → next.floor ≡ row.floor → next.begun ≡ None → next.current ≡ row.begun
+    → next.floor ≡ row.floor → next.begun ≡ None → next.current ≡ begun_in row
     → Knows slot records heard c (Some b) w row
     → Knows slot (records ++ r ∷ []) heard (Some (record { ballot = b; since = length heard })) None
     None next

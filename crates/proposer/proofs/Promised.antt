@@ -1,6 +1,6 @@
 -- One promise more.
 use Rattle.std.proofs.Common.{◌≡◌, ℕ, Bool, true, false, cond, not, ◌||◌, ◌&&◌, refl, sym, ap}
-use Rattle.std.proofs.Common.{subst, ◌∙◌, List, [], ◌∷◌, ◌++◌, length, Option, None, Some, arith}
+use Rattle.std.proofs.Common.{◌∙◌, List, [], ◌∷◌, ◌++◌, Option, None, Some, arith}
 use Rattle.std.specs.Prelude.{◌==◌, fold, filter_map}
 use Rattle.std.specs.List.{cons_option}
 use Rattle.std.proofs.lemmas.List.Sums.{fold-append}
@@ -9,7 +9,7 @@ use Rattle.fed_types.specs.declared.vote.Vote.{Vote}
 use Rattle.fed_types.specs.Ballots.{BallotNumber, same_ballot}
 use Rattle.fed_types.specs.Lists.{is_in}
 use Rattle.fed_types.specs.Quorums.{QuorumSystem, AreQuorums}
-use Rattle.fed_types.specs.Slots.{SlotName, same_slot}
+use Rattle.fed_types.specs.Slots.{SlotName}
 use Rattle.fed_types.specs.Voters.{with_voter}
 use Rattle.fed_types.specs.Laws.Ballots.{same_ballot_decides}
 use Rattle.fed_types.specs.Laws.Quorums.{same_quorum}
@@ -20,8 +20,8 @@ use Rattle.dgram.specs.declared.message.Message.{Message}
 use Rattle.dgram.specs.Heard.{body_in, PromiseFrom, promise_in, promisers, priors}
 use Rattle.dgram.proofs.Heard.{priors-append}
 use Rattle.proposer.specs.declared.round.Promise.{Promise}
-use Rattle.proposer.specs.declared.round.Round.{Round}
-use Rattle.proposer.specs.Proposals.{Current, gathered, highest_prior, bag_of, completes}
+use Rattle.proposer.specs.Rounds.{Round}
+use Rattle.proposer.specs.Proposals.{Current, gathered, highest_prior, bag_of}
 use Rattle.proposer.specs.Proposals.{proposal, ready}
 use Rattle.proposer.specs.Sessions.{promise_message}
 use Rattle.proposer.specs.Rows.{Counts, CountsFor, waiting_in}

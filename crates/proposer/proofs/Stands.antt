@@ -1,7 +1,7 @@
 -- What each call makes of what the rows stand for.
 use Rattle.std.proofs.Common.{◌≡◌, ℕ, max, Bool, true, false, cond, refl, sym, ap, subst, ◌∙◌, List}
-use Rattle.std.proofs.Common.{[], ◌∷◌, ◌++◌, Option, None, Some, IsSome, arith}
-use Rattle.std.specs.Prelude.{◌==◌, option_map, box_value, Box}
+use Rattle.std.proofs.Common.{[], ◌∷◌, ◌++◌, Option, None, Some, IsSome}
+use Rattle.std.specs.Prelude.{Box}
 use Rattle.std.specs.declared.alloc.Global.{Global}
 use Rattle.fed_types.specs.declared.bag_id.BagId.{BagId}
 use Rattle.fed_types.specs.declared.vote.Vote.{Vote}
@@ -9,33 +9,29 @@ use Rattle.fed_types.specs.Ballots.{BallotNumber}
 use Rattle.fed_types.specs.Quorums.{QuorumSystem, AreQuorums}
 use Rattle.fed_types.specs.Slots.{SlotName, same_slot}
 use Rattle.fed_types.specs.Laws.Slots.{same_slot_decides}
-use Rattle.records.specs.declared.entry.Entry.{Entry}
-use Rattle.records.specs.declared.entry.Entry.TheVariants as entry
 use Rattle.records.specs.declared.record.Record.{Record}
-use Rattle.records.specs.Words.{with_one, if_some, entry_of, round_in, used_of, deposit_of}
+use Rattle.records.specs.Words.{with_one, if_some, used_of, deposit_of}
 use Rattle.dgram.specs.declared.body.Body.{Body}
 use Rattle.dgram.specs.declared.message.Message.{Message}
 use Rattle.dgram.specs.Heard.{body_in, bodies_of, promise_in, refused_round, floor_of}
 use Rattle.slot_table.specs.Rows.{Rows, row_at, row_or, IsWith}
 use Rattle.proposer.specs.declared.round.Promise.{Promise}
-use Rattle.proposer.specs.declared.round.Round.{Round}
+use Rattle.proposer.specs.declared.round.Plan.{Plan}
+use Rattle.proposer.specs.Rounds.{Round, fresh, round_of}
 use Rattle.proposer.specs.declared.row.Row.{Row}
 use Rattle.proposer.specs.Proposals.{Current, ballot_after, next_ballot, ready}
-use Rattle.proposer.specs.Sessions.{Session, UnderWay, new_session, nothing, at_slot, hears, issues}
+use Rattle.proposer.specs.Sessions.{Session, UnderWay, new_session, nothing, at_slot, hears}
 use Rattle.proposer.specs.Sessions.{begins, waits, promise_message, refusal_message, heard_after}
-use Rattle.proposer.specs.Sessions.{waiting_after, heard_if, of_round, issued_by, issued_if}
-use Rattle.proposer.specs.Sessions.{under_way_if}
-use Rattle.proposer.specs.Rows.{empty_row, fresh, BeginsFor, Knows, StandsFor, row_of, begun_in}
-use Rattle.proposer.specs.Rows.{current_in, waiting_in}
-use Rattle.proposer.specs.inner.Rounds.{given_bag, after_promise}
-use Rattle.proposer.specs.inner.Rows.{OnlyAt, HeardPromise, HeardAt, IssuesWaiting, IssuesAt}
-use Rattle.proposer.specs.inner.Rows.{BeginsRound, BeginsAt, with_begun, with_floor, is_of_round}
-use Rattle.proposer.specs.inner.Rows.{with_round, noted_row}
+use Rattle.proposer.specs.Sessions.{waiting_after}
+use Rattle.proposer.specs.Rows.{empty_row, BeginsFor, Knows, StandsFor, row_of, begun_in}
+use Rattle.proposer.specs.Rows.{current_in}
+use Rattle.proposer.specs.inner.Rounds.{after_promise}
+use Rattle.proposer.specs.inner.Rows.{OnlyAt, HeardPromise, HeardAt}
+use Rattle.proposer.specs.inner.Rows.{BeginsAt, with_begun, with_floor}
 use Rattle.proposer.proofs.Gathered.{floor-push}
 use Rattle.proposer.proofs.Known.{IsNoPromise, heard_knows, other_knows}
 use Rattle.proposer.proofs.Promised.{gives_ready, After, after_is}
-use Rattle.proposer.proofs.Noted.{raised_knows, issued_knows}
-use Rattle.proposer.proofs.Tables.{PutsAt, row_there, puts_at, only_at, stands_at}
+use Rattle.proposer.proofs.Tables.{row_there, puts_at, only_at, stands_at}
 
 -- ---- one slot among others
 pub at_here : {X : Type 0} (slot : SlotName) (x : Option X) (f : SlotName → Option X)
@@ -70,11 +66,11 @@ next_is rows site slot records session under stands =
     let floor = (stands slot).floor in
     λ i. ballot_after site (max (used i) (floor i))
 
-pub begins_at : (old mid new : Rows Row) (slot : SlotName) (box : Box Round Global) (round : Round)
+pub begins_at : (old mid new : Rows Row) (slot : SlotName) (box : Box Plan Global) (plan : Plan)
     → ((s : SlotName) → row_of mid s ≡ row_of old s)
-    → IsWith mid new slot (with_begun (row_of mid slot) box) → box.value ≡ round
-    → BeginsAt round old new slot
-begins_at old mid new slot box round same put is =
+    → IsWith mid new slot (with_begun (row_of mid slot) box) → box.value ≡ plan
+    → BeginsAt (round_of plan) old new slot
+begins_at old mid new slot box plan same put is =
     let puts = puts_at old mid new slot (with_begun (row_of mid slot) box) same put in
     let there = row_there old new slot (with_begun (row_of mid slot) box) puts in (
       only_at old new slot (with_begun (row_of mid slot) box) puts,
@@ -82,7 +78,7 @@ begins_at old mid new slot box round same put is =
         used = ap (λ (r : Row). r.used) there ∙ ap (λ (r : Row). r.used) (same slot);
         floor = ap (λ (r : Row). r.floor) there ∙ ap (λ (r : Row). r.floor) (same slot);
         current = ap (λ (r : Row). r.current) there ∙ ap (λ (r : Row). r.current) (same slot);
-        begun = ap begun_in there ∙ ap (λ (x : Round). Some x) is;
+        begun = ap begun_in there ∙ ap (λ (p : Plan). Some (round_of p)) is;
       },
     )
 

@@ -1,14 +1,11 @@
 -- From one slot's row to what is known of every slot.
-use Rattle.std.proofs.Common.{◌≡◌, Bool, true, false, cond, refl, sym, ap, subst, ◌∙◌, List, Option}
-use Rattle.std.proofs.Common.{None, Some, IsSome}
-use Rattle.fed_types.specs.Ballots.{BallotNumber}
+use Rattle.std.proofs.Common.{◌≡◌, Bool, true, false, cond, refl, sym, ap, subst, ◌∙◌, List}
+use Rattle.std.proofs.Common.{Some, IsSome}
 use Rattle.fed_types.specs.Slots.{SlotName, same_slot}
 use Rattle.fed_types.specs.Laws.Slots.{same_slot_decides}
 use Rattle.records.specs.declared.record.Record.{Record}
-use Rattle.dgram.specs.declared.message.Message.{Message}
 use Rattle.slot_table.specs.Rows.{Rows, row_at, row_or, IsWith, HasRooms}
 use Rattle.proposer.specs.declared.row.Row.{Row}
-use Rattle.proposer.specs.Proposals.{Current}
 use Rattle.proposer.specs.Sessions.{Session, UnderWay}
 use Rattle.proposer.specs.Rows.{Knows, StandsFor, row_of, empty_row}
 use Rattle.proposer.specs.inner.Rows.{OnlyAt}

@@ -1,5 +1,5 @@
 -- What a proposer knows of each slot.
-use Rattle.std.specs.Prelude.{◌≡◌, ◌≤◌, ℕ, List, [], length, Option, Some, None, box_value}
+use Rattle.std.specs.Prelude.{◌≡◌, ◌≤◌, ℕ, List, length, Option, Some, None, box_value}
 use Rattle.std.specs.Prelude.{option_map}
 use Rattle.fed_types.specs.declared.bag_id.BagId.{BagId}
 use Rattle.fed_types.specs.Ballots.{BallotNumber}
@@ -12,9 +12,9 @@ use Rattle.dgram.specs.declared.message.Message.{Message}
 use Rattle.dgram.specs.Heard.{bodies_of, floor_of, promisers}
 use Rattle.slot_table.specs.Rows as tables
 use Rattle.proposer.specs.declared.round.Promise.{Promise as Waiting}
-use Rattle.proposer.specs.declared.round.Round.{Round}
 use Rattle.proposer.specs.declared.row.Row.{Row}
 use Rattle.proposer.specs.Proposals.{Current, gathered, highest_prior}
+use Rattle.proposer.specs.Rounds.{Round, fresh, round_of}
 use Rattle.proposer.specs.Sessions.{Session, UnderWay}
 
 -- the membership, the own site, and the rows by slot
@@ -37,15 +37,10 @@ row_of rows slot = tables.row_of empty_row rows slot
 
 -- the rounds of a row
 abbrev pub begun_in : Row → Option Round
-begun_in row = option_map box_value row.begun
+begun_in row = option_map (λ plan. round_of (box_value plan)) row.begun
 
 abbrev pub current_in : Row → Option Round
-current_in row = option_map box_value row.current
-
--- a ballot that nobody has promised
-abbrev pub fresh : BallotNumber → BagId → Round
-fresh ballot own =
-    record { ballot = ballot; own = own; voters = []; best = None; waiting = None }
+current_in row = row.current
 
 -- the round of the ballot that was begun, with the site's deposit
 pub record Begins (deposit : Option BagId) (ballot : BallotNumber) (round : Round) : Type 0 where

@@ -7,7 +7,6 @@ use Rattle.fed_types.specs.Ballots.{BallotNumber}
 use Rattle.fed_types.specs.Slots.{SlotName, same_slot}
 use Rattle.records.specs.declared.entry.Entry.{Entry}
 use Rattle.records.specs.declared.entry.Entry.TheVariants as entry
-use Rattle.records.specs.declared.record.Record.{Record}
 use Rattle.dgram.specs.declared.body.Body.TheVariants.{Promise, Refused}
 use Rattle.dgram.specs.declared.message.Message.{Message}
 use Rattle.proposer.specs.Proposals.{Current}

@@ -10,13 +10,14 @@ ghost use Rattle.proposer.specs.Sessions.{Session, UnderWay, new_session, nothin
 ghost use Rattle.proposer.specs.Sessions.{promise_message, heard_after, waiting_after};
 ghost use Rattle.proposer.specs.Sessions.{hears, refusal_message, heard_if, waits};
 ghost use Rattle.proposer.specs.Sessions.{issued_by, issued_if, under_way_if};
+ghost use Rattle.proposer.specs.Rounds.{round_of};
 ghost use Rattle.proposer.specs.Faults.{next_or_spent, IsOrMemory};
 ghost use Rattle.proposer.specs.Rows.{StandsFor, IsOfSameSite, row_of};
 ghost use Rattle.proposer.specs.inner.Rows.{BeginsAt, HeardAt, IssuesAt};
 ghost use Rattle.proposer.specs.inner.Rows.{with_begun, with_floor, noted_row};
 
 use crate::fault::ProposeFault;
-use crate::round::{Promise, Round};
+use crate::round::{Plan, Promise};
 use crate::row::Row;
 use fed_types::{BagId, Ballot, Quorums, SiteNo, Slot, Vote};
 use records::Record;
@@ -93,7 +94,7 @@ impl<Q: Quorums + Drop> Proposer<Q> {
     {
         match self.next(slot) {
             None => Err(ProposeFault::RoundsSpent),
-            Some(ballot) => match self.begin_round(slot, Round::new(ballot, own)) {
+            Some(ballot) => match self.begin_round(slot, Plan::new(ballot, own)) {
                 Ok(()) => Ok(ballot),
                 Err(_) => Err(ProposeFault::Memory),
             },
@@ -190,18 +191,19 @@ impl<Q: Quorums + Drop> Proposer<Q> {
         }
     }
 
-    // Begins a round.
-    fn begin_round(&mut self, slot: &Slot, round: Round) -> Result<(), AllocError>
-        ensures begun { OnOk result (BeginsAt round self.old.rows self.new.rows slot.now) }
+    // Begins a ballot.
+    fn begin_round(&mut self, slot: &Slot, plan: Plan) -> Result<(), AllocError>
+        ensures begun { OnOk result
+            (BeginsAt (round_of plan) self.old.rows self.new.rows slot.now) }
         ensures present { OnOk result (IsSome (row_at self.new.rows slot.now)) }
         ensures unchanged { OnErr result
             ((s : SlotName) → row_of self.new.rows s ≡ row_of self.old.rows s) }
         ensures rooms { HasRooms self.old.rows self.new.rows }
         ensures whose { IsOfSameSite self.old self.new }
     {
-        let round = Box::new(self.alloc, round)?;
+        let plan = Box::new(self.alloc, plan)?;
         self.reserve(slot)?;
-        begin_in(&mut self.table, slot, round);
+        begin_in(&mut self.table, slot, plan);
         Ok(())
     }
 }
@@ -216,14 +218,14 @@ fn ballot_after(last: u32, site: SiteNo) -> Option<Ballot>
     Ballot::new(last + 1, site).ok()
 }
 
-// Begins a round in the slot's row.
-fn begin_in(table: &mut SlotTable<Row>, slot: &Slot, round: Box<Round>)
+// Begins a ballot in the slot's row.
+fn begin_in(table: &mut SlotTable<Row>, slot: &Slot, plan: Box<Plan>)
     requires { IsSome (row_at table.old slot.now) }
     ensures { IsWith table.old table.new slot.now
-        (with_begun (row_of table.old slot.now) round) }
+        (with_begun (row_of table.old slot.now) plan) }
 {
     if let Some(row) = table.get_mut(slot) {
-        row.begun = Some(round);
+        row.begun = Some(plan);
     }
 }
 

@@ -1,11 +1,12 @@
-ghost use Rattle.std.specs.Prelude.{◌≡◌, Some};
+ghost use Rattle.std.specs.Prelude.{◌≡◌, Some, box_value};
 ghost use Rattle.fed_types.specs.Voters.{with_voter};
-ghost use Rattle.proposer.specs.Rows.{fresh};
+ghost use Rattle.proposer.specs.Rounds.{fresh, round_of};
 ghost use Rattle.proposer.specs.inner.Rounds.{counted, higher_prior, becomes_quorum, issued};
 ghost use Rattle.proposer.specs.inner.Rounds.{is_ready, round_after, bag_or, after_promise};
 ghost use Rattle.proposer.specs.inner.Rounds.{makes_ready};
 
 use fed_types::{BagId, Ballot, Quorums, SiteNo, Vote, Voters};
+use std::marker::Model;
 
 /// A promise: the site that gives it, and the vote that it names.
 #[derive(Clone, Copy, Debug)]
@@ -14,30 +15,67 @@ pub(crate) struct Promise {
     pub(crate) prior: Option<Vote>,
 }
 
-/// What was gathered for a ballot: the sites that promised it, and the highest of the votes that
-/// they named.
+/// A ballot that was begun, and what is seldom asked for once it is current: what is proposed, and
+/// the promise that waits.
 #[derive(Clone, Copy, Debug)]
-pub(crate) struct Round {
+pub(crate) struct Plan {
     pub(crate) ballot: Ballot,
-    voters: Voters,
     /// The bag that is proposed where no vote was named.
     own: BagId,
+    /// The highest of the votes that were named.
     best: Option<Vote>,
     /// The promise that made the proposal ready, until the proposal is issued.
     pub(crate) waiting: Option<Promise>,
 }
 
-impl Round {
-    /// A ballot that nobody has promised.
-    pub(crate) fn new(ballot: Ballot, own: BagId) -> Round
-        ensures { result ≡ fresh ballot own }
+impl Plan {
+    /// Of a ballot that nobody has promised.
+    pub(crate) fn new(ballot: Ballot, own: BagId) -> Plan
+        ensures { round_of result ≡ fresh ballot own }
     {
-        Round {
+        Plan {
             ballot,
-            voters: Voters::new(),
             own,
             best: None,
             waiting: None,
+        }
+    }
+}
+
+/// What was gathered for the current ballot: the sites that promised it, and the highest of the
+/// votes that they named. Most promises are answered by the ballot and the voters alone: only the
+/// rest is boxed. A clause sees a round of specs/.
+#[derive(Drop)]
+pub(crate) struct Round {
+    ballot: Ballot,
+    voters: Voters,
+    pub(crate) plan: Box<Plan>,
+}
+
+impl Model for Round {
+    ghost use Rattle.std.specs.Prelude.{box_value};
+    ghost use Rattle.proposer.specs.Rounds.{Round};
+
+    ghost Value = { Round };
+
+    ghost view = { λ r. record {
+      ballot = r.ballot;
+      voters = r.voters;
+      own = (box_value r.plan).own;
+      best = (box_value r.plan).best;
+      waiting = (box_value r.plan).waiting;
+    } };
+}
+
+impl Round {
+    /// Of the ballot of this plan, which nobody has promised.
+    pub(crate) fn of(plan: Box<Plan>) -> Round
+        ensures { result ≡ round_of (box_value plan) }
+    {
+        Round {
+            ballot: plan.ballot,
+            voters: Voters::new(),
+            plan,
         }
     }
 
@@ -63,7 +101,7 @@ impl Round {
     {
         let ready = becomes_quorum(members, self.voters, self.voters_with(promise.site));
         if ready {
-            self.waiting = Some(*promise);
+            self.plan.waiting = Some(*promise);
         } else {
             self.count(promise);
         }
@@ -74,16 +112,16 @@ impl Round {
     pub(crate) fn bag_with(&self, prior: &Option<Vote>) -> BagId
         ensures { result ≡ bag_or (higher_prior self.now.best prior.now) self.now.own }
     {
-        bag_or(higher(self.best, *prior), self.own)
+        bag_or(higher(self.plan.best, *prior), self.plan.own)
     }
 
     /// The promise that waits counts from now on, if one waits.
     pub(crate) fn issued(&mut self)
         ensures { self.new ≡ issued self.old }
     {
-        if let Some(promise) = self.waiting {
+        if let Some(promise) = self.plan.waiting {
             self.count(&promise);
-            self.waiting = None;
+            self.plan.waiting = None;
         }
     }
 
@@ -93,7 +131,7 @@ impl Round {
     {
         self.voters = self.voters_with(promise.site);
         if promise.prior.is_some() {
-            self.best = higher(self.best, promise.prior);
+            self.plan.best = higher(self.plan.best, promise.prior);
         }
     }
 

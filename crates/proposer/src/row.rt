@@ -2,12 +2,12 @@ ghost use Rattle.std.specs.Prelude.{◌≡◌, max, Some};
 ghost use Rattle.proposer.specs.Rows.{empty_row, begun_in};
 ghost use Rattle.proposer.specs.inner.Rows.{noted_row, is_of_round, HeardPromise, IssuesWaiting};
 
-use crate::round::{Promise, Round};
+use crate::round::{Plan, Promise, Round};
 use fed_types::{BagId, Ballot, Quorums};
 use records::Entry;
 
-/// What a proposer knows of a slot. Its rounds are boxed, so that a slot that was only asked about
-/// takes a few words.
+/// What a proposer knows of a slot. What its ballots propose is boxed, so that a slot that was only
+/// asked about takes a few words.
 #[derive(Drop)]
 pub(crate) struct Row {
     /// The greatest round that the site has used.
@@ -15,9 +15,9 @@ pub(crate) struct Row {
     /// The greatest round that stood in the way of one of its ballots.
     pub(crate) floor: u32,
     /// The ballot that was begun, until its record is noted.
-    pub(crate) begun: Option<Box<Round>>,
+    pub(crate) begun: Option<Box<Plan>>,
     /// The current ballot.
-    current: Option<Box<Round>>,
+    current: Option<Round>,
 }
 
 impl Row {
@@ -80,7 +80,10 @@ impl Row {
         };
         self.used = self.used.max(round.number());
         if self.has_begun(round.number()) {
-            self.current = self.begun.take();
+            self.current = match self.begun.take() {
+                Some(plan) => Some(Round::of(plan)),
+                None => None,
+            };
         }
     }
 

@@ -15,7 +15,7 @@ use Rattle.dgram.specs.Heard.{bodies_of, promise_in, refused_round, voter_in, vo
 use Rattle.dgram.proofs.Heard.{bodies_of-append, voters_for-append}
 use Rattle.slot_table.specs.Rows.{Rows}
 use Rattle.proposer.specs.declared.round.Promise.{Promise as Waiting}
-use Rattle.proposer.specs.declared.round.Round.{Round}
+use Rattle.proposer.specs.Rounds.{Round}
 use Rattle.proposer.specs.declared.row.Row.{Row as proposer_row}
 use Rattle.proposer.specs.Rows as proposers
 use Rattle.proposer.specs.Sessions.{Session, UnderWay, hears, promise_message, heard_after}

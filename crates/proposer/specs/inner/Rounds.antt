@@ -7,7 +7,7 @@ use Rattle.fed_types.specs.Quorums.{QuorumSystem}
 use Rattle.fed_types.specs.Voters.{with_voter}
 use Rattle.records.specs.Words.{higher, with_one}
 use Rattle.proposer.specs.declared.round.Promise.{Promise}
-use Rattle.proposer.specs.declared.round.Round.{Round}
+use Rattle.proposer.specs.Rounds.{Round}
 
 -- the vote of the greater ballot, of equal ones the first
 abbrev pub higher_prior : Option Vote → Option Vote → Option Vote

@@ -7,11 +7,12 @@ use Rattle.fed_types.specs.Ballots.{BallotNumber}
 use Rattle.fed_types.specs.Quorums.{QuorumSystem}
 use Rattle.fed_types.specs.Slots.{SlotName, same_slot}
 use Rattle.records.specs.declared.entry.Entry.{Entry}
-use Rattle.records.specs.Words.{with_one, if_some, round_in}
+use Rattle.records.specs.Words.{if_some, round_in}
 use Rattle.slot_table.specs.Rows as tables
 use Rattle.proposer.specs.declared.round.Promise.{Promise}
-use Rattle.proposer.specs.declared.round.Round.{Round}
+use Rattle.proposer.specs.declared.round.Plan.{Plan}
 use Rattle.proposer.specs.declared.row.Row.{Row}
+use Rattle.proposer.specs.Rounds.{Round}
 use Rattle.proposer.specs.Rows.{begun_in, current_in, row_of}
 use Rattle.proposer.specs.inner.Rounds.{given_bag, after_promise, issued}
 
@@ -47,7 +48,12 @@ abbrev pub with_round : Row → Option ℕ → Row
 with_round row None = row
 with_round row (Some number) =
     if is_of_round number (begun_in row)
-    then record { used = max row.used number; floor = row.floor; begun = None; current = row.begun }
+    then record {
+      used = max row.used number;
+      floor = row.floor;
+      begun = None;
+      current = begun_in row;
+    }
     else record {
       used = max row.used number;
       floor = row.floor;
@@ -79,12 +85,12 @@ with_floor row round = record {
   current = row.current;
 }
 
--- a row with a round that was begun
-abbrev pub with_begun : Row → Box Round Global → Row
-with_begun row round = record {
+-- a row with a ballot that was begun
+abbrev pub with_begun : Row → Box Plan Global → Row
+with_begun row plan = record {
   used = row.used;
   floor = row.floor;
-  begun = Some round;
+  begun = Some plan;
   current = row.current;
 }
 

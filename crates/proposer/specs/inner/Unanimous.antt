@@ -1,5 +1,5 @@
 -- Three members, whose only quorum is all of them: a membership of the tests.
-use Rattle.std.specs.Prelude.{◌≡◌, ℕ, true, Bool, ◌&&◌, List, [], ◌∷◌, refl}
+use Rattle.std.specs.Prelude.{◌≡◌, ℕ, true, ◌&&◌, List, [], ◌∷◌, refl}
 use Rattle.std.proofs.lemmas.Bool.{and_parts, and_from}
 use Rattle.fed_types.specs.Lists.{Has, here, there, is_in}
 use Rattle.fed_types.specs.Quorums.{QuorumSystem, QuorumsMeet, QuorumGrows}

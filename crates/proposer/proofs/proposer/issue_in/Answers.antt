@@ -1,4 +1,3 @@
-use Rattle.std.proofs.Common.{◌≡◌}
 use Rattle.proposer.proofs.Issued.{issued_at, issued_nowhere}
 use Rattle.proposer.proofs.Tables.{rooms_put, rooms_same}
 use Rattle.proposer.proofs.proposer.issue_in.Goals as goal

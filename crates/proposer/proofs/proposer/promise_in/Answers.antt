@@ -1,4 +1,3 @@
-use Rattle.std.proofs.Common.{◌≡◌}
 use Rattle.proposer.proofs.Stands.{heard_at, heard_nowhere}
 use Rattle.proposer.proofs.Tables.{rooms_put, rooms_same}
 use Rattle.proposer.proofs.proposer.promise_in.Goals as goal

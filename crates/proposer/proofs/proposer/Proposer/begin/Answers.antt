@@ -1,5 +1,5 @@
-use Rattle.std.proofs.Common.{◌≡◌, ◌∙◌, sym, ap, subst, inl}
-use Rattle.proposer.specs.declared.round.Round.{Round}
+use Rattle.std.proofs.Common.{◌∙◌, ap, subst, inl}
+use Rattle.proposer.specs.Rounds.{Round}
 use Rattle.proposer.specs.Faults.{next_or_spent}
 use Rattle.proposer.specs.inner.Rows.{BeginsAt}
 use Rattle.proposer.proofs.Stands.{next_is, begun_stands}

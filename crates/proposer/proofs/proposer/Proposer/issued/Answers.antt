@@ -1,4 +1,4 @@
-use Rattle.std.proofs.Common.{◌≡◌, sym, subst}
+use Rattle.std.proofs.Common.{sym, subst}
 use Rattle.proposer.specs.Rows.{Proposing, StandsFor}
 use Rattle.proposer.proofs.Issued.{issued_stands}
 use Rattle.proposer.proofs.proposer.Proposer.issued.Goals as goal

@@ -1,6 +1,5 @@
-use Rattle.std.proofs.Common.{◌≡◌, sym, subst}
-use Rattle.fed_types.specs.Quorums.{AreQuorums}
-use Rattle.proposer.specs.Rows.{Proposing, StandsFor}
+use Rattle.std.proofs.Common.{subst}
+use Rattle.proposer.specs.Rows.{Proposing}
 use Rattle.proposer.specs.inner.Rows.{HeardAt}
 use Rattle.proposer.proofs.Stands.{promise_ready, promise_stands}
 use Rattle.proposer.proofs.proposer.Proposer.promise.Goals as goal

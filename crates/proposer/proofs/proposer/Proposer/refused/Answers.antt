@@ -1,4 +1,4 @@
-use Rattle.std.proofs.Common.{◌≡◌, ◌∙◌, ap}
+use Rattle.std.proofs.Common.{◌∙◌, ap}
 use Rattle.proposer.specs.Rows.{Proposing, row_of}
 use Rattle.proposer.proofs.Stands.{refused_stands}
 use Rattle.proposer.proofs.proposer.Proposer.refused.Goals as goal

@@ -3,7 +3,7 @@ use Rattle.fed_types.specs.Lists.{is_in}
 use Rattle.fed_types.specs.Sites.{weight_of}
 use Rattle.fed_types.proofs.Ones.{AreSites, has_one}
 use Rattle.fed_types.proofs.Sums.{among}
-use Rattle.fed_types.proofs.voters.Voters.weight.Given as goal
+use Rattle.fed_types.proofs.voters.Voters.sum_of_weights.Given as goal
 
 abbrev pub invariant-loop-rest : goal.invariant-loop-rest
 invariant-loop-rest l =
