@@ -1,0 +1,3 @@
+pub mod DistinctLemmas
+pub mod SiteLemmas
+pub mod FileLemmas

@@ -1,0 +1,8 @@
+use super::*;
+use std::alloc::Global;
+use std::test::Fail;
+
+#[test]
+fn laws() {
+    members_files_law();
+}
