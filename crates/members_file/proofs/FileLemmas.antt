@@ -1,11 +1,13 @@
 -- Texts and their lines: where the sites' end, what is at fault, and that there is one answer.
 use Rattle.std.proofs.Common.{◌≡◌, ℕ, ◌+◌, ◌≤◌, ◌==◌, ◌&&◌, Bool, true, false, eqb, List, []}
-use Rattle.std.proofs.Common.{◌∷◌, ◌++◌, length, Option, Some, None, refl, sym, ap, ◌∙◌, subst, arith}
+use Rattle.std.proofs.Common.{◌∷◌, ◌++◌, length, Option, Some, None, Err, refl, sym, ap, ◌∙◌, subst, arith}
 use Rattle.std.proofs.Common.{append_assoc}
+use Rattle.std.specs.Option.{ok_or}
 use Rattle.std.specs.Str.Lines.{lines}
 use Rattle.std.proofs.lemmas.Bool.{eqb-true}
 use Rattle.std.proofs.lemmas.Option.{same_Some}
 use Rattle.schedule.specs.Words.{words_of}
+use Rattle.members_file.specs.declared.members_fault.MembersFault.{MembersFault}
 use Rattle.members_file.specs.Files.{AreDistinct, ArePorts, AreSites, HasFault, IsTextOf, MembersFile}
 use Rattle.members_file.specs.Files.{are_blank, named_by, no_federation, no_site}
 use Rattle.members_file.specs.Limits.{most_sites}
@@ -308,3 +310,9 @@ text_of_file text first later rest f ports is says has some blank = record {
   some = some;
   blank = blank;
 }
+
+-- a test that answers by a fault
+pub fault_from_ok_or : {X : Type 0} (found : Option X) (wanted fault : MembersFault)
+    → Err fault ≡ ok_or found wanted → (found ≡ None) × (fault ≡ wanted)
+fault_from_ok_or None wanted fault e = (refl, cc)
+fault_from_ok_or (Some x) wanted fault e = absurd (cc e)
