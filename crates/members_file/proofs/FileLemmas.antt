@@ -56,8 +56,10 @@ one_line_more front back line ports are =
     (sym (append_assoc front (line ∷ []) back)) are in
     let parts = Parts-from 1 (front ++ line ∷ []) back ports all.0 in (
       parts.first,
-      (parts.are_first,
-          AreDistinct-front parts.first parts.later (subst AreDistinct parts.is all.1)),
+      (
+        parts.are_first,
+        AreDistinct-front parts.first parts.later (subst AreDistinct parts.is all.1),
+      ),
     )
 
 -- what two ways of reading the sites have in common

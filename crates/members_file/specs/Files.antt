@@ -61,13 +61,13 @@ pub record IsTextOf (text : List ℕ) (file : MembersFile) : Type 0 where
 pub data HasFault : List ℕ → ℕ → Type 0 where
   no_federation : (text : List ℕ) (number : ℕ)
       → ((first : List ℕ) (later : List (List ℕ)) (f : ℕ) → lines text ≡ first ∷ later
-        → federation_in (words_of first) ≢ Some f)
+      → federation_in (words_of first) ≢ Some f)
       → number ≡ 1 → HasFault text number
   no_site : (text : List ℕ) (number f : ℕ) (first : List ℕ) (sites rest : List (List ℕ))
       (ports : List ℕ) → lines text ≡ first ∷ (sites ++ rest)
       → federation_in (words_of first) ≡ Some f → AreSites sites ports
       → ((line : List ℕ) (later : List (List ℕ)) (more : List ℕ) → rest ≡ line ∷ later
-        → ¬ AreSites (sites ++ line ∷ []) more)
+      → ¬ AreSites (sites ++ line ∷ []) more)
       → ¬ ((1 ≤ length sites) × (are_blank rest ≡ true))
       → number ≡ length sites + 2 → HasFault text number
 

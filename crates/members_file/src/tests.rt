@@ -15,15 +15,31 @@ static FILES: [(&[u8], u64, &[u16]); 12] = [
     (b"federation 7\nsite 1 9001\n\n   \n\r\n \r\n\n", 7, &[9001]),
     (b"federation 7\nsite 1 9001\n  ", 7, &[9001]),
     // One CR before LF is dropped.
-    (b"federation 7\r\nsite 1 9001\r\nsite 2 9002\r\n", 7, &[9001, 9002]),
+    (
+        b"federation 7\r\nsite 1 9001\r\nsite 2 9002\r\n",
+        7,
+        &[9001, 9002],
+    ),
     // Spaces between words and at both ends, and leading zeros.
     (b"  federation   007  \n site  01   09001 \n", 7, &[9001]),
     // The ends of the ranges.
     (b"federation 0\nsite 1 1\nsite 2 65535\n", 0, &[1, 65535]),
-    (b"federation 18446744073709551615\nsite 1 1\n", 18446744073709551615, &[1]),
-    (b"federation 000000000000000000000001\nsite 1 000000080\n", 1, &[80]),
+    (
+        b"federation 18446744073709551615\nsite 1 1\n",
+        18446744073709551615,
+        &[1],
+    ),
+    (
+        b"federation 000000000000000000000001\nsite 1 000000080\n",
+        1,
+        &[80],
+    ),
     // Ports in any order.
-    (b"federation 1\nsite 1 3\nsite 2 1\nsite 3 2\n", 1, &[3, 1, 2]),
+    (
+        b"federation 1\nsite 1 3\nsite 2 1\nsite 3 2\n",
+        1,
+        &[3, 1, 2],
+    ),
     (
         b"federation 1\nsite 1 11\nsite 2 12\nsite 3 13\nsite 4 14\nsite 5 15\nsite 6 16\n\
           site 7 17\nsite 8 18\nsite 9 19\nsite 10 20\nsite 11 21\nsite 12 22\nsite 13 23\n\
@@ -122,7 +138,10 @@ static FAULTS: [(&[u8], usize); 59] = [
     (b"federation 7\nsite 1 9001\nsite 2 \xef\xbc\x91\n", 3),
     // A port twice: the later line is at fault.
     (b"federation 7\nsite 1 9001\nsite 2 9001\n", 3),
-    (b"federation 7\nsite 1 9001\nsite 2 9002\nsite 3 09001\nelse\n", 4),
+    (
+        b"federation 7\nsite 1 9001\nsite 2 9002\nsite 3 09001\nelse\n",
+        4,
+    ),
     // The first of several lines at fault.
     (b"else\nelse\n", 1),
     (b"federation 7\nsite 1 9001\nsite 3 9003\nsite 2 9001\n", 3),

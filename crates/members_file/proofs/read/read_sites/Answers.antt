@@ -5,7 +5,8 @@ use Rattle.members_file.specs.inner.Sites.{next_port}
 use Rattle.members_file.proofs.FileLemmas.{BeginsSites-more, HasSites-from, HasSites-end}
 use Rattle.members_file.proofs.read.read_sites.Goals as goal
 use Rattle.members_file.proofs.read.read_sites.Goals.{
-  in-Some+in_ok-port+in_default-2, in_default,
+  in-Some+in_ok-port+in_default-2,
+  in_default,
 }
 
 pub loop-line-preserved : goal.loop-line-preserved
