@@ -1,3 +1,5 @@
 pub mod DistinctLemmas
 pub mod SiteLemmas
-pub mod FileLemmas
+pub mod EndLemmas
+pub mod ReadLemmas
+pub mod LawLemmas

@@ -1,6 +1,6 @@
 -- The lines of sites, one after another.
-use Rattle.std.proofs.Common.{◌≡◌, ℕ, ◌+◌, ◌≤◌, ◌==◌, ◌&&◌, Bool, cond, true, false, not, eqb, List, []}
-use Rattle.std.proofs.Common.{◌∷◌, ◌++◌, length, All, Option, Some, None, refl, sym, ap, ◌∙◌, subst}
+use Rattle.std.proofs.Common.{◌≡◌, ℕ, ◌+◌, ◌≤◌, ◌==◌, ◌&&◌, Bool, cond, true, false, not, eqb}
+use Rattle.std.proofs.Common.{List, [], ◌∷◌, ◌++◌, length, All, Option, Some, None, refl, sym, ap, ◌∙◌, subst}
 use Rattle.std.proofs.Common.{arith}
 use Rattle.std.specs.Prelude.{codes}
 use Rattle.std.specs.List.{list_any}
@@ -15,8 +15,7 @@ use Rattle.members_file.specs.Files.{AreDistinct, AreSites, AreSitesFrom}
 use Rattle.members_file.specs.Limits.{most_sites, greatest_port}
 use Rattle.members_file.specs.Lines.{site_in}
 use Rattle.members_file.specs.inner.Sites.{if_next, next_port}
-use Rattle.members_file.proofs.DistinctLemmas.{AreDistinct-front, AreDistinct-more}
-use Rattle.members_file.proofs.DistinctLemmas.{AreDistinct-last}
+use Rattle.members_file.proofs.DistinctLemmas.{AreDistinct-more, AreDistinct-last}
 
 -- a site's number and its port
 abbrev pair_of : ℕ → ℕ → Option (ℕ × ℕ)

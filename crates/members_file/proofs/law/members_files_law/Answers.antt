@@ -1,4 +1,4 @@
-use Rattle.members_file.proofs.FileLemmas.{one_file, one_fault, never_both}
+use Rattle.members_file.proofs.LawLemmas.{one_file, one_fault, never_both}
 use Rattle.members_file.proofs.law.members_files_law.Goals as goal
 
 pub returns-clause-one_file : goal.returns-clause-one_file

@@ -7,8 +7,8 @@ use Rattle.schedule.specs.Words.{words_of}
 use Rattle.members_file.specs.declared.members_fault.MembersFault.TheVariants.{Line}
 use Rattle.members_file.specs.Files.{HasFault, are_blank}
 use Rattle.members_file.specs.Lines.{federation_in}
-use Rattle.members_file.proofs.FileLemmas.{fault_from_ok_or, fault_of_none, fault_of_first}
-use Rattle.members_file.proofs.FileLemmas.{fault_after, text_of_file, HasSites-most, ArePorts-read}
+use Rattle.members_file.proofs.ReadLemmas.{fault_from_ok_or, fault_of_none, fault_of_first}
+use Rattle.members_file.proofs.ReadLemmas.{fault_after, HasSites-most, ArePorts-read}
 use Rattle.members_file.proofs.read.read_members.Goals as goal
 
 pub returns-in_err-first : goal.returns-in_err-first

@@ -2,7 +2,7 @@ use Rattle.std.proofs.Common.{ℕ, List, sym, ap, ◌∙◌}
 use Rattle.std.specs.Str.Lines.{lines}
 use Rattle.schedule.specs.Words.{words_of}
 use Rattle.members_file.specs.inner.Sites.{next_port}
-use Rattle.members_file.proofs.FileLemmas.{BeginsSites-more, HasSites-from, HasSites-end}
+use Rattle.members_file.proofs.ReadLemmas.{BeginsSites-more, HasSites-from, HasSites-end}
 use Rattle.members_file.proofs.read.read_sites.Goals as goal
 use Rattle.members_file.proofs.read.read_sites.Goals.{
   in-Some+in_ok-port+in_default-2,
