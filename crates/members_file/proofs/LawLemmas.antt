@@ -1,14 +1,18 @@
--- A text is one members file at most, or has one first line at fault, and never both.
+-- Each text is one members file, or has one first line at fault, and never both.
 use Rattle.std.proofs.Common.{◌≡◌, ℕ, ◌+◌, ◌≤◌, List, ◌∷◌, ◌++◌}
+use Rattle.std.proofs.Common.{[], Bool, true, false, Option, None, ◌⊎◌, inl, inr}
 use Rattle.std.proofs.Common.{length, Some, refl, sym, ap, ◌∙◌, subst, arith}
 use Rattle.std.specs.Str.Lines.{lines}
+use Rattle.std.proofs.lemmas.Bool.{false≢true}
 use Rattle.std.proofs.lemmas.Option.{same_Some}
 use Rattle.schedule.specs.Words.{words_of}
 use Rattle.members_file.specs.Files.{HasFault, IsTextOf}
 use Rattle.members_file.specs.Files.{MembersFile, are_blank, named_by, no_federation, no_site}
 use Rattle.members_file.specs.Lines.{federation_in}
-use Rattle.members_file.specs.inner.Sites.{HasSites}
+use Rattle.members_file.specs.inner.Sites.{BeginsSites, HasSites, next_port}
 use Rattle.members_file.proofs.SiteLemmas.{AreSitesFrom-length}
+use Rattle.members_file.proofs.ReadLemmas.{BeginsSites-none, BeginsSites-more, HasSites-from}
+use Rattle.members_file.proofs.ReadLemmas.{HasSites-end, fault_of_none, fault_of_first, fault_after}
 use Rattle.members_file.proofs.EndLemmas.{HasSites-agree, blank_ends, same_lines}
 
 -- the sites of a members file
@@ -89,3 +93,72 @@ never_both _ file _ t (no_site text n f first sites rest ports is says are no_mo
       some,
       ap (λ (ls : List (List ℕ)). are_blank ls) agree.rest ∙ t.blank,
     )
+
+-- ---- each text is one or the other
+
+-- the sites of lines
+all_sites : (all : List (List ℕ)) (ports : List ℕ) (rest : List (List ℕ))
+    → BeginsSites all ports rest
+    → (named : List ℕ) × (left : List (List ℕ)) × HasSites all named left
+all_sites all ports [] begins = (ports, [], HasSites-end all ports [] begins refl)
+all_sites all ports (line ∷ later) begins =
+    go (next_port ports (words_of line)) refl
+    (λ port is.
+    all_sites all (ports ++ port ∷ []) later
+    (BeginsSites-more all ports (line ∷ later) line later port begins refl is))
+  where
+    go : (next : Option ℕ) → next_port ports (words_of line) ≡ next
+        → ((port : ℕ) → next_port ports (words_of line) ≡ Some port
+        → (named : List ℕ) × (left : List (List ℕ)) × HasSites all named left)
+        → (named : List ℕ) × (left : List (List ℕ)) × HasSites all named left
+    go None is later_sites =
+        (ports, line ∷ later, HasSites-from all ports (line ∷ later) line later begins refl is)
+    go (Some port) is later_sites = later_sites port is
+
+-- a members file, or a line at fault
+abbrev Answer : List ℕ → Type 0
+Answer text = ((file : MembersFile) × IsTextOf text file) ⊎ ((n : ℕ) × HasFault text n)
+
+after_first : (text first : List ℕ) (later : List (List ℕ)) (f : ℕ) → lines text ≡ first ∷ later
+    → federation_in (words_of first) ≡ Some f → Answer text
+after_first text first later f is says =
+    let found = all_sites later [] later (BeginsSites-none later) in
+    go found.0 found.1 found.2 (are_blank found.1) refl
+  where
+    go : (ports : List ℕ) (rest : List (List ℕ)) → HasSites later ports rest
+        → (blank : Bool) → are_blank rest ≡ blank → Answer text
+    go ports rest has false isnt =
+        inr (
+          length ports + 2,
+          fault_after text first later rest f ports is says has
+              (λ ends. false≢true (sym isnt ∙ ends.1)),
+        )
+    go [] rest has true blank =
+        inr (2, fault_after text first later rest f [] is says has (λ ends. omega (arith, ends.0)))
+    go (port ∷ ports) rest has true blank =
+        inl (
+          named_by f (port ∷ ports),
+          record {
+            first = first;
+            sites = has.sites;
+            rest = rest;
+            is = is ∙ ap (λ (ls : List (List ℕ)). first ∷ ls) has.is;
+            federation = says;
+            ports = has.ports;
+            some = omega arith;
+            blank = blank;
+          },
+        )
+
+pub some_answer : (text : List ℕ) → Answer text
+some_answer text = go (lines text) refl
+  where
+    named : (first : List ℕ) (later : List (List ℕ)) → lines text ≡ first ∷ later
+        → (f : Option ℕ) → federation_in (words_of first) ≡ f → Answer text
+    named first later is None says = inr (1, fault_of_first text first later is says)
+    named first later is (Some f) says = after_first text first later f is says
+
+    go : (ls : List (List ℕ)) → lines text ≡ ls → Answer text
+    go [] is = inr (1, fault_of_none text is)
+    go (first ∷ later) is =
+        named first later is (federation_in (words_of first)) refl

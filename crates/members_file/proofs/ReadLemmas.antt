@@ -15,6 +15,14 @@ use Rattle.members_file.proofs.SiteLemmas.{AreSites-more, AreSites-no_more, AreS
 use Rattle.members_file.proofs.SiteLemmas.{AreSitesFrom-most, AreSitesFrom-range}
 use Rattle.members_file.proofs.EndLemmas.{same_lines}
 
+-- no line is read
+pub BeginsSites-none : (all : List (List ℕ)) → BeginsSites all [] all
+BeginsSites-none all = record {
+  sites = [];
+  is = refl;
+  ports = (tt, λ i j d below within same. absurd (omega arith));
+}
+
 -- the next line is of the next site
 pub BeginsSites-more : (all : List (List ℕ)) (ports : List ℕ) (rest : List (List ℕ))
     (line : List ℕ) (later : List (List ℕ)) (port : ℕ) → BeginsSites all ports rest

@@ -1,11 +1,13 @@
-//! That a text says one thing at most, as laws of the definitions. The function here does nothing:
-//! its contract is the law.
+//! That each text says one thing, as laws of the definitions. The function here does nothing: its
+//! contract is the law.
 
-ghost use Rattle.std.specs.Prelude.{◌≡◌, ℕ, List};
+ghost use Rattle.std.specs.Prelude.{◌≡◌, ◌⊎◌, ℕ, List};
 ghost use Rattle.members_file.specs.Files.{MembersFile, IsTextOf, HasFault};
 
-/// A text is one members file at most, or it has one first line at fault, and never both.
+/// Each text is one members file, or it has one first line at fault, and never both.
 pub fn members_files_law()
+    ensures some { (text : List ℕ)
+        → ((file : MembersFile) × IsTextOf text file) ⊎ ((n : ℕ) × HasFault text n) }
     ensures one_file { (text : List ℕ) (a b : MembersFile) → IsTextOf text a → IsTextOf text b
         → a ≡ b }
     ensures one_fault { (text : List ℕ) (m n : ℕ) → HasFault text m → HasFault text n → m ≡ n }

@@ -1,5 +1,5 @@
-ghost use Rattle.members_file.specs.declared.members_fault.MembersFault.TheVariants.{Memory};
 ghost use Rattle.std.specs.Prelude.{◌≡◌};
+ghost use Rattle.members_file.specs.declared.members_fault.MembersFault.TheVariants.{Memory};
 
 use std::alloc::{AllocError, AllocFailed};
 use thiserror::Error;
@@ -7,8 +7,8 @@ use thiserror::Error;
 /// Why a text could not be read as a members file.
 #[derive(Clone, Copy, Debug, PartialEq, Eq, Error)]
 pub enum MembersFault {
-    /// The first line, counted from 1, that isn't what it has to be: of a text without a site, the
-    /// line after its last one that isn't blank.
+    /// The first line, counted from 1, that isn't what it has to be. Where lines are missing, it is
+    /// the line after the last one that isn't blank.
     #[error("members line {0}")]
     Line(usize),
     /// An allocation failed.
