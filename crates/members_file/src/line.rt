@@ -1,4 +1,4 @@
-ghost use Rattle.std.specs.Prelude.{◌≡◌, ◌<◌, ◌^◌, length, map, IfOk};
+ghost use Rattle.std.specs.Prelude.{◌≡◌, map, IfOk};
 ghost use Rattle.schedule.specs.Words.{words_of};
 ghost use Rattle.members_file.specs.Lines.{federation_in, site_in};
 ghost use Rattle.members_file.specs.inner.Sites.{next_port};
