@@ -20,7 +20,7 @@ pub fn read_members(alloc: Global, text: &[u8]) -> Result<MemberPorts, MembersFa
     let words = split_words(alloc, first)?;
     let federation = parse_federation(&words).ok_or(MembersFault::Line(1))?;
     let (ports, rest) = read_sites(alloc, after)?;
-    // Only a number of members is refused: here that of none.
+    // Of the counts that there can be here, only 0 is refused.
     let Ok(members) = Members::new(federation, ports.len() as u8) else {
         return Err(MembersFault::Line(2));
     };
