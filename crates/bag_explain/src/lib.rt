@@ -14,3 +14,6 @@ mod tag_files;
 
 pub use explain_bag::explain;
 pub use law::findings_law;
+
+#[cfg(test)]
+mod tests;
