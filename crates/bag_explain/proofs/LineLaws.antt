@@ -103,3 +103,10 @@ pub text_agrees : (algorithm : Algorithm) (text : List ℕ)
     → Agrees (entries_of algorithm text) (malformed_from algorithm 1 (lines_of text))
     (numbered_from algorithm 1 (lines_of text))
 text_agrees algorithm text = lines_agree algorithm 1 (lines_of text) (endless text)
+
+-- what the lines list, where the text is read
+pub listed_by_line : (algorithm : Algorithm) (text : List ℕ) (files : List ListedFile)
+    → entries_of algorithm text ≡ Ok files
+    → files_in (numbered_from algorithm 1 (lines_of text)) ≡ files
+listed_by_line algorithm text files h =
+    (rw h at (text_agrees algorithm text)).1

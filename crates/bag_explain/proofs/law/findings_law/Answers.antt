@@ -1,3 +1,4 @@
+use Rattle.bag_explain.proofs.LineLaws.{listed_by_line}
 use Rattle.bag_explain.proofs.PlaceLaws.{placed}
 use Rattle.bag_explain.proofs.FindingLaws.{sound, first, none_valid, valid_none}
 use Rattle.bag_explain.proofs.law.findings_law.Goals as goal
@@ -13,3 +14,6 @@ returns-clause-first c = first
 
 pub returns-clause-valid : goal.returns-clause-valid
 returns-clause-valid c = λ facts. (valid_none facts, none_valid facts)
+
+pub returns-clause-listed : goal.returns-clause-listed
+returns-clause-listed c = listed_by_line
