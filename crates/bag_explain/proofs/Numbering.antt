@@ -1,6 +1,7 @@
 -- The numbered lines of a manifest, one line on, and its listing.
 use Rattle.std.proofs.Common.{◌≡◌, ℕ, ◌+◌, ◌<◌, ◌≤◌, List, [], ◌∷◌, ◌++◌, length, take, get_or, map}
-use Rattle.std.proofs.Common.{refl, sym, ap, ◌∙◌, append_assoc, append-nil, subst, arith, None, Some}
+use Rattle.std.proofs.Common.{refl, sym, ap, ◌∙◌, append_assoc, append-nil, subst, arith}
+use Rattle.std.proofs.Common.{None, Some}
 use Rattle.std.specs.Borrow.{Bor}
 use Rattle.std.proofs.lemmas.List.{map-append, take_more, take_all, length-take-le}
 use Rattle.std.proofs.lemmas.List.{length-map}
@@ -13,7 +14,8 @@ use Rattle.bag_check.specs.declared.manifests.Kind.{Kind}
 use Rattle.bag_check.specs.declared.manifests.Kind.TheVariants.{Payload, Tag}
 use Rattle.bag_check.specs.Manifests.{Manifest, text_at, manifest_name, manifest_at}
 use Rattle.bag_check.specs.Manifests.{manifests_of_kind, manifests_of}
-use Rattle.bag_explain.specs.Lines.{NumberedFile, numbered, if_malformed, numbered_from, malformed_from}
+use Rattle.bag_explain.specs.Lines.{NumberedFile, numbered, if_malformed, numbered_from}
+use Rattle.bag_explain.specs.Lines.{malformed_from}
 use Rattle.bag_explain.specs.Listings.{Listing, listing_by, listing_of, listings_of}
 
 zero_more : (n : ℕ) → n ≡ n + 0

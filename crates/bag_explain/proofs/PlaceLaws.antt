@@ -28,7 +28,8 @@ use Rattle.bag_check.proofs.Repeats.{same_any}
 use Rattle.bag_explain.specs.Lines.{NumberedFile, malformed_from, numbered_from}
 use Rattle.bag_explain.specs.Listings.{Listing, listing_by, listing_of, listings_of}
 use Rattle.bag_explain.specs.Listings.{unless_malformed}
-use Rattle.bag_explain.specs.Places.{Place, at_unlisted, name_of, places_of, when, of_payload, files_in, faulty_line}
+use Rattle.bag_explain.specs.Places.{Place, at_unlisted, name_of, places_of, when}
+use Rattle.bag_explain.specs.Places.{of_payload, files_in, faulty_line}
 use Rattle.bag_explain.specs.Places.{faulty_lines, unknown_at, repeated_after, malformed_at}
 use Rattle.bag_explain.specs.Places.{astray_at, repeated_at, missing_at, unlisted_at, wrong_at}
 use Rattle.bag_explain.specs.Places.{malformed_places, astray_places, repeated_places}
@@ -132,7 +133,8 @@ unlisted_test : (kind : Kind) (files : List FileFact) (place : FileFact → Plac
     → Agrees read malformed found
     → passes (λ listed. if_payload kind (list_any (is_unlisted listed) files)) read
     ≡ has_some (unless_malformed malformed (of_payload kind (flat_map (λ file.
-    when (is_unlisted (files_in (unless_malformed malformed found)) file) (place file ∷ [])) files)))
+    when (is_unlisted (files_in (unless_malformed malformed found)) file) (place file ∷ []))
+    files)))
 unlisted_test kind files place (Ok listed) [] found (sound, are) =
     ap (λ ls. if_payload kind (list_any (is_unlisted ls) files)) (sym are)
     ∙ unlisted_any kind files place (files_in found)
@@ -210,7 +212,8 @@ module _ (manifest : Manifest) where
       (entries manifest) ≡ has_some (unlisted_places files (listing_of manifest))
   unfolding listing_of
   unlisted_here files =
-      unlisted_test manifest.kind files (λ file. at_unlisted file.path (name_of (listing_of manifest)))
+      unlisted_test manifest.kind files
+      (λ file. at_unlisted file.path (name_of (listing_of manifest)))
       (entries manifest) (malformed_in manifest) (numbered_in manifest)
       (text_agrees manifest.algorithm manifest.text)
 

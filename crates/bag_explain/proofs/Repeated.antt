@@ -39,8 +39,10 @@ repeated_after-snoc before (first ∷ entries) entry =
     let there = repeated_after (before ++ first.file ∷ []) entries in
     ap (λ t. here ++ t) (repeated_after-snoc (before ++ first.file ∷ []) entries entry)
     ∙ (sym (append_assoc here there
-    (when (is_listed entry.file.path ((before ++ first.file ∷ []) ++ files_in entries)) (entry ∷ [])))
-    ∙ ap (λ (fs : List ListedFile). (here ++ there) ++ when (is_listed entry.file.path fs) (entry ∷ []))
+    (when (is_listed entry.file.path ((before ++ first.file ∷ []) ++ files_in entries))
+    (entry ∷ [])))
+    ∙ ap (λ (fs : List ListedFile).
+    (here ++ there) ++ when (is_listed entry.file.path fs) (entry ∷ []))
     (append_assoc before (first.file ∷ []) (files_in entries)))
 
 module _ (entries : List NumberedFile) (place : ℕ) (entry : NumberedFile)
@@ -67,7 +69,8 @@ module _ (entries : List NumberedFile) (place : ℕ) (entry : NumberedFile)
       ∙ repeated_after-snoc [] (take place entries) entry
 
 places_when : (listing : Listing) (entry : NumberedFile) (test : Bool)
-    → flat_map (repeated_at listing) (when test (entry ∷ [])) ≡ when test (repeated_at listing entry)
+    → flat_map (repeated_at listing) (when test (entry ∷ []))
+    ≡ when test (repeated_at listing entry)
 places_when listing entry true = refl
 places_when listing entry false = refl
 
@@ -89,7 +92,8 @@ module _ (listing : Listing) (items : List NumberedFile) (place : ℕ)
       (repeated_after [] (take (place + 1) listing.files)))
   repeated_more entry after test within is listed now =
       let upto = repeated_after [] (take place listing.files) in
-      let here = when (is_listed entry.file.path (files_in (take place listing.files))) (entry ∷ []) in
+      let listed_before = is_listed entry.file.path (files_in (take place listing.files)) in
+      let here = when listed_before (entry ∷ []) in
       after_both start (printed_places DuplicateEntry (flat_map (repeated_at listing) upto))
       (printed_places DuplicateEntry (flat_map (repeated_at listing) here)) before after so_far
       (now ∙ (ap (λ (t : Bool). before ++ printed_places DuplicateEntry

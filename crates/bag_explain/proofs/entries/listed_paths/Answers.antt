@@ -9,7 +9,8 @@ loop-entry-preserved c = λ q.
     let before = c.loop-entry.listed in
     let entry = c.entry-item.result in
     has_text-inserted c.path.result before c.insert.new.self c.in_ok-insert.ensures.updates q
-    ∙ (ap (λ p. bytes_eq p q || has_text q before) (c.path.ensures ∙ ap (λ e. e.path) c.entry.ensures)
+    ∙ (ap (λ p. bytes_eq p q || has_text q before)
+    (c.path.ensures ∙ ap (λ e. e.path) c.entry.ensures)
     ∙ (ap (λ t. bytes_eq entry.file.path q || t) (c.loop-entry.invariant q)
     ∙ sym
     (listed_next c.args.entries.now c.loop-entry.entry-index entry c.loop-entry-test.true

@@ -18,7 +18,8 @@ loop-line-preserved c =
     line (string_bytes c.push_line.new.text) c.loop-line-test.true
     (get_or_default items i 0 line c.loop-line-test.true)
     (c.in_ok-push_line.ensures
-    ∙ (ap (λ (n : List ℕ). before ++ printed_fault MalformedLine (at_line n line)) c.name-name.ensures
+    ∙ (ap (λ (n : List ℕ). before ++ printed_fault MalformedLine (at_line n line))
+    c.name-name.ensures
     ∙ ap (λ (t : List ℕ). before ++ t) (sym (append-nil _))))
 
 pub returns : goal.returns

@@ -9,4 +9,5 @@ use Rattle.bag_explain.proofs.entries.push_malformed.Given as goal
 abbrev pub invariant-loop-line : goal.invariant-loop-line
 invariant-loop-line l =
     string_bytes l.text ≡ string_bytes l.fn.text
-    ++ printed_places MalformedLine (flat_map (malformed_at l.listing) (take l.line-index l.listing.malformed))
+    ++ printed_places MalformedLine (flat_map (malformed_at l.listing)
+    (take l.line-index l.listing.malformed))

@@ -9,4 +9,5 @@ use Rattle.bag_explain.proofs.entries.push_missing.Given as goal
 abbrev pub invariant-loop-entry : goal.invariant-loop-entry
 invariant-loop-entry l =
     string_bytes l.text ≡ string_bytes l.fn.text
-    ++ printed_places MissingFile (flat_map (missing_at l.files l.listing) (take l.entry-index l.listing.files))
+    ++ printed_places MissingFile (flat_map (missing_at l.files l.listing)
+    (take l.entry-index l.listing.files))
