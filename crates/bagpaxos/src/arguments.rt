@@ -61,6 +61,14 @@ const CHECK_EXAMPLE: &str = "It prints one line:
                                                  7 out of memory
   memory        out of memory, before or after the folder was read
 
+With --explain, a line for each thing that is wrong comes after it, as the number of the fault and
+where it is:
+  6 data                                           a file or folder
+  9 manifest-md5.txt:2                             a line of a text
+  12 data/b.txt manifest-md5.txt:3                 a path that the line of a manifest lists
+  13 data/c.txt manifest-md5.txt                   a file that a manifest doesn't list
+  14 data/a.txt md5 manifest-md5.txt:1             a file, the algorithm, and the line
+
 The exit status is 0 for a valid bag, 1 for all else, and 2 for a mistake in the arguments.
 
 Example:
@@ -73,6 +81,8 @@ pub enum Task<'a> {
     Run(Options),
     /// Check the folder of this path.
     Check(&'a str),
+    /// Check it, and say all that is wrong.
+    Explain(&'a str),
 }
 
 /// What these words ask for, the program's own name being the first of them. Help is an error of
@@ -90,7 +100,11 @@ fn task_in<'a>(matches: &ArgMatches<'a>) -> Option<Task<'a>> {
         }));
     }
     let check = matches.subcommand_matches("check")?;
-    Some(Task::Check(check.get_str("FOLDER")?))
+    let folder = check.get_str("FOLDER")?;
+    if check.get_flag("explain") {
+        return Some(Task::Explain(folder));
+    }
+    Some(Task::Check(folder))
 }
 
 fn command<'a>(alloc: Global) -> Result<Command<'a>, AllocError> {
@@ -123,8 +137,13 @@ fn check_command<'a>(alloc: Global) -> Result<Command<'a>, AllocError> {
     let folder = Arg::new(alloc, "FOLDER")
         .required(true)
         .help("The bag's folder");
+    let explain = Arg::new(alloc, "explain")
+        .long("explain")
+        .action(ArgAction::SetTrue)
+        .help("Then print a line for each thing that is wrong");
     Command::new(alloc, "check")
         .about(CHECK_ABOUT)
         .after_help(CHECK_EXAMPLE)
+        .arg(explain)?
         .arg(folder)
 }

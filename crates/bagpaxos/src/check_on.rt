@@ -65,7 +65,7 @@ fn verdict_on<F: Folders>(alloc: Global, folders: &mut F, path: &str) -> Verdict
 }
 
 /// A verdict's status and its line.
-fn line_of(alloc: Global, verdict: Verdict) -> Result<Answer, AllocError>
+pub(crate) fn line_of(alloc: Global, verdict: Verdict) -> Result<Answer, AllocError>
     ensures status { IfOk result (λ a. a.status ≡ (outcome_of_verdict verdict).status) }
     ensures text { IfOk result (λ a. string_bytes a.text ≡ (outcome_of_verdict verdict).text) }
 {

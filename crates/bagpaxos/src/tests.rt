@@ -1,4 +1,5 @@
 use crate::check_on::check_on;
+use crate::explain_on::explain_on;
 use crate::fault::ProgramFault;
 use crate::read_all::{ReadFault, read_within};
 use crate::run_on::run_on;
@@ -271,5 +272,21 @@ fn a_verdict_that_cannot_be_written(rt: HostRuntime) -> Result<(), Fail> {
         );
         assert_eq!(rt; output.taken.as_slice(), line.get(..room).unwrap_or(b""));
     }
+    Ok(())
+}
+
+#[test]
+fn all_that_is_wrong(rt: HostRuntime) -> Result<(), Fail> {
+    let alloc = rt.alloc();
+    let mut folders = MemoryFolders::new(alloc);
+    folders.add("empty", Tree::new(alloc))?;
+    let mut output = Vec::new(alloc);
+    assert_eq!(rt;
+        explain_on(alloc, &mut folders, "empty", &mut output),
+        Ok(1)
+    );
+    assert_eq!(rt; explain_on(alloc, &mut folders, "gone", &mut output), Ok(1));
+    let want = "invalid 1\n1 bagit.txt\n6 data\n7 manifest-sha512.txt\nunread 1\n";
+    assert_eq!(rt; output.as_slice(), want.as_bytes());
     Ok(())
 }

@@ -1,0 +1,53 @@
+use Rattle.std.proofs.Common.{◌≡◌, ◌++◌, ℕ, List, [], Bool, not, ◌||◌, ap, sym, ◌∙◌, refl, subst}
+use Rattle.std.proofs.Common.{arith, append-nil, string_bytes, length, get_or, ◌<◌}
+use Rattle.std.proofs.lemmas.Grind.{common_steps}
+use Rattle.std.specs.Str.{bytes_eq}
+use Rattle.bag_text.specs.ListedFile.{ListedFile}
+use Rattle.bag_check.specs.declared.fault.BagFault.TheVariants.{DuplicateEntry}
+use Rattle.bag_check.specs.Manifests.{is_listed}
+use Rattle.bag_check.proofs.Keyed.{has_text, has_text-inserted}
+use Rattle.bag_explain.specs.Places.{repeated_after, repeated_at}
+use Rattle.bag_explain.proofs.Repeated.{listed_next, repeated_more, repeated_all, by_negation}
+use Rattle.bag_explain.proofs.entries.push_all_repeated.Goals as goal
+
+pub loop-entry-init : goal.loop-entry-init
+unfolding repeated_after
+loop-entry-init c =
+    record {
+      seen = λ q. grind (arith, common_steps, c.new-seen.ensures.empty);
+      printed = sym (append-nil (string_bytes c.args.text.now));
+    }
+
+pub loop-entry-preserved : goal.loop-entry-preserved
+loop-entry-preserved c =
+    let before = c.loop-entry.seen in
+    let entry = c.entry-item.result in
+    let files = c.args.listing.now.files in
+    let i = c.loop-entry.entry-index in
+    let same = c.entries-entry-items.ensures in
+    let within : i < length files = subst (λ es. i < length es) same c.loop-entry-test.true in
+    let is : entry ≡ get_or files i entry =
+    subst (λ es. entry ≡ get_or es i entry) same c.entry-item.is in
+    let named = c.path.ensures ∙ ap (λ e. e.path) c.entry.ensures in
+    record {
+      seen =
+          λ q. has_text-inserted c.path.result before c.insert.new.self
+          c.in_ok-added.ensures.updates q
+          ∙ (ap (λ p. bytes_eq p q || has_text q before) named
+          ∙ (ap (λ t. bytes_eq entry.file.path q || t) (c.loop-entry.invariant.seen q)
+          ∙ sym (listed_next files i entry within is q)));
+      printed =
+          repeated_more c.args.listing.now c.entries-entry-items.result.now i same
+          (string_bytes c.args.text.now) (string_bytes c.loop-entry.text)
+          c.loop-entry.invariant.printed entry (string_bytes c.push_if_repeated.new.text)
+          (not c.in_ok-added.added) c.loop-entry-test.true c.entry-item.is
+          (by_negation c.in_ok-added.added _ _ c.in_ok-added.ensures.added
+          (ap (λ p. has_text p before) named ∙ c.loop-entry.invariant.seen entry.file.path))
+          c.in_ok-push_if_repeated.ensures;
+    }
+
+pub returns : goal.returns
+returns c =
+    repeated_all c.args.listing.now c.entries-entry-items.result.now c.loop-entry.entry-index
+    c.entries-entry-items.ensures (string_bytes c.args.text.now) (string_bytes c.loop-entry.text)
+    c.loop-entry.invariant.printed c.loop-entry-test.false

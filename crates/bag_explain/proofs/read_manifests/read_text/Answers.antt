@@ -1,0 +1,41 @@
+use Rattle.std.proofs.Common.{◌+◌, ℕ, [], refl, ap, ◌∙◌}
+use Rattle.bag_explain.specs.Lines.{numbered_from, malformed_from}
+use Rattle.bag_explain.specs.Listings.{kind_of}
+use Rattle.bag_explain.proofs.Numbering.{malformed_more, numbered_more, all_read, texts_of}
+use Rattle.bag_explain.proofs.read_manifests.read_text.Goals as goal
+
+pub loop-line-init : goal.loop-line-init
+unfolding numbered_from malformed_from
+loop-line-init c =
+    record {
+      counted = refl;
+      malformed = c.new-malformed.ensures.items;
+      entries = c.new-entries.ensures.items;
+    }
+
+pub loop-line-preserved : goal.loop-line-preserved
+loop-line-preserved c =
+    let items = c.deref-line-items.result.now in
+    let counted = c.loop-line.invariant.counted in
+    record {
+      counted = ap (λ (n : ℕ). n + 1) counted;
+      malformed =
+          malformed_more c.args.algorithm items c.loop-line.line-index c.loop-line.number
+          (record { ref_ptr = (0, 0); now = [] }) c.loop-line-test.true counted
+          c.loop-line.malformed.items c.read_line.new.malformed.items
+          c.loop-line.invariant.malformed c.in_ok-read_line.ensures.malformed;
+      entries =
+          numbered_more c.args.algorithm items c.loop-line.line-index c.loop-line.number
+          (record { ref_ptr = (0, 0); now = [] }) c.loop-line-test.true counted
+          c.loop-line.entries.items c.read_line.new.entries.items
+          c.loop-line.invariant.entries c.in_ok-read_line.ensures.entries;
+    }
+
+pub returns : goal.returns
+returns c =
+    all_read
+    (record { kind = kind_of c.args.kind; algorithm = c.args.algorithm; text = c.args.text.now })
+    c.deref-line-items.result.now c.loop-line.line-index c.loop-line.malformed.items
+    c.loop-line.entries.items c.new.result c.loop-line-test.false
+    (ap texts_of c.deref-line-items.ensures.value ∙ c.in_ok-lines.ensures)
+    c.loop-line.invariant.malformed c.loop-line.invariant.entries c.new.ensures

@@ -1,0 +1,5 @@
+pub mod Lines
+pub mod Listings
+pub mod Places
+pub mod Findings
+pub mod inner

@@ -1,0 +1,70 @@
+-- The parts of an explanation as they are written, for the contracts of private functions.
+use Rattle.std.specs.Prelude.{ℕ, Bool, List, [], ◌∷◌}
+use Rattle.std.specs.List.{flat_map}
+use Rattle.bag_tree.specs.Facts.{FileFact, TreeFacts}
+use Rattle.bag_check.specs.declared.fault.BagFault.{BagFault}
+use Rattle.bag_check.specs.declared.fault.BagFault.TheVariants.{NoDeclaration, BadDeclaration}
+use Rattle.bag_check.specs.declared.fault.BagFault.TheVariants.{UnsupportedVersion}
+use Rattle.bag_check.specs.declared.fault.BagFault.TheVariants.{UnsupportedEncoding}
+use Rattle.bag_check.specs.declared.fault.BagFault.TheVariants.{HasFetch, NoPayloadFolder}
+use Rattle.bag_check.specs.declared.fault.BagFault.TheVariants.{NoSha512Manifest, UnknownAlgorithm}
+use Rattle.bag_check.specs.declared.fault.BagFault.TheVariants.{MalformedLine, UnsafePath}
+use Rattle.bag_check.specs.declared.fault.BagFault.TheVariants.{DuplicateEntry, MissingFile}
+use Rattle.bag_check.specs.declared.fault.BagFault.TheVariants.{UnlistedFile, WrongDigest}
+use Rattle.bag_explain.specs.declared.entries.ListingFault.{ListingFault}
+use Rattle.bag_explain.specs.declared.entries.ListingFault.TheVariants as listings
+use Rattle.bag_explain.specs.Listings.{Listing}
+use Rattle.bag_explain.specs.Places.{Place, places_of, malformed_places, astray_places}
+use Rattle.bag_explain.specs.Places.{repeated_places, missing_places, unlisted_places, wrong_places}
+use Rattle.bag_explain.specs.Findings.{printed_places}
+
+-- the places of a fault in one manifest
+abbrev pub places_in : ListingFault → List FileFact → Listing → List Place
+places_in listings.Malformed files listing = malformed_places listing
+places_in listings.Astray files listing = astray_places listing
+places_in listings.Repeated files listing = repeated_places listing
+places_in listings.Missing files listing = missing_places files listing
+places_in listings.Unlisted files listing = unlisted_places files listing
+places_in listings.Wrong files listing = wrong_places files listing
+
+abbrev pub fault_of : ListingFault → BagFault
+fault_of listings.Malformed = MalformedLine
+fault_of listings.Astray = UnsafePath
+fault_of listings.Repeated = DuplicateEntry
+fault_of listings.Missing = MissingFile
+fault_of listings.Unlisted = UnlistedFile
+fault_of listings.Wrong = WrongDigest
+
+-- the lines of a fault in these manifests
+abbrev pub printed_in : ListingFault → List FileFact → List Listing → List ℕ
+printed_in fault files found =
+    flat_map (λ listing. printed_places (fault_of fault) (places_in fault files listing)) found
+
+abbrev pub tree_of : List FileFact → Bool → TreeFacts
+tree_of files payload = record { files = files; payload = payload }
+
+-- the lines of a fault
+abbrev pub printed_of : BagFault → List FileFact → Bool → List ℕ
+printed_of fault files payload =
+    printed_places fault (places_of fault (tree_of files payload))
+
+-- the lines of these faults
+abbrev pub printed_faults : TreeFacts → List BagFault → List ℕ
+printed_faults facts faults =
+    flat_map (λ fault. printed_places fault (places_of fault facts)) faults
+
+-- the faults for which no manifest is read, and those of what manifests list
+abbrev pub first_faults : List BagFault
+first_faults =
+    NoDeclaration ∷ BadDeclaration ∷ UnsupportedVersion ∷ UnsupportedEncoding ∷ HasFetch
+    ∷ NoPayloadFolder ∷ NoSha512Manifest ∷ UnknownAlgorithm ∷ []
+
+abbrev pub listing_faults : List ListingFault
+listing_faults =
+    listings.Malformed ∷ listings.Astray ∷ listings.Repeated ∷ listings.Missing
+    ∷ listings.Unlisted ∷ listings.Wrong ∷ []
+
+-- the lines of all faults of what manifests list
+abbrev pub printed_listings : List FileFact → List Listing → List ℕ
+printed_listings files found =
+    flat_map (λ fault. printed_in fault files found) listing_faults

@@ -1,0 +1,23 @@
+ghost use Rattle.std.specs.Prelude.{◌≡◌, IfOk, string_bytes};
+ghost use Rattle.bag_explain.specs.Findings.{explanation_of};
+
+use crate::entries::push_listings;
+use crate::files_by_path::FilesByPath;
+use crate::read_manifests::listings;
+use crate::tag_files::push_tag_files;
+use bag_tree::Facts;
+use std::alloc::{AllocError, Global};
+
+/// All that is wrong with a tree of files that is to be a bag: a line for each fault at each place
+/// where it holds, in the order of the faults' numbers; no line where it is a valid bag. The one
+/// refusal is that memory ran out.
+pub fn explain(alloc: Global, facts: &Facts) -> Result<String, AllocError>
+    ensures { IfOk result (λ text. string_bytes text ≡ explanation_of facts.now) }
+{
+    let files = FilesByPath::new(alloc, facts.files())?;
+    let listings = listings(alloc, &files)?;
+    let mut text = String::new(alloc);
+    push_tag_files(&mut text, &files, facts.payload_exists())?;
+    push_listings(alloc, &mut text, &files, listings.as_slice())?;
+    Ok(text)
+}

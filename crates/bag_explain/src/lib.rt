@@ -1,0 +1,19 @@
+//! All that is wrong with a tree of files that is to be a bag: each fault, at each place where it
+//! holds.
+#![tactic(auto)]
+
+mod entries;
+mod explain_bag;
+mod files_by_path;
+mod kind;
+mod law;
+mod listing;
+mod print;
+mod read_manifests;
+mod tag_files;
+
+pub use explain_bag::explain;
+pub use law::findings_law;
+
+#[cfg(test)]
+mod tests;
