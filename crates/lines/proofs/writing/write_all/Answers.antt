@@ -1,9 +1,9 @@
 use Rattle.std.proofs.Common.{◌-◌, length, take, drop, subst, sym, arith}
 use Rattle.std.proofs.lemmas.List.{length-take, length-drop}
 use Rattle.std.specs.Io.KnownBytes.{Appends}
-use Rattle.bagpaxos.proofs.KnownBytes.{Appends-more, Appends-kept}
-use Rattle.bagpaxos.proofs.write_all.write_all.Goals as goal
-use Rattle.bagpaxos.proofs.write_all.write_all.Goals.{in-Ok-write, in-Err-write+else-ne}
+use Rattle.lines.proofs.KnownBytes.{Appends-more, Appends-kept}
+use Rattle.lines.proofs.writing.write_all.Goals as goal
+use Rattle.lines.proofs.writing.write_all.Goals.{in-Ok-write, in-Err-write+else-ne}
 
 pub writes-preserved : goal.writes-preserved
 writes-preserved g c =

@@ -3,10 +3,10 @@ ghost use Rattle.std.specs.Fmt.{decimal};
 ghost use Rattle.std.specs.List.{join_with_byte};
 ghost use Rattle.hex.specs.Hex.{encode_lower};
 ghost use Rattle.schedule.specs.Pushes.{Pushes};
-ghost use Rattle.simulator.specs.Texts.{words_of, slot_words, bag_word, reply_words};
-ghost use Rattle.simulator.specs.Texts.{fault_words, reason_word};
+ghost use Rattle.lines.specs.Texts.{words_of, slot_words, bag_word, reply_words};
+ghost use Rattle.lines.specs.Texts.{fault_words, reason_word};
 
-use crate::print_run::Options;
+use crate::print_line::Options;
 use fed_types::Slot;
 use schedule::push_escaped;
 use site::SiteFault;

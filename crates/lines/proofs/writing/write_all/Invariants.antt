@@ -1,6 +1,6 @@
 use Rattle.std.proofs.Common.{◌≤◌, length, take}
 use Rattle.std.specs.Io.KnownBytes.{Appends}
-use Rattle.bagpaxos.proofs.write_all.write_all.Given as goal
+use Rattle.lines.proofs.writing.write_all.Given as goal
 
 -- the writer took the front of the text
 abbrev pub invariant-writes : goal.invariant-writes

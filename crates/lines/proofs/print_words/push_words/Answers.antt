@@ -3,8 +3,8 @@ use Rattle.std.specs.Prelude.{codes}
 use Rattle.std.specs.List.{join_with_byte}
 use Rattle.std.specs.String.{string_bytes}
 use Rattle.std.proofs.lemmas.Result.{on_ok_weaker}
-use Rattle.simulator.specs.Texts.{words_of, bag_word, slot_words}
-use Rattle.simulator.proofs.print_words.push_words.Goals as goal
+use Rattle.lines.specs.Texts.{words_of, bag_word, slot_words}
+use Rattle.lines.proofs.print_words.push_words.Goals as goal
 
 pub returns-in_ok-push_str-in-Registered : goal.returns-in_ok-push_str-in-Registered
 returns-in_ok-push_str-in-Registered c =

@@ -18,7 +18,7 @@ use Rattle.world_law.specs.declared.line.NamedReply.{NamedReply}
 use Rattle.world_law.specs.declared.line.NamedReply.TheVariants as replies
 use Rattle.world_law.specs.declared.line.Reason.{Reason}
 use Rattle.world_law.specs.declared.line.Reason.TheVariants as reasons
-use Rattle.simulator.specs.declared.print_run.Options.{Options}
+use Rattle.lines.specs.declared.print_line.Options.{Options}
 
 -- a bag by its tree, as `#3`, or by the 128 hex digits of its identity
 abbrev pub bag_word : Options → NamedBag → List ℕ

@@ -1,0 +1,105 @@
+//! Queries of clients.
+
+ghost use Rattle.std.specs.Prelude.{◌≡◌, ◌∷◌, [], false};
+ghost use Rattle.fed_types.specs.Sites.{IsSiteNumber};
+ghost use Rattle.udp_site.specs.Turns.{Serving, IsServing, queries, others};
+ghost use Rattle.udp_site.specs.inner.Coming.{ComesTo, AsksFor};
+
+use crate::fault::ServeFault;
+use crate::handing::{hand_all, reply};
+use crate::port::Port;
+use crate::replies::query_answer;
+use crate::saying::{say_refused, say_reply};
+use cell_device::Cell;
+use dgram::{Body, Message};
+use fed_types::{SiteNo, Slot};
+use site::{Reply, Site, SiteFault};
+use std::alloc::Global;
+use world_law::Line;
+
+/// A client asks for the slot's bag. Where the site doesn't know it, it asks the other members
+/// after its reply.
+pub(crate) fn take_query<C: Cell, P: Port>(
+    alloc: Global,
+    site: &Site<C>,
+    port: &mut P,
+    ports: &[u16],
+    lines: &mut Vec<Line>,
+    client: u16,
+    slot: Slot,
+) -> Result<(), ServeFault>
+    ensures { (old : Serving C) → old.site ≡ site.now → IsServing old
+        → ComesTo (queries ports.now old client slot) (P.traffic port.old) (P.traffic port.new)
+        lines.old.items lines.new.items site.now result }
+{
+    let from = site.number();
+    let known = site.query(&slot);
+    let answer = query_answer(known);
+    let body = Body::QueryReply { from, answer };
+    let message = Message { slot, body };
+    reply(alloc, port, site.members().federation(), client, &message)?;
+    let Message { slot, .. } = message;
+    say_reply(lines, from.number(), slot.copy(alloc)?, known)?;
+    match known {
+        Ok(Reply::Pending(_) | Reply::Nothing) => ask_others(site, port, ports, lines, &slot),
+        Ok(Reply::Known(_)) | Err(_) => Ok(()),
+    }
+}
+
+// Asks all other members for the slot's bag, in ascending order. Where memory ran out for one, it
+// isn't asked, and a line says so.
+fn ask_others<C: Cell, P: Port>(
+    site: &Site<C>,
+    port: &mut P,
+    ports: &[u16],
+    lines: &mut Vec<Line>,
+    slot: &Slot,
+) -> Result<(), ServeFault>
+    requires { site.now.book.needs_opening ≡ false }
+    ensures { (old : Serving C) → old.site ≡ site.now → IsServing old
+        → AsksFor ports.now old slot.now (others old) (P.traffic port.old) (P.traffic port.new)
+        lines.old.items lines.new.items result }
+{
+    let count = site.members().count();
+    for number in 1..=count {
+        let member = member(number);
+        if member != site.number() {
+            ask(site, port, ports, lines, slot, member)?;
+        }
+    }
+    Ok(())
+}
+
+// Asks a member.
+fn ask<C: Cell, P: Port>(
+    site: &Site<C>,
+    port: &mut P,
+    ports: &[u16],
+    lines: &mut Vec<Line>,
+    slot: &Slot,
+    member: SiteNo,
+) -> Result<(), ServeFault>
+    requires { site.now.book.needs_opening ≡ false }
+    ensures { (old : Serving C) → old.site ≡ site.now → IsServing old
+        → AsksFor ports.now old slot.now (member ∷ []) (P.traffic port.old) (P.traffic port.new)
+        lines.old.items lines.new.items result }
+{
+    match site.ask(slot, member) {
+        Ok(answer) => hand_all(port, ports, answer.sends.as_slice()),
+        Err(_) => {
+            say_refused(lines, site.number().number(), SiteFault::Memory)?;
+            Ok(())
+        }
+    }
+}
+
+// The member of this number.
+fn member(number: u8) -> SiteNo
+    requires { IsSiteNumber number }
+    ensures { result ≡ number }
+{
+    match SiteNo::new(number) {
+        Ok(member) => member,
+        Err(_) => unreachable!(),
+    }
+}
