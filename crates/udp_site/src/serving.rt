@@ -2,7 +2,7 @@
 
 ghost use Rattle.std.specs.Prelude.{◌≡◌, ◌⊎◌, ◌≤◌, ◌<◌, ◌∷◌, [], ℕ, List, map, take};
 ghost use Rattle.std.specs.Prelude.{OnOk, OnErr, IfOk, IfErr, IsErrOf, string_bytes};
-ghost use Rattle.std.specs.List.{flat_map};
+ghost use Rattle.std.specs.List.{flat_map, list_any};
 ghost use Rattle.std.specs.Io.KnownBytes.{Appends};
 ghost use Rattle.cell_device.specs.Calls.{HasCause};
 ghost use Rattle.proposer.specs.Sessions.{Session};
@@ -13,6 +13,7 @@ ghost use Rattle.udp_site.specs.Traffic.{Took, Grows, taken};
 ghost use Rattle.udp_site.specs.Served.{Serves, Turned, by_identity, or_one};
 ghost use Rattle.udp_site.specs.Turns.{Serving, IsServing, begins, turn_of};
 ghost use Rattle.udp_site.specs.inner.OneTurn.{OneTurn};
+ghost use Rattle.udp_site.specs.inner.Stopping.{line_of_the_cell};
 
 use crate::fault::ServeFault;
 use crate::idling::Round;
@@ -134,15 +135,15 @@ fn text_of(alloc: Global, lines: &[Line]) -> Result<String, AllocError>
     Ok(text)
 }
 
-// Whether a call was refused since the site's device failed.
+// Whether a line says that a call was refused since the site's device failed.
 fn is_refused(lines: &[Line]) -> bool
-    ensures { (notices : List Notice) → lines.now ≡ map (line_of []) notices
-        → result ≡ or_one notices }
+    ensures { result ≡ list_any line_of_the_cell lines.now }
 {
-    for line in lines {
-        if let Line::Refused { fault: SiteFault::Device | SiteFault::NeedsOpen, .. } = line {
-            return true;
-        }
-    }
-    false
+    lines.iter().any(|line| is_of_the_cell(line))
+}
+
+fn is_of_the_cell(line: &Line) -> bool
+    ensures { result ≡ line_of_the_cell line.now }
+{
+    matches!(line, Line::Refused { fault: SiteFault::Device | SiteFault::NeedsOpen, .. })
 }
