@@ -1,0 +1,4 @@
+pub mod Growth
+pub mod Printed
+pub mod Stopped
+pub mod TurnEnds
