@@ -1,4 +1,5 @@
 pub mod Growth
+pub mod Leading
 pub mod Printed
 pub mod Stopped
 pub mod TurnEnds
