@@ -65,7 +65,8 @@ fn hand<P: Port>(port: &mut P, to: u16, bytes: &[u8]) -> Result<(), ServeFault>
     ensures { Hands (P.traffic port.old) (P.traffic port.new) ((to, bytes.now) ∷ []) result }
 {
     match port.send(to, bytes) {
-        Ok(()) | Err(PortFault::Device) => Ok(()),
+        Ok(()) => Ok(()),
+        Err(PortFault::Device) => Ok(()),
         Err(PortFault::Memory) => Err(ServeFault::Memory),
     }
 }
