@@ -1,1 +1,4 @@
 pub mod Handed
+pub mod Said
+pub mod Called
+pub mod Calling
