@@ -19,3 +19,17 @@ pub broken_off : {C : Type 0} (coming : Coming C) (a b : Option (List Move)) (ol
 broken_off coming a b old new site done next is there part r fails =
     subst (λ (x : Result (Unit {0}) ServeFault). ComesTo coming a b old new site x)
     (sym (is_err r faults.Memory fails)) (done, next, is, there, part.0, part.1)
+
+-- what comes so comes so too
+pub comes_too : {C : Type 0} (coming other : Coming C)
+    → ((done : Done) (next : Serving C) → coming done next → other done next)
+    → (a b : Option (List Move)) (old new : List Line) (site : OpenSite C)
+    → (r : Result (Unit {0}) ServeFault)
+    → ComesTo coming a b old new site r → ComesTo other a b old new site r
+comes_too coming other so a b old new site (Ok whole) (done, next, is, at, serves, handed, said) =
+    (done, next, so done next is, at, serves, handed, said)
+comes_too coming other so a b old new site (Err faults.Memory) (done, next, is, at, count, handed) =
+    (done, next, so done next is, at, count, handed)
+comes_too coming other so a b old new site (Err faults.Port) p = absurd p
+comes_too coming other so a b old new site (Err faults.Cell) p = absurd p
+comes_too coming other so a b old new site (Err faults.Output) p = absurd p

@@ -11,6 +11,7 @@ use Rattle.udp_site.proofs.Called.{Answers}
 use Rattle.udp_site.proofs.Calling.{calls_whole, calls_part, calls_failed}
 use Rattle.udp_site.proofs.Handed.{whole_part}
 use Rattle.udp_site.specs.Traffic.{all_handed}
+use Rattle.udp_site.proofs.Same.{same_number, same_message}
 use Rattle.udp_site.proofs.hearing.hear.Goals as goal
 
 -- what is done of an answer
@@ -19,16 +20,6 @@ done_of ports site m result = record {
   posts = posts_of ports result;
   notices = notices_of site (Arrives (Some m)) result;
 }
-
-module _ {C : Type 0} (old : Serving C) (start : OpenSite C) (there : old.site ≡ start) where
-  pub same_number : (n k : ℕ) → k ≡ n → n ≡ start.book.owner.site → k ≡ number old
-  same_number n k p q = p ∙ (q ∙ ap (λ (s : OpenSite C). s.book.owner.site) (sym there))
-
-  pub same_message : (bytes : List ℕ) (m : Message)
-      → message_of (members old).federation bytes ≡ Some m
-      → message_of start.book.owner.members.federation bytes ≡ Some m
-  same_message bytes m is =
-      subst (λ (s : OpenSite C). message_of s.book.owner.members.federation bytes ≡ Some m) there is
 
 pub returns : goal.returns
 returns g c old m there serves is =
