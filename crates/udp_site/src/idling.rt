@@ -8,7 +8,7 @@ ghost use Rattle.udp_site.specs.Turns.{Serving, IsServing, idles, proposing};
 ghost use Rattle.udp_site.specs.inner.Coming.{ComesTo, at};
 
 use crate::fault::ServeFault;
-use crate::handing::hand_all;
+use crate::handing::hand_answer;
 use crate::port::Port;
 use crate::saying::say_proposal;
 use cell_device::Cell;
@@ -72,9 +72,7 @@ fn propose<C: Cell, P: Port>(
 {
     let number = site.number().number();
     let answer = site.propose(slot);
-    if let Ok(answer) = &answer {
-        hand_all(port, ports, answer.sends.as_slice())?;
-    }
+    hand_answer(port, ports, &answer)?;
     say_proposal(lines, number, answer)?;
     Ok(())
 }
