@@ -51,9 +51,7 @@ pub fn serve<C: Cell, P: Port, F: Folders, W: Write>(
     let mut lines = Vec::new(alloc);
     for _ in 0..turns {
         lines.clear();
-        one_turn(
-            alloc, site, port, folders, ports, &mut round, &mut lines, output,
-        )?;
+        one_turn(alloc, site, port, folders, ports, &mut round, &mut lines, output)?;
     }
     Ok(())
 }
@@ -142,11 +140,7 @@ fn is_refused(lines: &[Line]) -> bool
         → result ≡ or_one notices }
 {
     for line in lines {
-        if let Line::Refused {
-            fault: SiteFault::Device | SiteFault::NeedsOpen,
-            ..
-        } = line
-        {
+        if let Line::Refused { fault: SiteFault::Device | SiteFault::NeedsOpen, .. } = line {
             return true;
         }
     }
