@@ -1,2 +1,4 @@
 pub mod Handed
 pub mod Called
+pub mod BrokenOff
+pub mod Waiting
