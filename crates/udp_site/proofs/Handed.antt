@@ -2,6 +2,7 @@
 use Rattle.std.proofs.Common.{◌≡◌, ℕ, ◌+◌, ◌≤◌, ◌<◌, min, List, [], ◌∷◌, ◌++◌, length, map, take, drop}
 use Rattle.std.proofs.Common.{get_or, Option, Some, None, Result, Ok, Err, refl, sym, ap, subst, ◌∙◌}
 use Rattle.std.proofs.Common.{append_assoc, append-nil, arith}
+use Rattle.std.specs.Prelude.{IsErrAnd}
 use Rattle.std.specs.List.{flat_map}
 use Rattle.std.proofs.lemmas.Grind.{flat_map-append}
 use Rattle.std.proofs.lemmas.List.{map-append, take-append-le, take-append-drop, take_min, length-take}
@@ -108,3 +109,28 @@ module _ {X : Type 0} (f : X → List Post) (xs : List X) (place : ℕ) (x : X)
       ∙ ap (flat_map f) (take-append-drop (place + 1) xs)))
       (part_of_posts a c (flat_map f (take place xs) ++ f x) (flat_map f (drop (place + 1) xs))
       (then_part_of_posts a b c (flat_map f (take place xs)) (f x) p q))
+
+-- the fault of a `?`
+pub is_err : {T E : Type 0} (r : Result T E) (fault : E) → IsErrAnd r (λ e. e ≡ fault)
+    → r ≡ Err fault
+is_err (Ok x) fault is = absurd is
+is_err (Err e) fault is = ap (λ x. Err x) is
+
+-- what handing out fails for, and how much was handed out
+pub fails_for : (a b : Option (List Move)) (xs : List Post) (fault : ServeFault)
+    → Hands {T = Unit {0}} a b xs (Err fault)
+    → (fault ≡ faults.Memory) × Part a b (all_handed xs)
+fails_for a b xs faults.Port p = absurd p
+fails_for a b xs faults.Cell p = absurd p
+fails_for a b xs faults.Memory p = (refl, p)
+fails_for a b xs faults.Output p = absurd p
+
+-- what failed is handed on, and so is the part that it did
+pub handed_on : {U : Type 0} (a b c d : Option (List Move)) (xs ys : List Post)
+    → (Part a b (all_handed xs) → Part c d (all_handed ys))
+    → (fault : ServeFault) (r : Result U ServeFault) → IsErrAnd r (λ e. e ≡ fault)
+    → Hands {T = Unit {0}} a b xs (Err fault) → Hands c d ys r
+handed_on {U} a b c d xs ys more fault r is p =
+    let fails = fails_for a b xs fault p in
+    subst (λ (x : Result U ServeFault). Hands c d ys x)
+    (sym (is_err r fault is ∙ ap (λ (x : ServeFault). Err x) fails.0)) (more fails.1)

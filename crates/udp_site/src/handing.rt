@@ -3,7 +3,7 @@
 ghost use Rattle.std.specs.Prelude.{◌∷◌, []};
 ghost use Rattle.std.specs.List.{flat_map};
 ghost use Rattle.udp_site.specs.inner.Coming.{Hands};
-ghost use Rattle.udp_site.specs.Turns.{posts_of, posts_to, sealed_posts, replies_to};
+ghost use Rattle.udp_site.specs.Turns.{posts_to, posts_of, sealed_posts, replies_to};
 
 use crate::fault::ServeFault;
 use crate::port::Port;
@@ -13,17 +13,16 @@ use fed_types::SiteNo;
 use site::{Answer, Sealed, SiteFault};
 use std::alloc::Global;
 
-/// Hands out the datagrams of an answer, in order; a refusal has none.
+/// Hands out the datagrams of an answer, in order. A refusal has none.
 pub(crate) fn hand_answer<P: Port>(
     port: &mut P,
     ports: &[u16],
     answer: &Result<Answer, SiteFault>,
 ) -> Result<(), ServeFault>
-    ensures { Hands (P.traffic port.old) (P.traffic port.new) (posts_of ports.now answer.now)
-        result }
+    ensures { Hands (P.traffic port.old) (P.traffic port.new) (posts_of ports.now answer.now) result }
 {
     match answer {
-        Ok(answer) => hand_all(port, ports, answer.sends.as_slice()),
+        Ok(Answer { sends, .. }) => hand_all(port, ports, sends.as_slice()),
         Err(_) => Ok(()),
     }
 }
