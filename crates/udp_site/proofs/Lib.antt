@@ -2,3 +2,4 @@ pub mod Handed
 pub mod Said
 pub mod Called
 pub mod Calling
+pub mod Waiting
