@@ -4,3 +4,4 @@ pub mod Called
 pub mod Calling
 pub mod Same
 pub mod Requested
+pub mod Waiting

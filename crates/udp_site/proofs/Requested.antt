@@ -35,9 +35,7 @@ could_ask ports s slot (member ∷ others) =
     let rest = could_ask ports s slot others in
     (
       record { posts = rest.0.posts; notices = Refused (number s) faults.Memory ∷ rest.0.notices },
-      rest.0,
-      rest.1,
-      inr refl,
+      (rest.0, rest.1, inr refl),
     )
 
 module _ {C : Type 0} (device : C → Device) (ports : List ℕ)
@@ -48,13 +46,13 @@ module _ {C : Type 0} (device : C → Device) (ports : List ℕ)
   known_or_not (Some answer) path = tt
 
   -- something comes of what came in, and it leaves the site as it was
-  could_come : IsServing old → (port : ℕ) (message : Option Message)
+  pub could_come : IsServing old → (port : ℕ) (message : Option Message)
       → (done : Done) × comes_of device ports gives old (request_in port message) done old
   could_come serves port None =
-      (record { posts = []; notices = Dropped (number old) ∷ [] }, refl, refl)
+      (record { posts = []; notices = Dropped (number old) ∷ [] }, (refl, refl))
   could_come serves port (Some m) = by_body m.body
     where
-      abbrev by : Request → Type 0
+      by : Request → Type 0
       by request = (done : Done) × comes_of device ports gives old request done old
 
       hears : by (Says m)
@@ -65,9 +63,7 @@ module _ {C : Type 0} (device : C → Device) (ports : List ℕ)
               posts = posts_of ports call.0;
               notices = notices_of (number old) (calls.Arrives (Some m)) call.0;
             },
-            call.0,
-            call.1,
-            refl,
+            (call.0, call.1, refl),
           )
 
       by_body : (b : Body) → by (request_by port m b)
@@ -77,10 +73,7 @@ module _ {C : Type 0} (device : C → Device) (ports : List ℕ)
               (tree_answer trees.Memory);
           notices = [];
         },
-        Err trees.Memory,
-        known_or_not gives path,
-        refl,
-        refl,
+        (Err trees.Memory, known_or_not gives path, (refl, refl)),
       )
       by_body bodies.Query =
           let asks = could_ask ports old m.slot (asked old (answer_to old m.slot)) in
@@ -92,20 +85,17 @@ module _ {C : Type 0} (device : C → Device) (ports : List ℕ)
                   ++ asks.0.posts;
               notices = reply_notice (number old) m.slot (answer_to old m.slot) ∷ asks.0.notices;
             },
-            asks.0,
-            asks.1,
-            refl,
-            refl,
+            (asks.0, asks.1, refl, refl),
           )
       by_body (bodies.DepositReply from answer) =
-          (record { posts = []; notices = Dropped (number old) ∷ [] }, refl, refl)
+          (record { posts = []; notices = Dropped (number old) ∷ [] }, (refl, refl))
       by_body (bodies.QueryReply from answer) =
-          (record { posts = []; notices = Dropped (number old) ∷ [] }, refl, refl)
+          (record { posts = []; notices = Dropped (number old) ∷ [] }, (refl, refl))
       by_body (bodies.Prepare ballot) = hears
       by_body (bodies.Promise from ballot prior) = hears
       by_body (bodies.Accept vote) = hears
       by_body (bodies.Accepted from vote) = hears
-      by_body (bodies.Refused from asked standing) = hears
+      by_body (bodies.Refused from ballot standing) = hears
       by_body (bodies.Ask from) = hears
       by_body (bodies.Known from bag) = hears
 
