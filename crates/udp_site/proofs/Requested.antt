@@ -1,5 +1,5 @@
 -- What comes of what was asked; and that something can come of every request.
-use Rattle.std.proofs.Common.{◌≡◌, ℕ, List, [], ◌∷◌, ◌++◌, Option, Some, None, Result, Ok, Err, refl, sym, subst}
+use Rattle.std.proofs.Common.{◌≡◌, ℕ, List, [], ◌∷◌, ◌++◌, Option, Some, None, Result, Ok, Err, refl, sym, ap, subst}
 use Rattle.std.proofs.Common.{inr}
 use Rattle.std.specs.Prelude.{IfSome}
 use Rattle.fed_types.specs.Slots.{SlotName}
@@ -23,7 +23,7 @@ use Rattle.udp_site.specs.Traffic.{Move, From}
 use Rattle.udp_site.specs.Requests.{Request, Says, request_by, request_in}
 use Rattle.udp_site.specs.Turns.{Serving, Coming, Done, IsServing, Asks, comes_of, turn_of, members}
 use Rattle.udp_site.specs.Turns.{number, asked, answer_to, reply_notice, replies_to, posts_of}
-use Rattle.udp_site.specs.Turns.{notices_of, deposit_replies}
+use Rattle.udp_site.specs.Turns.{notices_of, deposit_replies, takes_tree}
 use Rattle.udp_site.specs.inner.Coming.{ComesTo}
 use Rattle.udp_site.proofs.Called.{could_be_called}
 
@@ -98,6 +98,43 @@ module _ {C : Type 0} (device : C → Device) (ports : List ℕ)
       by_body (bodies.Refused from ballot standing) = hears
       by_body (bodies.Ask from) = hears
       by_body (bodies.Known from bag) = hears
+
+  -- no datagram is an idle turn
+  abbrev pub SameRound : Serving C → Type 0
+  SameRound next = (next.idle ≡ old.idle) × (next.tried ≡ old.tried)
+
+  pub same_round : (port : ℕ) (message : Option Message) (done : Done) (next : Serving C)
+      → comes_of device ports gives old (request_in port message) done next → SameRound next
+  same_round port None done next (is, same) = same_as same
+    where
+      same_as : next ≡ old → SameRound next
+      same_as e = (ap (λ (s : Serving C). s.idle) e, ap (λ (s : Serving C). s.tried) e)
+  same_round port (Some m) done next comes = by_body m.body comes
+    where
+      same_as : next ≡ old → SameRound next
+      same_as e = (ap (λ (s : Serving C). s.idle) e, ap (λ (s : Serving C). s.tried) e)
+
+      hears : comes_of device ports gives old (Says m) done next → SameRound next
+      hears (result, called, is) = (called.idle, called.tried)
+
+      reads : (slot : SlotName) (read : Result TreeFacts TreeFault)
+          → takes_tree device old port slot read done next → SameRound next
+      reads slot (Err fault) (is, same) = same_as same
+      reads slot (Ok facts) (result, called, is) = (called.idle, called.tried)
+
+      by_body : (b : Body) → comes_of device ports gives old (request_by port m b) done next
+          → SameRound next
+      by_body (bodies.Deposit path) (read, known, takes) = reads m.slot read takes
+      by_body bodies.Query (asks, were, is, same) = same_as same
+      by_body (bodies.DepositReply from answer) (is, same) = same_as same
+      by_body (bodies.QueryReply from answer) (is, same) = same_as same
+      by_body (bodies.Prepare ballot) comes = hears comes
+      by_body (bodies.Promise from ballot prior) comes = hears comes
+      by_body (bodies.Accept vote) comes = hears comes
+      by_body (bodies.Accepted from vote) comes = hears comes
+      by_body (bodies.Refused from ballot standing) comes = hears comes
+      by_body (bodies.Ask from) comes = hears comes
+      by_body (bodies.Known from bag) comes = hears comes
 
   -- what comes of the request comes of the turn
   pub by_request : (port : ℕ) (message : Option Message) (request : Request)

@@ -4,7 +4,7 @@ use Rattle.dgram.specs.Decoded.{message_of}
 use Rattle.udp_site.specs.declared.asking.Asked.{Asked}
 use Rattle.udp_site.specs.declared.asking.Asked.TheVariants as asks
 use Rattle.udp_site.specs.Requests.{Request, Says, Deposits, Queries, Noise, request_in}
-use Rattle.udp_site.specs.Traffic.{From}
+use Rattle.udp_site.specs.Traffic.{From, all_handed}
 use Rattle.udp_site.specs.Turns.{Serving, IsServing, members, comes_of, turn_of}
 use Rattle.udp_site.specs.inner.Asked.{IsAsked}
 use Rattle.udp_site.specs.inner.Coming.{ComesTo}
@@ -79,4 +79,4 @@ returns-in_err-asked_by-clause-comes g c old there serves =
     broken_off (turn_of g.C.Cell.device c.args.ports.now gives old
     (From c.args.from c.args.bytes.now)) traffic traffic c.args.lines.now.items
     c.args.lines.now.items c.args.site.now could.0 old could.1 there
-    (no_part traffic ?) c.from_residual.result c.from_residual.ensures.1
+    (no_part traffic (all_handed could.0.posts)) c.from_residual.result c.from_residual.ensures.1
