@@ -3,3 +3,4 @@ pub mod Said
 pub mod Called
 pub mod Calling
 pub mod Waiting
+pub mod Waited
