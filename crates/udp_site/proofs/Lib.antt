@@ -5,3 +5,4 @@ pub mod Calling
 pub mod Same
 pub mod Requested
 pub mod Waiting
+pub mod Waited

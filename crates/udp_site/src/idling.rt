@@ -1,6 +1,6 @@
 //! Turns in which nothing came.
 
-ghost use Rattle.std.specs.Prelude.{◌≡◌, ◌-◌, ◌<◌, is_some};
+ghost use Rattle.std.specs.Prelude.{◌≡◌, ◌-◌, ◌<◌, is_some, IfSome};
 ghost use Rattle.std.specs.List.{find, list_any, range_with_len};
 ghost use Rattle.records.specs.Words.{known_of};
 ghost use Rattle.udp_site.specs.Rounds.{waits, next_waiting};
@@ -80,7 +80,8 @@ fn propose<C: Cell, P: Port>(
 
 // The first deposit without a known bag, from this place on, and then from the first one on.
 fn next_waiting<C: Cell>(site: &Site<C>, from: usize) -> Option<usize>
-    ensures { result ≡ next_waiting site.now.book.records from }
+    ensures next { result ≡ next_waiting site.now.book.records from }
+    ensures within { IfSome result (λ place. place < 18446744073709551615) }
 {
     match first_waiting(site, from, site.records().len()) {
         Some(place) => Some(place),
