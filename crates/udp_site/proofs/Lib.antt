@@ -6,3 +6,8 @@ pub mod Same
 pub mod Requested
 pub mod Waiting
 pub mod Waited
+pub mod Growth
+pub mod Leading
+pub mod Printed
+pub mod Stopped
+pub mod TurnEnds

@@ -2,3 +2,4 @@ pub mod Coming
 pub mod OneTurn
 pub mod Asked
 pub mod Waiting
+pub mod Stopping

@@ -1,6 +1,6 @@
 //! Turns in which nothing came.
 
-ghost use Rattle.std.specs.Prelude.{◌≡◌, ◌-◌, ◌<◌, is_some, IfSome};
+ghost use Rattle.std.specs.Prelude.{◌≡◌, ◌+◌, ◌-◌, ◌<◌, ◌≤◌, is_some, IfSome};
 ghost use Rattle.std.specs.List.{find, list_any, range_with_len};
 ghost use Rattle.records.specs.Words.{known_of};
 ghost use Rattle.udp_site.specs.Rounds.{waits, next_waiting};
@@ -39,10 +39,11 @@ pub(crate) fn idle<C: Cell, P: Port>(
     lines: &mut Vec<Line>,
 ) -> Result<(), ServeFault>
     requires { round.old.idle < 4294967295 }
-    ensures { (old : Serving C) → old.site ≡ site.old → old.idle ≡ round.old.idle
+    ensures comes { (old : Serving C) → old.site ≡ site.old → old.idle ≡ round.old.idle
         → old.tried ≡ round.old.tried → IsServing old
         → ComesTo (at round.new.idle round.new.tried (idles C.device ports.now old))
         (P.traffic port.old) (P.traffic port.new) lines.old.items lines.new.items site.new result }
+    ensures count { round.new.idle ≤ round.old.idle + 1 }
 {
     round.idle += 1;
     if round.idle % u32::from(site.number().number()) != 0 {

@@ -1,18 +1,17 @@
 //! A site that serves, turn by turn.
 
-ghost use Rattle.std.specs.Prelude.{◌≡◌, ◌⊎◌, ◌≤◌, ◌<◌, ◌∷◌, [], ℕ, List, map, take};
+ghost use Rattle.std.specs.Prelude.{◌≡◌, ◌⊎◌, ◌+◌, ◌≤◌, ◌<◌, ◌∷◌, [], ℕ, List, take};
 ghost use Rattle.std.specs.Prelude.{OnOk, OnErr, IfOk, IfErr, IsErrOf, string_bytes};
-ghost use Rattle.std.specs.List.{flat_map};
+ghost use Rattle.std.specs.List.{flat_map, list_any};
 ghost use Rattle.std.specs.Io.KnownBytes.{Appends};
 ghost use Rattle.cell_device.specs.Calls.{HasCause};
 ghost use Rattle.proposer.specs.Sessions.{Session};
 ghost use Rattle.lines.specs.Texts.{line_text};
-ghost use Rattle.world_law.specs.Networks.{Notice};
-ghost use Rattle.world_law.specs.Worlds.{line_of};
 ghost use Rattle.udp_site.specs.Traffic.{Took, Grows, taken};
-ghost use Rattle.udp_site.specs.Served.{Serves, Turned, by_identity, or_one};
+ghost use Rattle.udp_site.specs.Served.{Serves, Turned, by_identity};
 ghost use Rattle.udp_site.specs.Turns.{Serving, IsServing, begins, turn_of};
 ghost use Rattle.udp_site.specs.inner.OneTurn.{OneTurn};
+ghost use Rattle.udp_site.specs.inner.Stopping.{line_of_the_cell};
 
 use crate::fault::ServeFault;
 use crate::idling::Round;
@@ -49,7 +48,7 @@ pub fn serve<C: Cell, P: Port, F: Folders, W: Write>(
 {
     let mut round = Round { idle: 0, tried: 0 };
     let mut lines = Vec::new(alloc);
-    for _ in 0..turns {
+    'turns: for _ in 0..turns {
         lines.clear();
         one_turn(alloc, site, port, folders, ports, &mut round, &mut lines, output)?;
     }
@@ -75,6 +74,7 @@ fn one_turn<C: Cell, P: Port, F: Folders, W: Write>(
         (record { traffic = P.traffic port.old; written = W.contents output.old })
         (record { traffic = P.traffic port.new; written = W.contents output.new })
         old site.new round.new.idle round.new.tried result }
+    ensures count { round.new.idle ≤ round.old.idle + 1 }
     ensures kept { F.gives folders.new ≡ F.gives folders.old }
 {
     let turn = receive(port)?;
@@ -134,15 +134,15 @@ fn text_of(alloc: Global, lines: &[Line]) -> Result<String, AllocError>
     Ok(text)
 }
 
-// Whether a call was refused since the site's device failed.
+// Whether a line says that a call was refused since the site's device failed.
 fn is_refused(lines: &[Line]) -> bool
-    ensures { (notices : List Notice) → lines.now ≡ map (line_of []) notices
-        → result ≡ or_one notices }
+    ensures { result ≡ list_any line_of_the_cell lines.now }
 {
-    for line in lines {
-        if let Line::Refused { fault: SiteFault::Device | SiteFault::NeedsOpen, .. } = line {
-            return true;
-        }
-    }
-    false
+    lines.iter().any(|line| is_of_the_cell(line))
+}
+
+fn is_of_the_cell(line: &Line) -> bool
+    ensures { result ≡ line_of_the_cell line.now }
+{
+    matches!(line, Line::Refused { fault: SiteFault::Device | SiteFault::NeedsOpen, .. })
 }

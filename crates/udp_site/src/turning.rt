@@ -1,6 +1,6 @@
 //! What a site that serves does in a turn.
 
-ghost use Rattle.std.specs.Prelude.{◌≡◌, ◌<◌};
+ghost use Rattle.std.specs.Prelude.{◌≡◌, ◌+◌, ◌<◌, ◌≤◌};
 ghost use Rattle.udp_site.specs.Traffic.{taken, From};
 ghost use Rattle.udp_site.specs.Turns.{Serving, IsServing, turn_of};
 ghost use Rattle.udp_site.specs.inner.Coming.{ComesTo, at};
@@ -37,6 +37,7 @@ pub(crate) fn take_turn<C: Cell, P: Port, F: Folders>(
         → ComesTo (at round.new.idle round.new.tried
         (turn_of C.device ports.now (F.gives folders.old) old (taken turn.now)))
         (P.traffic port.old) (P.traffic port.new) lines.old.items lines.new.items site.new result }
+    ensures count { round.new.idle ≤ round.old.idle + 1 }
     ensures kept { F.gives folders.new ≡ F.gives folders.old }
 {
     match turn {
