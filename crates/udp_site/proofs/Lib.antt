@@ -4,3 +4,4 @@ pub mod Called
 pub mod Calling
 pub mod Waiting
 pub mod Waited
+pub mod Asking

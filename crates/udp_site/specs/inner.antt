@@ -1,3 +1,4 @@
 pub mod Coming
 pub mod OneTurn
 pub mod Waiting
+pub mod Asking

@@ -3,6 +3,7 @@
 ghost use Rattle.std.specs.Prelude.{◌≡◌, ◌∷◌, [], false};
 ghost use Rattle.fed_types.specs.Sites.{IsSiteNumber};
 ghost use Rattle.udp_site.specs.Turns.{Serving, IsServing, queries, others};
+ghost use Rattle.udp_site.specs.inner.Asking.{others_of};
 ghost use Rattle.udp_site.specs.inner.Coming.{ComesTo, AsksFor};
 
 use crate::fault::ServeFault;
@@ -61,13 +62,30 @@ fn ask_others<C: Cell, P: Port>(
         lines.old.items lines.new.items result }
 {
     let count = site.members().count();
-    for number in 1..=count {
-        let member = member(number);
-        if member != site.number() {
-            ask(site, port, ports, lines, slot, member)?;
-        }
+    for earlier in 0..count {
+        ask_other(site, port, ports, lines, slot, member(earlier + 1))?;
     }
     Ok(())
+}
+
+// Asks a member, unless it is the site itself.
+fn ask_other<C: Cell, P: Port>(
+    site: &Site<C>,
+    port: &mut P,
+    ports: &[u16],
+    lines: &mut Vec<Line>,
+    slot: &Slot,
+    member: SiteNo,
+) -> Result<(), ServeFault>
+    requires { site.now.book.needs_opening ≡ false }
+    ensures { (old : Serving C) → old.site ≡ site.now → IsServing old
+        → AsksFor ports.now old slot.now (others_of old (member ∷ [])) (P.traffic port.old)
+        (P.traffic port.new) lines.old.items lines.new.items result }
+{
+    if member == site.number() {
+        return Ok(());
+    }
+    ask(site, port, ports, lines, slot, member)
 }
 
 // Asks a member.
