@@ -1,13 +1,13 @@
 -- Members that are asked for a slot's bag, one after another.
 use Rattle.std.proofs.Common.{◌≡◌, ℕ, ◌+◌, ◌-◌, ◌<◌, ◌==◌, Bool, true, false, not, cond, inl, inr}
 use Rattle.std.proofs.Common.{List, [], ◌∷◌, ◌++◌, map, Option, Some, None, Result, Ok, Err, refl, sym}
-use Rattle.std.proofs.Common.{ap, subst, ◌∙◌, append_assoc, append-nil, add-one, arith}
+use Rattle.std.proofs.Common.{ap, subst, ◌∙◌, append_assoc, append-nil, add-one, arith, suc, zero}
 use Rattle.std.proofs.Math.Nat.{add-zero, add-suc}
 use Rattle.std.proofs.lemmas.List.Elements.{filter-append}
 use Rattle.std.specs.Prelude.{IsErrAnd}
 use Rattle.std.specs.List.{filter, flat_map}
 use Rattle.std.proofs.lemmas.List.{map-append}
-use Rattle.fed_types.specs.Sites.{sites_to}
+use Rattle.fed_types.specs.Sites.{Membership, sites_to, count_of}
 use Rattle.fed_types.specs.Slots.{SlotName}
 use Rattle.dgram.specs.declared.body.Body.TheVariants.{Ask}
 use Rattle.dgram.specs.Encoding.{datagram_of}
@@ -235,18 +235,24 @@ module _ {C : Type 0} (s : Serving C) where
   others_next n = ap (others_of s) (sites_next n) ∙ others_both (sites_to n) ((n + 1) ∷ [])
 
   -- the members to this number were asked, and then the next
-  module _ (ports : List ℕ) (slot : SlotName) (n : ℕ) (a b c : Option (List Move))
-      (l1 l2 l3 : List Line)
+  module _ (ports : List ℕ) (slot : SlotName) (n member : ℕ) (is : member ≡ n + 1)
+      (a b c : Option (List Move)) (l1 l2 l3 : List Line)
       (earlier : AsksFor ports s slot (others_of s (sites_to n)) a b l1 l2 (Ok tt)) where
-    pub next_asked : AsksFor ports s slot (others_of s ((n + 1) ∷ [])) b c l2 l3 (Ok tt)
+    by_place : (r : Result (Unit {0}) ServeFault)
+        → AsksFor ports s slot (others_of s (member ∷ [])) b c l2 l3 r
+        → AsksFor ports s slot (others_of s ((n + 1) ∷ [])) b c l2 l3 r
+    by_place r asks =
+        subst (λ (m : ℕ). AsksFor ports s slot (others_of s (m ∷ [])) b c l2 l3 r) is asks
+
+    pub next_asked : AsksFor ports s slot (others_of s (member ∷ [])) b c l2 l3 (Ok tt)
         → AsksFor ports s slot (others_of s (sites_to (n + 1))) a c l1 l3 (Ok tt)
     next_asked asks =
         subst (λ (l : List ℕ). AsksFor ports s slot l a c l1 l3 (Ok tt)) (sym (others_next n))
         (asks_then ports s slot (others_of s (sites_to n)) (others_of s ((n + 1) ∷ [])) a b c l1 l2
-        l3 earlier (Ok tt) asks)
+        l3 earlier (Ok tt) (by_place (Ok tt) asks))
 
     pub next_failed : (fault : ServeFault)
-        → AsksFor ports s slot (others_of s ((n + 1) ∷ [])) b c l2 l3 (Err fault)
+        → AsksFor ports s slot (others_of s (member ∷ [])) b c l2 l3 (Err fault)
         → (count : ℕ) → n < count → (r : Result (Unit {0}) ServeFault)
         → IsErrAnd r (λ f. f ≡ fault)
         → AsksFor ports s slot (others_of s (sites_to count)) a c l1 l3 r
@@ -264,4 +270,15 @@ module _ {C : Type 0} (s : Serving C) where
         fault (subst (λ (l : List ℕ). AsksFor ports s slot l a c l1 l3 (Err fault))
         (sym (others_next n))
         (asks_then ports s slot (others_of s (sites_to n)) (others_of s ((n + 1) ∷ [])) a b c l1 l2
-        l3 earlier (Err fault) asks))))
+        l3 earlier (Err fault) (by_place (Err fault) asks)))))
+
+  pub asks_at_first : (ports : List ℕ) (slot : SlotName) (a : Option (List Move))
+      (lines : List Line) → AsksFor ports s slot (others_of s (sites_to 0)) a a lines lines (Ok tt)
+  unfolding sites_to
+  asks_at_first ports slot a lines = asks_none ports s slot a lines
+
+  -- all members are those to their count
+  pub count_is : (start : OpenSite C) (m : Membership) (count : ℕ) → s.site ≡ start
+      → m ≡ start.book.owner.members → count ≡ count_of m → count ≡ count_of (members s)
+  count_is start m count there of is =
+      is ∙ ap count_of (of ∙ ap (λ (o : OpenSite C). o.book.owner.members) (sym there))
