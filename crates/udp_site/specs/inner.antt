@@ -3,3 +3,4 @@ pub mod OneTurn
 pub mod Asked
 pub mod Waiting
 pub mod Stopping
+pub mod Asking
