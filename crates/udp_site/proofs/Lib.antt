@@ -1,5 +1,14 @@
+pub mod Handed
+pub mod Said
+pub mod Called
+pub mod Calling
+pub mod Same
+pub mod Requested
+pub mod Waiting
+pub mod Waited
 pub mod Growth
 pub mod Leading
 pub mod Printed
 pub mod Stopped
 pub mod TurnEnds
+pub mod Asking

@@ -1,7 +1,8 @@
 //! Folders that clients deposit.
 
-ghost use Rattle.std.specs.Prelude.{◌≡◌, IfOk};
-ghost use Rattle.udp_site.specs.Turns.{Serving, IsServing, deposits, deposit_replies};
+ghost use Rattle.std.specs.Prelude.{◌≡◌, List, Ok, Err, IfOk};
+ghost use Rattle.world_law.specs.declared.line.Line as lines;
+ghost use Rattle.udp_site.specs.Turns.{Serving, IsServing, deposits, deposit_replies, takes_tree};
 ghost use Rattle.udp_site.specs.inner.Coming.{ComesTo, Hands};
 
 use crate::fault::ServeFault;
@@ -10,6 +11,7 @@ use crate::port::Port;
 use crate::replies::{deposit_answer, tree_answer};
 use crate::saying::say_deposit;
 use bag_folders::Folders;
+use bag_tree::{Facts, TreeFault};
 use cell_device::Cell;
 use dgram::{Body, DepositAnswer, FolderPath, Message};
 use fed_types::{SiteNo, Slot};
@@ -33,20 +35,51 @@ pub(crate) fn take_folder<C: Cell, P: Port, F: Folders>(
         (P.traffic port.old) (P.traffic port.new) lines.old.items lines.new.items site.new result }
     ensures kept { F.gives folders.new ≡ F.gives folders.old }
 {
+    match folders.read(path.as_str()) {
+        Ok(facts) => take_tree(alloc, site, port, lines, client, slot, &facts),
+        Err(fault) => leave_folder(alloc, site, port, client, slot, fault),
+    }
+}
+
+// A folder was read: its tree is deposited, and the client gets a reply.
+fn take_tree<C: Cell, P: Port>(
+    alloc: Global,
+    site: &mut Site<C>,
+    port: &mut P,
+    lines: &mut Vec<Line>,
+    client: u16,
+    slot: Slot,
+    facts: &Facts,
+) -> Result<(), ServeFault>
+    ensures { (old : Serving C) → old.site ≡ site.old → IsServing old
+        → ComesTo (takes_tree C.device old client slot (Ok facts.now)) (P.traffic port.old)
+        (P.traffic port.new) lines.old.items lines.new.items site.new result }
+{
     let from = site.number();
     let federation = site.members().federation();
-    match folders.read(path.as_str()) {
-        Ok(facts) => {
-            let answer = site.deposit(&slot, &facts);
-            let said = deposit_answer(&answer);
-            let slot = tell(alloc, port, federation, from, client, slot, said)?;
-            say_deposit(lines, from.number(), slot, answer)?;
-        }
-        Err(fault) => {
-            let said = tree_answer(fault);
-            tell(alloc, port, federation, from, client, slot, said)?;
-        }
-    }
+    let answer = site.deposit(&slot, facts);
+    let said = deposit_answer(&answer);
+    let slot = tell(alloc, port, federation, from, client, slot, said)?;
+    say_deposit(lines, from.number(), slot, answer)?;
+    Ok(())
+}
+
+// A folder couldn't be read: the client gets a reply.
+fn leave_folder<C: Cell, P: Port>(
+    alloc: Global,
+    site: &Site<C>,
+    port: &mut P,
+    client: u16,
+    slot: Slot,
+    fault: TreeFault,
+) -> Result<(), ServeFault>
+    ensures { (old : Serving C) → old.site ≡ site.now → IsServing old → (said : List lines.Line)
+        → ComesTo (takes_tree C.device old client slot (Err fault)) (P.traffic port.old)
+        (P.traffic port.new) said said site.now result }
+{
+    let from = site.number();
+    let federation = site.members().federation();
+    tell(alloc, port, federation, from, client, slot, tree_answer(fault))?;
     Ok(())
 }
 

@@ -3,15 +3,29 @@
 ghost use Rattle.std.specs.Prelude.{◌∷◌, []};
 ghost use Rattle.std.specs.List.{flat_map};
 ghost use Rattle.udp_site.specs.inner.Coming.{Hands};
-ghost use Rattle.udp_site.specs.Turns.{posts_to, sealed_posts, replies_to};
+ghost use Rattle.udp_site.specs.Turns.{posts_to, posts_of, sealed_posts, replies_to};
 
 use crate::fault::ServeFault;
 use crate::port::Port;
 use crate::port_fault::PortFault;
 use dgram::{LONGEST_DATAGRAM, Message, encode};
 use fed_types::SiteNo;
-use site::Sealed;
+use site::{Answer, Sealed, SiteFault};
 use std::alloc::Global;
+
+/// Hands out the datagrams of an answer, in order. A refusal has none.
+pub(crate) fn hand_answer<P: Port>(
+    port: &mut P,
+    ports: &[u16],
+    answer: &Result<Answer, SiteFault>,
+) -> Result<(), ServeFault>
+    ensures { Hands (P.traffic port.old) (P.traffic port.new) (posts_of ports.now answer.now) result }
+{
+    match answer {
+        Ok(Answer { sends, .. }) => hand_all(port, ports, sends.as_slice()),
+        Err(_) => Ok(()),
+    }
+}
 
 /// Hands out datagrams for sites, in order.
 pub(crate) fn hand_all<P: Port>(
@@ -65,7 +79,8 @@ fn hand<P: Port>(port: &mut P, to: u16, bytes: &[u8]) -> Result<(), ServeFault>
     ensures { Hands (P.traffic port.old) (P.traffic port.new) ((to, bytes.now) ∷ []) result }
 {
     match port.send(to, bytes) {
-        Ok(()) | Err(PortFault::Device) => Ok(()),
+        Ok(()) => Ok(()),
+        Err(PortFault::Device) => Ok(()),
         Err(PortFault::Memory) => Err(ServeFault::Memory),
     }
 }

@@ -8,7 +8,7 @@ ghost use Rattle.udp_site.specs.Turns.{Serving, IsServing, hears, drops, members
 ghost use Rattle.udp_site.specs.inner.Coming.{ComesTo};
 
 use crate::fault::ServeFault;
-use crate::handing::hand_all;
+use crate::handing::hand_answer;
 use crate::port::Port;
 use crate::saying::{say_arrival, say_dropped};
 use cell_device::Cell;
@@ -30,9 +30,7 @@ pub(crate) fn hear<C: Cell, P: Port>(
 {
     let number = site.number().number();
     let answer = site.arrive(bytes);
-    if let Ok(answer) = &answer {
-        hand_all(port, ports, answer.sends.as_slice())?;
-    }
+    hand_answer(port, ports, &answer)?;
     say_arrival(lines, number, answer)?;
     Ok(())
 }

@@ -1,14 +1,15 @@
 //! Turns in which nothing came.
 
-ghost use Rattle.std.specs.Prelude.{◌≡◌, ◌+◌, ◌-◌, ◌<◌, ◌≤◌, is_some};
-ghost use Rattle.std.specs.List.{find, range_with_len};
+ghost use Rattle.std.specs.Prelude.{◌≡◌, ◌+◌, ◌-◌, ◌<◌, ◌≤◌, is_some, IfSome};
+ghost use Rattle.std.specs.List.{find, list_any, range_with_len};
 ghost use Rattle.records.specs.Words.{known_of};
 ghost use Rattle.udp_site.specs.Rounds.{waits, next_waiting};
 ghost use Rattle.udp_site.specs.Turns.{Serving, IsServing, idles, proposing};
 ghost use Rattle.udp_site.specs.inner.Coming.{ComesTo, at};
+ghost use Rattle.udp_site.specs.inner.Waiting.{says_known};
 
 use crate::fault::ServeFault;
-use crate::handing::hand_all;
+use crate::handing::hand_answer;
 use crate::port::Port;
 use crate::saying::say_proposal;
 use cell_device::Cell;
@@ -73,16 +74,15 @@ fn propose<C: Cell, P: Port>(
 {
     let number = site.number().number();
     let answer = site.propose(slot);
-    if let Ok(answer) = &answer {
-        hand_all(port, ports, answer.sends.as_slice())?;
-    }
+    hand_answer(port, ports, &answer)?;
     say_proposal(lines, number, answer)?;
     Ok(())
 }
 
 // The first deposit without a known bag, from this place on, and then from the first one on.
 fn next_waiting<C: Cell>(site: &Site<C>, from: usize) -> Option<usize>
-    ensures { result ≡ next_waiting site.now.book.records from }
+    ensures next { result ≡ next_waiting site.now.book.records from }
+    ensures within { IfSome result (λ place. place < 18446744073709551615) }
 {
     match first_waiting(site, from, site.records().len()) {
         Some(place) => Some(place),
@@ -94,12 +94,7 @@ fn next_waiting<C: Cell>(site: &Site<C>, from: usize) -> Option<usize>
 fn first_waiting<C: Cell>(site: &Site<C>, from: usize, to: usize) -> Option<usize>
     ensures { result ≡ find (waits site.now.book.records) (range_with_len from (to - from)) }
 {
-    for place in from..to {
-        if waits(site, place) {
-            return Some(place);
-        }
-    }
-    None
+    (from..to).find(|place| waits(site, *place))
 }
 
 fn waits<C: Cell>(site: &Site<C>, place: usize) -> bool
@@ -116,19 +111,21 @@ fn is_known<C: Cell>(site: &Site<C>, slot: &Slot) -> bool
 {
     match site.query(slot) {
         Ok(Reply::Known(_)) => true,
-        Ok(Reply::Pending(_) | Reply::Nothing) => false,
+        Ok(Reply::Pending(_)) => false,
+        Ok(Reply::Nothing) => false,
         Err(_) => is_known_in(site.records(), slot),
     }
 }
 
 // Whether one of these records says that a bag is known for the slot.
 fn is_known_in(records: &[Record], slot: &Slot) -> bool
-    ensures { result ≡ is_some (known_of slot.now records.now) }
+    ensures { result ≡ list_any (says_known slot.now) records.now }
 {
-    for record in records {
-        if matches!(record.body, Entry::Known(_)) && record.slot == *slot {
-            return true;
-        }
-    }
-    false
+    records.iter().any(|kept| says_known(kept, slot))
+}
+
+fn says_known(kept: &Record, slot: &Slot) -> bool
+    ensures { result ≡ says_known slot.now kept.now }
+{
+    kept.slot == *slot && matches!(kept.body, Entry::Known(_))
 }

@@ -2,6 +2,7 @@
 //! is handed out.
 #![tactic(auto)]
 
+mod asking;
 mod depositing;
 mod fault;
 mod handing;

@@ -1,8 +1,9 @@
 //! Queries of clients.
 
-ghost use Rattle.std.specs.Prelude.{◌≡◌, ◌∷◌, [], false};
+ghost use Rattle.std.specs.Prelude.{◌≡◌, ◌∷◌, [], false, IsOk};
 ghost use Rattle.fed_types.specs.Sites.{IsSiteNumber};
-ghost use Rattle.udp_site.specs.Turns.{Serving, IsServing, queries, others};
+ghost use Rattle.udp_site.specs.Turns.{Serving, IsServing, queries, others, asked};
+ghost use Rattle.udp_site.specs.inner.Asking.{others_of};
 ghost use Rattle.udp_site.specs.inner.Coming.{ComesTo, AsksFor};
 
 use crate::fault::ServeFault;
@@ -39,10 +40,30 @@ pub(crate) fn take_query<C: Cell, P: Port>(
     let message = Message { slot, body };
     reply(alloc, port, site.members().federation(), client, &message)?;
     let Message { slot, .. } = message;
-    say_reply(lines, from.number(), slot.copy(alloc)?, known)?;
+    let named = slot.copy(alloc)?;
+    say_reply(lines, from.number(), named, known)?;
+    ask_unless_known(site, port, ports, lines, &slot, known)
+}
+
+// Asks the other members, unless the site knows the bag or needs opening.
+fn ask_unless_known<C: Cell, P: Port>(
+    site: &Site<C>,
+    port: &mut P,
+    ports: &[u16],
+    lines: &mut Vec<Line>,
+    slot: &Slot,
+    known: Result<Reply, SiteFault>,
+) -> Result<(), ServeFault>
+    requires { IsOk known → site.now.book.needs_opening ≡ false }
+    ensures { (old : Serving C) → old.site ≡ site.now → IsServing old
+        → AsksFor ports.now old slot.now (asked old known) (P.traffic port.old) (P.traffic port.new)
+        lines.old.items lines.new.items result }
+{
     match known {
-        Ok(Reply::Pending(_) | Reply::Nothing) => ask_others(site, port, ports, lines, &slot),
-        Ok(Reply::Known(_)) | Err(_) => Ok(()),
+        Ok(Reply::Pending(_)) => ask_others(site, port, ports, lines, slot),
+        Ok(Reply::Nothing) => ask_others(site, port, ports, lines, slot),
+        Ok(Reply::Known(_)) => Ok(()),
+        Err(_) => Ok(()),
     }
 }
 
@@ -61,13 +82,30 @@ fn ask_others<C: Cell, P: Port>(
         lines.old.items lines.new.items result }
 {
     let count = site.members().count();
-    for number in 1..=count {
-        let member = member(number);
-        if member != site.number() {
-            ask(site, port, ports, lines, slot, member)?;
-        }
+    for earlier in 0..count {
+        ask_other(site, port, ports, lines, slot, member(earlier + 1))?;
     }
     Ok(())
+}
+
+// Asks a member, unless it is the site itself.
+fn ask_other<C: Cell, P: Port>(
+    site: &Site<C>,
+    port: &mut P,
+    ports: &[u16],
+    lines: &mut Vec<Line>,
+    slot: &Slot,
+    member: SiteNo,
+) -> Result<(), ServeFault>
+    requires { site.now.book.needs_opening ≡ false }
+    ensures { (old : Serving C) → old.site ≡ site.now → IsServing old
+        → AsksFor ports.now old slot.now (others_of old (member ∷ [])) (P.traffic port.old)
+        (P.traffic port.new) lines.old.items lines.new.items result }
+{
+    if member == site.number() {
+        return Ok(());
+    }
+    ask(site, port, ports, lines, slot, member)
 }
 
 // Asks a member.

@@ -1,12 +1,13 @@
 //! What is said of calls: lines, which name bags by their identities.
 
-ghost use Rattle.std.specs.Prelude.{◌≡◌, ◌∷◌, ◌++◌, [], Some, Result, OnOk};
+ghost use Rattle.std.specs.Prelude.{◌≡◌, ◌∷◌, ◌++◌, [], Some, Result, Ok, OnOk};
 ghost use Rattle.bag_check.specs.declared.fault.BagFault.{BagFault};
 ghost use Rattle.fed_types.specs.declared.bag_id.BagId as bags;
 ghost use Rattle.dgram.specs.declared.message.Message as messages;
 ghost use Rattle.site.specs.Calls.{Arrives, Deposits, Proposes};
 ghost use Rattle.fed_types.specs.Slots as slots;
-ghost use Rattle.world_law.specs.Networks.{Refused, Dropped};
+ghost use Rattle.std.specs.Option.{option_to_list};
+ghost use Rattle.world_law.specs.Networks.{Refused, Dropped, notice_of};
 ghost use Rattle.world_law.specs.Worlds.{named_bag, named_reply};
 ghost use Rattle.udp_site.specs.Turns.{notices_of, proposal_notices, reply_notice};
 ghost use Rattle.udp_site.specs.inner.Coming.{Notes};
@@ -26,15 +27,7 @@ pub(crate) fn say_arrival(
         → Notes lines.old.items lines.new.items (notices_of site (Arrives (Some m)) answer)) }
 {
     match answer {
-        Ok(Answer { line, .. }) => match line {
-            Some(SiteLine::Known(slot, bag)) => say(lines, Line::Known {
-                site,
-                slot,
-                bag: named(bag),
-            }),
-            Some(SiteLine::Dropped) => say_dropped(lines, site),
-            Some(SiteLine::Registered(_)) | None => Ok(()),
-        },
+        Ok(Answer { line, .. }) => say_line(lines, site, line),
         Err(fault) => say_refused(lines, site, fault),
     }
 }
@@ -78,8 +71,26 @@ pub(crate) fn say_proposal(
         → Notes lines.old.items lines.new.items (proposal_notices site (Proposes slot) answer)) }
 {
     match answer {
+        Ok(Answer { line, .. }) => say_line(lines, site, line),
         Err(SiteFault::RoundsSpent) => Ok(()),
-        answer => say_arrival(lines, site, answer),
+        Err(fault) => say_refused(lines, site, fault),
+    }
+}
+
+// Says a line, if there is one, of a call that deposits nothing.
+fn say_line(lines: &mut Vec<Line>, site: u8, line: Option<SiteLine>) -> Result<(), AllocError>
+    ensures arrives { OnOk result ((m : messages.Message) → Notes lines.old.items lines.new.items
+        (option_to_list (notice_of site (Arrives (Some m)) (Ok line)))) }
+    ensures proposes { OnOk result ((slot : slots.SlotName) → Notes lines.old.items
+        lines.new.items (option_to_list (notice_of site (Proposes slot) (Ok line)))) }
+{
+    match line {
+        Some(SiteLine::Known(slot, bag)) => {
+            let bag = named(bag);
+            say(lines, Line::Known { site, slot, bag })
+        }
+        Some(SiteLine::Dropped) => say_dropped(lines, site),
+        Some(SiteLine::Registered(_)) | None => Ok(()),
     }
 }
 

@@ -5,6 +5,7 @@ ghost use Rattle.udp_site.specs.Traffic.{taken, From};
 ghost use Rattle.udp_site.specs.Turns.{Serving, IsServing, turn_of};
 ghost use Rattle.udp_site.specs.inner.Coming.{ComesTo, at};
 
+use crate::asking::{Asked, asked_by};
 use crate::depositing::take_folder;
 use crate::fault::ServeFault;
 use crate::hearing::{drop_noise, hear};
@@ -14,7 +15,6 @@ use crate::querying::take_query;
 use crate::turn::Turn;
 use bag_folders::Folders;
 use cell_device::Cell;
-use dgram::{Body, DgramFault, Message, decode};
 use site::Site;
 use std::alloc::Global;
 use world_law::Line;
@@ -59,22 +59,16 @@ fn take_in<C: Cell, P: Port, F: Folders>(
     bytes: &[u8],
 ) -> Result<(), ServeFault>
     ensures comes { (old : Serving C) → old.site ≡ site.old → IsServing old
-        → ComesTo (at old.idle old.tried (turn_of C.device ports.now (F.gives folders.old) old
-        (From from bytes.now)))
+        → ComesTo (turn_of C.device ports.now (F.gives folders.old) old (From from bytes.now))
         (P.traffic port.old) (P.traffic port.new) lines.old.items lines.new.items site.new result }
     ensures kept { F.gives folders.new ≡ F.gives folders.old }
 {
-    let federation = site.members().federation();
-    match decode(alloc, federation, bytes) {
-        Ok(Message { slot, body }) => match body {
-            Body::Deposit { path } => {
-                take_folder(alloc, site, port, folders, lines, from, slot, &path)
-            }
-            Body::Query => take_query(alloc, site, port, ports, lines, from, slot),
-            Body::DepositReply { .. } | Body::QueryReply { .. } => drop_noise(site, lines),
-            _ => hear(site, port, ports, lines, bytes),
-        },
-        Err(DgramFault::Memory) => Err(ServeFault::Memory),
-        Err(DgramFault::NotOurs | DgramFault::Malformed) => drop_noise(site, lines),
+    match asked_by(alloc, site.members().federation(), bytes)? {
+        Asked::Hear => hear(site, port, ports, lines, bytes),
+        Asked::Deposit(slot, path) => {
+            take_folder(alloc, site, port, folders, lines, from, slot, &path)
+        }
+        Asked::Query(slot) => take_query(alloc, site, port, ports, lines, from, slot),
+        Asked::Nothing => drop_noise(site, lines),
     }
 }

@@ -1,0 +1,45 @@
+use Rattle.std.proofs.Common.{◌≡◌, ℕ, Ok, ap, subst, arith}
+use Rattle.fed_types.specs.Sites.{sites_to, count_of}
+use Rattle.udp_site.specs.Turns.{members}
+use Rattle.udp_site.specs.inner.Asking.{others_of}
+use Rattle.udp_site.specs.inner.Coming.{AsksFor}
+use Rattle.udp_site.proofs.Asking.{next_asked, next_failed, asks_at_first, count_is}
+use Rattle.udp_site.proofs.querying.ask_others.Goals as goal
+
+pub loop-earlier-init : goal.loop-earlier-init
+loop-earlier-init g c old there serves =
+    asks_at_first old c.args.ports.now c.args.slot.now (g.P.Port.traffic c.args.port.now)
+    c.args.lines.now.items
+
+pub loop-earlier-preserved : goal.loop-earlier-preserved
+loop-earlier-preserved g c old there serves =
+    next_asked old c.args.ports.now c.args.slot.now c.loop-earlier.earlier c.member.result
+    c.member.ensures (g.P.Port.traffic c.args.port.now) (g.P.Port.traffic c.loop-earlier.port)
+    (g.P.Port.traffic c.ask_other.new.port) c.args.lines.now.items c.loop-earlier.lines.items
+    c.ask_other.new.lines.items (c.loop-earlier.invariant old there serves)
+    (c.in_ok-ask_other.ensures old there serves)
+
+pub returns-in_err-ask_other : goal.returns-in_err-ask_other
+returns-in_err-ask_other g c old there serves =
+    next_failed old c.args.ports.now c.args.slot.now c.loop-earlier.earlier c.member.result
+    c.member.ensures (g.P.Port.traffic c.args.port.now) (g.P.Port.traffic c.loop-earlier.port)
+    (g.P.Port.traffic c.ask_other.new.port) c.args.lines.now.items c.loop-earlier.lines.items
+    c.ask_other.new.lines.items (c.loop-earlier.invariant old there serves)
+    c.in_err-ask_other.field-0.0 (c.in_err-ask_other.ensures old there serves)
+    (count_of (members old))
+    (let all : c.count-count.result ≡ count_of (members old) =
+    count_is old c.args.site.now c.members.result c.count-count.result there c.members.ensures
+    c.count-count.ensures.value in
+    omega (arith, c.loop-earlier-test.true, all))
+    c.from_residual.result c.from_residual.ensures.1
+
+pub returns : goal.returns
+returns g c old there serves =
+    let all : c.loop-earlier.earlier ≡ count_of (members old) =
+    omega (arith, c.loop-earlier-test.false, c.loop-earlier.auto.earlier-end,
+    count_is old c.args.site.now c.members.result c.count-count.result there c.members.ensures
+    c.count-count.ensures.value) in
+    subst (λ (n : ℕ). AsksFor c.args.ports.now old c.args.slot.now (others_of old (sites_to n))
+    (g.P.Port.traffic c.args.port.now) (g.P.Port.traffic c.loop-earlier.port)
+    c.args.lines.now.items c.loop-earlier.lines.items (Ok tt)) all
+    (c.loop-earlier.invariant old there serves)
