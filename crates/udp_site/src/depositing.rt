@@ -1,6 +1,6 @@
 //! Folders that clients deposit.
 
-ghost use Rattle.std.specs.Prelude.{◌≡◌, List, Ok, Err, IfOk};
+ghost use Rattle.std.specs.Prelude.{◌≤◌, ◌≡◌, List, Ok, Err, IfOk};
 ghost use Rattle.world_law.specs.declared.line.Line as lines;
 ghost use Rattle.udp_site.specs.Turns.{Serving, IsServing, deposits, deposit_replies, takes_tree};
 ghost use Rattle.udp_site.specs.inner.Coming.{ComesTo, Hands};
@@ -34,6 +34,7 @@ pub(crate) fn take_folder<C: Cell, P: Port, F: Folders>(
         → ComesTo (deposits C.device (F.gives folders.old) old client slot path.now)
         (P.traffic port.old) (P.traffic port.new) lines.old.items lines.new.items site.new result }
     ensures kept { F.gives folders.new ≡ F.gives folders.old }
+    ensures later { P.failures port.old ≤ P.failures port.new }
 {
     match folders.read(path.as_str()) {
         Ok(facts) => take_tree(alloc, site, port, lines, client, slot, &facts),
@@ -51,9 +52,10 @@ fn take_tree<C: Cell, P: Port>(
     slot: Slot,
     facts: &Facts,
 ) -> Result<(), ServeFault>
-    ensures { (old : Serving C) → old.site ≡ site.old → IsServing old
+    ensures comes { (old : Serving C) → old.site ≡ site.old → IsServing old
         → ComesTo (takes_tree C.device old client slot (Ok facts.now)) (P.traffic port.old)
         (P.traffic port.new) lines.old.items lines.new.items site.new result }
+    ensures later { P.failures port.old ≤ P.failures port.new }
 {
     let from = site.number();
     let federation = site.members().federation();
@@ -73,9 +75,10 @@ fn leave_folder<C: Cell, P: Port>(
     slot: Slot,
     fault: TreeFault,
 ) -> Result<(), ServeFault>
-    ensures { (old : Serving C) → old.site ≡ site.now → IsServing old → (said : List lines.Line)
+    ensures comes { (old : Serving C) → old.site ≡ site.now → IsServing old → (said : List lines.Line)
         → ComesTo (takes_tree C.device old client slot (Err fault)) (P.traffic port.old)
         (P.traffic port.new) said said site.now result }
+    ensures later { P.failures port.old ≤ P.failures port.new }
 {
     let from = site.number();
     let federation = site.members().federation();
@@ -96,6 +99,7 @@ fn tell<P: Port>(
     ensures slot { IfOk result (λ s. s ≡ slot) }
     ensures handed { Hands (P.traffic port.old) (P.traffic port.new)
         (deposit_replies federation from client slot said) result }
+    ensures later { P.failures port.old ≤ P.failures port.new }
 {
     let Some(answer) = said else {
         return Ok(slot);

@@ -1,6 +1,6 @@
 //! Handing out datagrams.
 
-ghost use Rattle.std.specs.Prelude.{◌∷◌, []};
+ghost use Rattle.std.specs.Prelude.{◌≤◌, ◌∷◌, []};
 ghost use Rattle.std.specs.List.{flat_map};
 ghost use Rattle.udp_site.specs.inner.Coming.{Hands};
 ghost use Rattle.udp_site.specs.Turns.{posts_to, posts_of, sealed_posts, replies_to};
@@ -19,7 +19,8 @@ pub(crate) fn hand_answer<P: Port>(
     ports: &[u16],
     answer: &Result<Answer, SiteFault>,
 ) -> Result<(), ServeFault>
-    ensures { Hands (P.traffic port.old) (P.traffic port.new) (posts_of ports.now answer.now) result }
+    ensures hands { Hands (P.traffic port.old) (P.traffic port.new) (posts_of ports.now answer.now) result }
+    ensures later { P.failures port.old ≤ P.failures port.new }
 {
     match answer {
         Ok(Answer { sends, .. }) => hand_all(port, ports, sends.as_slice()),
@@ -33,8 +34,9 @@ pub(crate) fn hand_all<P: Port>(
     ports: &[u16],
     sends: &[Sealed],
 ) -> Result<(), ServeFault>
-    ensures { Hands (P.traffic port.old) (P.traffic port.new)
+    ensures hands { Hands (P.traffic port.old) (P.traffic port.new)
         (flat_map (sealed_posts ports.now) sends.now) result }
+    ensures later { P.failures port.old ≤ P.failures port.new }
 {
     for sealed in sends {
         hand_to(port, ports, sealed.to, &sealed.bytes)?;
@@ -49,8 +51,9 @@ pub(crate) fn hand_to<P: Port>(
     site: SiteNo,
     bytes: &[u8],
 ) -> Result<(), ServeFault>
-    ensures { Hands (P.traffic port.old) (P.traffic port.new)
+    ensures hands { Hands (P.traffic port.old) (P.traffic port.new)
         (posts_to ports.now site bytes.now) result }
+    ensures later { P.failures port.old ≤ P.failures port.new }
 {
     match ports.get(usize::from(site.number()) - 1) {
         Some(to) => hand(port, *to, bytes),
@@ -66,8 +69,9 @@ pub(crate) fn reply<P: Port>(
     to: u16,
     message: &Message,
 ) -> Result<(), ServeFault>
-    ensures { Hands (P.traffic port.old) (P.traffic port.new)
+    ensures hands { Hands (P.traffic port.old) (P.traffic port.new)
         (replies_to federation to message.now.slot message.now.body) result }
+    ensures later { P.failures port.old ≤ P.failures port.new }
 {
     let mut bytes = Vec::with_capacity(alloc, LONGEST_DATAGRAM)?;
     encode(federation, message, &mut bytes)?;
@@ -76,7 +80,8 @@ pub(crate) fn reply<P: Port>(
 
 // Hands out a datagram. One that the port's device loses was handed out.
 fn hand<P: Port>(port: &mut P, to: u16, bytes: &[u8]) -> Result<(), ServeFault>
-    ensures { Hands (P.traffic port.old) (P.traffic port.new) ((to, bytes.now) ∷ []) result }
+    ensures hands { Hands (P.traffic port.old) (P.traffic port.new) ((to, bytes.now) ∷ []) result }
+    ensures later { P.failures port.old ≤ P.failures port.new }
 {
     match port.send(to, bytes) {
         Ok(()) => Ok(()),

@@ -1,6 +1,6 @@
 //! Messages of sites.
 
-ghost use Rattle.std.specs.Prelude.{◌≡◌, List, Option, Some};
+ghost use Rattle.std.specs.Prelude.{◌≤◌, ◌≡◌, List, Option, Some};
 ghost use Rattle.dgram.specs.Decoded.{message_of};
 ghost use Rattle.dgram.specs.declared.message.Message as messages;
 ghost use Rattle.udp_site.specs.Traffic.{Move};
@@ -23,10 +23,11 @@ pub(crate) fn hear<C: Cell, P: Port>(
     lines: &mut Vec<Line>,
     bytes: &[u8],
 ) -> Result<(), ServeFault>
-    ensures { (old : Serving C) (m : messages.Message) → old.site ≡ site.old → IsServing old
+    ensures comes { (old : Serving C) (m : messages.Message) → old.site ≡ site.old → IsServing old
         → message_of (members old).federation bytes.now ≡ Some m
         → ComesTo (hears C.device ports.now old m) (P.traffic port.old) (P.traffic port.new)
         lines.old.items lines.new.items site.new result }
+    ensures later { P.failures port.old ≤ P.failures port.new }
 {
     let number = site.number().number();
     let answer = site.arrive(bytes);

@@ -44,6 +44,7 @@ pub(crate) fn idle<C: Cell, P: Port>(
         → ComesTo (at round.new.idle round.new.tried (idles C.device ports.now old))
         (P.traffic port.old) (P.traffic port.new) lines.old.items lines.new.items site.new result }
     ensures count { round.new.idle ≤ round.old.idle + 1 }
+    ensures later { P.failures port.old ≤ P.failures port.new }
 {
     round.idle += 1;
     if round.idle % u32::from(site.number().number()) != 0 {
@@ -68,9 +69,10 @@ fn propose<C: Cell, P: Port>(
     lines: &mut Vec<Line>,
     slot: &Slot,
 ) -> Result<(), ServeFault>
-    ensures { (old : Serving C) → old.site ≡ site.old → IsServing old
+    ensures comes { (old : Serving C) → old.site ≡ site.old → IsServing old
         → ComesTo (proposing C.device ports.now old slot.now) (P.traffic port.old)
         (P.traffic port.new) lines.old.items lines.new.items site.new result }
+    ensures later { P.failures port.old ≤ P.failures port.new }
 {
     let number = site.number().number();
     let answer = site.propose(slot);

@@ -1,6 +1,6 @@
 //! Queries of clients.
 
-ghost use Rattle.std.specs.Prelude.{◌≡◌, ◌∷◌, [], false, IsOk};
+ghost use Rattle.std.specs.Prelude.{◌≤◌, ◌≡◌, ◌∷◌, [], false, IsOk};
 ghost use Rattle.fed_types.specs.Sites.{IsSiteNumber};
 ghost use Rattle.udp_site.specs.Turns.{Serving, IsServing, queries, others, asked};
 ghost use Rattle.udp_site.specs.inner.Asking.{others_of};
@@ -29,9 +29,10 @@ pub(crate) fn take_query<C: Cell, P: Port>(
     client: u16,
     slot: Slot,
 ) -> Result<(), ServeFault>
-    ensures { (old : Serving C) → old.site ≡ site.now → IsServing old
+    ensures comes { (old : Serving C) → old.site ≡ site.now → IsServing old
         → ComesTo (queries ports.now old client slot) (P.traffic port.old) (P.traffic port.new)
         lines.old.items lines.new.items site.now result }
+    ensures later { P.failures port.old ≤ P.failures port.new }
 {
     let from = site.number();
     let known = site.query(&slot);
@@ -55,9 +56,10 @@ fn ask_unless_known<C: Cell, P: Port>(
     known: Result<Reply, SiteFault>,
 ) -> Result<(), ServeFault>
     requires { IsOk known → site.now.book.needs_opening ≡ false }
-    ensures { (old : Serving C) → old.site ≡ site.now → IsServing old
+    ensures comes { (old : Serving C) → old.site ≡ site.now → IsServing old
         → AsksFor ports.now old slot.now (asked old known) (P.traffic port.old) (P.traffic port.new)
         lines.old.items lines.new.items result }
+    ensures later { P.failures port.old ≤ P.failures port.new }
 {
     match known {
         Ok(Reply::Pending(_)) => ask_others(site, port, ports, lines, slot),
@@ -77,9 +79,10 @@ fn ask_others<C: Cell, P: Port>(
     slot: &Slot,
 ) -> Result<(), ServeFault>
     requires { site.now.book.needs_opening ≡ false }
-    ensures { (old : Serving C) → old.site ≡ site.now → IsServing old
+    ensures comes { (old : Serving C) → old.site ≡ site.now → IsServing old
         → AsksFor ports.now old slot.now (others old) (P.traffic port.old) (P.traffic port.new)
         lines.old.items lines.new.items result }
+    ensures later { P.failures port.old ≤ P.failures port.new }
 {
     let count = site.members().count();
     for earlier in 0..count {
@@ -98,9 +101,10 @@ fn ask_other<C: Cell, P: Port>(
     member: SiteNo,
 ) -> Result<(), ServeFault>
     requires { site.now.book.needs_opening ≡ false }
-    ensures { (old : Serving C) → old.site ≡ site.now → IsServing old
+    ensures comes { (old : Serving C) → old.site ≡ site.now → IsServing old
         → AsksFor ports.now old slot.now (others_of old (member ∷ [])) (P.traffic port.old)
         (P.traffic port.new) lines.old.items lines.new.items result }
+    ensures later { P.failures port.old ≤ P.failures port.new }
 {
     if member == site.number() {
         return Ok(());
@@ -118,9 +122,10 @@ fn ask<C: Cell, P: Port>(
     member: SiteNo,
 ) -> Result<(), ServeFault>
     requires { site.now.book.needs_opening ≡ false }
-    ensures { (old : Serving C) → old.site ≡ site.now → IsServing old
+    ensures comes { (old : Serving C) → old.site ≡ site.now → IsServing old
         → AsksFor ports.now old slot.now (member ∷ []) (P.traffic port.old) (P.traffic port.new)
         lines.old.items lines.new.items result }
+    ensures later { P.failures port.old ≤ P.failures port.new }
 {
     match site.ask(slot, member) {
         Ok(answer) => hand_all(port, ports, answer.sends.as_slice()),

@@ -62,6 +62,7 @@ fn take_in<C: Cell, P: Port, F: Folders>(
         → ComesTo (turn_of C.device ports.now (F.gives folders.old) old (From from bytes.now))
         (P.traffic port.old) (P.traffic port.new) lines.old.items lines.new.items site.new result }
     ensures kept { F.gives folders.new ≡ F.gives folders.old }
+    ensures later { P.failures port.old ≤ P.failures port.new }
 {
     match asked_by(alloc, site.members().federation(), bytes)? {
         Asked::Hear => hear(site, port, ports, lines, bytes),

@@ -10,8 +10,8 @@ use Rattle.udp_site.proofs.Said.{broken_off}
 use Rattle.udp_site.proofs.Same.{same_site, same_federation, same_replies}
 use Rattle.udp_site.proofs.depositing.leave_folder.Goals as goal
 
-pub returns : goal.returns
-returns g c old there serves said =
+pub returns-clause-comes : goal.returns-clause-comes
+returns-clause-comes g c old there serves said =
     let start = c.args.site.now in
     let before = g.P.Port.traffic c.args.port.now in
     let after = g.P.Port.traffic c.tell.new.port in
@@ -36,8 +36,8 @@ returns g c old there serves said =
       sym (append-nil said),
     )
 
-pub returns-in_err-tell : goal.returns-in_err-tell
-returns-in_err-tell g c old there serves said =
+pub returns-in_err-tell-clause-comes : goal.returns-in_err-tell-clause-comes
+returns-in_err-tell-clause-comes g c old there serves said =
     let start = c.args.site.now in
     let before = g.P.Port.traffic c.args.port.now in
     let after = g.P.Port.traffic c.tell.new.port in

@@ -22,7 +22,7 @@ returns-in-Ok-clause-comes g c old there serves =
     ))
     before after c.args.lines.now.items c.take_tree.new.lines.items c.take_tree.new.site
     c.take_tree.result
-    (c.take_tree.ensures old there serves)
+    (c.take_tree.ensures.comes old there serves)
 
 pub returns-in-Err-clause-comes : goal.returns-in-Err-clause-comes
 returns-in-Err-clause-comes g c old there serves =
@@ -38,4 +38,4 @@ returns-in-Err-clause-comes g c old there serves =
     ))
     (g.P.Port.traffic c.args.port.now) (g.P.Port.traffic c.leave_folder.new.port)
     c.args.lines.now.items c.args.lines.now.items c.args.site.now c.leave_folder.result
-    (c.leave_folder.ensures old there serves c.args.lines.now.items)
+    (c.leave_folder.ensures.comes old there serves c.args.lines.now.items)

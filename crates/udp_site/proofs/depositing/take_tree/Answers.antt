@@ -22,8 +22,8 @@ done_of federation site port slot input result = record {
   notices = notices_of site input result;
 }
 
-pub returns : goal.returns
-returns g c old there serves =
+pub returns-clause-comes : goal.returns-clause-comes
+returns-clause-comes g c old there serves =
     let start = c.args.site.now in
     let input = Deposits c.args.slot (check_of c.args.facts.now) in
     let before = g.P.Port.traffic c.args.port.now in
@@ -52,8 +52,8 @@ returns g c old there serves =
     c.in_ok-slot.ensures.slot
     (c.in_ok-say_deposit.ensures (check_of c.args.facts.now))))
 
-pub returns-in_err-slot : goal.returns-in_err-slot
-returns-in_err-slot g c old there serves =
+pub returns-in_err-slot-clause-comes : goal.returns-in_err-slot-clause-comes
+returns-in_err-slot-clause-comes g c old there serves =
     let start = c.args.site.now in
     let input = Deposits c.args.slot (check_of c.args.facts.now) in
     let before = g.P.Port.traffic c.args.port.now in
@@ -75,8 +75,8 @@ returns-in_err-slot g c old there serves =
     (same_site old start there c.number-from.result c.number-from.ensures)
     c.deposit_answer-said.ensures) c.in_err-slot.ensures.handed)
 
-pub returns-in_err-say_deposit : goal.returns-in_err-say_deposit
-returns-in_err-say_deposit g c old there serves =
+pub returns-in_err-say_deposit-clause-comes : goal.returns-in_err-say_deposit-clause-comes
+returns-in_err-say_deposit-clause-comes g c old there serves =
     let start = c.args.site.now in
     let input = Deposits c.args.slot (check_of c.args.facts.now) in
     let before = g.P.Port.traffic c.args.port.now in

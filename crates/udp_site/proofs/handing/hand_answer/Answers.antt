@@ -6,8 +6,8 @@ use Rattle.udp_site.specs.Turns.{posts_of}
 use Rattle.udp_site.proofs.Handed.{grows_by_no_posts}
 use Rattle.udp_site.proofs.handing.hand_answer.Goals as goal
 
-pub returns-in-Err : goal.returns-in-Err
-returns-in-Err g c =
+pub returns-in-Err-clause-hands : goal.returns-in-Err-clause-hands
+returns-in-Err-clause-hands g c =
     let traffic = g.P.Port.traffic c.args.port.now in
     subst (λ (answer : Result Answer SiteFault). Grows traffic traffic
     (all_handed (posts_of c.args.ports.now answer))) (sym c.in-Err.is) (grows_by_no_posts traffic)

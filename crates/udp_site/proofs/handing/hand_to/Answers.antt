@@ -11,8 +11,8 @@ none_past : {X : Type 0} (place length : ℕ) (found : Option X) → is_some fou
     → found ≡ None → length ≤ place
 none_past place length found is none = ltb-false place length (sym is ∙ ap is_some none)
 
-pub returns-in-None : goal.returns-in-None
-returns-in-None g c =
+pub returns-in-None-clause-hands : goal.returns-in-None-clause-hands
+returns-in-None-clause-hands g c =
     let traffic = g.P.Port.traffic c.args.port.now in
     let past : length c.args.ports.now ≤ c.args.site - 1 =
     omega (arith, none_past (c.from.result - 1) (length c.args.ports.now) c.get.result c.get.ensures.lookup.0 c.in-None.is, c.from.ensures,

@@ -21,8 +21,8 @@ done_of ports site m result = record {
   notices = notices_of site (Arrives (Some m)) result;
 }
 
-pub returns : goal.returns
-returns g c old m there serves is =
+pub returns-clause-comes : goal.returns-clause-comes
+returns-clause-comes g c old m there serves is =
     calls_whole g.C.Cell.device old (Arrives (Some m)) (done_of c.args.ports.now (number old) m)
     c.arrive-answer.result c.args.site.now c.arrive-answer.new.self there serves
     (subst (λ (o : Option Message). Answers g.C.Cell.device (Arrives o) c.arrive-answer.result
@@ -30,14 +30,14 @@ returns g c old m there serves is =
     (same_message old c.args.site.now there c.args.bytes.now m is) c.arrive-answer.ensures.answer)
     c.arrive-answer.ensures.needs_open c.arrive-answer.ensures.untouched
     (g.P.Port.traffic c.args.port.now) (g.P.Port.traffic c.hand_answer.new.port)
-    c.args.lines.now.items c.say_arrival.new.lines.items c.in_ok-hand_answer.ensures
+    c.args.lines.now.items c.say_arrival.new.lines.items c.in_ok-hand_answer.ensures.hands
     (subst (λ (site : ℕ). Notes c.args.lines.now.items c.say_arrival.new.lines.items
     (notices_of site (Arrives (Some m)) c.arrive-answer.result))
     (same_number old c.args.site.now there c.number.result c.number-number.result
     c.number-number.ensures.value c.number.ensures) (c.in_ok-say_arrival.ensures m))
 
-pub returns-in_err-hand_answer : goal.returns-in_err-hand_answer
-returns-in_err-hand_answer g c old m there serves is =
+pub returns-in_err-hand_answer-clause-comes : goal.returns-in_err-hand_answer-clause-comes
+returns-in_err-hand_answer-clause-comes g c old m there serves is =
     calls_failed g.C.Cell.device old (Arrives (Some m)) (done_of c.args.ports.now (number old) m)
     c.arrive-answer.result c.args.site.now c.arrive-answer.new.self there serves
     (subst (λ (o : Option Message). Answers g.C.Cell.device (Arrives o) c.arrive-answer.result
@@ -46,10 +46,10 @@ returns-in_err-hand_answer g c old m there serves is =
     c.arrive-answer.ensures.needs_open c.arrive-answer.ensures.untouched
     (g.P.Port.traffic c.args.port.now) (g.P.Port.traffic c.hand_answer.new.port)
     c.args.lines.now.items c.args.lines.now.items c.in_err-hand_answer.field-0.0
-    c.from_residual.result c.from_residual.ensures.1 c.in_err-hand_answer.ensures
+    c.from_residual.result c.from_residual.ensures.1 c.in_err-hand_answer.ensures.hands
 
-pub returns-in_err-say_arrival : goal.returns-in_err-say_arrival
-returns-in_err-say_arrival g c old m there serves is =
+pub returns-in_err-say_arrival-clause-comes : goal.returns-in_err-say_arrival-clause-comes
+returns-in_err-say_arrival-clause-comes g c old m there serves is =
     calls_part g.C.Cell.device old (Arrives (Some m)) (done_of c.args.ports.now (number old) m)
     c.arrive-answer.result c.args.site.now c.arrive-answer.new.self there serves
     (subst (λ (o : Option Message). Answers g.C.Cell.device (Arrives o) c.arrive-answer.result
@@ -59,5 +59,5 @@ returns-in_err-say_arrival g c old m there serves is =
     (g.P.Port.traffic c.args.port.now) (g.P.Port.traffic c.hand_answer.new.port)
     c.args.lines.now.items c.say_arrival.new.lines.items
     (whole_part (g.P.Port.traffic c.args.port.now) (g.P.Port.traffic c.hand_answer.new.port)
-    (all_handed (posts_of c.args.ports.now c.arrive-answer.result)) c.in_ok-hand_answer.ensures)
+    (all_handed (posts_of c.args.ports.now c.arrive-answer.result)) c.in_ok-hand_answer.ensures.hands)
     c.from_residual-in_err-say_arrival.result c.from_residual-in_err-say_arrival.ensures.1

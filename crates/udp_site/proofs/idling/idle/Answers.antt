@@ -44,4 +44,4 @@ returns-clause-comes g c old there idle tried serves =
     (ap (λ (s : SlotName). Some s) c.in_ok-slot.ensures ∙ c.in-Some-deposited.ensures)
     (g.P.Port.traffic c.args.port.now) (g.P.Port.traffic c.propose.new.port)
     c.args.lines.now.items c.propose.new.lines.items c.propose.new.site c.propose.result
-    c.propose.ensures
+    c.propose.ensures.comes

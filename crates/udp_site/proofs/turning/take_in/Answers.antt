@@ -31,7 +31,7 @@ returns-in-Hear-clause-comes g c old there serves =
     (message_of (members old).federation c.args.bytes.now) (Says asked.0) (asked.2 c.args.from)
     (g.P.Port.traffic c.args.port.now) (g.P.Port.traffic c.hear.new.port) c.args.lines.now.items
     c.hear.new.lines.items c.hear.new.site c.hear.result
-    (c.hear.ensures old asked.0 there serves asked.1)
+    (c.hear.ensures.comes old asked.0 there serves asked.1)
 
 pub returns-in-Deposit-clause-comes : goal.returns-in-Deposit-clause-comes
 returns-in-Deposit-clause-comes g c old there serves =
@@ -56,7 +56,7 @@ returns-in-Query-clause-comes g c old there serves =
     (message_of (members old).federation c.args.bytes.now) (Queries c.args.from c.in-Query.slot)
     (asked c.args.from) (g.P.Port.traffic c.args.port.now) (g.P.Port.traffic c.take_query.new.port)
     c.args.lines.now.items c.take_query.new.lines.items c.args.site.now c.take_query.result
-    (c.take_query.ensures old there serves)
+    (c.take_query.ensures.comes old there serves)
 
 pub returns-in-Nothing-clause-comes : goal.returns-in-Nothing-clause-comes
 returns-in-Nothing-clause-comes g c old there serves =

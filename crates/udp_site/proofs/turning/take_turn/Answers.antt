@@ -14,7 +14,7 @@ returns-in-Idle-clause-comes g c old there idle tried serves =
     (turn_of g.C.Cell.device c.args.ports.now (g.F.Folders.gives c.args.folders.now) old
     (taken turn))) (g.P.Port.traffic c.args.port.now) (g.P.Port.traffic c.idle.new.port)
     c.args.lines.now.items c.idle.new.lines.items c.idle.new.site c.idle.result)
-    (sym c.in-Idle.is) (c.idle.ensures old there idle tried serves)
+    (sym c.in-Idle.is) (c.idle.ensures.comes old there idle tried serves)
 
 pub returns-in-Got-clause-comes : goal.returns-in-Got-clause-comes
 returns-in-Got-clause-comes g c old there idle tried serves =
