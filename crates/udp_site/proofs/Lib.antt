@@ -11,4 +11,5 @@ pub mod Leading
 pub mod Printed
 pub mod Stopped
 pub mod TurnEnds
-pub mod Asking
+pub mod Questions
+pub mod Queried

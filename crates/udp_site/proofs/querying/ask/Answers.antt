@@ -6,7 +6,7 @@ use Rattle.site.specs.Sites.{OpenSite}
 use Rattle.world_law.specs.Networks.{Refused}
 use Rattle.udp_site.specs.Turns.{sealed_posts}
 use Rattle.udp_site.specs.inner.Coming.{Hands, Notes}
-use Rattle.udp_site.proofs.Asking.{asks_by, isnt_asked, isnt_asked_in_part}
+use Rattle.udp_site.proofs.Questions.{asks_by, isnt_asked, isnt_asked_in_part}
 use Rattle.udp_site.proofs.querying.ask.Goals as goal
 
 pub returns-in-Ok : goal.returns-in-Ok

@@ -1,7 +1,7 @@
 use Rattle.std.proofs.Common.{◌≡◌, ℕ, ◌==◌, Bool, true, false, sym, ap, ◌∙◌}
 use Rattle.site.specs.Sites.{OpenSite}
 use Rattle.udp_site.specs.Turns.{Serving, number}
-use Rattle.udp_site.proofs.Asking.{not_asked, is_asked}
+use Rattle.udp_site.proofs.Questions.{not_asked, is_asked}
 use Rattle.udp_site.proofs.querying.ask_other.Goals as goal
 
 -- the test whether it is the site, by the site's number

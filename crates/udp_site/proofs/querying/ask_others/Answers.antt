@@ -3,7 +3,7 @@ use Rattle.fed_types.specs.Sites.{sites_to, count_of}
 use Rattle.udp_site.specs.Turns.{members}
 use Rattle.udp_site.specs.inner.Asking.{others_of}
 use Rattle.udp_site.specs.inner.Coming.{AsksFor}
-use Rattle.udp_site.proofs.Asking.{next_asked, next_failed, asks_at_first, count_is}
+use Rattle.udp_site.proofs.Questions.{next_asked, next_failed, asks_at_first, count_is}
 use Rattle.udp_site.proofs.querying.ask_others.Goals as goal
 
 pub loop-earlier-init : goal.loop-earlier-init
