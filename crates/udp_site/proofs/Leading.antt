@@ -27,11 +27,11 @@ shows_more : (before mid after : Outside) (turns : List Turned) (moves : List Mo
     → Shows before after turns moves text
 shows_more before mid after turns moves text shows adds = (
   Grows-trans before.traffic mid.traffic after.traffic (flat_map moves_of turns) moves
-  (subst (Grows before.traffic mid.traffic) (append-nil (flat_map moves_of turns)) shows.0)
-  adds.0,
+      (subst (Grows before.traffic mid.traffic) (append-nil (flat_map moves_of turns)) shows.0)
+      adds.0,
   Appends-trans before.written mid.written after.written (flat_map text_of turns) text
-  (subst (Appends before.written mid.written) (append-nil (flat_map text_of turns)) shows.1)
-  adds.1,
+      (subst (Appends before.written mid.written) (append-nil (flat_map text_of turns)) shows.1)
+      adds.1,
 )
 
 one_more : {X : Type 0} (f : Turned → List X) (turns : List Turned) (turn : Turned)
@@ -58,13 +58,12 @@ module _ {C : Type 0} (rule : Rule C) where
     goes_on,
     refl,
   )
-  leads_more start mid end (first ∷ turns) turn (next, first_comes, not_last, leads) comes goes_on =
-      (
-        next,
-        first_comes,
-        not_last,
-        leads_more next mid end turns turn leads comes goes_on,
-      )
+  leads_more start mid end (first ∷ turns) turn (next, first_so, not_last, leads) comes goes_on = (
+    next,
+    first_so,
+    not_last,
+    leads_more next mid end turns turn leads comes goes_on,
+  )
 
   -- what a site that serves has done so far: so many turns lead here
   abbrev pub SoFar : (before after : Outside) → (start : Serving C) → (site : OpenSite C)
@@ -90,7 +89,7 @@ module _ {C : Type 0} (rule : Rule C) where
       length-append so_far.1 (turn ∷ []) ∙ ap (λ (n : ℕ). n + 1) so_far.6,
       leads_more start so_far.0 next so_far.1 turn so_far.7 comes goes_on,
       shows_whole before after so_far.1 turn
-      (shows_more before mid after so_far.1 (moves_of turn) (text_of turn) so_far.8 adds),
+          (shows_more before mid after so_far.1 (moves_of turn) (text_of turn) so_far.8 adds),
     )
 
     -- how it ends, where so many turns were wanted
@@ -103,7 +102,8 @@ module _ {C : Type 0} (rule : Rule C) where
       short : length so_far.1 < wanted
       short = subst (λ (n : ℕ). n < wanted) (sym so_far.6) fewer
 
-      between : one.None rule mid after so_far.0 new → EndsBetween rule before after start so_far.0 so_far.1
+      between : one.None rule mid after so_far.0 new
+          → EndsBetween rule before after start so_far.0 so_far.1
       between none = (so_far.7, shows_more before mid after so_far.1 [] [] so_far.8 none.1)
 
       within : (part : Part rule mid after so_far.0 new)

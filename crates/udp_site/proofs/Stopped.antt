@@ -107,42 +107,42 @@ module _ {C : Type 0} (device : C → Device) where
     called (Err fault) is stops = absurd (impossible stops)
 
   module _ (ports : List ℕ) (new : Serving C) (done : Done) (stops : or_one done.notices ≡ true)
-      where
-    proposed : (old : Serving C) (place : Option ℕ) (slot : Option SlotName)
-        → proposes device ports old place slot done new → new.site.book.needs_opening ≡ true
-    proposed old None None (is, same) = absurd (impossible (said done _ is stops))
-    proposed old None (Some slot) (is, same) = absurd (impossible (said done _ is stops))
-    proposed old (Some place) None (is, same) = absurd (impossible (said done _ is stops))
-    proposed old (Some place) (Some slot) (result, called_so, is) =
-        called (tries old place) new (calls.Proposes slot) result called_so
-        (proposal_says (number old) (calls.Proposes slot) result (said done _ is stops))
+    where
+      proposed : (old : Serving C) (place : Option ℕ) (slot : Option SlotName)
+          → proposes device ports old place slot done new → new.site.book.needs_opening ≡ true
+      proposed old None None (is, same) = absurd (impossible (said done _ is stops))
+      proposed old None (Some slot) (is, same) = absurd (impossible (said done _ is stops))
+      proposed old (Some place) None (is, same) = absurd (impossible (said done _ is stops))
+      proposed old (Some place) (Some slot) (result, called_so, is) =
+          called (tries old place) new (calls.Proposes slot) result called_so
+          (proposal_says (number old) (calls.Proposes slot) result (said done _ is stops))
 
-    idled : (turn : Bool) (s : Serving C) → idles_if turn device ports s done new
-        → new.site.book.needs_opening ≡ true
-    idled true s comes =
-        proposed s (next_waiting s.site.book.records s.tried)
-        (slot_of s.site.book.records (next_waiting s.site.book.records s.tried)) comes
-    idled false s (is, same) = absurd (impossible (said done _ is stops))
-
-    deposited : (old : Serving C) (port : ℕ) (slot : SlotName) (read : Result TreeFacts TreeFault)
-        → takes_tree device old port slot read done new → new.site.book.needs_opening ≡ true
-    deposited old port slot (Err fault) (is, same) = absurd (impossible (said done _ is stops))
-    deposited old port slot (Ok facts) (result, called_so, is) =
-        called old new (calls.Deposits slot (check_of facts)) result called_so
-        (said done _ is stops)
-
-    module _ (gives : Option (List ℕ → Result TreeFacts TreeFault)) (old : Serving C) where
-      pub last_needs_opening : (request : Request)
-          → comes_of device ports gives old request done new
+      idled : (turn : Bool) (s : Serving C) → idles_if turn device ports s done new
           → new.site.book.needs_opening ≡ true
-      last_needs_opening Waits comes = idled _ (one_more_idle old) comes
-      last_needs_opening (Says m) (result, called_so, is) =
-          called old new (calls.Arrives (Some m)) result called_so (said done _ is stops)
-      last_needs_opening (Deposits port slot path) (read, given, comes) =
-          deposited old port slot read comes
-      last_needs_opening (Queries port slot) (asks, asked_so, is, same) =
-          ap (λ (s : Serving C). s.site.book.needs_opening) same
-          ∙ replied (number old) slot old.site.book.needs_opening
-          (reply_of slot old.site.book.records) asks.notices
-          (asks_say_no ports old slot _ asks asked_so) (said done _ is stops)
-      last_needs_opening Noise (is, same) = absurd (impossible (said done _ is stops))
+      idled true s comes =
+          proposed s (next_waiting s.site.book.records s.tried)
+          (slot_of s.site.book.records (next_waiting s.site.book.records s.tried)) comes
+      idled false s (is, same) = absurd (impossible (said done _ is stops))
+
+      deposited : (old : Serving C) (port : ℕ) (slot : SlotName) (read : Result TreeFacts TreeFault)
+          → takes_tree device old port slot read done new → new.site.book.needs_opening ≡ true
+      deposited old port slot (Err fault) (is, same) = absurd (impossible (said done _ is stops))
+      deposited old port slot (Ok facts) (result, called_so, is) =
+          called old new (calls.Deposits slot (check_of facts)) result called_so
+          (said done _ is stops)
+
+      module _ (gives : Option (List ℕ → Result TreeFacts TreeFault)) (old : Serving C) where
+        pub last_needs_opening : (request : Request)
+            → comes_of device ports gives old request done new
+            → new.site.book.needs_opening ≡ true
+        last_needs_opening Waits comes = idled _ (one_more_idle old) comes
+        last_needs_opening (Says m) (result, called_so, is) =
+            called old new (calls.Arrives (Some m)) result called_so (said done _ is stops)
+        last_needs_opening (Deposits port slot path) (read, given, comes) =
+            deposited old port slot read comes
+        last_needs_opening (Queries port slot) (asks, asked_so, is, same) =
+            ap (λ (s : Serving C). s.site.book.needs_opening) same
+            ∙ replied (number old) slot old.site.book.needs_opening
+            (reply_of slot old.site.book.records) asks.notices
+            (asks_say_no ports old slot _ asks asked_so) (said done _ is stops)
+        last_needs_opening Noise (is, same) = absurd (impossible (said done _ is stops))

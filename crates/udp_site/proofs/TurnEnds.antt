@@ -43,16 +43,16 @@ module _ {C : Type 0} (rule : Rule C) (before after : Outside) (old : Serving C)
         (
           grows,
           subst (λ (w : Option (List ℕ)). Appends before.written w []) (sym written)
-          (Appends-none before.written),
+              (Appends-none before.written),
         ),
       ) in
       elim which [
         | inl is ↦
-          subst (λ (f : ServeFault). OneTurn rule before after old site idle tried (Err f))
-          (sym is) none
+            subst (λ (f : ServeFault). OneTurn rule before after old site idle tried (Err f))
+            (sym is) none
         | inr is ↦
-          subst (λ (f : ServeFault). OneTurn rule before after old site idle tried (Err f))
-          (sym is) (inl none)
+            subst (λ (f : ServeFault). OneTurn rule before after old site idle tried (Err f))
+            (sym is) (inl none)
       ]
 
   -- this was received
@@ -62,7 +62,7 @@ module _ {C : Type 0} (rule : Rule C) (before after : Outside) (old : Serving C)
     pub broken_off : (fault : ServeFault)
         → ComesTo (at idle tried (rule old took)) mid after.traffic start lines site (Err fault)
         → after.written ≡ before.written
-        → OneTurn rule before after old site idle tried (Err fault)
+        → OneTurn rule before after old site idle tried (Err faults.Memory)
     broken_off faults.Port comes written = absurd comes
     broken_off faults.Cell comes written = absurd comes
     broken_off faults.Output comes written = absurd comes
@@ -76,75 +76,76 @@ module _ {C : Type 0} (rule : Rule C) (before after : Outside) (old : Serving C)
           0,
           (
             Grows-trans before.traffic mid after.traffic (Took took ∷ [])
-            (take count (all_handed done.posts)) received grows,
+                (take count (all_handed done.posts)) received grows,
             subst (λ (w : Option (List ℕ)). Appends before.written w []) (sym written)
-            (Appends-none before.written),
+                (Appends-none before.written),
           ),
         )
 
     module _ (none : start ≡ [])
         (comes : ComesTo (at idle tried (rule old took)) mid after.traffic start lines site (Ok tt))
-        where
-      turn : Turned
-      turn = record { took = took; done = comes.0 }
+      where
+        turn : Turned
+        turn = record { took = took; done = comes.0 }
 
-      moved : Grows before.traffic after.traffic (moves_of turn)
-      unfolding turn
-      moved =
-          Grows-trans before.traffic mid after.traffic (Took took ∷ [])
-          (all_handed comes.0.posts) received comes.5
+        moved : Grows before.traffic after.traffic (moves_of turn)
+        unfolding turn
+        moved =
+            Grows-trans before.traffic mid after.traffic (Took took ∷ [])
+            (all_handed comes.0.posts) received comes.5
 
-      text : flat_map (line_text by_identity) lines ≡ text_of turn
-      unfolding turn
-      text = text_is start lines comes.0.notices none comes.6
+        text : flat_map (line_text by_identity) lines ≡ text_of turn
+        unfolding turn
+        text = text_is start lines comes.0.notices none comes.6
 
-      pub whole : (last : Bool) → last ≡ list_any line_of_the_cell lines
-          → Appends before.written after.written (flat_map (line_text by_identity) lines)
-          → one.Whole rule before after old site idle tried last
-      unfolding turn
-      whole last is written = (
-        turn,
-        comes.1,
-        comes.2.0,
-        comes.3,
-        comes.2.1,
-        comes.2.2,
-        comes.4,
-        sym (is ∙ one_is_last start lines comes.0.notices none comes.6),
-        (moved, subst (Appends before.written after.written) text written),
-      )
+        pub whole : (last : Bool) → last ≡ list_any line_of_the_cell lines
+            → Appends before.written after.written (flat_map (line_text by_identity) lines)
+            → one.Whole rule before after old site idle tried last
+        unfolding turn
+        whole last is written = (
+          turn,
+          comes.1,
+          comes.2.0,
+          comes.3,
+          comes.2.1,
+          comes.2.2,
+          comes.4,
+          sym (is ∙ one_is_last start lines comes.0.notices none comes.6),
+          (moved, subst (Appends before.written after.written) text written),
+        )
 
-      -- a part of its text was written
-      part : (count : ℕ)
-          → Appends before.written after.written
-          (take count (flat_map (line_text by_identity) lines))
-          → one.Part rule before after old site
-      unfolding turn
-      part count written = (
-        turn,
-        comes.1,
-        comes.2.0,
-        comes.3,
-        length (moves_of turn),
-        count,
-        (
-          subst (Grows before.traffic after.traffic)
-          (sym (take_all (length (moves_of turn)) (moves_of turn) (le_refl _))) moved,
-          subst (λ (t : List ℕ). Appends before.written after.written (take count t)) text written,
-        ),
-      )
+        -- a part of its text was written
+        part : (count : ℕ)
+            → Appends before.written after.written
+            (take count (flat_map (line_text by_identity) lines))
+            → one.Part rule before after old site
+        unfolding turn
+        part count written = (
+          turn,
+          comes.1,
+          comes.2.0,
+          comes.3,
+          length (moves_of turn),
+          count,
+          (
+            subst (Grows before.traffic after.traffic)
+                (sym (take_all (length (moves_of turn)) (moves_of turn) (le_refl _))) moved,
+            subst (λ (t : List ℕ). Appends before.written after.written (take count t)) text
+                written,
+          ),
+        )
 
-      pub cut : (fault : ServeFault) → (fault ≡ faults.Output) ⊎ (fault ≡ faults.Memory)
-          → (count : ℕ)
-          → Appends before.written after.written
-          (take count (flat_map (line_text by_identity) lines))
-          → OneTurn rule before after old site idle tried (Err fault)
-      cut fault (inl is) count written =
-          subst (λ (f : ServeFault). OneTurn rule before after old site idle tried (Err f))
-          (sym is) (part count written)
-      cut fault (inr is) count written =
-          subst (λ (f : ServeFault). OneTurn rule before after old site idle tried (Err f))
-          (sym is) (inr (part count written))
+        pub cut : (fault : ServeFault) → (fault ≡ faults.Output) ⊎ (fault ≡ faults.Memory)
+            → (count : ℕ)
+            → Appends before.written after.written
+            (take count (flat_map (line_text by_identity) lines))
+            → OneTurn rule before after old site idle tried (Err fault)
+        cut fault (inl is) count written =
+            subst (λ (f : ServeFault). OneTurn rule before after old site idle tried (Err f))
+            (sym is) (part count written)
+        cut fault (inr is) count written =
+            subst (λ (f : ServeFault). OneTurn rule before after old site idle tried (Err f))
+            (sym is) (inr (part count written))
 
   -- a site that its cell failed needs opening
   pub stopped : one.Whole rule before after old site idle tried true
@@ -154,5 +155,5 @@ module _ {C : Type 0} (rule : Rule C) (before after : Outside) (old : Serving C)
   stopped whole stops = (
     whole,
     sym (ap (λ (s : OpenSite C). s.book.needs_opening) whole.3)
-    ∙ stops whole.0 whole.1 whole.2 whole.7,
+        ∙ stops whole.0 whole.1 whole.2 whole.7,
   )

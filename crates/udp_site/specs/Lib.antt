@@ -5,4 +5,5 @@ pub mod Rounds
 pub mod Turns
 pub mod Served
 pub mod Faults
+pub mod Failing
 pub mod inner

@@ -7,6 +7,7 @@ ghost use Rattle.std.specs.Io.KnownBytes.{Appends};
 ghost use Rattle.cell_device.specs.Calls.{HasCause};
 ghost use Rattle.proposer.specs.Sessions.{Session};
 ghost use Rattle.lines.specs.Texts.{line_text};
+ghost use Rattle.udp_site.specs.Failing.{OnlyByFailing};
 ghost use Rattle.udp_site.specs.Traffic.{Took, Grows, taken};
 ghost use Rattle.udp_site.specs.Served.{Serves, Turned, by_identity};
 ghost use Rattle.udp_site.specs.Turns.{Serving, IsServing, begins, turn_of};
@@ -44,13 +45,17 @@ pub fn serve<C: Cell, P: Port, F: Folders, W: Write>(
         (record { traffic = P.traffic port.old; written = W.contents output.old })
         (record { traffic = P.traffic port.new; written = W.contents output.new })
         (begins site.old session) end turns done result }
+    ensures port { OnlyByFailing ServeFault.Port (P.failures port.old) (P.failures port.new)
+        result }
     ensures kept { F.gives folders.new ≡ F.gives folders.old }
 {
     let mut round = Round { idle: 0, tried: 0 };
     let mut lines = Vec::new(alloc);
     'turns: for _ in 0..turns {
         lines.clear();
-        one_turn(alloc, site, port, folders, ports, &mut round, &mut lines, output)?;
+        one_turn(
+            alloc, site, port, folders, ports, &mut round, &mut lines, output,
+        )?;
     }
     Ok(())
 }
@@ -75,10 +80,16 @@ fn one_turn<C: Cell, P: Port, F: Folders, W: Write>(
         (record { traffic = P.traffic port.new; written = W.contents output.new })
         old site.new round.new.idle round.new.tried result }
     ensures count { round.new.idle ≤ round.old.idle + 1 }
+    ensures port { OnlyByFailing ServeFault.Port (P.failures port.old) (P.failures port.new)
+        result }
     ensures kept { F.gives folders.new ≡ F.gives folders.old }
 {
     let turn = receive(port)?;
-    take_turn(alloc, site, port, folders, ports, round, lines, &turn)?;
+    // Only where memory runs out is a turn broken off.
+    match take_turn(alloc, site, port, folders, ports, round, lines, &turn) {
+        Ok(()) => {}
+        Err(_) => return Err(ServeFault::Memory),
+    }
     write_lines(alloc, lines, output)?;
     if is_refused(lines) {
         return Err(ServeFault::Cell);
@@ -91,7 +102,7 @@ fn receive<P: Port>(port: &mut P) -> Result<Turn, ServeFault>
     ensures took { IfOk result (λ turn. Grows (P.traffic port.old) (P.traffic port.new)
         (Took (taken turn) ∷ [])) }
     ensures failed { OnErr result (Grows (P.traffic port.old) (P.traffic port.new) []) }
-    ensures fault { IfErr result (λ fault. (fault ≡ ServeFault.Port) ⊎ (fault ≡ ServeFault.Memory)) }
+    ensures fault { IfErr result (λ f. (f ≡ ServeFault.Port) ⊎ (f ≡ ServeFault.Memory)) }
     ensures cause { HasCause ServeFault.Port (P.failures port.old) (P.failures port.new) result }
 {
     match port.receive() {
@@ -107,7 +118,7 @@ fn write_lines<W: Write>(alloc: Global, lines: &[Line], output: &mut W) -> Resul
         (flat_map (line_text by_identity) lines.now)) }
     ensures part { OnErr result ((count : ℕ) × Appends (W.contents output.old)
         (W.contents output.new) (take count (flat_map (line_text by_identity) lines.now))) }
-    ensures fault { IfErr result (λ fault. (fault ≡ ServeFault.Output) ⊎ (fault ≡ ServeFault.Memory)) }
+    ensures fault { IfErr result (λ f. (f ≡ ServeFault.Output) ⊎ (f ≡ ServeFault.Memory)) }
 {
     if lines.is_empty() {
         return Ok(());
@@ -144,5 +155,11 @@ fn is_refused(lines: &[Line]) -> bool
 fn is_of_the_cell(line: &Line) -> bool
     ensures { result ≡ line_of_the_cell line.now }
 {
-    matches!(line, Line::Refused { fault: SiteFault::Device | SiteFault::NeedsOpen, .. })
+    matches!(
+        line,
+        Line::Refused {
+            fault: SiteFault::Device | SiteFault::NeedsOpen,
+            ..
+        }
+    )
 }

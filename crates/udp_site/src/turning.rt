@@ -38,6 +38,7 @@ pub(crate) fn take_turn<C: Cell, P: Port, F: Folders>(
         (turn_of C.device ports.now (F.gives folders.old) old (taken turn.now)))
         (P.traffic port.old) (P.traffic port.new) lines.old.items lines.new.items site.new result }
     ensures count { round.new.idle ≤ round.old.idle + 1 }
+    ensures later { P.failures port.old ≤ P.failures port.new }
     ensures kept { F.gives folders.new ≡ F.gives folders.old }
 {
     match turn {

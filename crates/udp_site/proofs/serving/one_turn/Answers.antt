@@ -40,22 +40,9 @@ returns-in_err-turn-clause-turn g c old site idle tried serving =
     old c.args.site.now c.args.round.now.idle c.args.round.now.tried
     c.in_err-turn.field-0.0 c.in_err-turn.ensures.fault site c.in_err-turn.ensures.failed refl)
 
-pub returns-in_err-take_turn-clause-turn : goal.returns-in_err-take_turn-clause-turn
-returns-in_err-take_turn-clause-turn g c old site idle tried serving =
-    returned
-    (turn_of g.C.Cell.device c.args.ports.now (g.F.Folders.gives c.args.folders.now))
-    (record {
-      traffic = g.P.Port.traffic c.args.port.now;
-      written = g.W.Write.contents c.args.output.now;
-    })
-    (record {
-      traffic = g.P.Port.traffic c.take_turn.new.port;
-      written = g.W.Write.contents c.args.output.now;
-    })
-    old c.take_turn.new.site c.take_turn.new.round.idle c.take_turn.new.round.tried
-    c.from_residual-in_err-take_turn.result c.in_err-take_turn.field-0.0
-    c.from_residual-in_err-take_turn.ensures.1
-    (broken_off
+pub returns-in-Err-clause-turn : goal.returns-in-Err-clause-turn
+returns-in-Err-clause-turn g c old site idle tried serving =
+    broken_off
     (turn_of g.C.Cell.device c.args.ports.now (g.F.Folders.gives c.args.folders.now))
     (record {
       traffic = g.P.Port.traffic c.args.port.now;
@@ -68,8 +55,8 @@ returns-in_err-take_turn-clause-turn g c old site idle tried serving =
     old c.take_turn.new.site c.take_turn.new.round.idle c.take_turn.new.round.tried
     (taken c.in_ok-turn.turn) (g.P.Port.traffic c.receive.new.port) c.args.lines.now.items
     c.take_turn.new.lines.items c.in_ok-turn.ensures.took
-    c.in_err-take_turn.field-0.0 (c.in_err-take_turn.ensures.comes old site idle tried serving)
-    refl)
+    c.in-Err.field-0 (c.in-Err.ensures.comes old site idle tried serving)
+    refl
 
 pub returns-in_err-write_lines-clause-turn : goal.returns-in_err-write_lines-clause-turn
 returns-in_err-write_lines-clause-turn g c old site idle tried serving =
@@ -100,7 +87,7 @@ returns-in_err-write_lines-clause-turn g c old site idle tried serving =
     old c.take_turn.new.site c.take_turn.new.round.idle c.take_turn.new.round.tried
     (taken c.in_ok-turn.turn) (g.P.Port.traffic c.receive.new.port) c.args.lines.now.items
     c.take_turn.new.lines.items c.in_ok-turn.ensures.took
-    c.requires.lines (c.in_ok-take_turn.ensures.comes old site idle tried serving)
+    c.requires.lines (c.in-Ok.ensures.comes old site idle tried serving)
     c.in_err-write_lines.field-0.0 c.in_err-write_lines.ensures.fault count
     (subst
     (λ (l : List Line). Appends (g.W.Write.contents c.args.output.now)
@@ -133,7 +120,7 @@ returns-then-is_refused-clause-turn g c old site idle tried serving =
     old c.take_turn.new.site c.take_turn.new.round.idle c.take_turn.new.round.tried
     (taken c.in_ok-turn.turn) (g.P.Port.traffic c.receive.new.port) c.args.lines.now.items
     c.take_turn.new.lines.items c.in_ok-turn.ensures.took
-    c.requires.lines (c.in_ok-take_turn.ensures.comes old site idle tried serving) true
+    c.requires.lines (c.in-Ok.ensures.comes old site idle tried serving) true
     (sym c.if-is_refused.true ∙ c.is_refused.ensures
     ∙ ap (list_any line_of_the_cell) c.deref-2.ensures.value)
     (subst
@@ -160,7 +147,7 @@ returns-clause-turn g c old site idle tried serving =
     old c.take_turn.new.site c.take_turn.new.round.idle c.take_turn.new.round.tried
     (taken c.in_ok-turn.turn) (g.P.Port.traffic c.receive.new.port) c.args.lines.now.items
     c.take_turn.new.lines.items c.in_ok-turn.ensures.took
-    c.requires.lines (c.in_ok-take_turn.ensures.comes old site idle tried serving) false
+    c.requires.lines (c.in-Ok.ensures.comes old site idle tried serving) false
     (sym c.if-is_refused.false ∙ c.is_refused.ensures
     ∙ ap (list_any line_of_the_cell) c.deref-2.ensures.value)
     (subst

@@ -1,5 +1,5 @@
 use Rattle.std.specs.Prelude.{ℕ, List, [], Option, Result, Ok, Err}
-use Rattle.std.proofs.Common.{refl, arith, subst, ◌∙◌}
+use Rattle.std.proofs.Common.{refl, arith, subst, ◌∙◌, le_refl, le_trans}
 use Rattle.bag_tree.specs.declared.fault.TreeFault.{TreeFault}
 use Rattle.bag_tree.specs.Facts.{TreeFacts}
 use Rattle.udp_site.specs.Turns.{begins, turn_of}
@@ -10,6 +10,7 @@ use Rattle.udp_site.proofs.serving.serve.Goals as goal
 pub turns-init : goal.turns-init
 turns-init g c = record {
   idle = omega arith;
+  later = le_refl _;
   kept = refl;
   led = λ session serving. (
     begins c.args.site.now session,
@@ -21,16 +22,17 @@ turns-init g c = record {
     refl,
     refl,
     shows_none
-      (record {
-        traffic = g.P.Port.traffic c.args.port.now;
-        written = g.W.Write.contents c.args.output.now;
-      }),
+        (record {
+          traffic = g.P.Port.traffic c.args.port.now;
+          written = g.W.Write.contents c.args.output.now;
+        }),
   );
 }
 
 pub turns-preserved : goal.turns-preserved
 turns-preserved g c = record {
   idle = omega (arith, c.in_ok-one_turn.ensures.count, c.turns.invariant.idle);
+  later = le_trans c.turns.invariant.later c.one_turn.ensures.port.later;
   kept = c.one_turn.ensures.kept ∙ c.turns.invariant.kept;
   led = λ session serving.
       let so_far = c.turns.invariant.led session serving in

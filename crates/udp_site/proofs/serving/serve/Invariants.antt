@@ -8,6 +8,7 @@ use Rattle.udp_site.proofs.serving.serve.Given as goal
 abbrev pub invariant-turns : goal.invariant-turns
 invariant-turns g l = record {
   idle : l.round.idle ≤ l.counter;
+  later : g.P.Port.failures l.fn.port ≤ g.P.Port.failures l.port;
   kept : g.F.Folders.gives l.folders ≡ g.F.Folders.gives l.fn.folders;
   led : (session : Session) → IsServing (begins l.fn.site session)
       → SoFar (turn_of g.C.Cell.device l.ports (g.F.Folders.gives l.fn.folders))
