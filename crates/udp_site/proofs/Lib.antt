@@ -12,3 +12,4 @@ pub mod Printed
 pub mod Stopped
 pub mod TurnEnds
 pub mod Questions
+pub mod Queried

@@ -18,17 +18,17 @@ use Rattle.site.specs.Sites.{OpenSite}
 use Rattle.world_law.specs.declared.line.Line.{Line}
 use Rattle.world_law.specs.Networks.{Refused, Dropped}
 use Rattle.udp_site.specs.declared.fault.ServeFault.{ServeFault}
-use Rattle.udp_site.specs.Replies.{tree_answer, query_answer}
+use Rattle.udp_site.specs.Replies.{tree_answer}
 use Rattle.udp_site.specs.Traffic.{Move, From}
 use Rattle.udp_site.specs.Requests.{Request, Says, request_by, request_in}
 use Rattle.udp_site.specs.Turns.{Serving, Coming, Done, IsServing, Asks, comes_of, turn_of, members}
-use Rattle.udp_site.specs.Turns.{number, asked, answer_to, reply_notice, replies_to, posts_of}
+use Rattle.udp_site.specs.Turns.{number, asked, answer_to, reply_notice, query_replies, posts_of}
 use Rattle.udp_site.specs.Turns.{notices_of, deposit_replies, takes_tree}
 use Rattle.udp_site.specs.inner.Coming.{ComesTo}
 use Rattle.udp_site.proofs.Called.{could_be_called}
 
 -- the members can be asked, one after another: memory may run out for each
-could_ask : {C : Type 0} (ports : List ℕ) (s : Serving C) (slot : SlotName) (others : List ℕ)
+pub could_ask : {C : Type 0} (ports : List ℕ) (s : Serving C) (slot : SlotName) (others : List ℕ)
     → (done : Done) × Asks ports s slot others done
 could_ask ports s slot [] = (record { posts = []; notices = [] }, refl)
 could_ask ports s slot (member ∷ others) =
@@ -80,8 +80,8 @@ module _ {C : Type 0} (device : C → Device) (ports : List ℕ)
           (
             record {
               posts =
-                  replies_to (members old).federation port m.slot
-                  (bodies.QueryReply (number old) (query_answer (answer_to old m.slot)))
+                  query_replies (members old).federation (number old) port m.slot
+                  (answer_to old m.slot)
                   ++ asks.0.posts;
               notices = reply_notice (number old) m.slot (answer_to old m.slot) ∷ asks.0.notices;
             },

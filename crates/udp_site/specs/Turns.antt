@@ -224,14 +224,19 @@ answer_to s slot =
     if s.site.book.needs_opening then Err faults.NeedsOpen
     else Ok (reply_of slot s.site.book.records)
 
+-- the reply to a query
+abbrev pub query_replies :
+    (federation site port : ℕ) → SlotName → Result Reply SiteFault → List Post
+query_replies federation site port slot known =
+    replies_to federation port slot (bodies.QueryReply site (query_answer known))
+
 -- a client asks for a slot's bag: the reply goes before the questions to the other members
 abbrev pub queries : {C : Type 0} → List ℕ → Serving C → (port : ℕ) → SlotName → Coming C
 queries ports old port slot done new =
     (asks : Done) × Asks ports old slot (asked old (answer_to old slot)) asks
     × (done ≡ record {
       posts =
-          replies_to (members old).federation port slot
-          (bodies.QueryReply (number old) (query_answer (answer_to old slot)))
+          query_replies (members old).federation (number old) port slot (answer_to old slot)
           ++ asks.posts;
       notices = reply_notice (number old) slot (answer_to old slot) ∷ asks.notices;
     })

@@ -1,10 +1,10 @@
 //! Queries of clients.
 
-ghost use Rattle.std.specs.Prelude.{◌≤◌, ◌≡◌, ◌∷◌, [], false, IsOk};
+ghost use Rattle.std.specs.Prelude.{◌≡◌, ◌≤◌, ◌∷◌, [], false, IsOk, IfOk};
 ghost use Rattle.fed_types.specs.Sites.{IsSiteNumber};
-ghost use Rattle.udp_site.specs.Turns.{Serving, IsServing, queries, others, asked};
+ghost use Rattle.udp_site.specs.Turns.{Serving, IsServing, queries, query_replies, others, asked};
 ghost use Rattle.udp_site.specs.inner.Asking.{others_of};
-ghost use Rattle.udp_site.specs.inner.Coming.{ComesTo, AsksFor};
+ghost use Rattle.udp_site.specs.inner.Coming.{ComesTo, AsksFor, Hands};
 
 use crate::fault::ServeFault;
 use crate::handing::{hand_all, reply};
@@ -35,15 +35,34 @@ pub(crate) fn take_query<C: Cell, P: Port>(
     ensures later { P.failures port.old ≤ P.failures port.new }
 {
     let from = site.number();
+    let federation = site.members().federation();
     let known = site.query(&slot);
-    let answer = query_answer(known);
-    let body = Body::QueryReply { from, answer };
-    let message = Message { slot, body };
-    reply(alloc, port, site.members().federation(), client, &message)?;
-    let Message { slot, .. } = message;
+    let slot = tell_known(alloc, port, federation, from, client, slot, known)?;
     let named = slot.copy(alloc)?;
     say_reply(lines, from.number(), named, known)?;
     ask_unless_known(site, port, ports, lines, &slot, known)
+}
+
+// Tells a client what is known of the slot, and gives back the slot.
+fn tell_known<P: Port>(
+    alloc: Global,
+    port: &mut P,
+    federation: u64,
+    from: SiteNo,
+    client: u16,
+    slot: Slot,
+    known: Result<Reply, SiteFault>,
+) -> Result<Slot, ServeFault>
+    ensures slot { IfOk result (λ s. s ≡ slot) }
+    ensures handed { Hands (P.traffic port.old) (P.traffic port.new)
+        (query_replies federation from client slot known) result }
+    ensures later { P.failures port.old ≤ P.failures port.new }
+{
+    let answer = query_answer(known);
+    let body = Body::QueryReply { from, answer };
+    let message = Message { slot, body };
+    reply(alloc, port, federation, client, &message)?;
+    Ok(message.slot)
 }
 
 // Asks the other members, unless the site knows the bag or needs opening.
@@ -61,11 +80,13 @@ fn ask_unless_known<C: Cell, P: Port>(
         lines.old.items lines.new.items result }
     ensures later { P.failures port.old ≤ P.failures port.new }
 {
-    match known {
-        Ok(Reply::Pending(_)) => ask_others(site, port, ports, lines, slot),
-        Ok(Reply::Nothing) => ask_others(site, port, ports, lines, slot),
-        Ok(Reply::Known(_)) => Ok(()),
-        Err(_) => Ok(()),
+    let Ok(reply) = known else {
+        return Ok(());
+    };
+    match reply {
+        Reply::Known(_) => Ok(()),
+        Reply::Pending(_) => ask_others(site, port, ports, lines, slot),
+        Reply::Nothing => ask_others(site, port, ports, lines, slot),
     }
 }
 
