@@ -83,8 +83,7 @@ module _ {C : Type 0} (ports : List ℕ) (s : Serving C) (slot : SlotName) where
   could_ask : (xs : List ℕ) → (done : Done) × Asks ports s slot xs done
   could_ask [] = (nothing, refl)
   could_ask (x ∷ xs) =
-      let rest = could_ask xs in
-      (
+      let rest = could_ask xs in (
         record { posts = rest.0.posts; notices = Refused (number s) sites.Memory ∷ rest.0.notices },
         (rest.0, rest.1, inr refl),
       )
@@ -213,8 +212,7 @@ pub sites_from : (n more : ℕ) → (rest : List ℕ) × (sites_to (n + more) �
 unfolding sites_to
 sites_from n zero = ([], rw add-zero (sym (append-nil (sites_to n))))
 sites_from n (suc more) =
-    let before = sites_from n more in
-    (
+    let before = sites_from n more in (
       before.0 ++ (n + more + 1) ∷ [],
       rw add-suc (ap (λ (l : List ℕ). l ++ suc (n + more) ∷ []) before.1
           ∙ (append_assoc (sites_to n) before.0 (suc (n + more) ∷ [])
@@ -260,9 +258,9 @@ module _ {C : Type 0} (s : Serving C) where
         let more = sites_from (n + 1) (count - (n + 1)) in
         let whole : n + 1 + (count - (n + 1)) ≡ count = omega arith in
         let split : others_of s (sites_to (n + 1)) ++ others_of s more.0
-            ≡ others_of s (sites_to count) =
+        ≡ others_of s (sites_to count) =
         sym (others_both (sites_to (n + 1)) more.0)
-            ∙ ap (others_of s) (sym more.1 ∙ ap sites_to whole) in
+        ∙ ap (others_of s) (sym more.1 ∙ ap sites_to whole) in
         subst (λ (x : Result (Unit {0}) ServeFault). AsksFor ports s slot
         (others_of s (sites_to count)) a c l1 l3 x) (sym (is_err r fault failed))
         (subst (λ (l : List ℕ). AsksFor ports s slot l a c l1 l3 (Err fault)) split

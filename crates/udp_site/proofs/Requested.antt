@@ -32,8 +32,7 @@ pub could_ask : {C : Type 0} (ports : List ℕ) (s : Serving C) (slot : SlotName
     → (done : Done) × Asks ports s slot others done
 could_ask ports s slot [] = (record { posts = []; notices = [] }, refl)
 could_ask ports s slot (member ∷ others) =
-    let rest = could_ask ports s slot others in
-    (
+    let rest = could_ask ports s slot others in (
       record { posts = rest.0.posts; notices = Refused (number s) faults.Memory ∷ rest.0.notices },
       (rest.0, rest.1, inr refl),
     )
@@ -57,8 +56,7 @@ module _ {C : Type 0} (device : C → Device) (ports : List ℕ)
 
       hears : by (Says m)
       hears =
-          let call = could_be_called device old (calls.Arrives (Some m)) serves in
-          (
+          let call = could_be_called device old (calls.Arrives (Some m)) serves in (
             record {
               posts = posts_of ports call.0;
               notices = notices_of (number old) (calls.Arrives (Some m)) call.0;
@@ -76,8 +74,7 @@ module _ {C : Type 0} (device : C → Device) (ports : List ℕ)
         (Err trees.Memory, known_or_not gives path, (refl, refl)),
       )
       by_body bodies.Query =
-          let asks = could_ask ports old m.slot (asked old (answer_to old m.slot)) in
-          (
+          let asks = could_ask ports old m.slot (asked old (answer_to old m.slot)) in (
             record {
               posts =
                   query_replies (members old).federation (number old) port m.slot

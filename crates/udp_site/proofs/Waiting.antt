@@ -116,8 +116,11 @@ at_most : (rows : Rows BagId) (rs : List Record)
     → length (fold with_deposit rows rs) ≤ length rows + length rs
 at_most rows [] = omega arith
 at_most rows (r ∷ rs) =
-    omega (arith, at_most (with_deposit rows r) rs,
-    one_more_at_most rows r.slot (deposit_in r.body))
+    omega (
+      arith,
+      at_most (with_deposit rows r) rs,
+      one_more_at_most rows r.slot (deposit_in r.body),
+    )
 
 -- no more deposits than records are there
 deposits_within : (rs : List Record) → length (deposits_of rs) ≤ length rs

@@ -82,7 +82,15 @@ fn leave_folder<C: Cell, P: Port>(
 {
     let from = site.number();
     let federation = site.members().federation();
-    tell(alloc, port, federation, from, client, slot, tree_answer(fault))?;
+    tell(
+        alloc,
+        port,
+        federation,
+        from,
+        client,
+        slot,
+        tree_answer(fault),
+    )?;
     Ok(())
 }
 

@@ -19,7 +19,8 @@ pub(crate) fn hand_answer<P: Port>(
     ports: &[u16],
     answer: &Result<Answer, SiteFault>,
 ) -> Result<(), ServeFault>
-    ensures hands { Hands (P.traffic port.old) (P.traffic port.new) (posts_of ports.now answer.now) result }
+    ensures hands { Hands (P.traffic port.old) (P.traffic port.new)
+        (posts_of ports.now answer.now) result }
     ensures later { P.failures port.old ≤ P.failures port.new }
 {
     match answer {

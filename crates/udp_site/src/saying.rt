@@ -44,16 +44,22 @@ pub(crate) fn say_deposit(
 {
     match answer {
         Ok(Answer { line, .. }) => match line {
-            Some(SiteLine::Registered(bag)) => say(lines, Line::Registered {
-                site,
-                slot,
-                bag: named(bag),
-            }),
-            Some(SiteLine::Known(slot, bag)) => say(lines, Line::Known {
-                site,
-                slot,
-                bag: named(bag),
-            }),
+            Some(SiteLine::Registered(bag)) => say(
+                lines,
+                Line::Registered {
+                    site,
+                    slot,
+                    bag: named(bag),
+                },
+            ),
+            Some(SiteLine::Known(slot, bag)) => say(
+                lines,
+                Line::Known {
+                    site,
+                    slot,
+                    bag: named(bag),
+                },
+            ),
             Some(SiteLine::Dropped) => say_dropped(lines, site),
             None => Ok(()),
         },
@@ -104,11 +110,14 @@ pub(crate) fn say_reply(
     ensures { OnOk result (Notes lines.old.items lines.new.items (reply_notice site slot reply ∷ [])) }
 {
     match reply {
-        Ok(reply) => say(lines, Line::Replied {
-            site,
-            slot,
-            reply: named_reply(reply),
-        }),
+        Ok(reply) => say(
+            lines,
+            Line::Replied {
+                site,
+                slot,
+                reply: named_reply(reply),
+            },
+        ),
         Err(fault) => say_refused(lines, site, fault),
     }
 }

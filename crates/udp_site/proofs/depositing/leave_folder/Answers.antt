@@ -14,8 +14,7 @@ pub returns-clause-comes : goal.returns-clause-comes
 returns-clause-comes g c old there serves said =
     let start = c.args.site.now in
     let before = g.P.Port.traffic c.args.port.now in
-    let after = g.P.Port.traffic c.tell.new.port in
-    (
+    let after = g.P.Port.traffic c.tell.new.port in (
       record {
         posts = deposit_replies (members old).federation (number old) c.args.client c.args.slot
             (tree_answer c.args.fault);
@@ -42,17 +41,17 @@ returns-in_err-tell-clause-comes g c old there serves said =
     let before = g.P.Port.traffic c.args.port.now in
     let after = g.P.Port.traffic c.tell.new.port in
     let posts = deposit_replies (members old).federation (number old) c.args.client c.args.slot
-        (tree_answer c.args.fault) in
+    (tree_answer c.args.fault) in
     let fails = fails_for before after posts c.in_err-tell.field-0.0
-        (subst (λ (posts : List Post). Hands {T = Unit {0}} before after posts
-        (Err c.in_err-tell.field-0.0))
-        (same_replies c.federation-federation.result (members old).federation
-        c.number-from.result (number old) c.args.client c.args.slot c.tree_answer.result
-        (tree_answer c.args.fault)
-        (same_federation old start there c.members.result c.federation-federation.result
-        c.federation-federation.ensures c.members.ensures)
-        (same_site old start there c.number-from.result c.number-from.ensures)
-        c.tree_answer.ensures) c.in_err-tell.ensures.handed) in
+    (subst (λ (posts : List Post). Hands {T = Unit {0}} before after posts
+    (Err c.in_err-tell.field-0.0))
+    (same_replies c.federation-federation.result (members old).federation
+    c.number-from.result (number old) c.args.client c.args.slot c.tree_answer.result
+    (tree_answer c.args.fault)
+    (same_federation old start there c.members.result c.federation-federation.result
+    c.federation-federation.ensures c.members.ensures)
+    (same_site old start there c.number-from.result c.number-from.ensures)
+    c.tree_answer.ensures) c.in_err-tell.ensures.handed) in
     broken_off (takes_tree g.C.Cell.device old c.args.client c.args.slot (Err c.args.fault)) before
     after said said start (record { posts = posts; notices = [] }) old (refl, refl) there fails.1
     c.from_residual.result

@@ -59,5 +59,6 @@ returns-in_err-say_arrival-clause-comes g c old m there serves is =
     (g.P.Port.traffic c.args.port.now) (g.P.Port.traffic c.hand_answer.new.port)
     c.args.lines.now.items c.say_arrival.new.lines.items
     (whole_part (g.P.Port.traffic c.args.port.now) (g.P.Port.traffic c.hand_answer.new.port)
-    (all_handed (posts_of c.args.ports.now c.arrive-answer.result)) c.in_ok-hand_answer.ensures.hands)
+    (all_handed (posts_of c.args.ports.now c.arrive-answer.result))
+    c.in_ok-hand_answer.ensures.hands)
     c.from_residual-in_err-say_arrival.result c.from_residual-in_err-say_arrival.ensures.1

@@ -51,5 +51,6 @@ returns-in_err-say_proposal-clause-comes g c old same serves =
     (g.P.Port.traffic c.args.port.now) (g.P.Port.traffic c.hand_answer.new.port)
     c.args.lines.now.items c.say_proposal.new.lines.items
     (whole_part (g.P.Port.traffic c.args.port.now) (g.P.Port.traffic c.hand_answer.new.port)
-    (all_handed (posts_of c.args.ports.now c.propose-answer.result)) c.in_ok-hand_answer.ensures.hands)
+    (all_handed (posts_of c.args.ports.now c.propose-answer.result))
+    c.in_ok-hand_answer.ensures.hands)
     c.from_residual-in_err-say_proposal.result c.from_residual-in_err-say_proposal.ensures.1

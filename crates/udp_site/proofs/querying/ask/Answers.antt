@@ -19,13 +19,15 @@ returns-in-Ok-clause-comes g c old there serves =
     (g.P.Port.traffic c.hand_all.new.port) (flat_map (sealed_posts c.args.ports.now) l)
     c.hand_all.result) c.as_slice.ensures.value c.hand_all.ensures.hands)
 
-pub returns-in_err-say_refused-in-Err-clause-comes : goal.returns-in_err-say_refused-in-Err-clause-comes
+pub returns-in_err-say_refused-in-Err-clause-comes :
+    goal.returns-in_err-say_refused-in-Err-clause-comes
 returns-in_err-say_refused-in-Err-clause-comes g c old there serves =
     isnt_asked_in_part c.args.ports.now old c.args.slot.now c.args.member
     (g.P.Port.traffic c.args.port.now) c.args.lines.now.items c.say_refused.new.lines.items
     c.from_residual.result c.from_residual.ensures.1
 
-pub returns-in_ok-say_refused-in-Err-clause-comes : goal.returns-in_ok-say_refused-in-Err-clause-comes
+pub returns-in_ok-say_refused-in-Err-clause-comes :
+    goal.returns-in_ok-say_refused-in-Err-clause-comes
 returns-in_ok-say_refused-in-Err-clause-comes g c old there serves =
     isnt_asked c.args.ports.now old c.args.slot.now c.args.member
     (g.P.Port.traffic c.args.port.now) c.args.lines.now.items c.say_refused.new.lines.items

@@ -42,9 +42,13 @@ returns-in_err-ask_other-clause-comes g c old there serves =
 pub returns-clause-comes : goal.returns-clause-comes
 returns-clause-comes g c old there serves =
     let all : c.loop-earlier.earlier ≡ count_of (members old) =
-    omega (arith, c.loop-earlier-test.false, c.loop-earlier.auto.earlier-end,
-    count_is old c.args.site.now c.members.result c.count-count.result there c.members.ensures
-    c.count-count.ensures.value) in
+    omega (
+      arith,
+      c.loop-earlier-test.false,
+      c.loop-earlier.auto.earlier-end,
+      count_is old c.args.site.now c.members.result c.count-count.result there c.members.ensures
+          c.count-count.ensures.value,
+    ) in
     subst (λ (n : ℕ). AsksFor c.args.ports.now old c.args.slot.now (others_of old (sites_to n))
     (g.P.Port.traffic c.args.port.now) (g.P.Port.traffic c.loop-earlier.port)
     c.args.lines.now.items c.loop-earlier.lines.items (Ok tt)) all

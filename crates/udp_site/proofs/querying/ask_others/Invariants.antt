@@ -9,7 +9,7 @@ use Rattle.udp_site.proofs.querying.ask_others.Given as goal
 abbrev pub invariant-loop-earlier : goal.invariant-loop-earlier
 invariant-loop-earlier g l = record {
   asked : (old : Serving g.row.C.Denot) → old.site ≡ l.site → IsServing old
-    → AsksFor l.ports old l.slot (others_of old (sites_to l.earlier))
-    (g.P.Port.traffic l.fn.port) (g.P.Port.traffic l.port) l.fn.lines.items l.lines.items (Ok tt);
+      → AsksFor l.ports old l.slot (others_of old (sites_to l.earlier))
+      (g.P.Port.traffic l.fn.port) (g.P.Port.traffic l.port) l.fn.lines.items l.lines.items (Ok tt);
   later : g.P.Port.failures l.fn.port ≤ g.P.Port.failures l.port;
 }

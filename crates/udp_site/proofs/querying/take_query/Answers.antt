@@ -25,7 +25,7 @@ returns-clause-comes g c old there serves =
     let after = g.P.Port.traffic c.tell_known.new.port in
     let end = g.P.Port.traffic c.ask_unless_known.new.port in
     let known = known_is old start there c.args.slot c.query-known.result
-        c.query-known.ensures.reply c.query-known.ensures.needs_open in
+    c.query-known.ensures.reply c.query-known.ensures.needs_open in
     answered c.args.ports.now old c.args.client c.args.slot start there serves before after end
     c.args.lines.now.items c.say_reply.new.lines.items c.ask_unless_known.new.lines.items
     (subst (λ (posts : List Post). Grows before after (all_handed posts))
@@ -56,19 +56,19 @@ returns-in_err-slot-clause-comes g c old there serves =
     let before = g.P.Port.traffic c.args.port.now in
     let after = g.P.Port.traffic c.tell_known.new.port in
     let known = known_is old start there c.args.slot c.query-known.result
-        c.query-known.ensures.reply c.query-known.ensures.needs_open in
+    c.query-known.ensures.reply c.query-known.ensures.needs_open in
     let fails = fails_for before after
-        (query_replies (members old).federation (number old) c.args.client c.args.slot
-        (answer_to old c.args.slot)) c.in_err-slot.field-0.0
-        (subst (λ (posts : List Post). Hands {T = Unit {0}} before after posts
-        (Err c.in_err-slot.field-0.0))
-        (same_query_replies c.federation-federation.result (members old).federation
-        c.number-from.result (number old) c.args.client c.args.slot c.query-known.result
-        (answer_to old c.args.slot)
-        (same_federation old start there c.members.result c.federation-federation.result
-        c.federation-federation.ensures c.members.ensures)
-        (same_site old start there c.number-from.result c.number-from.ensures) known)
-        c.in_err-slot.ensures.handed) in
+    (query_replies (members old).federation (number old) c.args.client c.args.slot
+    (answer_to old c.args.slot)) c.in_err-slot.field-0.0
+    (subst (λ (posts : List Post). Hands {T = Unit {0}} before after posts
+    (Err c.in_err-slot.field-0.0))
+    (same_query_replies c.federation-federation.result (members old).federation
+    c.number-from.result (number old) c.args.client c.args.slot c.query-known.result
+    (answer_to old c.args.slot)
+    (same_federation old start there c.members.result c.federation-federation.result
+    c.federation-federation.ensures c.members.ensures)
+    (same_site old start there c.number-from.result c.number-from.ensures) known)
+    c.in_err-slot.ensures.handed) in
     unanswered c.args.ports.now old c.args.client c.args.slot start there serves before after
     c.args.lines.now.items c.args.lines.now.items fails.1 c.from_residual.result
     (subst (λ (f : ServeFault). IsErrAnd c.from_residual.result (λ e. e ≡ f)) fails.0
@@ -80,7 +80,7 @@ returns-in_err-named-clause-comes g c old there serves =
     let before = g.P.Port.traffic c.args.port.now in
     let after = g.P.Port.traffic c.tell_known.new.port in
     let known = known_is old start there c.args.slot c.query-known.result
-        c.query-known.ensures.reply c.query-known.ensures.needs_open in
+    c.query-known.ensures.reply c.query-known.ensures.needs_open in
     unanswered c.args.ports.now old c.args.client c.args.slot start there serves before after
     c.args.lines.now.items c.args.lines.now.items
     (whole_part before after (all_handed (query_replies (members old).federation (number old)
@@ -101,7 +101,7 @@ returns-in_err-say_reply-clause-comes g c old there serves =
     let before = g.P.Port.traffic c.args.port.now in
     let after = g.P.Port.traffic c.tell_known.new.port in
     let known = known_is old start there c.args.slot c.query-known.result
-        c.query-known.ensures.reply c.query-known.ensures.needs_open in
+    c.query-known.ensures.reply c.query-known.ensures.needs_open in
     unanswered c.args.ports.now old c.args.client c.args.slot start there serves before after
     c.args.lines.now.items c.say_reply.new.lines.items
     (whole_part before after (all_handed (query_replies (members old).federation (number old)

@@ -51,7 +51,8 @@ turns-preserved g c = record {
         written = g.W.Write.contents c.one_turn.new.output;
       })
       (begins c.args.site.now session) c.turns.site c.one_turn.new.site c.turns.round.idle
-      c.turns.round.tried c.one_turn.new.round.idle c.one_turn.new.round.tried c.turns.counter so_far
+      c.turns.round.tried c.one_turn.new.round.idle c.one_turn.new.round.tried c.turns.counter
+      so_far
       (subst (λ (gives : Option (List ℕ → Result TreeFacts TreeFault)).
       OneTurn (turn_of g.C.Cell.device c.args.ports.now gives)
       (record {

@@ -25,8 +25,8 @@ asked_of old federation bytes asked said same is p =
 pub returns-in-Hear-clause-comes : goal.returns-in-Hear-clause-comes
 returns-in-Hear-clause-comes g c old there serves =
     let asked = asked_of old c.federation.result c.args.bytes.now c.in_ok-asked_by.field-0 asks.Hear
-        (same_federation old c.args.site.now there c.members.result c.federation.result
-        c.federation.ensures c.members.ensures) c.in-Hear.is c.in_ok-asked_by.ensures in
+    (same_federation old c.args.site.now there c.members.result c.federation.result
+    c.federation.ensures c.members.ensures) c.in-Hear.is c.in_ok-asked_by.ensures in
     by_request g.C.Cell.device c.args.ports.now (g.F.Folders.gives c.args.folders.now) old c.args.from
     (message_of (members old).federation c.args.bytes.now) (Says asked.0) (asked.2 c.args.from)
     (g.P.Port.traffic c.args.port.now) (g.P.Port.traffic c.hear.new.port) c.args.lines.now.items
@@ -36,9 +36,9 @@ returns-in-Hear-clause-comes g c old there serves =
 pub returns-in-Deposit-clause-comes : goal.returns-in-Deposit-clause-comes
 returns-in-Deposit-clause-comes g c old there serves =
     let asked = asked_of old c.federation.result c.args.bytes.now c.in_ok-asked_by.field-0
-        (asks.Deposit c.in-Deposit.slot c.in-Deposit.path)
-        (same_federation old c.args.site.now there c.members.result c.federation.result
-        c.federation.ensures c.members.ensures) c.in-Deposit.is c.in_ok-asked_by.ensures in
+    (asks.Deposit c.in-Deposit.slot c.in-Deposit.path)
+    (same_federation old c.args.site.now there c.members.result c.federation.result
+    c.federation.ensures c.members.ensures) c.in-Deposit.is c.in_ok-asked_by.ensures in
     by_request g.C.Cell.device c.args.ports.now (g.F.Folders.gives c.args.folders.now) old c.args.from
     (message_of (members old).federation c.args.bytes.now)
     (Deposits c.args.from c.in-Deposit.slot c.in-Deposit.path) (asked c.args.from)
@@ -49,9 +49,9 @@ returns-in-Deposit-clause-comes g c old there serves =
 pub returns-in-Query-clause-comes : goal.returns-in-Query-clause-comes
 returns-in-Query-clause-comes g c old there serves =
     let asked = asked_of old c.federation.result c.args.bytes.now c.in_ok-asked_by.field-0
-        (asks.Query c.in-Query.slot)
-        (same_federation old c.args.site.now there c.members.result c.federation.result
-        c.federation.ensures c.members.ensures) c.in-Query.is c.in_ok-asked_by.ensures in
+    (asks.Query c.in-Query.slot)
+    (same_federation old c.args.site.now there c.members.result c.federation.result
+    c.federation.ensures c.members.ensures) c.in-Query.is c.in_ok-asked_by.ensures in
     by_request g.C.Cell.device c.args.ports.now (g.F.Folders.gives c.args.folders.now) old c.args.from
     (message_of (members old).federation c.args.bytes.now) (Queries c.args.from c.in-Query.slot)
     (asked c.args.from) (g.P.Port.traffic c.args.port.now) (g.P.Port.traffic c.take_query.new.port)
@@ -61,9 +61,9 @@ returns-in-Query-clause-comes g c old there serves =
 pub returns-in-Nothing-clause-comes : goal.returns-in-Nothing-clause-comes
 returns-in-Nothing-clause-comes g c old there serves =
     let asked = asked_of old c.federation.result c.args.bytes.now c.in_ok-asked_by.field-0
-        asks.Nothing (same_federation old c.args.site.now there c.members.result
-        c.federation.result c.federation.ensures c.members.ensures) c.in-Nothing.is
-        c.in_ok-asked_by.ensures in
+    asks.Nothing (same_federation old c.args.site.now there c.members.result
+    c.federation.result c.federation.ensures c.members.ensures) c.in-Nothing.is
+    c.in_ok-asked_by.ensures in
     let traffic = g.P.Port.traffic c.args.port.now in
     by_request g.C.Cell.device c.args.ports.now (g.F.Folders.gives c.args.folders.now) old c.args.from
     (message_of (members old).federation c.args.bytes.now) Noise (asked c.args.from) traffic traffic
@@ -75,7 +75,7 @@ returns-in_err-asked_by-clause-comes g c old there serves =
     let gives = g.F.Folders.gives c.args.folders.now in
     let traffic = g.P.Port.traffic c.args.port.now in
     let could = could_come g.C.Cell.device c.args.ports.now gives old serves c.args.from
-        (message_of (members old).federation c.args.bytes.now) in
+    (message_of (members old).federation c.args.bytes.now) in
     broken_off (turn_of g.C.Cell.device c.args.ports.now gives old
     (From c.args.from c.args.bytes.now)) traffic traffic c.args.lines.now.items
     c.args.lines.now.items c.args.site.now could.0 old could.1 there

@@ -28,8 +28,8 @@ returns-in-Got-clause-comes g c old there idle tried serves =
     (comes_too (rule from) (at c.args.round.now.idle c.args.round.now.tried (rule from))
     (λ done next is.
     let same = same_round g.C.Cell.device c.args.ports.now
-        (g.F.Folders.gives c.args.folders.now) old c.in-Got.from
-        (message_of (members old).federation c.in-Got.bytes.items) done next is in
+    (g.F.Folders.gives c.args.folders.now) old c.in-Got.from
+    (message_of (members old).federation c.in-Got.bytes.items) done next is in
     (is, same.0 ∙ idle, same.1 ∙ tried))
     before after c.args.lines.now.items c.take_in.new.lines.items c.take_in.new.site
     c.take_in.result
