@@ -5,8 +5,8 @@ use Rattle.std.specs.Io.KnownBytes.{Appends}
 use Rattle.std.specs.Fmt.{decimal}
 use Rattle.schedule.specs.Plans.{Plan, plan_of}
 use Rattle.world_law.specs.Worlds.{run_of}
-use Rattle.simulator.specs.declared.print_run.Options.{Options}
-use Rattle.simulator.specs.Texts.{text_of}
+use Rattle.lines.specs.declared.print_line.Options.{Options}
+use Rattle.lines.specs.Texts.{text_of}
 
 -- an exit status, and what is written
 pub record Outcome : Type 0 where

@@ -1,7 +1,7 @@
 //! What the program's arguments ask for.
 
 use clap::{Arg, ArgAction, ArgMatches, Command, Error};
-use simulator::Options;
+use lines::Options;
 use std::alloc::{AllocError, Global};
 
 const ABOUT: &str =

@@ -8,7 +8,8 @@ use crate::answer::{Answer, write_answer};
 use crate::fault::ProgramFault;
 use crate::read_all::{ReadFault, read_all};
 use schedule::{ParseFault, parse};
-use simulator::{Options, RunFault, run, text};
+use lines::Options;
+use simulator::{RunFault, run, text};
 use std::alloc::{AllocError, Global};
 use std::io::{Read, Write};
 

@@ -5,7 +5,7 @@ use crate::read_all::{ReadFault, read_within};
 use crate::run_on::run_on;
 use bag_folders::MemoryFolders;
 use bag_tree::Tree;
-use simulator::Options;
+use lines::Options;
 use std::alloc::Global;
 use std::io;
 use std::io::{ErrorKind, Read, Write};

@@ -4,8 +4,8 @@ use Rattle.std.proofs.Common.{get_or, refl, ap, sym, ◌∙◌}
 use Rattle.std.proofs.lemmas.List.{take_more, take_all, flat_map_more}
 use Rattle.std.specs.List.{flat_map}
 use Rattle.world_law.specs.declared.line.Line.{Line}
-use Rattle.simulator.specs.declared.print_run.Options.{Options}
-use Rattle.simulator.specs.Texts.{text_of, printed_line}
+use Rattle.lines.specs.declared.print_line.Options.{Options}
+use Rattle.lines.specs.Texts.{text_of, printed_line}
 
 pub text_of-none : (options : Options) (lines : List Line) → [] ≡ text_of options (take 0 lines)
 unfolding text_of

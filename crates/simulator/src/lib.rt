@@ -3,12 +3,11 @@
 
 mod fault;
 mod print_run;
-mod print_words;
 mod run_schedule;
 mod trace;
 
 pub use fault::RunFault;
-pub use print_run::{Options, text};
+pub use print_run::text;
 pub use run_schedule::run;
 pub use trace::Trace;
 

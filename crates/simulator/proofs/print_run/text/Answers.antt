@@ -1,5 +1,5 @@
 use Rattle.std.proofs.Common.{◌≡◌, ◌++◌, ◌<◌, ◌≤◌, length, get_or, ap, ◌∙◌}
-use Rattle.simulator.specs.Texts.{printed_line}
+use Rattle.lines.specs.Texts.{printed_line}
 use Rattle.simulator.proofs.TextOfLines.{text_of-more, text_of-none, text_of-all}
 use Rattle.simulator.proofs.print_run.text.Goals as goal
 

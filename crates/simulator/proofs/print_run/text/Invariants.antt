@@ -1,6 +1,6 @@
 use Rattle.std.proofs.Common.{◌≡◌, take}
 use Rattle.std.specs.String.{string_bytes}
-use Rattle.simulator.specs.Texts.{text_of}
+use Rattle.lines.specs.Texts.{text_of}
 use Rattle.simulator.proofs.print_run.text.Given as goal
 
 -- the text of the lines so far

@@ -1,0 +1,56 @@
+ghost use Rattle.std.specs.Prelude.{◌≡◌};
+ghost use Rattle.schedule.specs.Pushes.{Pushes};
+ghost use Rattle.lines.specs.Texts.{line_text, is_printed, printed_line};
+
+use crate::print_words::push_words;
+use std::alloc::{AllocError, Global};
+use world_law::Line;
+
+/// How lines are written.
+#[derive(Clone, Copy, Debug)]
+pub struct Options {
+    /// Each datagram that was sent gets a line too.
+    pub sent: bool,
+    /// A bag is named by its identity in place of the tree that held it first.
+    pub identities: bool,
+}
+
+/// Appends a line's text, ended by LF; that of a datagram only where `sent` asks for it. It fails
+/// only where memory runs out.
+pub fn push_printed(
+    alloc: Global,
+    text: &mut String,
+    options: Options,
+    line: &Line,
+) -> Result<(), AllocError>
+    ensures { Pushes result text.old text.new (printed_line options line.now) }
+{
+    if is_printed(options, line) {
+        push_line(alloc, text, options, line)
+    } else {
+        Ok(())
+    }
+}
+
+fn is_printed(options: Options, line: &Line) -> bool
+    ensures { result ≡ is_printed options line.now }
+{
+    match line {
+        Line::Sent { .. } => options.sent,
+        _ => true,
+    }
+}
+
+/// Appends a line's text, ended by LF. It fails only where memory runs out.
+#[tactic(auto, using(std::proofs::Common::append_assoc))]
+pub fn push_line(
+    alloc: Global,
+    text: &mut String,
+    options: Options,
+    line: &Line,
+) -> Result<(), AllocError>
+    ensures { Pushes result text.old text.new (line_text options line.now) }
+{
+    push_words(alloc, text, options, line)?;
+    text.push('\n')
+}

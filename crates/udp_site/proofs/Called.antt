@@ -1,0 +1,141 @@
+-- A site that is called between turns.
+use Rattle.std.proofs.Common.{◌≡◌, ◌↔◌, Bool, true, false, inl, inr, Option, Some, None, IsSome}
+use Rattle.std.proofs.Common.{Result, Ok, Err, refl, sym, subst, ap, ◌∙◌}
+use Rattle.std.specs.Prelude.{IsErrOf}
+use Rattle.cell_device.specs.Devices.{Device}
+use Rattle.records.specs.declared.record.Record.{Record}
+use Rattle.book.specs.declared.fault.CommitFault.TheVariants as commits
+use Rattle.book.specs.Volumes.{Volume}
+use Rattle.proposer.specs.Sessions.{Session}
+use Rattle.site.specs.declared.answer.Answer.{Answer}
+use Rattle.site.specs.declared.fault.SiteFault.{SiteFault}
+use Rattle.site.specs.declared.fault.SiteFault.TheVariants as faults
+use Rattle.site.specs.Answered.{IsAnswered, Gives, Keeps, Commits}
+use Rattle.site.specs.Calls.{Input}
+use Rattle.site.specs.Effects.{Effect}
+use Rattle.site.specs.Sites.{OpenSite, StandsFor, effect}
+use Rattle.site.proofs.Refused.{out_of_memory}
+use Rattle.udp_site.specs.Turns.{Serving, IsServing, IsCalled, session_after}
+
+differ : true ≡ false → ⊥
+differ e = cc
+
+not_memory : ◌≡◌ {A = Result Answer SiteFault} (Err faults.Device) (Err faults.Memory) → ⊥
+not_memory e = cc
+
+module _ {C : Type 0} (device : C → Device) (old : OpenSite C) (new : OpenSite C)
+    (session : Session) where
+  -- a device that failed leaves a site that needs opening
+  needs_opening_then : (r : Option Record) → IsSome r
+      → Keeps device r (Err faults.Device) old.book new.book → new.book.needs_opening ≡ true
+  needs_opening_then None is kept = absurd (differ (sym is))
+  needs_opening_then (Some r) is (inl unchanged) = absurd (not_memory unchanged.0)
+  needs_opening_then (Some r) is (inr commits) = (commits.device_failed refl).1
+
+  -- what was answered leaves a site that stands for what it has heard then, unless it needs opening
+  stands_then : (e : Effect) (result : Result Answer SiteFault)
+      → IsAnswered device old new session e result → new.book.needs_opening ≡ false
+      → StandsFor new (session_after e session result)
+  stands_then e (Ok answer) answered opened = answered.gives.2
+  stands_then e (Err faults.Memory) answered opened = answered.gives
+  stands_then e (Err faults.Device) answered opened =
+      absurd (differ (sym (needs_opening_then e.commits answered.gives answered.keeps) ∙ opened))
+  stands_then e (Err faults.NeedsOpen) answered opened = absurd answered.gives
+  stands_then e (Err fault) answered opened = answered.gives.1
+
+-- what a call's contract says, of a site that serves
+module _ {C : Type 0} (device : C → Device) (input : Input) (result : Result Answer SiteFault)
+    (start site : OpenSite C) where
+  abbrev pub Answers : Type 0
+  Answers =
+      start.book.needs_opening ≡ false → (session : Session) → StandsFor start session
+      → IsAnswered device start site session (effect start session input) result
+
+  abbrev pub NeedsOpen : Type 0
+  NeedsOpen = IsErrOf result faults.NeedsOpen ↔ (start.book.needs_opening ≡ true)
+
+  abbrev pub Untouched : Type 0
+  Untouched = start.book.needs_opening ≡ true → site ≡ start
+
+-- what is between turns after the call
+abbrev pub called : {C : Type 0} → Serving C → Input → Result Answer SiteFault → OpenSite C
+    → Serving C
+called old input result site = record {
+  site = site;
+  session = session_after (effect old.site old.session input) old.session result;
+  idle = old.idle;
+  tried = old.tried;
+}
+
+pub is_called : {C : Type 0} (device : C → Device) (old : Serving C) (input : Input)
+    (result : Result Answer SiteFault) (start site : OpenSite C) → old.site ≡ start
+    → IsServing old → Answers device input result start site
+    → NeedsOpen device input result start site → Untouched device input result start site
+    → IsCalled device old input result (called old input result site)
+is_called {C} device old input result start site same serving at_start needs at_end = record {
+  answered = λ opened. answers opened old.session (serving opened);
+  refused = λ shut. (needs_open.1 shut, untouched shut);
+  session = refl;
+  idle = refl;
+  tried = refl;
+}
+  where
+    answers : Answers device input result old.site site
+    answers = subst (λ (s : OpenSite C). Answers device input result s site) (sym same) at_start
+
+    needs_open : NeedsOpen device input result old.site site
+    needs_open = subst (λ (s : OpenSite C). NeedsOpen device input result s site) (sym same) needs
+
+    untouched : Untouched device input result old.site site
+    untouched = subst (λ (s : OpenSite C). Untouched device input result s site) (sym same) at_end
+
+pub still_serving : {C : Type 0} (device : C → Device) (old : Serving C) (input : Input)
+    (result : Result Answer SiteFault) (start site : OpenSite C) → old.site ≡ start
+    → IsServing old → Answers device input result start site
+    → Untouched device input result start site → IsServing (called old input result site)
+still_serving {C} device old input result start site same serving at_start at_end =
+    go old.site.book.needs_opening refl
+  where
+    answers : Answers device input result old.site site
+    answers = subst (λ (s : OpenSite C). Answers device input result s site) (sym same) at_start
+
+    untouched : Untouched device input result old.site site
+    untouched = subst (λ (s : OpenSite C). Untouched device input result s site) (sym same) at_end
+
+    go : (shut : Bool) → old.site.book.needs_opening ≡ shut
+        → IsServing (called old input result site)
+    go true shut opened =
+        absurd (differ (sym (subst (λ (s : OpenSite C). s.book.needs_opening ≡ true)
+        (sym (untouched shut)) shut) ∙ opened))
+    go false before opened =
+        stands_then device old.site site old.session (effect old.site old.session input) result
+        (answers before old.session (serving before)) opened
+
+-- there is a call that changes nothing
+pub could_be_called : {C : Type 0} (device : C → Device) (old : Serving C) (input : Input)
+    → IsServing old → (result : Result Answer SiteFault) × IsCalled device old input result old
+could_be_called {C} device old input serving = go old.site.book.needs_opening refl
+  where
+    go : (shut : Bool) → old.site.book.needs_opening ≡ shut
+        → (result : Result Answer SiteFault) × IsCalled device old input result old
+    go true shut = (
+      Err faults.NeedsOpen,
+      record {
+        answered = λ opened. absurd (differ (sym shut ∙ opened));
+        refused = λ _. (refl, refl);
+        session = refl;
+        idle = refl;
+        tried = refl;
+      },
+    )
+    go false before = (
+      Err faults.Memory,
+      record {
+        answered = λ opened. out_of_memory device old.site old.session
+            (effect old.site old.session input) (serving opened);
+        refused = λ shut. absurd (differ (sym shut ∙ before));
+        session = refl;
+        idle = refl;
+        tried = refl;
+      },
+    )

@@ -1,0 +1,15 @@
+pub mod Handed
+pub mod Said
+pub mod Called
+pub mod Calling
+pub mod Same
+pub mod Requested
+pub mod Waiting
+pub mod Waited
+pub mod Growth
+pub mod Leading
+pub mod Printed
+pub mod Stopped
+pub mod TurnEnds
+pub mod Questions
+pub mod Queried

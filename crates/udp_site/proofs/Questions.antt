@@ -1,0 +1,282 @@
+-- Members that are asked for a slot's bag, one after another.
+use Rattle.std.proofs.Common.{◌≡◌, ℕ, ◌+◌, ◌-◌, ◌<◌, ◌==◌, Bool, true, false, not, cond, inl, inr}
+use Rattle.std.proofs.Common.{List, [], ◌∷◌, ◌++◌, map, Option, Some, None, Result, Ok, Err, refl, sym}
+use Rattle.std.proofs.Common.{ap, subst, ◌∙◌, append_assoc, append-nil, add-one, arith, suc, zero}
+use Rattle.std.proofs.Math.Nat.{add-zero, add-suc}
+use Rattle.std.proofs.lemmas.List.Elements.{filter-append}
+use Rattle.std.specs.Prelude.{IsErrAnd}
+use Rattle.std.specs.List.{filter, flat_map}
+use Rattle.std.proofs.lemmas.List.{map-append}
+use Rattle.fed_types.specs.Sites.{Membership, sites_to, count_of}
+use Rattle.fed_types.specs.Slots.{SlotName}
+use Rattle.dgram.specs.declared.body.Body.TheVariants.{Ask}
+use Rattle.dgram.specs.Encoding.{datagram_of}
+use Rattle.cell_device.specs.Devices.{Device}
+use Rattle.proposer.specs.Sessions.{Session}
+use Rattle.site.specs.declared.answer.Answer.{Answer}
+use Rattle.site.specs.declared.answer.Sealed.{Sealed}
+use Rattle.site.specs.declared.fault.SiteFault.TheVariants as sites
+use Rattle.site.specs.Answered.{IsAnswered}
+use Rattle.site.specs.Calls as calls
+use Rattle.site.specs.Calls.{on_ask}
+use Rattle.site.specs.Datagrams.{handed_out}
+use Rattle.site.specs.Effects.{to_each}
+use Rattle.site.specs.Sites.{OpenSite, StandsFor, effect}
+use Rattle.world_law.specs.declared.line.Line.{Line}
+use Rattle.world_law.specs.Networks.{Notice, Refused}
+use Rattle.world_law.specs.Worlds.{line_of}
+use Rattle.udp_site.specs.declared.fault.ServeFault.{ServeFault}
+use Rattle.udp_site.specs.declared.fault.ServeFault.TheVariants as faults
+use Rattle.udp_site.specs.Traffic.{Post, Move, Grows, all_handed}
+use Rattle.udp_site.specs.Turns.{Serving, Done, IsServing, Asks, members, number, posts_to}
+use Rattle.udp_site.specs.Turns.{sealed_posts}
+use Rattle.udp_site.specs.inner.Asking.{others_of}
+use Rattle.udp_site.specs.inner.Coming.{AsksFor, Hands, Notes}
+use Rattle.udp_site.proofs.Handed.{grows_by_no_posts, grows_by_posts, part_of_posts}
+use Rattle.udp_site.proofs.Handed.{then_part_of_posts, no_part, is_err}
+
+abbrev pub nothing : Done
+nothing = record { posts = []; notices = [] }
+
+-- this, and then that
+abbrev pub both : Done → Done → Done
+both one two = record {
+  posts = one.posts ++ two.posts;
+  notices = one.notices ++ two.notices;
+}
+
+-- lines of both
+pub notes_both : (l1 l2 l3 : List Line) (one two : List Notice) → Notes l1 l2 one → Notes l2 l3 two
+    → Notes l1 l3 (one ++ two)
+notes_both l1 l2 l3 one two p q =
+    q ∙ (ap (λ (l : List Line). l ++ map (line_of []) two) p
+    ∙ (append_assoc l1 (map (line_of []) one) (map (line_of []) two)
+    ∙ ap (λ (l : List Line). l1 ++ l) (sym (map-append (line_of []) one two))))
+
+-- the posts of an answer, by what is handed out
+posts_by : (ports : List ℕ) (items : List Sealed)
+    → flat_map (sealed_posts ports) items
+    ≡ flat_map (λ (out : ℕ × List ℕ). posts_to ports out.0 out.1) (map handed_out items)
+posts_by ports [] = refl
+posts_by ports (x ∷ items) = ap (λ (l : List Post). sealed_posts ports x ++ l) (posts_by ports items)
+
+module _ {C : Type 0} (ports : List ℕ) (s : Serving C) (slot : SlotName) where
+  asks_both : (xs ys : List ℕ) (one two : Done) → Asks ports s slot xs one
+      → Asks ports s slot ys two → Asks ports s slot (xs ++ ys) (both one two)
+  asks_both [] ys one two p q =
+      subst (λ (d : Done). Asks ports s slot ys (both d two)) (sym p) q
+  asks_both (x ∷ xs) ys one two (rest, asks, inl e) q = (
+    both rest two,
+    asks_both xs ys rest two asks q,
+    inl (ap (λ (d : Done). both d two) e
+        ∙ ap (λ (l : List Post). record { posts = l; notices = rest.notices ++ two.notices })
+        (append_assoc (posts_to ports x (datagram_of (members s).federation
+        (record { slot = slot; body = Ask (number s) }))) rest.posts two.posts)),
+  )
+  asks_both (x ∷ xs) ys one two (rest, asks, inr e) q = (
+    both rest two,
+    asks_both xs ys rest two asks q,
+    inr (ap (λ (d : Done). both d two) e),
+  )
+
+  -- whoever they are, they might have been asked so
+  could_ask : (xs : List ℕ) → (done : Done) × Asks ports s slot xs done
+  could_ask [] = (nothing, refl)
+  could_ask (x ∷ xs) =
+      let rest = could_ask xs in (
+        record { posts = rest.0.posts; notices = Refused (number s) sites.Memory ∷ rest.0.notices },
+        (rest.0, rest.1, inr refl),
+      )
+
+  pub asks_none : (a : Option (List Move)) (lines : List Line)
+      → AsksFor ports s slot [] a a lines lines (Ok tt)
+  asks_none a lines = (nothing, refl, grows_by_no_posts a, sym (append-nil lines))
+
+  -- these were asked, and then those
+  pub asks_then : (xs ys : List ℕ) (a b c : Option (List Move)) (l1 l2 l3 : List Line)
+      → AsksFor ports s slot xs a b l1 l2 (Ok tt) → (r : Result (Unit {0}) ServeFault)
+      → AsksFor ports s slot ys b c l2 l3 r → AsksFor ports s slot (xs ++ ys) a c l1 l3 r
+  asks_then xs ys a b c l1 l2 l3 (one, asks, handed, said) (Ok whole) (two, asks2, handed2, said2) = (
+    both one two,
+    asks_both xs ys one two asks asks2,
+    grows_by_posts a b c one.posts two.posts handed handed2,
+    notes_both l1 l2 l3 one.notices two.notices said said2,
+  )
+  asks_then xs ys a b c l1 l2 l3 (one, asks, handed, said) (Err faults.Memory) (two, asks2, count, handed2) =
+      let part = then_part_of_posts a b c one.posts two.posts handed (count, handed2) in
+      (both one two, asks_both xs ys one two asks asks2, part.0, part.1)
+  asks_then xs ys a b c l1 l2 l3 p (Err faults.Port) q = absurd q
+  asks_then xs ys a b c l1 l2 l3 p (Err faults.Cell) q = absurd q
+  asks_then xs ys a b c l1 l2 l3 p (Err faults.Output) q = absurd q
+
+  -- memory ran out among these, and so among these and those
+  pub asks_before : (xs ys : List ℕ) (a b : Option (List Move)) (l1 l2 l3 : List Line)
+      → (fault : ServeFault) → AsksFor ports s slot xs a b l1 l2 (Err fault)
+      → AsksFor ports s slot (xs ++ ys) a b l1 l3 (Err fault)
+  asks_before xs ys a b l1 l2 l3 faults.Memory (one, asks, count, handed) =
+      let two = could_ask ys in
+      let part = part_of_posts a b one.posts two.0.posts (count, handed) in
+      (both one two.0, asks_both xs ys one two.0 asks two.1, part.0, part.1)
+  asks_before xs ys a b l1 l2 l3 faults.Port p = absurd p
+  asks_before xs ys a b l1 l2 l3 faults.Cell p = absurd p
+  asks_before xs ys a b l1 l2 l3 faults.Output p = absurd p
+
+  -- ---- one of them
+
+  -- those of one that are others
+  pub not_asked : (member : ℕ) → (member == number s) ≡ true → (a : Option (List Move))
+      → (lines : List Line) → AsksFor ports s slot (others_of s (member ∷ [])) a a lines lines (Ok tt)
+  not_asked member is a lines =
+      subst (λ (b : Bool). AsksFor ports s slot (cond (not b) (member ∷ []) []) a a lines lines
+      (Ok tt)) (sym is) (asks_none a lines)
+
+  pub is_asked : (member : ℕ) → (member == number s) ≡ false → (a b : Option (List Move))
+      → (l1 l2 : List Line) (r : Result (Unit {0}) ServeFault)
+      → AsksFor ports s slot (member ∷ []) a b l1 l2 r
+      → AsksFor ports s slot (others_of s (member ∷ [])) a b l1 l2 r
+  is_asked member is a b l1 l2 r asks =
+      subst (λ (b2 : Bool). AsksFor ports s slot (cond (not b2) (member ∷ []) []) a b l1 l2 r)
+      (sym is) asks
+
+  -- memory ran out for this one, and a line says so
+  abbrev refused_one : Done
+  refused_one = record { posts = []; notices = Refused (number s) sites.Memory ∷ [] }
+
+  refuses_one : (member : ℕ) → Asks ports s slot (member ∷ []) refused_one
+  refuses_one member = (nothing, refl, inr refl)
+
+  pub isnt_asked : (member : ℕ) (a : Option (List Move)) (l1 l2 : List Line)
+      → Notes l1 l2 (Refused (number s) sites.Memory ∷ [])
+      → AsksFor ports s slot (member ∷ []) a a l1 l2 (Ok tt)
+  isnt_asked member a l1 l2 said = (refused_one, refuses_one member, grows_by_no_posts a, said)
+
+  pub isnt_asked_in_part : (member : ℕ) (a : Option (List Move)) (l1 l2 : List Line)
+      → (r : Result (Unit {0}) ServeFault) → IsErrAnd r (λ f. f ≡ faults.Memory)
+      → AsksFor ports s slot (member ∷ []) a a l1 l2 r
+  isnt_asked_in_part member a l1 l2 r failed =
+      let part = no_part a (all_handed []) in
+      subst (λ (x : Result (Unit {0}) ServeFault). AsksFor ports s slot (member ∷ []) a a l1 l2 x)
+      (sym (is_err r faults.Memory failed)) (refused_one, refuses_one member, part.0, part.1)
+
+  -- the datagram of the answer was handed out
+  module _ (device : C → Device) (start : OpenSite C) (there : s.site ≡ start)
+      (serves : IsServing s) (opened : start.book.needs_opening ≡ false) (member : ℕ)
+      (answer : Answer)
+      (answers : start.book.needs_opening ≡ false → (session : Session)
+      → StandsFor start session
+      → IsAnswered device start start session
+      (effect start session (calls.Asks slot member)) (Ok answer)) where
+    abbrev question : List ℕ
+    question = datagram_of (members s).federation (record { slot = slot; body = Ask (number s) })
+
+    answered : IsAnswered device s.site s.site s.session
+        (effect s.site s.session (calls.Asks slot member)) (Ok answer)
+    answered =
+        let there_opened : s.site.book.needs_opening ≡ false =
+        subst (λ (o : OpenSite C). o.book.needs_opening ≡ false) (sym there) opened in
+        subst (λ (o : OpenSite C). o.book.needs_opening ≡ false → (session : Session)
+        → StandsFor o session
+        → IsAnswered device o o session (effect o session (calls.Asks slot member)) (Ok answer))
+        (sym there) answers there_opened s.session (serves there_opened)
+
+    one_datagram : map handed_out answer.sends.items ≡ (member, question) ∷ []
+    unfolding on_ask to_each
+    one_datagram = answered.gives.1
+
+    abbrev asked_one : Done
+    asked_one = record { posts = flat_map (sealed_posts ports) answer.sends.items; notices = [] }
+
+    asks_one : Asks ports s slot (member ∷ []) asked_one
+    asks_one = (
+      nothing,
+      refl,
+      inl (ap (λ (l : List Post). record { posts = l; notices = [] })
+          (posts_by ports answer.sends.items
+          ∙ ap (flat_map (λ (out : ℕ × List ℕ). posts_to ports out.0 out.1)) one_datagram)),
+    )
+
+    pub asks_by : (a b : Option (List Move)) (lines : List Line)
+        → (r : Result (Unit {0}) ServeFault)
+        → Hands a b (flat_map (sealed_posts ports) answer.sends.items) r
+        → AsksFor ports s slot (member ∷ []) a b lines lines r
+    asks_by a b lines (Ok whole) handed = (asked_one, asks_one, handed, sym (append-nil lines))
+    asks_by a b lines (Err faults.Memory) (count, handed) = (asked_one, asks_one, count, handed)
+    asks_by a b lines (Err faults.Port) handed = absurd handed
+    asks_by a b lines (Err faults.Cell) handed = absurd handed
+    asks_by a b lines (Err faults.Output) handed = absurd handed
+
+-- ---- all of them
+
+-- the sites to a number begin with those to a smaller one
+pub sites_from : (n more : ℕ) → (rest : List ℕ) × (sites_to (n + more) ≡ sites_to n ++ rest)
+unfolding sites_to
+sites_from n zero = ([], rw add-zero (sym (append-nil (sites_to n))))
+sites_from n (suc more) =
+    let before = sites_from n more in (
+      before.0 ++ (n + more + 1) ∷ [],
+      rw add-suc (ap (λ (l : List ℕ). l ++ suc (n + more) ∷ []) before.1
+          ∙ (append_assoc (sites_to n) before.0 (suc (n + more) ∷ [])
+          ∙ ap (λ (m : ℕ). sites_to n ++ (before.0 ++ m ∷ [])) (sym (add-one (n + more))))),
+    )
+
+sites_next : (n : ℕ) → sites_to (n + 1) ≡ sites_to n ++ (n + 1) ∷ []
+unfolding sites_to
+sites_next n =
+    subst (λ (m : ℕ). sites_to m ≡ sites_to n ++ m ∷ []) (sym (add-one n)) refl
+
+module _ {C : Type 0} (s : Serving C) where
+  others_both : (xs ys : List ℕ) → others_of s (xs ++ ys) ≡ others_of s xs ++ others_of s ys
+  others_both xs ys = filter-append (λ (member : ℕ). not (member == number s)) xs ys
+
+  others_next : (n : ℕ) → others_of s (sites_to (n + 1))
+      ≡ others_of s (sites_to n) ++ others_of s ((n + 1) ∷ [])
+  others_next n = ap (others_of s) (sites_next n) ∙ others_both (sites_to n) ((n + 1) ∷ [])
+
+  -- the members to this number were asked, and then the next
+  module _ (ports : List ℕ) (slot : SlotName) (n member : ℕ) (is : member ≡ n + 1)
+      (a b c : Option (List Move)) (l1 l2 l3 : List Line)
+      (earlier : AsksFor ports s slot (others_of s (sites_to n)) a b l1 l2 (Ok tt)) where
+    by_place : (r : Result (Unit {0}) ServeFault)
+        → AsksFor ports s slot (others_of s (member ∷ [])) b c l2 l3 r
+        → AsksFor ports s slot (others_of s ((n + 1) ∷ [])) b c l2 l3 r
+    by_place r asks =
+        subst (λ (m : ℕ). AsksFor ports s slot (others_of s (m ∷ [])) b c l2 l3 r) is asks
+
+    pub next_asked : AsksFor ports s slot (others_of s (member ∷ [])) b c l2 l3 (Ok tt)
+        → AsksFor ports s slot (others_of s (sites_to (n + 1))) a c l1 l3 (Ok tt)
+    next_asked asks =
+        subst (λ (l : List ℕ). AsksFor ports s slot l a c l1 l3 (Ok tt)) (sym (others_next n))
+        (asks_then ports s slot (others_of s (sites_to n)) (others_of s ((n + 1) ∷ [])) a b c l1 l2
+        l3 earlier (Ok tt) (by_place (Ok tt) asks))
+
+    pub next_failed : (fault : ServeFault)
+        → AsksFor ports s slot (others_of s (member ∷ [])) b c l2 l3 (Err fault)
+        → (count : ℕ) → n < count → (r : Result (Unit {0}) ServeFault)
+        → IsErrAnd r (λ f. f ≡ fault)
+        → AsksFor ports s slot (others_of s (sites_to count)) a c l1 l3 r
+    next_failed fault asks count below r failed =
+        let more = sites_from (n + 1) (count - (n + 1)) in
+        let whole : n + 1 + (count - (n + 1)) ≡ count = omega arith in
+        let split : others_of s (sites_to (n + 1)) ++ others_of s more.0
+        ≡ others_of s (sites_to count) =
+        sym (others_both (sites_to (n + 1)) more.0)
+        ∙ ap (others_of s) (sym more.1 ∙ ap sites_to whole) in
+        subst (λ (x : Result (Unit {0}) ServeFault). AsksFor ports s slot
+        (others_of s (sites_to count)) a c l1 l3 x) (sym (is_err r fault failed))
+        (subst (λ (l : List ℕ). AsksFor ports s slot l a c l1 l3 (Err fault)) split
+        (asks_before ports s slot (others_of s (sites_to (n + 1))) (others_of s more.0) a c l1 l3 l3
+        fault (subst (λ (l : List ℕ). AsksFor ports s slot l a c l1 l3 (Err fault))
+        (sym (others_next n))
+        (asks_then ports s slot (others_of s (sites_to n)) (others_of s ((n + 1) ∷ [])) a b c l1 l2
+        l3 earlier (Err fault) (by_place (Err fault) asks)))))
+
+  pub asks_at_first : (ports : List ℕ) (slot : SlotName) (a : Option (List Move))
+      (lines : List Line) → AsksFor ports s slot (others_of s (sites_to 0)) a a lines lines (Ok tt)
+  unfolding sites_to
+  asks_at_first ports slot a lines = asks_none ports s slot a lines
+
+  -- all members are those to their count
+  pub count_is : (start : OpenSite C) (m : Membership) (count : ℕ) → s.site ≡ start
+      → m ≡ start.book.owner.members → count ≡ count_of m → count ≡ count_of (members s)
+  count_is start m count there of is =
+      is ∙ ap count_of (of ∙ ap (λ (o : OpenSite C). o.book.owner.members) (sym there))

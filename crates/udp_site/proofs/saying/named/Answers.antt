@@ -1,0 +1,7 @@
+use Rattle.std.proofs.Common.{refl}
+use Rattle.world_law.specs.Trees.{first_tree}
+use Rattle.udp_site.proofs.saying.named.Goals as goal
+
+pub returns : goal.returns
+unfolding first_tree
+returns c = refl

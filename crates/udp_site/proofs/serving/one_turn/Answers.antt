@@ -1,0 +1,156 @@
+use Rattle.std.specs.Prelude.{◌≡◌, List, true, false, take}
+use Rattle.std.specs.List.{flat_map, list_any}
+use Rattle.std.specs.Io.KnownBytes.{Appends}
+use Rattle.std.proofs.Common.{refl, ap, sym, ◌∙◌, subst}
+use Rattle.world_law.specs.declared.line.Line.{Line}
+use Rattle.lines.specs.Texts.{line_text}
+use Rattle.udp_site.specs.Traffic.{taken}
+use Rattle.udp_site.specs.Requests.{request_of}
+use Rattle.udp_site.specs.Served.{by_identity}
+use Rattle.udp_site.specs.Turns.{turn_of, members}
+use Rattle.udp_site.specs.inner.Stopping.{line_of_the_cell}
+use Rattle.udp_site.proofs.Stopped.{last_needs_opening}
+use Rattle.udp_site.proofs.TurnEnds.{returned, not_begun, broken_off, whole, cut, stopped}
+use Rattle.udp_site.proofs.serving.one_turn.Goals as goal
+
+pub returns-in_err-turn-clause-turn : goal.returns-in_err-turn-clause-turn
+returns-in_err-turn-clause-turn g c old site idle tried serving =
+    returned
+    (turn_of g.C.Cell.device c.args.ports.now (g.F.Folders.gives c.args.folders.now))
+    (record {
+      traffic = g.P.Port.traffic c.args.port.now;
+      written = g.W.Write.contents c.args.output.now;
+    })
+    (record {
+      traffic = g.P.Port.traffic c.receive.new.port;
+      written = g.W.Write.contents c.args.output.now;
+    })
+    old c.args.site.now c.args.round.now.idle c.args.round.now.tried c.from_residual.result
+    c.in_err-turn.field-0.0 c.from_residual.ensures.1
+    (not_begun
+    (turn_of g.C.Cell.device c.args.ports.now (g.F.Folders.gives c.args.folders.now))
+    (record {
+      traffic = g.P.Port.traffic c.args.port.now;
+      written = g.W.Write.contents c.args.output.now;
+    })
+    (record {
+      traffic = g.P.Port.traffic c.receive.new.port;
+      written = g.W.Write.contents c.args.output.now;
+    })
+    old c.args.site.now c.args.round.now.idle c.args.round.now.tried
+    c.in_err-turn.field-0.0 c.in_err-turn.ensures.fault site c.in_err-turn.ensures.failed refl)
+
+pub returns-in-Err-clause-turn : goal.returns-in-Err-clause-turn
+returns-in-Err-clause-turn g c old site idle tried serving =
+    broken_off
+    (turn_of g.C.Cell.device c.args.ports.now (g.F.Folders.gives c.args.folders.now))
+    (record {
+      traffic = g.P.Port.traffic c.args.port.now;
+      written = g.W.Write.contents c.args.output.now;
+    })
+    (record {
+      traffic = g.P.Port.traffic c.take_turn.new.port;
+      written = g.W.Write.contents c.args.output.now;
+    })
+    old c.take_turn.new.site c.take_turn.new.round.idle c.take_turn.new.round.tried
+    (taken c.in_ok-turn.turn) (g.P.Port.traffic c.receive.new.port) c.args.lines.now.items
+    c.take_turn.new.lines.items c.in_ok-turn.ensures.took
+    c.in-Err.field-0 (c.in-Err.ensures.comes old site idle tried serving)
+    refl
+
+pub returns-in_err-write_lines-clause-turn : goal.returns-in_err-write_lines-clause-turn
+returns-in_err-write_lines-clause-turn g c old site idle tried serving =
+    let count = c.in_err-write_lines.ensures.part.0 in
+    returned
+    (turn_of g.C.Cell.device c.args.ports.now (g.F.Folders.gives c.args.folders.now))
+    (record {
+      traffic = g.P.Port.traffic c.args.port.now;
+      written = g.W.Write.contents c.args.output.now;
+    })
+    (record {
+      traffic = g.P.Port.traffic c.take_turn.new.port;
+      written = g.W.Write.contents c.write_lines.new.output;
+    })
+    old c.take_turn.new.site c.take_turn.new.round.idle c.take_turn.new.round.tried
+    c.from_residual-in_err-write_lines.result c.in_err-write_lines.field-0.0
+    c.from_residual-in_err-write_lines.ensures.1
+    (cut
+    (turn_of g.C.Cell.device c.args.ports.now (g.F.Folders.gives c.args.folders.now))
+    (record {
+      traffic = g.P.Port.traffic c.args.port.now;
+      written = g.W.Write.contents c.args.output.now;
+    })
+    (record {
+      traffic = g.P.Port.traffic c.take_turn.new.port;
+      written = g.W.Write.contents c.write_lines.new.output;
+    })
+    old c.take_turn.new.site c.take_turn.new.round.idle c.take_turn.new.round.tried
+    (taken c.in_ok-turn.turn) (g.P.Port.traffic c.receive.new.port) c.args.lines.now.items
+    c.take_turn.new.lines.items c.in_ok-turn.ensures.took
+    c.requires.lines (c.in-Ok.ensures.comes old site idle tried serving)
+    c.in_err-write_lines.field-0.0 c.in_err-write_lines.ensures.fault count
+    (subst
+    (λ (l : List Line). Appends (g.W.Write.contents c.args.output.now)
+    (g.W.Write.contents c.write_lines.new.output) (take count (flat_map (line_text by_identity) l)))
+    c.deref.ensures.value c.in_err-write_lines.ensures.part.1))
+
+pub returns-then-is_refused-clause-turn : goal.returns-then-is_refused-clause-turn
+returns-then-is_refused-clause-turn g c old site idle tried serving =
+    stopped
+    (turn_of g.C.Cell.device c.args.ports.now (g.F.Folders.gives c.args.folders.now))
+    (record {
+      traffic = g.P.Port.traffic c.args.port.now;
+      written = g.W.Write.contents c.args.output.now;
+    })
+    (record {
+      traffic = g.P.Port.traffic c.take_turn.new.port;
+      written = g.W.Write.contents c.write_lines.new.output;
+    })
+    old c.take_turn.new.site c.take_turn.new.round.idle c.take_turn.new.round.tried
+    (whole
+    (turn_of g.C.Cell.device c.args.ports.now (g.F.Folders.gives c.args.folders.now))
+    (record {
+      traffic = g.P.Port.traffic c.args.port.now;
+      written = g.W.Write.contents c.args.output.now;
+    })
+    (record {
+      traffic = g.P.Port.traffic c.take_turn.new.port;
+      written = g.W.Write.contents c.write_lines.new.output;
+    })
+    old c.take_turn.new.site c.take_turn.new.round.idle c.take_turn.new.round.tried
+    (taken c.in_ok-turn.turn) (g.P.Port.traffic c.receive.new.port) c.args.lines.now.items
+    c.take_turn.new.lines.items c.in_ok-turn.ensures.took
+    c.requires.lines (c.in-Ok.ensures.comes old site idle tried serving) true
+    (sym c.if-is_refused.true ∙ c.is_refused.ensures
+    ∙ ap (list_any line_of_the_cell) c.deref-2.ensures.value)
+    (subst
+    (λ (l : List Line). Appends (g.W.Write.contents c.args.output.now)
+    (g.W.Write.contents c.write_lines.new.output) (flat_map (line_text by_identity) l))
+    c.deref.ensures.value c.in_ok-write_lines.ensures.whole))
+    (λ turn next comes stops.
+    last_needs_opening g.C.Cell.device c.args.ports.now next turn.done stops
+    (g.F.Folders.gives c.args.folders.now) old (request_of (members old).federation turn.took)
+    comes)
+
+pub returns-clause-turn : goal.returns-clause-turn
+returns-clause-turn g c old site idle tried serving =
+    whole
+    (turn_of g.C.Cell.device c.args.ports.now (g.F.Folders.gives c.args.folders.now))
+    (record {
+      traffic = g.P.Port.traffic c.args.port.now;
+      written = g.W.Write.contents c.args.output.now;
+    })
+    (record {
+      traffic = g.P.Port.traffic c.take_turn.new.port;
+      written = g.W.Write.contents c.write_lines.new.output;
+    })
+    old c.take_turn.new.site c.take_turn.new.round.idle c.take_turn.new.round.tried
+    (taken c.in_ok-turn.turn) (g.P.Port.traffic c.receive.new.port) c.args.lines.now.items
+    c.take_turn.new.lines.items c.in_ok-turn.ensures.took
+    c.requires.lines (c.in-Ok.ensures.comes old site idle tried serving) false
+    (sym c.if-is_refused.false ∙ c.is_refused.ensures
+    ∙ ap (list_any line_of_the_cell) c.deref-2.ensures.value)
+    (subst
+    (λ (l : List Line). Appends (g.W.Write.contents c.args.output.now)
+    (g.W.Write.contents c.write_lines.new.output) (flat_map (line_text by_identity) l))
+    c.deref.ensures.value c.in_ok-write_lines.ensures.whole)

@@ -1,0 +1,116 @@
+-- What a site has done that served so many turns, or was stopped by a fault.
+use Rattle.std.specs.Prelude.{◌≡◌, ◌⊎◌, ◌<◌, ◌||◌, ℕ, Bool, true, false, List, [], ◌∷◌, ◌++◌}
+use Rattle.std.specs.Prelude.{length, map, take, Option, Some, None, Result, Ok, Err}
+use Rattle.std.specs.List.{flat_map}
+use Rattle.std.specs.Io.KnownBytes.{Appends}
+use Rattle.cell_device.specs.Devices.{Device}
+use Rattle.bag_tree.specs.declared.fault.TreeFault.{TreeFault}
+use Rattle.bag_tree.specs.Facts.{TreeFacts}
+use Rattle.site.specs.declared.fault.SiteFault.{SiteFault}
+use Rattle.site.specs.declared.fault.SiteFault.TheVariants as sites
+use Rattle.world_law.specs.Networks.{Notice, Refused}
+use Rattle.world_law.specs.Worlds.{line_of}
+use Rattle.lines.specs.declared.print_line.Options.{Options}
+use Rattle.lines.specs.Texts.{line_text}
+use Rattle.udp_site.specs.declared.fault.ServeFault.{ServeFault}
+use Rattle.udp_site.specs.declared.fault.ServeFault.TheVariants as faults
+use Rattle.udp_site.specs.Traffic.{Taken, Move, Took, Grows, all_handed}
+use Rattle.udp_site.specs.Turns.{Serving, Coming, Done, IsServing, turn_of}
+
+-- ---- the text
+
+-- lines name bags by their identities
+abbrev pub by_identity : Options
+by_identity = record { sent = false; identities = true }
+
+abbrev pub notice_text : Notice → List ℕ
+notice_text notice = line_text by_identity (line_of [] notice)
+
+-- ---- one turn after another
+
+-- what one turn took, and what was done then
+pub record Turned : Type 0 where
+  pub took : Taken
+  pub done : Done
+
+abbrev pub moves_of : Turned → List Move
+moves_of turn = Took turn.took ∷ all_handed turn.done.posts
+
+abbrev pub text_of : Turned → List ℕ
+text_of turn = flat_map notice_text turn.done.notices
+
+-- a call was refused since the site's device failed, now or before
+abbrev pub is_of_the_cell : Notice → Bool
+is_of_the_cell (Refused site sites.Device) = true
+is_of_the_cell (Refused site sites.NeedsOpen) = true
+is_of_the_cell notice = false
+
+abbrev pub or_one : List Notice → Bool
+or_one [] = false
+or_one (notice ∷ notices) = is_of_the_cell notice || or_one notices
+
+-- the site can't go on after this turn
+abbrev pub is_the_last : Turned → Bool
+is_the_last turn = or_one turn.done.notices
+
+-- what may come of a turn that took this
+abbrev pub Rule : Type 0 → Type 1
+Rule C = Serving C → Taken → Coming C
+
+module _ {C : Type 0} (rule : Rule C) where
+  -- these turns lead from one to the other, and after none of them is the site stopped by its cell
+  abbrev pub Leads : Serving C → List Turned → Serving C → Type 0
+  Leads start [] end = start ≡ end
+  Leads start (turn ∷ turns) end =
+      (next : Serving C) × rule start turn.took turn.done next
+      × (is_the_last turn ≡ false) × Leads next turns end
+
+-- what is outside: the traffic of the port, and what was written
+pub record Outside : Type 0 where
+  pub traffic : Option (List Move)
+  pub written : Option (List ℕ)
+
+-- all moves of these turns were made, and all their text was written; and then these
+abbrev pub Shows : (before after : Outside) → List Turned → List Move → List ℕ → Type 0
+Shows before after turns moves text =
+    Grows before.traffic after.traffic (flat_map moves_of turns ++ moves)
+    × Appends before.written after.written (flat_map text_of turns ++ text)
+
+-- what was outside as the call began, and is when it ends
+module _ {C : Type 0} (rule : Rule C) (before after : Outside) where
+  -- whole turns, and nothing more
+  abbrev pub EndsBetween : (start end : Serving C) → List Turned → Type 0
+  EndsBetween start end turns = Leads rule start turns end × Shows before after turns [] []
+
+  -- whole turns, and then a turn that was broken off: of its moves and of its text there is a part
+  abbrev pub EndsWithin : (start end : Serving C) → List Turned → Type 0
+  EndsWithin start end turns =
+      (mid : Serving C) × Leads rule start turns mid
+      × (turn : Turned) × rule mid turn.took turn.done end
+      × (moves : ℕ) × (text : ℕ)
+      × Shows before after turns (take moves (moves_of turn)) (take text (text_of turn))
+
+  -- whole turns, and then a whole turn in which the site's cell failed it
+  abbrev pub EndsByTheCell : (start end : Serving C) → List Turned → Type 0
+  EndsByTheCell start end turns =
+      (mid : Serving C) × Leads rule start turns mid
+      × (turn : Turned) × rule mid turn.took turn.done end × (is_the_last turn ≡ true)
+      × Shows before after turns (moves_of turn) (text_of turn)
+
+  -- Ok: so many turns, all whole. Port: fewer turns, all whole. Cell: the site needs opening, and
+  -- that is why the last turn was the last. Memory, Output: the last turn was broken off, or none
+  -- was begun.
+  abbrev pub Serves :
+      (start end : Serving C) → (wanted : ℕ) → (turns : List Turned)
+      → Result (Unit {0}) ServeFault → Type 0
+  Serves start end wanted turns (Ok served) =
+      (length turns ≡ wanted) × EndsBetween start end turns
+  Serves start end wanted turns (Err faults.Port) =
+      (length turns < wanted) × EndsBetween start end turns
+  Serves start end wanted turns (Err faults.Cell) =
+      (length turns < wanted) × EndsByTheCell start end turns
+      × (end.site.book.needs_opening ≡ true)
+  Serves start end wanted turns (Err faults.Memory) =
+      (length turns < wanted) × (EndsBetween start end turns ⊎ EndsWithin start end turns)
+  Serves start end wanted turns (Err faults.Output) =
+      (length turns < wanted) × EndsWithin start end turns

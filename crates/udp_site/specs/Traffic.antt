@@ -1,0 +1,40 @@
+-- What a port receives, and what is handed to it.
+use Rattle.std.specs.Prelude.{◌≡◌, ⊤, ℕ, List, [], ◌∷◌, ◌++◌, map, Option, Some, None, Result, Ok, Err}
+use Rattle.udp_site.specs.declared.port_fault.PortFault.{PortFault}
+use Rattle.udp_site.specs.declared.port_fault.PortFault.TheVariants as faults
+use Rattle.udp_site.specs.declared.turn.Turn.{Turn}
+use Rattle.udp_site.specs.declared.turn.Turn.TheVariants as turns
+
+-- a datagram for a port: the port's number, and the bytes
+abbrev pub Post : Type 0
+Post = ℕ × List ℕ
+
+-- what one turn of waiting brings: nothing, or a datagram from a port
+pub data Taken : Type 0 where
+  Nothing : Taken
+  From : (port : ℕ) → List ℕ → Taken
+
+abbrev pub taken : Turn → Taken
+taken turns.Idle = Nothing
+taken (turns.Got port bytes) = From port bytes.items
+
+-- a port took this in, or this was handed to it
+pub data Move : Type 0 where
+  Took : Taken → Move
+  Handed : Post → Move
+
+-- traffic, where it is known, grows by these moves
+abbrev pub Grows : Option (List Move) → Option (List Move) → List Move → Type 0
+Grows None new moves = ⊤
+Grows (Some before) new moves = new ≡ Some (before ++ moves)
+
+-- these datagrams are handed out, in order
+unfoldable pub all_handed : List Post → List Move
+all_handed posts = map Handed posts
+
+-- a datagram is handed to a port, which refuses none but for want of memory: one that its device
+-- loses was handed out
+abbrev pub IsHanded :
+    Option (List Move) → Option (List Move) → Post → Result (Unit {0}) PortFault → Type 0
+IsHanded old new post (Err faults.Memory) = Grows old new []
+IsHanded old new post result = Grows old new (Handed post ∷ [])

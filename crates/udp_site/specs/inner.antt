@@ -1,0 +1,6 @@
+pub mod Coming
+pub mod OneTurn
+pub mod Asked
+pub mod Waiting
+pub mod Stopping
+pub mod Asking

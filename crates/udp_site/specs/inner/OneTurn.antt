@@ -1,0 +1,43 @@
+-- What one turn comes to, in the code's variables.
+use Rattle.std.specs.Prelude.{◌≡◌, ◌⊎◌, ℕ, Bool, true, false, List, [], take, Option, Result, Ok, Err}
+use Rattle.std.specs.Io.KnownBytes.{Appends}
+use Rattle.site.specs.Sites.{OpenSite}
+use Rattle.udp_site.specs.declared.fault.ServeFault.{ServeFault}
+use Rattle.udp_site.specs.declared.fault.ServeFault.TheVariants as faults
+use Rattle.udp_site.specs.Traffic.{Move, Grows}
+use Rattle.udp_site.specs.Turns.{Serving, IsServing}
+use Rattle.udp_site.specs.Served.{Rule, Outside, Turned, moves_of, text_of, is_the_last}
+
+-- these moves were made, and this was written
+abbrev pub Adds : (before after : Outside) → List Move → List ℕ → Type 0
+Adds before after moves text =
+    Grows before.traffic after.traffic moves × Appends before.written after.written text
+
+module _ {C : Type 0} (rule : Rule C) (before after : Outside) (old : Serving C)
+    (site : OpenSite C) where
+  -- a whole turn, after which the site can go on, or can't
+  abbrev pub Whole : (idle tried : ℕ) → (last : Bool) → Type 0
+  Whole idle tried last =
+      (turn : Turned) × (next : Serving C) × rule old turn.took turn.done next
+      × (next.site ≡ site) × (next.idle ≡ idle) × (next.tried ≡ tried) × IsServing next
+      × (is_the_last turn ≡ last) × Adds before after (moves_of turn) (text_of turn)
+
+  -- a turn that was broken off
+  abbrev pub Part : Type 0
+  Part =
+      (turn : Turned) × (next : Serving C) × rule old turn.took turn.done next
+      × (next.site ≡ site)
+      × (moves : ℕ) × (text : ℕ)
+      × Adds before after (take moves (moves_of turn)) (take text (text_of turn))
+
+  -- no turn was begun
+  abbrev pub None : Type 0
+  None = (old.site ≡ site) × Adds before after [] []
+
+  abbrev pub OneTurn : (idle tried : ℕ) → Result (Unit {0}) ServeFault → Type 0
+  OneTurn idle tried (Ok whole) = Whole idle tried false
+  OneTurn idle tried (Err faults.Port) = None
+  OneTurn idle tried (Err faults.Cell) =
+      Whole idle tried true × (site.book.needs_opening ≡ true)
+  OneTurn idle tried (Err faults.Memory) = None ⊎ Part
+  OneTurn idle tried (Err faults.Output) = Part

@@ -1,0 +1,133 @@
+//! Turns in which nothing came.
+
+ghost use Rattle.std.specs.Prelude.{◌≡◌, ◌+◌, ◌-◌, ◌<◌, ◌≤◌, is_some, IfSome};
+ghost use Rattle.std.specs.List.{find, list_any, range_with_len};
+ghost use Rattle.records.specs.Words.{known_of};
+ghost use Rattle.udp_site.specs.Rounds.{waits, next_waiting};
+ghost use Rattle.udp_site.specs.Turns.{Serving, IsServing, idles, proposing};
+ghost use Rattle.udp_site.specs.inner.Coming.{ComesTo, at};
+ghost use Rattle.udp_site.specs.inner.Waiting.{says_known};
+
+use crate::fault::ServeFault;
+use crate::handing::hand_answer;
+use crate::port::Port;
+use crate::saying::say_proposal;
+use cell_device::Cell;
+use fed_types::Slot;
+use records::{Entry, Record};
+use site::{Reply, Site};
+use std::alloc::Global;
+use world_law::Line;
+
+/// Where an idle site is in the round of its deposits.
+#[derive(Drop)]
+pub(crate) struct Round {
+    /// How many turns were idle.
+    pub(crate) idle: u32,
+    /// The place, among the deposits, after that which was tried last.
+    pub(crate) tried: usize,
+}
+
+/// Nothing came: where the count of such turns is a multiple of the site's number, it proposes the
+/// next of its deposits without a known bag.
+pub(crate) fn idle<C: Cell, P: Port>(
+    alloc: Global,
+    site: &mut Site<C>,
+    port: &mut P,
+    ports: &[u16],
+    round: &mut Round,
+    lines: &mut Vec<Line>,
+) -> Result<(), ServeFault>
+    requires { round.old.idle < 4294967295 }
+    ensures comes { (old : Serving C) → old.site ≡ site.old → old.idle ≡ round.old.idle
+        → old.tried ≡ round.old.tried → IsServing old
+        → ComesTo (at round.new.idle round.new.tried (idles C.device ports.now old))
+        (P.traffic port.old) (P.traffic port.new) lines.old.items lines.new.items site.new result }
+    ensures count { round.new.idle ≤ round.old.idle + 1 }
+    ensures later { P.failures port.old ≤ P.failures port.new }
+{
+    round.idle += 1;
+    if round.idle % u32::from(site.number().number()) != 0 {
+        return Ok(());
+    }
+    let Some(place) = next_waiting(site, round.tried) else {
+        return Ok(());
+    };
+    let Some(slot) = site.deposited(place) else {
+        return Ok(());
+    };
+    round.tried = place + 1;
+    let slot = slot.copy(alloc)?;
+    propose(site, port, ports, lines, &slot)
+}
+
+// Proposes the slot's deposit.
+fn propose<C: Cell, P: Port>(
+    site: &mut Site<C>,
+    port: &mut P,
+    ports: &[u16],
+    lines: &mut Vec<Line>,
+    slot: &Slot,
+) -> Result<(), ServeFault>
+    ensures comes { (old : Serving C) → old.site ≡ site.old → IsServing old
+        → ComesTo (proposing C.device ports.now old slot.now) (P.traffic port.old)
+        (P.traffic port.new) lines.old.items lines.new.items site.new result }
+    ensures later { P.failures port.old ≤ P.failures port.new }
+{
+    let number = site.number().number();
+    let answer = site.propose(slot);
+    hand_answer(port, ports, &answer)?;
+    say_proposal(lines, number, answer)?;
+    Ok(())
+}
+
+// The first deposit without a known bag, from this place on, and then from the first one on.
+fn next_waiting<C: Cell>(site: &Site<C>, from: usize) -> Option<usize>
+    ensures next { result ≡ next_waiting site.now.book.records from }
+    ensures within { IfSome result (λ place. place < 18446744073709551615) }
+{
+    match first_waiting(site, from, site.records().len()) {
+        Some(place) => Some(place),
+        None => first_waiting(site, 0, from),
+    }
+}
+
+// The first of the places from one to before another whose deposit has no known bag.
+fn first_waiting<C: Cell>(site: &Site<C>, from: usize, to: usize) -> Option<usize>
+    ensures { result ≡ find (waits site.now.book.records) (range_with_len from (to - from)) }
+{
+    (from..to).find(|place| waits(site, *place))
+}
+
+fn waits<C: Cell>(site: &Site<C>, place: usize) -> bool
+    ensures { result ≡ waits site.now.book.records place }
+{
+    match site.deposited(place) {
+        Some(slot) => !is_known(site, slot),
+        None => false,
+    }
+}
+
+fn is_known<C: Cell>(site: &Site<C>, slot: &Slot) -> bool
+    ensures { result ≡ is_some (known_of slot.now site.now.book.records) }
+{
+    match site.query(slot) {
+        Ok(Reply::Known(_)) => true,
+        Ok(Reply::Pending(_)) => false,
+        Ok(Reply::Nothing) => false,
+        Err(_) => is_known_in(site.records(), slot),
+    }
+}
+
+// Whether one of these records says that a bag is known for the slot.
+fn is_known_in(records: &[Record], slot: &Slot) -> bool
+    ensures { result ≡ list_any (says_known slot.now) records.now }
+{
+    records.iter().any(|kept| says_known(kept, slot))
+}
+
+fn says_known(kept: &Record, slot: &Slot) -> bool
+    ensures { result ≡ says_known slot.now kept.now }
+{
+    kept.slot == *slot && matches!(kept.body, Entry::Known(_))
+}

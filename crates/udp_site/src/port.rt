@@ -1,0 +1,29 @@
+ghost use Rattle.std.specs.Prelude.{ℕ, ◌≡◌, List, [], ◌∷◌, Option, None, IfOk, OnErr};
+ghost use Rattle.cell_device.specs.Calls.{HasCause};
+ghost use Rattle.udp_site.specs.Traffic.{Move, Took, Grows, taken, IsHanded};
+ghost use Rattle.udp_site.specs.declared.port_fault.PortFault.TheVariants as faults;
+
+use crate::port_fault::PortFault;
+use crate::turn::Turn;
+
+/// Where datagrams come in and are handed out.
+pub trait Port {
+    // All that it took in and was handed, in order, where that is known.
+    ghost traffic: { Self → Option (List Move) } = { λ _. None };
+
+    // How often its device has failed.
+    ghost failures: { Self → ℕ };
+
+    /// Waits for a datagram, for as long as the port waits in one turn.
+    fn receive(&mut self) -> Result<Turn, PortFault>
+        ensures took { IfOk result (λ turn. Grows (traffic self.old) (traffic self.new)
+            (Took (taken turn) ∷ [])) }
+        ensures failed { OnErr result (Grows (traffic self.old) (traffic self.new) []) }
+        ensures cause { HasCause faults.Device (failures self.old) (failures self.new) result };
+
+    /// Hands out a datagram for a port. With `Device` it is lost, and yet handed out; with
+    /// `Memory` it isn't.
+    fn send(&mut self, to: u16, bytes: &[u8]) -> Result<(), PortFault>
+        ensures handed { IsHanded (traffic self.old) (traffic self.new) (to, bytes.now) result }
+        ensures cause { HasCause faults.Device (failures self.old) (failures self.new) result };
+}
