@@ -5,4 +5,6 @@ pub mod Rounds
 pub mod Turns
 pub mod Served
 pub mod Faults
+pub mod MemoryPorts
+pub mod UdpPorts
 pub mod inner

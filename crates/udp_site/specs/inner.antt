@@ -1,3 +1,4 @@
 pub mod Coming
 pub mod OneTurn
 pub mod Asked
+pub mod Arrivals
