@@ -30,10 +30,12 @@ pub use fault::ParseFault;
 pub use file_path::FilePath;
 pub use hex_bytes::HexBytes;
 pub use law::{commands_law, numbers_law, round_trip_law, schedules_law, texts_law, words_law};
+pub use line::{first_line, split_words};
 pub use parse_schedule::parse;
 pub use plan::Schedule;
 pub use print_schedule::print;
 pub use tree_no::TreeNo;
+pub use value::parse_number;
 pub use word::push_escaped;
 
 #[cfg(test)]

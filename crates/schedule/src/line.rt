@@ -7,7 +7,7 @@ use std::alloc::{AllocError, Global};
 
 /// The first line of a text without its end, and the text after it, or `None` where no line is
 /// left. A line ends at LF, or at the end of the text.
-pub(crate) fn first_line(text: &[u8]) -> Option<(&[u8], &[u8])>
+pub fn first_line(text: &[u8]) -> Option<(&[u8], &[u8])>
     ensures value { MatchOption result (lines text.now ≡ [])
         (λ x. lines text.now ≡ x.0.now ∷ lines x.1.now) }
     ensures shorter { IfSome result (λ x. length x.1.now < length text.now) }
@@ -39,7 +39,7 @@ fn without_carriage_return(line: &[u8]) -> &[u8]
 }
 
 /// The words of a line, none of them empty.
-pub(crate) fn split_words(alloc: Global, line: &[u8]) -> Result<Vec<&[u8]>, AllocError>
+pub fn split_words(alloc: Global, line: &[u8]) -> Result<Vec<&[u8]>, AllocError>
     ensures value { IfOk result (λ words. map (λ word. word.now) words.items ≡ words_of line.now) }
     ensures not_empty { IfOk result (λ words. All (λ word. 0 < length word.now) words.items) }
 {

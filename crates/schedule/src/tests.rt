@@ -349,6 +349,23 @@ fn escapes(rt: HostRuntime) -> Result<(), Fail> {
 }
 
 #[test]
+fn reads_lines_words_and_numbers(rt: HostRuntime) -> Result<(), Fail> {
+    assert_eq!(rt;
+        first_line(b"a \r\n\nb"),
+        Some((b"a ".as_slice(), b"\nb".as_slice()))
+    );
+    assert_eq!(rt; first_line(b"").is_none(), true);
+    let words = split_words(rt.alloc(), b"  a   bc ")?;
+    assert_eq!(rt;
+        words.as_slice(),
+        [b"a".as_slice(), b"bc".as_slice()].as_slice()
+    );
+    let numbers = (parse_number(1, 15, b"015"), parse_number(1, 15, b"16"));
+    assert_eq!(rt; numbers, (Some(15), None));
+    Ok(())
+}
+
+#[test]
 fn faults_are_numbered_and_printed(rt: HostRuntime) -> Result<(), Fail> {
     let numbers = (ParseFault::Line(7).number(), ParseFault::Memory.number());
     assert_eq!(rt; numbers, (1, 2));

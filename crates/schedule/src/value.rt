@@ -13,7 +13,7 @@ use percent_encoding::percent_decode;
 use std::alloc::{AllocError, Global};
 
 /// The number of a word of one or more digits, if it is from `low` to `high`.
-pub(crate) fn parse_number(low: u64, high: u64, word: &[u8]) -> Option<u64>
+pub fn parse_number(low: u64, high: u64, word: &[u8]) -> Option<u64>
     ensures value { result ≡ number_in low high word.now }
     ensures in_range { IfSome result (λ n. (low ≤ n) × (n ≤ high)) }
 {

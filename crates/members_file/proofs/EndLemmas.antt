@@ -1,0 +1,118 @@
+-- Where the lines of the sites end, and which lines a text has.
+use Rattle.std.proofs.Common.{◌≡◌, ℕ, ◌&&◌, Bool, true, false, eqb, List, [], ◌∷◌, ◌++◌}
+use Rattle.std.proofs.Common.{length, None, refl, sym, ap, ◌∙◌, subst, arith}
+use Rattle.std.proofs.Common.{append_assoc}
+use Rattle.std.specs.Str.Lines.{lines}
+use Rattle.std.proofs.lemmas.Bool.{eqb-true}
+use Rattle.schedule.specs.Words.{words_of}
+use Rattle.members_file.specs.Files.{AreDistinct, AreSites}
+use Rattle.members_file.specs.Files.{are_blank}
+use Rattle.members_file.specs.Lines.{site_in}
+use Rattle.members_file.specs.inner.Sites.{HasSites, next_port}
+use Rattle.members_file.proofs.DistinctLemmas.{AreDistinct-front}
+use Rattle.members_file.proofs.SiteLemmas.{AreSites-no_more}
+use Rattle.members_file.proofs.SiteLemmas.{AreSitesFrom-same, Parts-from}
+
+-- a list that is parted twice
+data Parted (a b x y : List (List ℕ)) : Type 0 where
+  same : a ≡ x → b ≡ y → Parted a b x y
+  shorter : (line : List ℕ) (between : List (List ℕ)) → x ≡ a ++ line ∷ between
+      → b ≡ line ∷ (between ++ y) → Parted a b x y
+  longer : (line : List ℕ) (between : List (List ℕ)) → a ≡ x ++ line ∷ between
+      → y ≡ line ∷ (between ++ b) → Parted a b x y
+
+parted : (a b x y : List (List ℕ)) → a ++ b ≡ x ++ y → Parted a b x y
+parted [] b [] y is = same refl is
+parted [] b (line ∷ x) y is = shorter line x refl is
+parted (line ∷ a) b [] y is = longer line a refl (sym is)
+parted (l ∷ a) b (m ∷ x) y is =
+    let head : l ≡ m = cc in
+    let tail : a ++ b ≡ x ++ y = cc in
+    go head (parted a b x y tail)
+  where
+    go : l ≡ m → Parted a b x y → Parted (l ∷ a) b (m ∷ x) y
+    go head (same front back) =
+        same (ap (λ (ls : List (List ℕ)). l ∷ ls) front ∙ ap (λ (n : List ℕ). n ∷ x) head) back
+    go head (shorter line between front back) =
+        shorter line between
+        (ap (λ (n : List ℕ). n ∷ x) (sym head) ∙ ap (λ (ls : List (List ℕ)). l ∷ ls) front) back
+    go head (longer line between front back) =
+        longer line between
+        (ap (λ (ls : List (List ℕ)). l ∷ ls) front
+        ∙ ap (λ (n : List ℕ). n ∷ (x ++ line ∷ between)) head) back
+
+-- the sites of the first lines, and of one line more
+one_line_more : (front back : List (List ℕ)) (line : List ℕ) (ports : List ℕ)
+    → AreSites (front ++ line ∷ back) ports
+    → (more : List ℕ) × AreSites (front ++ line ∷ []) more
+one_line_more front back line ports are =
+    let all = subst (λ (ls : List (List ℕ)). AreSites ls ports)
+    (sym (append_assoc front (line ∷ []) back)) are in
+    let parts = Parts-from 1 (front ++ line ∷ []) back ports all.0 in (
+      parts.first,
+      (
+        parts.are_first,
+        AreDistinct-front parts.first parts.later (subst AreDistinct parts.is all.1),
+      ),
+    )
+
+-- what two ways of reading the sites have in common
+pub record Agree (a b : List (List ℕ)) (p q : List ℕ) (r u : List (List ℕ)) : Type 0 where
+  pub sites : a ≡ b
+  pub ports : p ≡ q
+  pub rest : r ≡ u
+
+-- the sites' lines end in one place
+pub HasSites-agree : (all : List (List ℕ)) (p q : List ℕ) (r u : List (List ℕ))
+    → (s : HasSites all p r) → (t : HasSites all q u) → Agree s.sites t.sites p q r u
+HasSites-agree all p q r u s t = go (parted s.sites r t.sites u (sym s.is ∙ t.is))
+  where
+    go : Parted s.sites r t.sites u → Agree s.sites t.sites p q r u
+    go (same sites rest) = record {
+      sites = sites;
+      ports = AreSitesFrom-same 1 t.sites p q
+          (subst (λ (ls : List (List ℕ)). AreSites ls p) sites s.ports).0 t.ports.0;
+      rest = rest;
+    }
+    go (shorter line between sites rest) =
+        let more = one_line_more s.sites between line q
+        (subst (λ (ls : List (List ℕ)). AreSites ls q) sites t.ports) in
+        absurd (s.no_more line (between ++ u) more.0 rest more.1)
+    go (longer line between sites rest) =
+        let more = one_line_more t.sites between line p
+        (subst (λ (ls : List (List ℕ)). AreSites ls p) sites s.ports) in
+        absurd (t.no_more line (between ++ r) more.0 rest more.1)
+
+-- a line without words is of no site
+no_words : (words : List (List ℕ)) → length words ≡ 0 → (ports : List ℕ)
+    → next_port ports words ≡ None
+unfolding next_port site_in
+no_words [] is ports = refl
+no_words (word ∷ words) is ports = absurd (omega arith)
+
+pub blank_ends : (sites rest : List (List ℕ)) (ports : List ℕ) → AreSites sites ports
+    → are_blank rest ≡ true → (line : List ℕ) (later : List (List ℕ)) (more : List ℕ)
+    → rest ≡ line ∷ later → ¬ AreSites (sites ++ line ∷ []) more
+blank_ends sites rest ports are blank line later more is =
+    let whole : are_blank (line ∷ later) ≡ true =
+    subst (λ (ls : List (List ℕ)). are_blank ls ≡ true) is blank in
+    let none = and_first (eqb (length (words_of line)) 0) (are_blank later) whole in
+    AreSites-no_more sites ports line more are
+    (no_words (words_of line) (eqb-true (length (words_of line)) 0 none) ports)
+  where
+    and_first : (first rest : Bool) → (first && rest) ≡ true → first ≡ true
+    and_first true rest both = refl
+    and_first false rest both = absurd (cc both)
+
+-- ---- the lines of a text
+
+-- the first line, and the lines after it, are those of the text
+pub record SameLines (a b : List ℕ) (later others : List (List ℕ)) : Type 0 where
+  pub first : a ≡ b
+  pub rest : later ≡ others
+
+pub same_lines : (text a b : List ℕ) (later others : List (List ℕ)) → lines text ≡ a ∷ later
+    → lines text ≡ b ∷ others → SameLines a b later others
+same_lines text a b later others is also =
+    let both : a ∷ later ≡ b ∷ others = sym is ∙ also in
+    record { first = cc both; rest = cc both }

@@ -1,0 +1,95 @@
+use Rattle.std.proofs.Common.{◌≡◌, ℕ, false, List, [], ◌∷◌, length, map, Some, None, Bor, refl, sym}
+use Rattle.std.proofs.Common.{ap, ◌∙◌, subst, inl, inr, arith}
+use Rattle.std.specs.Str.Lines.{lines}
+use Rattle.std.proofs.lemmas.Bool.{cases_lt, false≢true}
+use Rattle.std.proofs.lemmas.Result.{err_from_is_err_and}
+use Rattle.schedule.specs.Words.{words_of}
+use Rattle.members_file.specs.declared.members_fault.MembersFault.TheVariants.{Line}
+use Rattle.members_file.specs.Files.{HasFault, are_blank}
+use Rattle.members_file.specs.Lines.{federation_in}
+use Rattle.members_file.proofs.ReadLemmas.{fault_from_ok_or, fault_of_none, fault_of_first}
+use Rattle.members_file.proofs.ReadLemmas.{fault_after, HasSites-most, ArePorts-read}
+use Rattle.members_file.proofs.read.read_members.Goals as goal
+
+pub returns-in_err-first : goal.returns-in_err-first
+returns-in_err-first c =
+    let f =
+    fault_from_ok_or c.first_line.result (Line 1) c.in_err-first.field-0.0
+    c.in_err-first.ensures.value in
+    let p = err_from_is_err_and c.from_residual.result c.from_residual.ensures.1 in
+    let none : lines c.args.text.now ≡ [] = rw f.0 at c.first_line.ensures.value in
+    rw (p.1, p.2, f.1) (fault_of_none c.args.text.now none)
+
+pub returns-in_err-federation : goal.returns-in_err-federation
+returns-in_err-federation c =
+    let f =
+    fault_from_ok_or c.parse_federation.result (Line 1) c.in_err-federation.field-0.0
+    c.in_err-federation.ensures.value in
+    let p =
+    err_from_is_err_and c.from_residual-in_err-federation.result
+    c.from_residual-in_err-federation.ensures.1 in
+    let is : lines c.args.text.now ≡ c.in_ok-first.first.now ∷ lines c.in_ok-first.after.now =
+    rw c.in_ok-first.ensures.ok_part at c.first_line.ensures.value in
+    let words : map (λ (word : Bor (List ℕ)). word.now) c.deref.result.now
+    ≡ words_of c.in_ok-first.first.now = rw c.deref.ensures.value c.in_ok-words.ensures.value in
+    let none : federation_in (words_of c.in_ok-first.first.now) ≡ None =
+    sym (ap federation_in words) ∙ sym c.parse_federation.ensures ∙ f.0 in
+    rw (p.1, p.2, f.1)
+    (fault_of_first c.args.text.now c.in_ok-first.first.now (lines c.in_ok-first.after.now) is none)
+
+pub overflow_cast-len : goal.overflow_cast-len
+overflow_cast-len c =
+    let most =
+    HasSites-most (lines c.in_ok-first.after.now) c.in_ok-ports.ports.items
+    (lines c.in_ok-ports.rest.now) c.in_ok-ports.ensures in
+    omega (arith, c.len.ensures, most)
+
+pub returns-in_default : goal.returns-in_default
+returns-in_default c =
+    let is : lines c.args.text.now ≡ c.in_ok-first.first.now ∷ lines c.in_ok-first.after.now =
+    rw c.in_ok-first.ensures.ok_part at c.first_line.ensures.value in
+    let words : map (λ (word : Bor (List ℕ)). word.now) c.deref.result.now
+    ≡ words_of c.in_ok-first.first.now = rw c.deref.ensures.value c.in_ok-words.ensures.value in
+    let says : federation_in (words_of c.in_ok-first.first.now)
+    ≡ Some c.in_ok-federation.federation =
+    sym (ap federation_in words) ∙ sym c.parse_federation.ensures
+    ∙ c.in_ok-federation.ensures.ok_part in
+    let ports = c.in_ok-ports.ports.items in
+    let most =
+    HasSites-most (lines c.in_ok-first.after.now) ports (lines c.in_ok-ports.rest.now)
+    c.in_ok-ports.ensures in
+    let none : length ports ≡ 0 =
+    elim (cases_lt 0 (length ports)) [
+      | inl some ↦ absurd
+          (false≢true (c.in_default.ensures.ok.1
+          (omega (arith, c.len.ensures), omega (arith, c.len.ensures, most))))
+      | inr zero ↦ omega arith
+    ] in
+    subst (λ (n : ℕ). HasFault c.args.text.now n) (omega (arith, none))
+    (fault_after c.args.text.now c.in_ok-first.first.now (lines c.in_ok-first.after.now)
+    (lines c.in_ok-ports.rest.now) c.in_ok-federation.federation ports is says
+    c.in_ok-ports.ensures (λ ends. omega (arith, none, ends.0)))
+
+pub returns-then-not-branch : goal.returns-then-not-branch
+returns-then-not-branch c =
+    let is : lines c.args.text.now ≡ c.in_ok-first.first.now ∷ lines c.in_ok-first.after.now =
+    rw c.in_ok-first.ensures.ok_part at c.first_line.ensures.value in
+    let words : map (λ (word : Bor (List ℕ)). word.now) c.deref.result.now
+    ≡ words_of c.in_ok-first.first.now = rw c.deref.ensures.value c.in_ok-words.ensures.value in
+    let says : federation_in (words_of c.in_ok-first.first.now)
+    ≡ Some c.in_ok-federation.federation =
+    sym (ap federation_in words) ∙ sym c.parse_federation.ensures
+    ∙ c.in_ok-federation.ensures.ok_part in
+    let ports = c.in_ok-ports.ports.items in
+    let isnt : are_blank (lines c.in_ok-ports.rest.now) ≡ false =
+    sym c.in_ok-is_blank.ensures ∙ c.if-not-branch.true in
+    subst (λ (n : ℕ). HasFault c.args.text.now n) (omega (arith, c.len-then-not-branch.ensures))
+    (fault_after c.args.text.now c.in_ok-first.first.now (lines c.in_ok-first.after.now)
+    (lines c.in_ok-ports.rest.now) c.in_ok-federation.federation ports is says
+    c.in_ok-ports.ensures (λ ends. false≢true (sym isnt ∙ ends.1)))
+
+pub new-requires-2-clause-ports : goal.new-requires-2-clause-ports
+new-requires-2-clause-ports c =
+    ArePorts-read (lines c.in_ok-first.after.now) c.in_ok-ports.ports.items
+    (lines c.in_ok-ports.rest.now) c.in_ok-ports.ensures
+    (omega (arith, c.len.ensures, (c.in-Ok.ensures.ok.0 refl).0))
