@@ -12,6 +12,7 @@ use std::test::Fail;
 
 mod bag_agreed;
 mod failures;
+mod loopback;
 mod noise;
 mod sockets;
 
