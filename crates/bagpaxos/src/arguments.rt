@@ -1,5 +1,8 @@
 //! What the program's arguments ask for.
 
+use crate::send_arguments::{SendTask, send_command, send_task};
+use crate::site_arguments::{SiteTask, site_command, site_task};
+use clap::error::ErrorKind;
 use clap::{Arg, ArgAction, ArgMatches, Command, Error};
 use lines::Options;
 use std::alloc::{AllocError, Global};
@@ -83,13 +86,23 @@ pub enum Task<'a> {
     Check(&'a str),
     /// Check it, and say all that is wrong.
     Explain(&'a str),
+    /// Serve as a site.
+    Site(SiteTask<'a>),
+    /// Ask a site that serves.
+    Send(SendTask<'a>),
 }
 
 /// What these words ask for, the program's own name being the first of them. Help is an error of
 /// clap's that goes to standard output, with status 0.
 pub fn task_of(alloc: Global, words: &[String]) -> Result<Option<Task<'_>>, Error> {
     let matches = command(alloc)?.try_get_matches_from(words)?;
-    Ok(task_in(&matches))
+    let task = task_in(&matches);
+    if let Some(Task::Send(send)) = &task {
+        if let Some(mistake) = send.mistake() {
+            return Err(command(alloc)?.error(ErrorKind::ValueValidation, mistake)?);
+        }
+    }
+    Ok(task)
 }
 
 fn task_in<'a>(matches: &ArgMatches<'a>) -> Option<Task<'a>> {
@@ -98,6 +111,12 @@ fn task_in<'a>(matches: &ArgMatches<'a>) -> Option<Task<'a>> {
             sent: run.get_flag("sent"),
             identities: run.get_flag("identities"),
         }));
+    }
+    if let Some(site) = matches.subcommand_matches("site") {
+        return Some(Task::Site(site_task(site)?));
+    }
+    if let Some(send) = matches.subcommand_matches("send") {
+        return Some(Task::Send(send_task(send)?));
     }
     let check = matches.subcommand_matches("check")?;
     let folder = check.get_str("FOLDER")?;
@@ -114,7 +133,9 @@ fn command<'a>(alloc: Global) -> Result<Command<'a>, AllocError> {
         .version("0.1.0")
         .subcommand_required(true)
         .subcommand(check_command(alloc)?)?
-        .subcommand(run_command(alloc)?)
+        .subcommand(run_command(alloc)?)?
+        .subcommand(send_command(alloc)?)?
+        .subcommand(site_command(alloc)?)
 }
 
 fn run_command<'a>(alloc: Global) -> Result<Command<'a>, AllocError> {

@@ -11,6 +11,8 @@ use std::io;
 use std::io::{ErrorKind, Read, Write};
 use std::test::Fail;
 
+mod serving;
+
 /// The empty bag is deposited at site 1 and asked for there.
 const EMPTY_BAG: &str = "federation 7 3
 tree 1

@@ -6,4 +6,6 @@ pub mod Turns
 pub mod Served
 pub mod Faults
 pub mod Failing
+pub mod MemoryPorts
+pub mod UdpPorts
 pub mod inner

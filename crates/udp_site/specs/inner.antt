@@ -4,3 +4,4 @@ pub mod Asked
 pub mod Waiting
 pub mod Stopping
 pub mod Asking
+pub mod Arrivals

@@ -8,17 +8,26 @@ mod fault;
 mod handing;
 mod hearing;
 mod idling;
+mod memory_port;
 mod port;
 mod port_fault;
+mod port_move;
 mod querying;
 mod replies;
 mod saying;
 mod serving;
 mod turn;
 mod turning;
+mod udp_port;
 
 pub use fault::ServeFault;
+pub use memory_port::MemoryPort;
 pub use port::Port;
 pub use port_fault::PortFault;
+pub use port_move::PortMove;
 pub use serving::serve;
 pub use turn::Turn;
+pub use udp_port::UdpPort;
+
+#[cfg(test)]
+mod tests;

@@ -1,6 +1,7 @@
 ghost use Rattle.std.specs.Prelude.{◌≡◌};
 ghost use Rattle.udp_site.specs.Faults.{port_number};
 
+use std::alloc::AllocError;
 use thiserror::Error;
 
 /// Why a port refused a call.
@@ -23,5 +24,15 @@ impl PortFault {
             PortFault::Device => 1,
             PortFault::Memory => 2,
         }
+    }
+}
+
+impl From<AllocError> for PortFault {
+    ghost use Rattle.udp_site.specs.declared.port_fault.PortFault.TheVariants.{Memory};
+
+    ghost from_gives = { λ _ e. e ≡ Memory };
+
+    fn from(_e: AllocError) -> PortFault {
+        PortFault::Memory
     }
 }

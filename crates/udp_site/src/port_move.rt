@@ -1,0 +1,10 @@
+use crate::turn::Turn;
+
+/// What a port did.
+#[derive(Debug, Drop)]
+pub enum PortMove {
+    /// It was waited at for one turn, which brought this.
+    Took(Turn),
+    /// It was handed these bytes for the port of this number.
+    Handed(u16, Vec<u8>),
+}

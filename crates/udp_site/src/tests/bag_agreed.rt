@@ -1,0 +1,59 @@
+//! One site decides the bag that a client deposits, and tells it.
+
+use super::*;
+
+// What comes after the deposit and an idle turn: the site's own four datagrams, and a query.
+const COMES: [(u16, &str); 5] = [
+    (SITE, "425001010000000000000007010161000000010000000101"),
+    (SITE, "42500102000000000000000701016100000001000000010100"),
+    (SITE, "425001030000000000000007010161000000010000000101I"),
+    (SITE, "425001040000000000000007010161000000010000000101I"),
+    (CLIENT, QUERY),
+];
+
+const SENT: &str = "9000: 4250012000000000000000070101610000000100I
+5001: 425001010000000000000007010161000000010000000101
+5001: 42500102000000000000000701016100000001000000010100
+5001: 425001030000000000000007010161000000010000000101I
+5001: 425001040000000000000007010161000000010000000101I
+9000: 4250012100000000000000070101610000000100I
+";
+
+const SAID: &str = "registered 1 a 1 I
+known 1 a 1 I
+reply 1 a 1 known I
+";
+
+// The turns that are to come.
+fn bring_turns(alloc: Global, port: &mut MemoryPort) -> Result<(), Fail> {
+    bring(alloc, port, CLIENT, DEPOSIT)?;
+    port.idle()?;
+    for (from, digits) in &COMES {
+        let digits = with_bag(alloc, digits)?;
+        bring(alloc, port, *from, digits.as_str().trim())?;
+    }
+    Ok(())
+}
+
+fn has_agreed(alloc: Global, port: &MemoryPort, output: &[u8]) -> Result<bool, Fail> {
+    let said = with_bag(alloc, SAID)?;
+    let want = with_bag(alloc, SENT)?;
+    let sent = sent(alloc, port)?;
+    Ok(output == said.as_bytes() && sent.as_str() == want.as_str())
+}
+
+#[test]
+fn a_bag_is_agreed(rt: HostRuntime) -> Result<(), Fail> {
+    let alloc = rt.alloc();
+    let mut site = new_site(alloc)?;
+    let mut folders = one_bag(alloc)?;
+    let mut port = MemoryPort::new(alloc);
+    bring_turns(alloc, &mut port)?;
+    let mut output = Vec::new(alloc);
+    assert_eq!(rt;
+        serve_turns(alloc, &mut site, &mut port, &mut folders, 7, &mut output),
+        Ok(())
+    );
+    assert!(rt; has_agreed(alloc, &port, &output)?);
+    Ok(())
+}
