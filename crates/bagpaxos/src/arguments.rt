@@ -113,10 +113,16 @@ fn task_in<'a>(matches: &ArgMatches<'a>) -> Option<Task<'a>> {
         }));
     }
     if let Some(site) = matches.subcommand_matches("site") {
-        return Some(Task::Site(site_task(site)?));
+        return match site_task(site) {
+            Some(task) => Some(Task::Site(task)),
+            None => None,
+        };
     }
     if let Some(send) = matches.subcommand_matches("send") {
-        return Some(Task::Send(send_task(send)?));
+        return match send_task(send) {
+            Some(task) => Some(Task::Send(task)),
+            None => None,
+        };
     }
     let check = matches.subcommand_matches("check")?;
     let folder = check.get_str("FOLDER")?;

@@ -7,8 +7,8 @@ ghost use Rattle.bagpaxos.specs.Outcomes.{outcome_of, AnswersTo, Writes, WritesP
 use crate::answer::{Answer, write_answer};
 use crate::fault::ProgramFault;
 use crate::read_all::{ReadFault, read_all};
-use schedule::{ParseFault, parse};
 use lines::Options;
+use schedule::{ParseFault, parse};
 use simulator::{RunFault, run, text};
 use std::alloc::{AllocError, Global};
 use std::io::{Read, Write};

@@ -8,77 +8,54 @@ use crate::site_command::socket;
 use crate::stop::{Stop, write_stop};
 use dgram::FolderPath;
 use fed_types::Slot;
-use members_file::MemberPorts;
 use std::alloc::{AllocError, Global};
 use std::io;
-use udp_site::UdpPort;
-
-/// What a client needs to ask.
-#[derive(Drop)]
-struct Client {
-    members: MemberPorts,
-    target: u16,
-    port: UdpPort,
-    slot: Slot,
-    path: Option<FolderPath>,
-}
+use std::io::Write;
 
 /// Asks as the arguments say. The answer is written to standard output.
-pub(crate) fn send_to_site(rt: &HostRuntime, task: SendTask<'_>) -> Result<u8, ProgramFault> {
+pub(crate) fn send_to_site(rt: &HostRuntime, task: &SendTask<'_>) -> Result<u8, ProgramFault> {
     let mut output = io::writer(rt);
-    match prepare(rt, task) {
-        Ok(
-            Client {
-                members,
-                target,
-                mut port,
-                slot,
-                path,
-            },
-        ) => {
-            let request = Request {
-                federation: members.members().federation(),
-                to: task.to,
-                target,
-                slot: &slot,
-            };
-            send_on(rt.alloc(), &mut port, &request, path, &mut output)
-        }
+    match try_to_send(rt, task, &mut output) {
+        Ok(answer) => answer,
         Err(stop) => write_stop(rt.alloc(), &mut output, stop),
     }
 }
 
-// The members file, and then a socket.
-fn prepare(rt: &HostRuntime, task: SendTask<'_>) -> Result<Client, Stop> {
+// What came of it, or why nothing was sent.
+fn try_to_send<W: Write>(
+    rt: &HostRuntime,
+    task: &SendTask<'_>,
+    output: &mut W,
+) -> Result<Result<u8, ProgramFault>, Stop> {
     let members = members_at(rt, task.members)?;
     let target = port_of(&members, task.to)?;
-    let Ok(Some((slot, path))) = names(rt.alloc(), task) else {
-        return Err(Stop::Memory);
-    };
-    let port = socket(rt, 0, task.wait)?;
-    Ok(Client {
-        members,
+    let slot = slot_of(rt.alloc(), task)?;
+    let path = path_of(rt.alloc(), task)?;
+    let mut port = socket(rt, 0, task.wait)?;
+    let request = Request {
+        federation: members.members().federation(),
+        to: task.to,
         target,
-        port,
-        slot,
-        path,
-    })
+        slot: &slot,
+    };
+    Ok(send_on(rt.alloc(), &mut port, &request, path, output))
 }
 
-// The slot and the path of the arguments, whose limits were tested.
-fn names(
-    alloc: Global,
-    task: SendTask<'_>,
-) -> Result<Option<(Slot, Option<FolderPath>)>, AllocError> {
-    let object = String::from_str(alloc, task.object)?;
-    let Ok(slot) = Slot::new(object, task.version) else {
-        return Ok(None);
-    };
+// The slot, which the arguments name within its limits.
+fn slot_of(alloc: Global, task: &SendTask<'_>) -> Result<Slot, Stop> {
+    match String::from_str(alloc, task.object) {
+        Ok(object) => Slot::new(object, task.version).or(Err(Stop::Memory)),
+        Err(AllocError) => Err(Stop::Memory),
+    }
+}
+
+// The folder's path, if the arguments name one, within its limits.
+fn path_of(alloc: Global, task: &SendTask<'_>) -> Result<Option<FolderPath>, Stop> {
     match task.path {
-        Some(path) => {
-            let path = FolderPath::new(String::from_str(alloc, path)?);
-            Ok(path.map(|path| (slot, Some(path))))
-        }
-        None => Ok(Some((slot, None))),
+        Some(path) => match String::from_str(alloc, path) {
+            Ok(path) => Ok(FolderPath::new(path)),
+            Err(AllocError) => Err(Stop::Memory),
+        },
+        None => Ok(None),
     }
 }

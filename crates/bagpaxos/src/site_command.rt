@@ -7,64 +7,57 @@ use crate::site_on::site_on;
 use crate::stop::{Stop, write_stop};
 use bag_folders::DiskFolders;
 use cell_device::{CellFault, FileCell};
-use members_file::MemberPorts;
 use std::io;
+use std::io::Write;
 use udp_site::{PortFault, UdpPort};
 
-/// What a site needs to serve.
-#[derive(Drop)]
-struct Equipment {
-    members: MemberPorts,
-    cell: FileCell,
-    port: UdpPort,
-}
-
 /// Serves as the arguments say. The lines are written to standard output.
-pub(crate) fn serve_site(rt: &HostRuntime, task: SiteTask<'_>) -> Result<u8, ProgramFault> {
+pub(crate) fn serve_site(rt: &HostRuntime, task: &SiteTask<'_>) -> Result<u8, ProgramFault> {
     let mut output = io::writer(rt);
-    match equip(rt, task) {
-        Ok(
-            Equipment {
-                members,
-                cell,
-                mut port,
-            },
-        ) => {
-            let Ok(disk) = rt.clone() else {
-                return write_stop(rt.alloc(), &mut output, Stop::Memory);
-            };
-            let mut folders = DiskFolders::new(disk);
-            site_on(
-                rt.alloc(),
-                cell,
-                members.members(),
-                task.number,
-                &mut port,
-                &mut folders,
-                members.ports(),
-                task.turns,
-                &mut output,
-            )
-        }
+    match try_to_serve(rt, task, &mut output) {
+        Ok(answer) => answer,
         Err(stop) => write_stop(rt.alloc(), &mut output, stop),
     }
 }
 
-// The members file, then the cell and then the socket.
-fn equip(rt: &HostRuntime, task: SiteTask<'_>) -> Result<Equipment, Stop> {
+// What serving came to, or why it wasn't begun.
+fn try_to_serve<W: Write>(
+    rt: &HostRuntime,
+    task: &SiteTask<'_>,
+    output: &mut W,
+) -> Result<Result<u8, ProgramFault>, Stop> {
     let members = members_at(rt, task.members)?;
     let number = port_of(&members, task.number)?;
-    let cell = match FileCell::open(rt, task.cell) {
-        Ok(cell) => cell,
-        Err(CellFault::Device) => return Err(Stop::CellUnopened),
-        Err(CellFault::Memory) => return Err(Stop::Memory),
-    };
-    let port = socket(rt, number, task.wait)?;
-    Ok(Equipment {
-        members,
+    let cell = cell_at(rt, task.cell)?;
+    let mut port = socket(rt, number, task.wait)?;
+    let mut folders = DiskFolders::new(disk(rt)?);
+    Ok(site_on(
+        rt.alloc(),
         cell,
-        port,
-    })
+        members.members(),
+        task.number,
+        &mut port,
+        &mut folders,
+        members.ports(),
+        task.turns,
+        output,
+    ))
+}
+
+// The cell in the file of this path.
+fn cell_at(rt: &HostRuntime, path: &str) -> Result<FileCell, Stop> {
+    match FileCell::open(rt, path) {
+        Ok(cell) => Ok(cell),
+        Err(CellFault::Device) => Err(Stop::CellUnopened),
+        Err(CellFault::Memory) => Err(Stop::Memory),
+    }
+}
+
+fn disk(rt: &HostRuntime) -> Result<HostRuntime, Stop> {
+    match rt.clone() {
+        Ok(disk) => Ok(disk),
+        Err(_) => Err(Stop::Memory),
+    }
 }
 
 /// A socket at this port, or at a free one where it is 0.
