@@ -57,16 +57,38 @@ fn one_bag(alloc: Global) -> Result<MemoryFolders, Fail> {
     Ok(folders)
 }
 
-// The site serves so many turns; what it wrote is added to the output.
-fn serve_turns(
+/// A site that serves in memory, with all that is around it.
+#[derive(Drop)]
+struct Bench {
     alloc: Global,
-    site: &mut Site<MemoryCell>,
-    port: &mut MemoryPort,
-    folders: &mut MemoryFolders,
-    turns: u32,
-    output: &mut Vec<u8>,
-) -> Result<(), ServeFault> {
-    serve(alloc, site, port, folders, &[SITE], turns, output)
+    site: Site<MemoryCell>,
+    folders: MemoryFolders,
+    port: MemoryPort,
+    output: Vec<u8>,
+}
+
+fn new_bench(alloc: Global) -> Result<Bench, Fail> {
+    let folders = one_bag(alloc)?;
+    Ok(Bench {
+        alloc,
+        site: new_site(alloc)?,
+        folders,
+        port: MemoryPort::new(alloc),
+        output: Vec::new(alloc),
+    })
+}
+
+// The site serves so many turns; what it wrote is added to the output.
+fn serve_turns(bench: &mut Bench, turns: u32) -> Result<(), ServeFault> {
+    serve(
+        bench.alloc,
+        &mut bench.site,
+        &mut bench.port,
+        &mut bench.folders,
+        &[SITE],
+        turns,
+        &mut bench.output,
+    )
 }
 
 // After all that is to come, a datagram comes whose bytes are these hex digits.

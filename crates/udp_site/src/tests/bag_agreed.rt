@@ -42,18 +42,15 @@ fn has_agreed(alloc: Global, port: &MemoryPort, output: &[u8]) -> Result<bool, F
     Ok(output == said.as_bytes() && sent.as_str() == want.as_str())
 }
 
+fn agrees(bench: &mut Bench) -> Result<bool, Fail> {
+    bring_turns(bench.alloc, &mut bench.port)?;
+    serve_turns(bench, 7)?;
+    has_agreed(bench.alloc, &bench.port, &bench.output)
+}
+
 #[test]
 fn a_bag_is_agreed(rt: HostRuntime) -> Result<(), Fail> {
-    let alloc = rt.alloc();
-    let mut site = new_site(alloc)?;
-    let mut folders = one_bag(alloc)?;
-    let mut port = MemoryPort::new(alloc);
-    bring_turns(alloc, &mut port)?;
-    let mut output = Vec::new(alloc);
-    assert_eq!(rt;
-        serve_turns(alloc, &mut site, &mut port, &mut folders, 7, &mut output),
-        Ok(())
-    );
-    assert!(rt; has_agreed(alloc, &port, &output)?);
+    let mut bench = new_bench(rt.alloc())?;
+    assert!(rt; agrees(&mut bench)?);
     Ok(())
 }

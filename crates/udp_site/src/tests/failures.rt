@@ -31,73 +31,69 @@ fn fail_next(site: &mut Site<MemoryCell>) {
 
 // Serving ends with the turn in which the cell failed, and with each turn in which a call was
 // refused for it.
-#[test]
-fn a_site_needs_opening(rt: HostRuntime) -> Result<(), Fail> {
-    let alloc = rt.alloc();
-    let mut site = new_site(alloc)?;
-    let mut folders = one_bag(alloc)?;
-    let mut port = MemoryPort::new(alloc);
+fn ends_by_the_cell(bench: &mut Bench) -> Result<bool, Fail> {
     for digits in [DEPOSIT, DEPOSIT, QUERY] {
-        bring(alloc, &mut port, CLIENT, digits)?;
+        bring(bench.alloc, &mut bench.port, CLIENT, digits)?;
     }
-    fail_next(&mut site);
-    let mut output = Vec::new(alloc);
+    fail_next(&mut bench.site);
     for _ in 0..3 {
-        let ended = serve_turns(alloc, &mut site, &mut port, &mut folders, 9, &mut output);
-        assert_eq!(rt; ended, Err(ServeFault::Cell));
+        if serve_turns(bench, 9) != Err(ServeFault::Cell) {
+            return Ok(false);
+        }
     }
     let replies = [
         (DEPOSIT_REPLY, "0d"),
         (DEPOSIT_REPLY, "0f"),
         (QUERY_REPLY, "0f"),
     ];
-    assert!(rt; replied(alloc, &port, &replies)?);
-    assert_eq!(rt;
-        output.as_slice(),
-        b"refused 1 13\nrefused 1 15\nrefused 1 15\n".as_slice()
-    );
+    let is_said = bench.output.as_slice()
+        == b"refused 1 13\nrefused 1 15\nrefused 1 15\n".as_slice();
+    Ok(is_said && replied(bench.alloc, &bench.port, &replies)?)
+}
+
+#[test]
+fn a_site_needs_opening(rt: HostRuntime) -> Result<(), Fail> {
+    let mut bench = new_bench(rt.alloc())?;
+    assert!(rt; ends_by_the_cell(&mut bench)?);
     Ok(())
 }
 
 // The turns before a receive that fails are served, and none after it.
+fn ends_by_the_port(bench: &mut Bench) -> Result<bool, Fail> {
+    bring(bench.alloc, &mut bench.port, CLIENT, QUERY)?;
+    bench.port.fail_receive()?;
+    bring(bench.alloc, &mut bench.port, CLIENT, QUERY)?;
+    let ended = serve_turns(bench, 9);
+    let is_said = bench.output.as_slice() == b"reply 1 a 1 nothing\n".as_slice();
+    let is_replied = replied(bench.alloc, &bench.port, &[(QUERY_REPLY, "02")])?;
+    Ok(ended == Err(ServeFault::Port) && is_said && is_replied && bench.port.failures() == 1)
+}
+
 #[test]
 fn a_receive_fails(rt: HostRuntime) -> Result<(), Fail> {
-    let alloc = rt.alloc();
-    let mut site = new_site(alloc)?;
-    let mut folders = one_bag(alloc)?;
-    let mut port = MemoryPort::new(alloc);
-    bring(alloc, &mut port, CLIENT, QUERY)?;
-    port.fail_receive()?;
-    bring(alloc, &mut port, CLIENT, QUERY)?;
-    let mut output = Vec::new(alloc);
-    let ended = serve_turns(alloc, &mut site, &mut port, &mut folders, 9, &mut output);
-    assert_eq!(rt; ended, Err(ServeFault::Port));
-    assert!(rt; replied(alloc, &port, &[(QUERY_REPLY, "02")])?);
-    assert_eq!(rt; output.as_slice(), b"reply 1 a 1 nothing\n".as_slice());
-    assert_eq!(rt; port.failures(), 1);
+    let mut bench = new_bench(rt.alloc())?;
+    assert!(rt; ends_by_the_port(&mut bench)?);
     Ok(())
 }
 
 // A datagram that isn't sent is lost, and the site goes on.
+fn goes_on(bench: &mut Bench) -> Result<bool, Fail> {
+    bench.port.fail_sends(true);
+    for _ in 0..2 {
+        bring(bench.alloc, &mut bench.port, CLIENT, QUERY)?;
+    }
+    serve_turns(bench, 2)?;
+    let wanted = [(QUERY_REPLY, "02"), (QUERY_REPLY, "02")];
+    let is_said = bench.output.as_slice()
+        == b"reply 1 a 1 nothing\nreply 1 a 1 nothing\n".as_slice();
+    let is_replied = replied(bench.alloc, &bench.port, &wanted)?;
+    Ok(is_said && is_replied && bench.port.failures() == 2)
+}
+
 #[test]
 fn a_send_fails(rt: HostRuntime) -> Result<(), Fail> {
-    let alloc = rt.alloc();
-    let mut site = new_site(alloc)?;
-    let mut folders = one_bag(alloc)?;
-    let mut port = MemoryPort::new(alloc);
-    port.fail_sends(true);
-    for _ in 0..2 {
-        bring(alloc, &mut port, CLIENT, QUERY)?;
-    }
-    let mut output = Vec::new(alloc);
-    let ended = serve_turns(alloc, &mut site, &mut port, &mut folders, 2, &mut output);
-    assert_eq!(rt; ended, Ok(()));
-    assert!(rt; replied(alloc, &port, &[(QUERY_REPLY, "02"), (QUERY_REPLY, "02")])?);
-    assert_eq!(rt;
-        output.as_slice(),
-        b"reply 1 a 1 nothing\nreply 1 a 1 nothing\n".as_slice()
-    );
-    assert_eq!(rt; port.failures(), 2);
+    let mut bench = new_bench(rt.alloc())?;
+    assert!(rt; goes_on(&mut bench)?);
     Ok(())
 }
 
@@ -123,26 +119,30 @@ impl Write for Narrow {
 }
 
 // The reply was sent before its line was written.
+fn ends_by_the_writer(bench: &mut Bench, room: usize) -> Result<bool, Fail> {
+    bring(bench.alloc, &mut bench.port, CLIENT, QUERY)?;
+    let ended = serve(
+        bench.alloc,
+        &mut bench.site,
+        &mut bench.port,
+        &mut bench.folders,
+        &[SITE],
+        2,
+        &mut Narrow { room },
+    );
+    let is_replied = replied(bench.alloc, &bench.port, &[(QUERY_REPLY, "02")])?;
+    Ok(ended == Err(ServeFault::Output) && is_replied)
+}
+
+fn ends_with_room(alloc: Global, room: usize) -> Result<bool, Fail> {
+    let mut bench = new_bench(alloc)?;
+    ends_by_the_writer(&mut bench, room)
+}
+
 #[test]
 fn a_line_cannot_be_written(rt: HostRuntime) -> Result<(), Fail> {
-    let alloc = rt.alloc();
     for room in 0..20 {
-        let mut site = new_site(alloc)?;
-        let mut folders = one_bag(alloc)?;
-        let mut port = MemoryPort::new(alloc);
-        bring(alloc, &mut port, CLIENT, QUERY)?;
-        let mut output = Narrow { room };
-        let ended = serve(
-            alloc,
-            &mut site,
-            &mut port,
-            &mut folders,
-            &[SITE],
-            2,
-            &mut output,
-        );
-        assert_eq!(rt; ended, Err(ServeFault::Output));
-        assert!(rt; replied(alloc, &port, &[(QUERY_REPLY, "02")])?);
+        assert!(rt; ends_with_room(rt.alloc(), room)?);
     }
     Ok(())
 }

@@ -68,18 +68,17 @@ fn are_all_dropped(output: &[u8]) -> bool {
             .all(|line| line == b"dropped 1\n".as_slice())
 }
 
+// Of a hundred pieces of noise there are a hundred lines, and nothing is sent or recorded.
+fn drops_noise(bench: &mut Bench) -> Result<bool, Fail> {
+    bring_noise(bench.alloc, &mut bench.port)?;
+    serve_turns(bench, 100)?;
+    let is_quiet = sent(bench.alloc, &bench.port)?.is_empty();
+    Ok(is_quiet && are_all_dropped(&bench.output) && bench.site.records().is_empty())
+}
+
 #[test]
 fn noise_is_dropped(rt: HostRuntime) -> Result<(), Fail> {
-    let alloc = rt.alloc();
-    let mut site = new_site(alloc)?;
-    let mut folders = one_bag(alloc)?;
-    let mut port = MemoryPort::new(alloc);
-    bring_noise(alloc, &mut port)?;
-    let mut output = Vec::new(alloc);
-    let ended = serve_turns(alloc, &mut site, &mut port, &mut folders, 100, &mut output);
-    assert_eq!(rt; ended, Ok(()));
-    assert!(rt; are_all_dropped(&output));
-    assert_eq!(rt; sent(alloc, &port)?.as_str(), "");
-    assert_eq!(rt; site.records().len(), 0);
+    let mut bench = new_bench(rt.alloc())?;
+    assert!(rt; drops_noise(&mut bench)?);
     Ok(())
 }
