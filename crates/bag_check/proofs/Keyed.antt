@@ -1,7 +1,6 @@
 -- Maps and sets whose keys are texts, one key on.
 use Rattle.std.proofs.Common.{◌≡◌, ℕ, ◌+◌, ◌<◌, Bool, true, false, ◌||◌, cond, List, [], ◌∷◌, ◌++◌}
-use Rattle.std.proofs.Common.{length, take, get_or, Option, Some, None, refl, sym, ap, ◌∙◌}
-use Rattle.std.specs.Prelude.{is_some}
+use Rattle.std.proofs.Common.{length, take, get_or, Option, Some, None, refl, sym, ap, subst, ◌∙◌}
 use Rattle.std.specs.Borrow.{Bor}
 use Rattle.std.specs.BTreeMap as tree
 use Rattle.std.specs.BTreeSet as sorted
@@ -39,11 +38,6 @@ has_text-inserted w s n h q = h.0 (record { ref_ptr = (0, 0); now = q })
     go true false e = cc
     go false true e = cc
 
--- an option that copies to nothing is nothing
-copied_none : (o : Option (Bor FileFact)) → is_some o ≡ false → option_copied o ≡ None
-copied_none None h = refl
-copied_none (Some file) h = cc
-
 or_none : (o : Option FileFact) → option_or o None ≡ o
 or_none None = refl
 or_none (Some file) = refl
@@ -53,7 +47,7 @@ pub at_text-put : (path : List ℕ) (file : Bor FileFact)
     (m n : BTreeMap (Bor (List ℕ)) (Bor FileFact))
     → tree.UpdatesBy (λ x y. slice_cmp nat_cmp x.now y.now) (λ k. slice_cmp nat_cmp path k.now) m n
     (Some file)
-    → is_some (tree.get_by (λ k. slice_cmp nat_cmp path k.now) m) ≡ false
+    → tree.get_by (λ k. slice_cmp nat_cmp path k.now) m ≡ None
     → (q : List ℕ) → at_text q n ≡ option_or (at_text q m)
     (cond (bytes_eq path q) (Some file.now) None)
 at_text-put path file m n h absent q =
@@ -62,28 +56,37 @@ at_text-put path file m n h absent q =
     go : (b : Bool) → bytes_eq path q ≡ b
         → option_copied (cond b (Some file) (tree.get_by (λ k. slice_cmp nat_cmp q k.now) m))
         ≡ option_or (at_text q m) (cond b (Some file.now) None)
-    go true e =
-        rw (copied_none (tree.get_by (λ k. slice_cmp nat_cmp q k.now) m)
-        (rw ((bytes_eq-Decides path q).0 e) at absent)) refl
+    go true e = rw (rw ((bytes_eq-Decides path q).0 e) at absent) refl
     go false e = sym (or_none (at_text q m))
 
--- a file that is left out where its path has one
-pub at_text-kept : (path : List ℕ) (file : FileFact) (m : BTreeMap (Bor (List ℕ)) (Bor FileFact))
-    → is_some (tree.get_by (λ k. slice_cmp nat_cmp path k.now) m) ≡ true
-    → (q : List ℕ) → at_text q m ≡ option_or (at_text q m) (cond (bytes_eq path q) (Some file) None)
-at_text-kept path file m present q = go (bytes_eq path q) refl
+-- a file that took the place of the first one of its path, which was then put back
+pub at_text-put_back : (path : List ℕ) (file first : Bor FileFact)
+    (m n r : BTreeMap (Bor (List ℕ)) (Bor FileFact))
+    → tree.UpdatesBy (λ x y. slice_cmp nat_cmp x.now y.now) (λ k. slice_cmp nat_cmp path k.now) m n
+    (Some file)
+    → tree.UpdatesBy (λ x y. slice_cmp nat_cmp x.now y.now) (λ k. slice_cmp nat_cmp path k.now) n r
+    (Some first)
+    → Some first ≡ tree.get_by (λ k. slice_cmp nat_cmp path k.now) m
+    → (q : List ℕ) → at_text q r ≡ option_or (at_text q m)
+    (cond (bytes_eq path q) (Some file.now) None)
+at_text-put_back path file first m n r put back was q =
+    ap option_copied (btree_map_updates_str path n r (Some first) back q) ∙ go (bytes_eq path q) refl
   where
-    some_or : (o : Option (Bor FileFact)) (p : Option FileFact) → is_some o ≡ true
-        → option_copied o ≡ option_or (option_copied o) p
-    some_or None p h = cc
-    some_or (Some file) p h = refl
+    some_or : (o : Option (Bor FileFact)) (other : Option FileFact) → Some first ≡ o
+        → Some first.now ≡ option_or (option_copied o) other
+    some_or o other h = subst (λ v. Some first.now ≡ option_or (option_copied v) other) h refl
 
     go : (b : Bool) → bytes_eq path q ≡ b
-        → at_text q m ≡ option_or (at_text q m) (cond b (Some file) None)
+        → option_copied (cond b (Some first) (tree.get_by (λ k. slice_cmp nat_cmp q k.now) n))
+        ≡ option_or (at_text q m) (cond b (Some file.now) None)
     go true e =
-        some_or (tree.get_by (λ k. slice_cmp nat_cmp q k.now) m) (Some file)
-        (rw ((bytes_eq-Decides path q).0 e) at present)
-    go false e = sym (or_none (at_text q m))
+        some_or (tree.get_by (λ k. slice_cmp nat_cmp q k.now) m) (Some file.now)
+        (rw ((bytes_eq-Decides path q).0 e) at was)
+    go false e =
+        ap option_copied
+        (btree_map_updates_str path m n (Some file) put q
+        ∙ ap (λ b. cond b (Some file) (tree.get_by (λ k. slice_cmp nat_cmp q k.now) m)) e)
+        ∙ sym (or_none (at_text q m))
 
 -- the first file of a path, one file on
 pub file_at_next : (q : List ℕ) (files : List FileFact) (place : ℕ) (file : FileFact)

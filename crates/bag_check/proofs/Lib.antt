@@ -1,9 +1,13 @@
 pub mod Bools
 pub mod Keyed
 pub mod Repeats
+pub mod Ascending
+pub mod Counted
 pub mod Readings
 pub mod Steps
 pub mod Sets
 pub mod ValidLaws
 pub mod ValidManifests
 pub mod ValidNames
+pub mod NamedManifests
+pub mod NamedLaws

@@ -12,7 +12,7 @@ use Rattle.bag_text.specs.ListedFile.{ListedFile}
 use Rattle.bag_check.specs.Manifests.{is_listed}
 use Rattle.bag_check.specs.Check.{repeats}
 
-bytes_eq-sym : (p q : List ℕ) → bytes_eq p q ≡ bytes_eq q p
+pub bytes_eq-sym : (p q : List ℕ) → bytes_eq p q ≡ bytes_eq q p
 bytes_eq-sym p q =
     same_from_decides (bytes_eq p q) (bytes_eq q p) (bytes_eq-Decides p q)
     (Decides-like (bytes_eq q p) sym sym (bytes_eq-Decides q p))

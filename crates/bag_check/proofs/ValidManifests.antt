@@ -21,7 +21,7 @@ use Rattle.bag_check.specs.Manifests.{Manifest, file_at, has_file, text_at, algo
 use Rattle.bag_check.specs.Manifests.{manifest_name, manifest_at, manifests_of, manifests_of_kind}
 use Rattle.bag_check.specs.Manifests.{is_listed}
 use Rattle.bag_check.specs.Check.{is_astray, is_on_wrong_side, repeats, is_unlisted}
-use Rattle.bag_check.specs.Check.{has_other_digest, is_wrong, if_payload}
+use Rattle.bag_check.specs.Check.{is_digest, has_other_digest, is_wrong, if_payload}
 use Rattle.bag_check.specs.Valid.{IsFile, IsPayloadFile, IsTagFile, HasText, ListsFiles, IsDigested}
 use Rattle.bag_check.specs.Valid.{IsListing}
 use Rattle.bag_check.proofs.Readings.{of_both, of_kind}
@@ -212,6 +212,17 @@ module _ (facts : TreeFacts) (entries : List ListedFile) where
       true≢false (sym parts.1 ∙ not_from_true (is_listed path entries) listed)))
   none_unlisted_from Tag files = refl
 
+-- a digest that is known and is this one
+digest_is : (digest : List ℕ) (known : Option (List ℕ)) → is_digest digest known ≡ true
+    → known ≡ Some digest
+digest_is digest None h = absurd (true≢false (sym h))
+digest_is digest (Some known) h =
+    ap (λ (d : List ℕ). Some d) ((bytes_eq-Decides known digest).0 h)
+
+is_that_digest : (digest : List ℕ) (known : Option (List ℕ)) → known ≡ Some digest
+    → is_digest digest known ≡ true
+is_that_digest digest known h = ap (is_digest digest) h ∙ (bytes_eq-Decides digest digest).1 refl
+
 module _ (facts : TreeFacts) (kind : Kind) (algorithm : Algorithm) (entries : List ListedFile) where
   digested : (entry : ListedFile) (file : Option FileFact) → file_at entry.path facts.files ≡ file
       → is_some file ≡ true → has_other_digest algorithm entry.digest file ≡ false
@@ -220,8 +231,8 @@ module _ (facts : TreeFacts) (kind : Kind) (algorithm : Algorithm) (entries : Li
   digested entry (Some file) is there same = (
     file,
     is,
-    sym ((bytes_eq-Decides (digest_by algorithm file.digests) entry.digest).0
-        (not-false (bytes_eq (digest_by algorithm file.digests) entry.digest) same)),
+    digest_is entry.digest (digest_by algorithm file.digests)
+        (not-false (is_digest entry.digest (digest_by algorithm file.digests)) same),
   )
 
   -- entries that pass no test of a fault are a listing
@@ -262,6 +273,6 @@ module _ (facts : TreeFacts) (kind : Kind) (algorithm : Algorithm) (entries : Li
         let entry : ListedFile = get_or entries k d in
         let is = h.digests k d within in
         ap (has_other_digest algorithm entry.digest) is.1
-        ∙ not_from_true (bytes_eq (digest_by algorithm (is.0).digests) entry.digest)
-        ((bytes_eq-Decides (digest_by algorithm (is.0).digests) entry.digest).1 (sym is.2)));
+        ∙ not_from_true (is_digest entry.digest (digest_by algorithm (is.0).digests))
+        (is_that_digest entry.digest (digest_by algorithm (is.0).digests) is.2));
   }

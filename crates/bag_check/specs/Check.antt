@@ -76,13 +76,18 @@ repeats (entry ∷ entries) = is_listed entry.path entries || repeats entries
 abbrev pub is_unlisted : List ListedFile → FileFact → Bool
 is_unlisted entries file = is_payload file.path && not (is_listed file.path entries)
 
--- the file is there, and its digest is another
+-- the digest is known, and is this one
+abbrev pub is_digest : List ℕ → Option (List ℕ) → Bool
+is_digest digest None = false
+is_digest digest (Some known) = bytes_eq known digest
+
+-- the file is there, and its digest isn't this one; a digest that isn't known isn't
 abbrev pub has_other_digest : Algorithm → List ℕ → Option FileFact → Bool
 has_other_digest algorithm digest None = false
 has_other_digest algorithm digest (Some file) =
-    not (bytes_eq (digest_by algorithm file.digests) digest)
+    not (is_digest digest (digest_by algorithm file.digests))
 
--- the entry's file is there, and has another digest than the entry
+-- the entry's file is there, and its digest isn't the entry's
 abbrev pub is_wrong : Algorithm → List FileFact → ListedFile → Bool
 is_wrong algorithm files entry = has_other_digest algorithm entry.digest (file_at entry.path files)
 

@@ -1,5 +1,6 @@
 pub mod Fault
 pub mod Manifests
+pub mod Named
 pub mod Check
 pub mod Valid
 pub mod inner

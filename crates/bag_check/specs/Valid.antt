@@ -76,7 +76,7 @@ ListsFiles Tag facts paths = All (IsTagFile facts) paths
 abbrev pub IsDigested : TreeFacts → Algorithm → ListedFile → Type 0
 IsDigested facts algorithm entry =
     (file : FileFact) × (file_at entry.path facts.files ≡ Some file)
-    × (entry.digest ≡ digest_by algorithm file.digests)
+    × (digest_by algorithm file.digests ≡ Some entry.digest)
 
 -- what a manifest of this kind and algorithm lists is as it has to be
 pub record IsListing (facts : TreeFacts) (kind : Kind) (algorithm : Algorithm)

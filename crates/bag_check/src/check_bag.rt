@@ -12,7 +12,7 @@ use crate::manifests::Kind;
 use crate::read_manifests::listings;
 use crate::tag_files::fault_of_tag_files;
 use bag_text::Algorithm;
-use bag_tree::Facts;
+use bag_tree::{Facts, FileFacts};
 use fed_types::BagId;
 use sha2::{Digest, Sha512};
 use std::alloc::Global;
@@ -45,17 +45,23 @@ fn identity_or_fault(alloc: Global, facts: &Facts) -> Result<BagId, BagFault>
     Ok(identity(&files))
 }
 
-/// The SHA-512 of the bytes of `manifest-sha512.txt`, as they are.
+/// The SHA-512 of the bytes of `manifest-sha512.txt`, as they are; of none, where there is no such
+/// file.
 fn identity(files: &FilesByPath<'_>) -> BagId
     ensures { result ≡ record { 0 = sha512 (unwrap_or (text_at sha512_manifest files.now) []) } }
 {
-    BagId(Sha512::digest(sha512_manifest(files)))
+    match files.file_at(Kind::Payload.manifest_name(Algorithm::Sha512)) {
+        None => BagId(Sha512::digest(b"")),
+        Some(manifest) => BagId(sha512_of_text(manifest)),
+    }
 }
 
-/// The bytes of `manifest-sha512.txt`, or none where there is no such file.
-fn sha512_manifest<'a>(files: &FilesByPath<'a>) -> &'a [u8]
-    ensures { result.now ≡ unwrap_or (text_at sha512_manifest files.now) [] }
+/// The SHA-512 of a file's text, or of no bytes, where it has none.
+fn sha512_of_text(file: &FileFacts) -> [u8; 64]
+    ensures { result ≡ sha512 (unwrap_or file.now.text []) }
 {
-    let text = files.text_at(Kind::Payload.manifest_name(Algorithm::Sha512));
-    text.unwrap_or(&[])
+    match file.sha512_of_text() {
+        None => Sha512::digest(b""),
+        Some(digest) => digest,
+    }
 }

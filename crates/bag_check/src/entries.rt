@@ -1,11 +1,14 @@
-ghost use Rattle.std.specs.Prelude.{◌≡◌, ℕ, not, ◌&&◌, List, IfOk};
+ghost use Rattle.std.specs.Prelude.{◌≡◌, ℕ, not, false, ◌&&◌, List, length, IfOk, IsTrue};
 ghost use Rattle.std.specs.Cmp.Lexicographic.{slice_cmp};
 ghost use Rattle.std.specs.Ordering.{nat_cmp};
-ghost use Rattle.std.specs.List.{list_any};
+ghost use Rattle.std.specs.List.{list_any, filter};
+ghost use Rattle.std.specs.Option.{option_copied};
 ghost use Rattle.std.specs.BTreeSet.{contains_by};
 ghost use Rattle.bag_tree.specs.Path.{is_payload};
 ghost use Rattle.bag_check.specs.Manifests.{is_listed};
-ghost use Rattle.bag_check.specs.Check.{is_astray, is_wrong, repeats, is_unlisted};
+ghost use Rattle.bag_check.specs.Check.{is_astray, is_digest, is_missing, is_wrong};
+ghost use Rattle.bag_check.specs.Check.{has_other_digest};
+ghost use Rattle.bag_check.specs.Check.{repeats, is_unlisted};
 ghost use Rattle.bag_check.specs.inner.Order.{fault_of_listings, has_astray, has_repeat};
 ghost use Rattle.bag_check.specs.inner.Order.{has_missing, has_unlisted, has_wrong};
 
@@ -27,15 +30,18 @@ pub(crate) fn fault_of_listings(
 ) -> Result<Option<BagFault>, AllocError>
     ensures { IfOk result (λ fault. fault ≡ fault_of_listings files.now listings.now) }
 {
-    let fault = if some_astray(listings) {
-        Some(BagFault::UnsafePath)
-    } else if some_repeat(alloc, listings)? {
-        Some(BagFault::DuplicateEntry)
-    } else if some_missing(files, listings) {
+    if some_astray(listings) {
+        return Ok(Some(BagFault::UnsafePath));
+    }
+    if some_repeat(alloc, listings)? {
+        return Ok(Some(BagFault::DuplicateEntry));
+    }
+    let compared = compare(files, listings);
+    let fault = if compared.missing {
         Some(BagFault::MissingFile)
     } else if some_unlisted(alloc, files, listings)? {
         Some(BagFault::UnlistedFile)
-    } else if some_wrong(files, listings) {
+    } else if compared.wrong {
         Some(BagFault::WrongDigest)
     } else {
         None
@@ -58,7 +64,9 @@ fn has_astray(listing: &Listing) -> bool
     listing.entries().iter().any(|entry| is_astray(kind, entry))
 }
 
-fn is_astray(kind: Kind, entry: &Entry) -> bool
+/// Whether an entry's path is unsafe, or on the wrong side of the payload's folder for this kind of
+/// manifest.
+pub fn is_astray(kind: Kind, entry: &Entry) -> bool
     ensures { result ≡ is_astray kind entry.now }
 {
     let path = entry.path().as_bytes();
@@ -95,6 +103,10 @@ fn has_repeat(alloc: Global, listing: &Listing) -> Result<bool, AllocError>
 fn repeats(alloc: Global, entries: &[Entry]) -> Result<bool, AllocError>
     ensures { IfOk result (λ found. found ≡ repeats entries.now) }
 {
+    // Paths that ascend differ, which takes no set to see.
+    if is_ascending(entries) {
+        return Ok(false);
+    }
     let mut seen = BTreeSet::new(alloc);
     for entry in entries {
         let added = seen.insert(entry.path())?;
@@ -105,31 +117,102 @@ fn repeats(alloc: Global, entries: &[Entry]) -> Result<bool, AllocError>
     Ok(false)
 }
 
-// ---- listed files that aren't there
-
-fn some_missing(files: &FilesByPath<'_>, listings: &[Listing]) -> bool
-    ensures { result ≡ list_any (has_missing files.now) listings.now }
+/// Whether each path is greater than the one before it.
+fn is_ascending(entries: &[Entry]) -> bool
+    ensures { IsTrue result → repeats entries.now ≡ false }
 {
-    listings.iter().any(|listing| has_missing(files, listing))
+    let mut last = "";
+    for entry in entries {
+        if last >= entry.path() {
+            return false;
+        }
+        last = entry.path();
+    }
+    true
 }
 
-fn has_missing(files: &FilesByPath<'_>, listing: &Listing) -> bool
-    ensures { result ≡ has_missing files.now listing.now }
+// ---- listed files that aren't there, or have other digests
+
+/// What entries have found of their files: each is looked up once.
+#[derive(Clone, Copy)]
+struct Compared {
+    /// Whether a listed file isn't there.
+    missing: bool,
+    /// Whether a listed file has another digest than the listed one.
+    wrong: bool,
+}
+
+/// Compares what all manifests list with the files.
+fn compare(files: &FilesByPath<'_>, listings: &[Listing]) -> Compared
+    ensures missing { result.missing ≡ list_any (has_missing files.now) listings.now }
+    ensures wrong { result.wrong ≡ list_any (has_wrong files.now) listings.now }
 {
-    listing
-        .entries()
-        .iter()
-        .any(|entry| !files.has_file(entry.path()))
+    let mut missing = false;
+    let mut wrong = false;
+    for listing in listings {
+        let found = compare_entries(files, listing.algorithm(), listing.entries());
+        missing = missing || found.missing;
+        wrong = wrong || found.wrong;
+    }
+    Compared { missing, wrong }
+}
+
+/// Compares what a manifest of this algorithm lists with the files.
+fn compare_entries(files: &FilesByPath<'_>, algorithm: Algorithm, entries: &[Entry]) -> Compared
+    ensures missing { result.missing ≡ list_any (is_missing files.now) entries.now }
+    ensures wrong { result.wrong ≡ list_any (is_wrong algorithm files.now) entries.now }
+{
+    let mut missing = false;
+    let mut wrong = false;
+    for entry in entries {
+        match files.file_at(entry.path()) {
+            None => missing = true,
+            Some(file) => wrong = wrong || has_other_digest(algorithm, entry, file),
+        }
+    }
+    Compared { missing, wrong }
+}
+
+/// Whether an entry's file is there, and its digest by the manifest's algorithm isn't the entry's;
+/// a digest that wasn't wanted isn't.
+pub fn is_wrong(algorithm: Algorithm, files: &FilesByPath<'_>, entry: &Entry) -> bool
+    ensures { result ≡ is_wrong algorithm files.now entry.now }
+{
+    match files.file_at(entry.path()) {
+        None => false,
+        Some(file) => has_other_digest(algorithm, entry, file),
+    }
+}
+
+/// Whether the file's digest by this algorithm isn't the entry's.
+fn has_other_digest(algorithm: Algorithm, entry: &Entry, file: &FileFacts) -> bool
+    ensures { result ≡ has_other_digest algorithm entry.now.digest (Some file.now) }
+{
+    !is_digest(entry.digest(), file.digests().by(algorithm))
+}
+
+/// Whether a digest is known, and is this one.
+fn is_digest(digest: &[u8], known: Option<&[u8]>) -> bool
+    ensures { result ≡ is_digest digest.now (option_copied known.entry) }
+{
+    match known {
+        None => false,
+        Some(known) => known == digest,
+    }
 }
 
 // ---- files of the payload that a payload manifest doesn't list
 
-/// Whether a payload file isn't listed in some payload manifest.
+/// Whether a payload file isn't listed in some payload manifest. What manifests list was found to
+/// be there, in its place, and listed once.
 fn some_unlisted(
     alloc: Global,
     files: &FilesByPath<'_>,
     listings: &[Listing],
 ) -> Result<bool, AllocError>
+    requires placed { list_any has_astray listings.now ≡ false }
+    requires once { list_any has_repeat listings.now ≡ false }
+    requires there { list_any (has_missing files.now) listings.now ≡ false }
     ensures { IfOk result (λ found. found ≡ list_any (has_unlisted files.now) listings.now) }
 {
     for listing in listings {
@@ -141,6 +224,9 @@ fn some_unlisted(
 }
 
 fn has_unlisted(alloc: Global, files: &[FileFacts], listing: &Listing) -> Result<bool, AllocError>
+    requires placed { has_astray listing.now ≡ false }
+    requires once { has_repeat listing.now ≡ false }
+    requires there { has_missing files.now listing.now ≡ false }
     ensures { IfOk result (λ found. found ≡ has_unlisted files.now listing.now) }
 {
     match listing.kind() {
@@ -149,12 +235,29 @@ fn has_unlisted(alloc: Global, files: &[FileFacts], listing: &Listing) -> Result
     }
 }
 
-/// Whether the entries leave out a payload file.
+/// Whether the entries, each of another payload file, leave one out.
 fn leaves_out(alloc: Global, entries: &[Entry], files: &[FileFacts]) -> Result<bool, AllocError>
+    requires placed { list_any (is_astray Kind.Payload) entries.now ≡ false }
+    requires once { repeats entries.now ≡ false }
+    requires there { list_any (is_missing files.now) entries.now ≡ false }
     ensures { IfOk result (λ found. found ≡ list_any (is_unlisted entries.now) files.now) }
 {
+    // Where there are no more files than entries, each has one.
+    if payload_count(files) <= entries.len() {
+        return Ok(false);
+    }
     let listed = listed_paths(alloc, entries)?;
     Ok(some_outside(&listed, files))
+}
+
+/// How many files of the payload there are.
+fn payload_count(files: &[FileFacts]) -> usize
+    ensures { result ≡ length (filter (λ f. is_payload f.path) files.now) }
+{
+    files
+        .iter()
+        .filter(|file| is_payload(file.path().as_bytes()))
+        .count()
 }
 
 /// Whether a payload file is none of the listed ones.
@@ -181,31 +284,4 @@ fn listed_paths(alloc: Global, entries: &[Entry]) -> Result<BTreeSet<&str>, Allo
         listed.insert(entry.path())?;
     }
     Ok(listed)
-}
-
-// ---- digests that aren't those of their files
-
-fn some_wrong(files: &FilesByPath<'_>, listings: &[Listing]) -> bool
-    ensures { result ≡ list_any (has_wrong files.now) listings.now }
-{
-    listings.iter().any(|listing| has_wrong(files, listing))
-}
-
-fn has_wrong(files: &FilesByPath<'_>, listing: &Listing) -> bool
-    ensures { result ≡ has_wrong files.now listing.now }
-{
-    let algorithm = listing.algorithm();
-    listing
-        .entries()
-        .iter()
-        .any(|entry| is_wrong(algorithm, files, entry))
-}
-
-fn is_wrong(algorithm: Algorithm, files: &FilesByPath<'_>, entry: &Entry) -> bool
-    ensures { result ≡ is_wrong algorithm files.now entry.now }
-{
-    match files.file_at(entry.path()) {
-        None => false,
-        Some(file) => file.digests().by(algorithm) != entry.digest(),
-    }
 }

@@ -13,7 +13,7 @@ use std::marker::Model;
 /// The files of a tree, to be looked up by their paths. A map in order and not a hashed one, since
 /// paths may be chosen by an adversary.
 #[derive(Drop)]
-pub(crate) struct FilesByPath<'a> {
+pub struct FilesByPath<'a> {
     files: &'a [FileFacts],
     by_path: BTreeMap<&'a str, &'a FileFacts>,
 }
@@ -40,7 +40,8 @@ impl<'a> Model for FilesByPath<'a> {
 impl<'a> FilesByPath<'a> {
     ghost use Rattle.bag_check.specs.Manifests.{file_at, has_file, text_at};
 
-    pub(crate) fn new(alloc: Global, files: &'a [FileFacts]) -> Result<FilesByPath<'a>, AllocError>
+    /// Of these files. The one refusal is that memory ran out.
+    pub fn new(alloc: Global, files: &'a [FileFacts]) -> Result<FilesByPath<'a>, AllocError>
         ensures { IfOk result (λ found. found ≡ files.now) }
     {
         let mut by_path = BTreeMap::new(alloc);
@@ -51,28 +52,28 @@ impl<'a> FilesByPath<'a> {
     }
 
     /// The files, in the tree's order.
-    pub(crate) fn files(&self) -> &'a [FileFacts]
+    pub fn files(&self) -> &'a [FileFacts]
         ensures { result.now ≡ self.now }
     {
         self.files
     }
 
     /// The file of this path, where there is one.
-    pub(crate) fn file_at(&self, path: &str) -> Option<&'a FileFacts>
+    pub fn file_at(&self, path: &str) -> Option<&'a FileFacts>
         ensures { option_copied result ≡ file_at path.now self.now }
     {
         self.by_path.get(path).copied()
     }
 
     /// Whether there is a file of this path.
-    pub(crate) fn has_file(&self, path: &str) -> bool
+    pub fn has_file(&self, path: &str) -> bool
         ensures { result ≡ has_file path.now self.now }
     {
         self.file_at(path).is_some()
     }
 
     /// The bytes of the text of this path, where there is one.
-    pub(crate) fn text_at(&self, path: &str) -> Option<&'a [u8]>
+    pub fn text_at(&self, path: &str) -> Option<&'a [u8]>
         ensures { option_copied result ≡ text_at path.now self.now }
     {
         match self.file_at(path) {
@@ -93,8 +94,9 @@ fn put<'a>(
         (cond (bytes_eq file.now.path q) (Some file.now) None)) }
 {
     let path = file.path();
-    if !by_path.contains_key(path) {
-        by_path.insert(path, file)?;
+    // The first file of a path stays.
+    if let Some(first) = by_path.insert(path, file)? {
+        by_path.insert(path, first)?;
     }
     Ok(())
 }

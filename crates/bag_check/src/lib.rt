@@ -9,12 +9,18 @@ mod files_by_path;
 mod law;
 mod listing;
 mod manifests;
+mod named;
 mod read_manifests;
 mod tag_files;
 
 pub use check_bag::check;
+pub use entries::{is_astray, is_wrong};
 pub use fault::BagFault;
-pub use law::valid_law;
+pub use files_by_path::FilesByPath;
+pub use law::{named_law, valid_law};
+pub use manifests::Kind;
+pub use named::named_by;
+pub use tag_files::{is_supported_encoding, is_supported_version, is_unknown};
 
 #[cfg(test)]
 mod tests;

@@ -35,7 +35,7 @@ impl Kind {
 
     /// The name of the manifest of this kind and algorithm.
     #[tactic(auto, unfolding(crate::specs::Manifests::manifest_name))]
-    pub(crate) fn manifest_name(self, algorithm: Algorithm) -> &'static str
+    pub fn manifest_name(self, algorithm: Algorithm) -> &'static str
         ensures { result.now ≡ manifest_name self algorithm }
     {
         match (self, algorithm) {

@@ -47,14 +47,15 @@ fn fault_of_declared(text: &[u8]) -> Option<BagFault>
     }
 }
 
-fn is_supported_version(version: &[u8]) -> bool
+/// Whether a declared version is read: `1.0` or `0.97`.
+pub fn is_supported_version(version: &[u8]) -> bool
     ensures { result ≡ is_supported_version version.now }
 {
     version == b"1.0".as_slice() || version == b"0.97".as_slice()
 }
 
-/// An encoding's name is compared without its case.
-fn is_supported_encoding(encoding: &[u8]) -> bool
+/// Whether a declared encoding is read: `UTF-8`, compared without its case.
+pub fn is_supported_encoding(encoding: &[u8]) -> bool
     ensures { result ≡ is_supported_encoding encoding.now }
 {
     encoding.eq_ignore_ascii_case(b"UTF-8")
@@ -84,8 +85,9 @@ fn some_unknown(files: &[FileFacts]) -> bool
     files.iter().any(|file| is_unknown(file))
 }
 
+/// Whether a file is a manifest of an algorithm that isn't read.
 #[tactic(auto, unfolding(crate::specs::Manifests::is_unknown))]
-fn is_unknown(file: &FileFacts) -> bool
+pub fn is_unknown(file: &FileFacts) -> bool
     ensures { result ≡ is_unknown file.now }
 {
     let path = file.path();

@@ -1,8 +1,13 @@
-ghost use Rattle.std.specs.Prelude.{◌↔◌, IfOk, IsTrue};
+ghost use Rattle.std.specs.Prelude.{◌≡◌, ◌↔◌, IfOk, IsTrue, is_some};
+ghost use Rattle.std.specs.Option.{option_map};
+ghost use Rattle.bag_digest.specs.Digests.{digests_by};
+ghost use Rattle.bag_tree.specs.Facts.{text_of};
+ghost use Rattle.bag_tree.specs.Path.{is_read_text};
 ghost use Rattle.bag_check.specs.Valid.{IsValid};
 
 use super::*;
-use bag_tree::{Facts, Tree, facts_of};
+use bag_digest::{Algorithms, Digester, Digests};
+use bag_tree::{Facts, FileFacts, Tree, TreeFile, facts_of, is_read_text};
 use bags::*;
 use fed_types::BagId;
 use std::alloc::{AllocError, Global};
@@ -30,21 +35,84 @@ fn add(alloc: Global, tree: &mut Tree, path: &str, parts: &[&str]) -> Result<(),
     Ok(())
 }
 
-fn facts_of_files(alloc: Global, files: &[File], more: &[File]) -> Result<Facts, Fail> {
+fn tree_of(alloc: Global, files: &[File], more: &[File]) -> Result<Tree, Fail> {
     let mut tree = Tree::new(alloc);
     for (path, parts) in files.iter().chain(more) {
         add(alloc, &mut tree, path, parts)?;
     }
+    Ok(tree)
+}
+
+fn facts_of_files(alloc: Global, files: &[File], more: &[File]) -> Result<Facts, Fail> {
+    let tree = tree_of(alloc, files, more)?;
     Ok(facts_of(alloc, &tree)?)
 }
 
-/// The number of the fault that checking these files answers, or 0 where they are a valid bag.
+/// The number of the fault that a check of these facts answers, or 0 where they are of a valid bag.
+fn number_of(alloc: Global, facts: &Facts) -> u8 {
+    match check(alloc, facts) {
+        Ok(_) => 0,
+        Err(fault) => fault.number(),
+    }
+}
+
+/// The same of these files.
 fn number(alloc: Global, files: &[File], more: &[File]) -> Result<u8, Fail> {
     let facts = facts_of_files(alloc, files, more)?;
-    match check(alloc, &facts) {
-        Ok(_) => Ok(0),
-        Err(fault) => Ok(fault.number()),
+    Ok(number_of(alloc, &facts))
+}
+
+fn digests_by(wanted: Algorithms, bytes: &[u8]) -> Digests
+    ensures { result ≡ digests_by wanted bytes.now }
+{
+    let mut digester = Digester::new(wanted);
+    digester.feed(bytes);
+    digester.finish()
+}
+
+/// A file's bytes, where it is a text that is read.
+fn text_of(alloc: Global, file: &TreeFile) -> Result<Option<Vec<u8>>, AllocError>
+    ensures text { IfOk result (λ text. option_map (λ t. t.items) text ≡ text_of file.now) }
+    ensures read { IfOk result (λ text. is_some text ≡ is_read_text file.now.path) }
+{
+    if is_read_text(file.path().as_bytes()) {
+        Ok(Some(Vec::from_slice(alloc, file.bytes())?))
+    } else {
+        Ok(None)
     }
+}
+
+/// The facts of a file, of which these digests alone are known.
+fn fact_by(alloc: Global, wanted: Algorithms, file: &TreeFile) -> Result<FileFacts, AllocError> {
+    let path = String::from_str(alloc, file.path())?;
+    let digests = digests_by(wanted, file.bytes());
+    let text = text_of(alloc, file)?;
+    Ok(FileFacts::new(path, digests, text))
+}
+
+fn facts_by(alloc: Global, wanted: Algorithms, tree: &Tree) -> Result<Facts, AllocError> {
+    let mut files = Vec::new(alloc);
+    for file in tree.files() {
+        files.push(fact_by(alloc, wanted, file)?)?;
+    }
+    Ok(Facts::new(files, tree.payload_exists()))
+}
+
+/// The algorithms of the manifests among a tree's files.
+fn named_in(tree: &Tree) -> Algorithms {
+    let mut named = Algorithms::none();
+    for file in tree.files() {
+        named = named.or(named_by(file.path()));
+    }
+    named
+}
+
+/// The number, where only those digests are known that the tree's manifests ask for.
+fn number_by_named(alloc: Global, files: &[File], more: &[File]) -> Result<u8, Fail> {
+    named_law();
+    let tree = tree_of(alloc, files, more)?;
+    let facts = facts_by(alloc, named_in(&tree), &tree)?;
+    Ok(number_of(alloc, &facts))
 }
 
 fn are_answered(
@@ -54,8 +122,12 @@ fn are_answered(
     cases: &[Case],
 ) -> Result<(), Fail> {
     for &(path, parts, want) in cases {
-        let found = number(alloc, files, &[(path, parts)])?;
-        assert_eq!(rt; found, want, "with {path} of {parts:?}");
+        let file = [(path, parts)];
+        let found = (
+            number(alloc, files, &file)?,
+            number_by_named(alloc, files, &file)?,
+        );
+        assert_eq!(rt; found, (want, want), "with {path} of {parts:?}");
     }
     Ok(())
 }
@@ -118,4 +190,70 @@ fn valid_bags_are_told_from_others(rt: HostRuntime) -> Result<(), Fail> {
     let empty = facts_of_files(rt.alloc(), &EMPTY, &[])?;
     let undeclared = facts_of_files(rt.alloc(), &WITHOUT_DECLARATION, &[])?;
     are_told(&rt, rt.alloc(), &empty, &undeclared)
+}
+
+const NONE: Algorithms = Algorithms {
+    md5: false,
+    sha1: false,
+    sha256: false,
+    sha512: false,
+};
+
+const BY_MD5: Algorithms = Algorithms { md5: true, ..NONE };
+
+const BY_SHA1: Algorithms = Algorithms { sha1: true, ..NONE };
+
+const BY_SHA256: Algorithms = Algorithms {
+    sha256: true,
+    ..NONE
+};
+
+const BY_SHA512: Algorithms = Algorithms {
+    sha512: true,
+    ..NONE
+};
+
+/// Paths, and the algorithms that a file there asks for.
+static NAMES: [(&str, Algorithms); 15] = [
+    ("manifest-md5.txt", BY_MD5),
+    ("manifest-sha1.txt", BY_SHA1),
+    ("manifest-sha256.txt", BY_SHA256),
+    ("manifest-sha512.txt", BY_SHA512),
+    ("tagmanifest-md5.txt", BY_MD5),
+    ("tagmanifest-sha1.txt", BY_SHA1),
+    ("tagmanifest-sha256.txt", BY_SHA256),
+    ("tagmanifest-sha512.txt", BY_SHA512),
+    ("manifest-md5.txt.bak", NONE),
+    ("data/manifest-md5.txt", NONE),
+    ("MANIFEST-md5.txt", NONE),
+    ("manifest-sha384.txt", NONE),
+    ("manifest-.txt", NONE),
+    ("bagit.txt", NONE),
+    ("", NONE),
+];
+
+#[test]
+fn algorithms_of_names(rt: HostRuntime) {
+    for &(path, want) in &NAMES {
+        assert_eq!(rt; named_by(path), want, "of {path}");
+    }
+}
+
+/// The fault where only these digests are known of the valid bag of one file.
+fn number_with(alloc: Global, wanted: Algorithms) -> Result<u8, Fail> {
+    let tree = tree_of(alloc, &OF_A, &[])?;
+    let facts = facts_by(alloc, wanted, &tree)?;
+    Ok(number_of(alloc, &facts))
+}
+
+#[test]
+fn a_digest_that_is_not_known_is_no_other(rt: HostRuntime) -> Result<(), Fail> {
+    let found = [
+        number_with(rt.alloc(), NONE)?,
+        number_with(rt.alloc(), BY_MD5)?,
+        number_with(rt.alloc(), BY_SHA512)?,
+        number_with(rt.alloc(), Algorithms::all())?,
+    ];
+    assert_eq!(rt; found, [14, 14, 0, 0]);
+    Ok(())
 }

@@ -2,10 +2,12 @@
 //! hand, or of bytes that come in pieces.
 #![tactic(auto)]
 
+mod algorithms;
 mod digester;
 mod digests;
 mod fed;
 
+pub use algorithms::Algorithms;
 pub use digester::Digester;
 pub use digests::Digests;
 

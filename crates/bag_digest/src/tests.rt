@@ -26,21 +26,93 @@ const ABC_SHA512: [u8; 64] = [
 #[test]
 fn digests_of_bytes(rt: HostRuntime) {
     let digests = Digests::of(b"abc");
-    assert_eq!(rt; digests.md5, ABC_MD5);
-    assert_eq!(rt; digests.sha1, ABC_SHA1);
-    assert_eq!(rt; digests.sha256, ABC_SHA256);
-    assert_eq!(rt; digests.sha512, ABC_SHA512);
+    assert_eq!(rt; digests.md5, Some(ABC_MD5));
+    assert_eq!(rt; digests.sha1, Some(ABC_SHA1));
+    assert_eq!(rt; digests.sha256, Some(ABC_SHA256));
+    assert_eq!(rt; digests.sha512, Some(ABC_SHA512));
 }
 
-#[test]
-fn digests_of_bytes_in_pieces(rt: HostRuntime) {
-    let mut digester = Digester::new();
+/// The wanted digests of `abc`, which comes in three pieces.
+fn digests_in_pieces(wanted: Algorithms) -> Digests {
+    let mut digester = Digester::new(wanted);
     for piece in [b"a".as_slice(), b"", b"bc"] {
         digester.feed(piece);
     }
-    let digests = digester.finish();
-    assert_eq!(rt; digests.by(Algorithm::Md5), ABC_MD5.as_slice());
-    assert_eq!(rt; digests.by(Algorithm::Sha1), ABC_SHA1.as_slice());
-    assert_eq!(rt; digests.by(Algorithm::Sha256), ABC_SHA256.as_slice());
-    assert_eq!(rt; digests.by(Algorithm::Sha512), ABC_SHA512.as_slice());
+    digester.finish()
+}
+
+/// The digests of `abc` by each algorithm, and the set of that algorithm alone.
+static EACH: [(Algorithm, Algorithms, &[u8]); 4] = [
+    (
+        Algorithm::Md5,
+        Algorithms {
+            md5: true,
+            sha1: false,
+            sha256: false,
+            sha512: false,
+        },
+        &ABC_MD5,
+    ),
+    (
+        Algorithm::Sha1,
+        Algorithms {
+            md5: false,
+            sha1: true,
+            sha256: false,
+            sha512: false,
+        },
+        &ABC_SHA1,
+    ),
+    (
+        Algorithm::Sha256,
+        Algorithms {
+            md5: false,
+            sha1: false,
+            sha256: true,
+            sha512: false,
+        },
+        &ABC_SHA256,
+    ),
+    (
+        Algorithm::Sha512,
+        Algorithms {
+            md5: false,
+            sha1: false,
+            sha256: false,
+            sha512: true,
+        },
+        &ABC_SHA512,
+    ),
+];
+
+#[test]
+fn digests_of_bytes_in_pieces(rt: HostRuntime) {
+    let all = digests_in_pieces(Algorithms::all());
+    for &(algorithm, _, digest) in &EACH {
+        assert_eq!(rt; all.by(algorithm), Some(digest));
+    }
+}
+
+#[test]
+fn only_the_wanted_digests(rt: HostRuntime) {
+    let none = digests_in_pieces(Algorithms::none());
+    for &(algorithm, alone, digest) in &EACH {
+        let digests = digests_in_pieces(alone);
+        for &(other, _, _) in &EACH {
+            let wanted = if alone.has(other) { Some(digest) } else { None };
+            assert_eq!(rt; digests.by(other), wanted);
+        }
+        assert_eq!(rt; (alone.has(algorithm), none.by(algorithm)), (true, None));
+    }
+}
+
+#[test]
+fn sets_of_algorithms(rt: HostRuntime) {
+    let mut found = Algorithms::none();
+    for &(algorithm, alone, _) in &EACH {
+        assert!(rt; !found.has(algorithm));
+        found = found.or(alone);
+        assert!(rt; found.has(algorithm));
+    }
+    assert_eq!(rt; found, Algorithms::all());
 }

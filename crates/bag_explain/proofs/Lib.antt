@@ -3,5 +3,7 @@ pub mod Numbering
 pub mod Repeated
 pub mod Explained
 pub mod LineLaws
+pub mod NumberLaws
 pub mod PlaceLaws
 pub mod FindingLaws
+pub mod NamedFindings

@@ -1,13 +1,13 @@
 -- What the lines of a manifest list one by one, and what its text lists.
 use Rattle.std.proofs.Common.{◌≡◌, ℕ, ◌+◌, Bool, true, false, ◌||◌, ◌&&◌, ◌==◌, cond, List, [], ◌∷◌}
-use Rattle.std.proofs.Common.{◌++◌, Option, Some, None, Result, Ok, Err, refl, sym, ap, ◌∙◌}
+use Rattle.std.proofs.Common.{◌++◌, Option, Some, None, Result, Ok, Err, refl, ap}
 use Rattle.std.specs.List.{list_any, list_all, onto_first}
 use Rattle.bag_text.specs.declared.algorithm.Algorithm.{Algorithm}
 use Rattle.bag_text.specs.ListedFile.{ListedFile}
 use Rattle.bag_text.specs.Lines.{lines_of, is_line_end, carriage_return, line_feed}
 use Rattle.bag_text.specs.Lines.{starts_with_line_feed}
 use Rattle.bag_text.specs.Blanks.{is_blank}
-use Rattle.bag_text.specs.Reading.{entries_of, files_from, file_in, onto_or, onto}
+use Rattle.bag_text.specs.Reading.{entries_of, files_from, file_in, onto_or}
 use Rattle.bag_explain.specs.Lines.{NumberedFile, numbered, if_malformed, numbered_from}
 use Rattle.bag_explain.specs.Lines.{malformed_from}
 use Rattle.bag_explain.specs.Places.{files_in}
@@ -15,7 +15,7 @@ use Rattle.bag_explain.specs.Findings.{has_some}
 
 -- ---- no line has an end of a line in it
 
-abbrev has_end : List ℕ → Bool
+abbrev pub has_end : List ℕ → Bool
 has_end line = list_any is_line_end line
 
 abbrev pub Endless : List (List ℕ) → Type 0
@@ -59,10 +59,10 @@ one_line byte (second ∷ rest) h =
     rw (ends.1, ends.0) (ap (onto_first byte) (one_line second rest parts.1))
 
 -- what a line says by itself
-abbrev said : Bool → Option ListedFile → Result (List ListedFile) ℕ
+abbrev pub said : Bool → Option ListedFile → Result (List ListedFile) ℕ
 said blank file = cond blank (Ok []) (onto_or file 1 (Ok []))
 
-line_says : (algorithm : Algorithm) (line : List ℕ) → has_end line ≡ false
+pub line_says : (algorithm : Algorithm) (line : List ℕ) → has_end line ≡ false
     → entries_of algorithm line ≡ said (list_all is_blank line) (file_in algorithm line)
 unfolding files_from lines_of
 line_says algorithm [] h = refl

@@ -1,13 +1,12 @@
 -- A fault holds exactly where it has a place.
-use Rattle.std.proofs.Common.{◌≡◌, ℕ, Bool, true, false, ◌||◌, ◌&&◌, not, List, [], ◌∷◌, ◌++◌, map}
-use Rattle.std.proofs.Common.{Option, Some, None, Result, Ok, Err, refl, sym, ap, ◌∙◌, subst}
-use Rattle.std.specs.Prelude.{is_err, codes}
+use Rattle.std.proofs.Common.{◌≡◌, ℕ, Bool, true, false, ◌||◌, List, [], ◌∷◌, ◌++◌}
+use Rattle.std.proofs.Common.{Option, Some, None, Result, Ok, Err, refl, sym, ap, ◌∙◌}
+use Rattle.std.specs.Prelude.{is_err}
 use Rattle.std.specs.List.{list_any, flat_map}
-use Rattle.std.specs.Str.{bytes_eq}
-use Rattle.std.proofs.lemmas.List.Folds.{flat_map-map, list_any-append}
+use Rattle.std.proofs.lemmas.List.Folds.{flat_map-map}
 use Rattle.bag_text.specs.ListedFile.{ListedFile}
 use Rattle.bag_text.specs.Lines.{lines_of}
-use Rattle.bag_text.specs.Reading.{declaration_of, entries_of}
+use Rattle.bag_text.specs.Reading.{declaration_of}
 use Rattle.bag_tree.specs.Facts.{FileFact, TreeFacts}
 use Rattle.bag_check.specs.declared.fault.BagFault.{BagFault}
 use Rattle.bag_check.specs.declared.fault.BagFault.TheVariants.{NoDeclaration, BadDeclaration}
@@ -21,17 +20,17 @@ use Rattle.bag_check.specs.declared.fault.BagFault.TheVariants.{UnlistedFile, Wr
 use Rattle.bag_check.specs.declared.manifests.Kind.{Kind}
 use Rattle.bag_check.specs.declared.manifests.Kind.TheVariants.{Payload, Tag}
 use Rattle.bag_check.specs.Manifests.{Manifest, manifests_of, entries, passes, is_malformed}
-use Rattle.bag_check.specs.Manifests.{is_listed, is_unknown}
+use Rattle.bag_check.specs.Manifests.{is_unknown}
 use Rattle.bag_check.specs.Check.{holds, is_bad_declaration, is_astray, is_missing, is_wrong}
-use Rattle.bag_check.specs.Check.{is_unlisted, repeats, if_payload, some_manifest, declaration_in}
+use Rattle.bag_check.specs.Check.{is_unlisted, repeats, if_payload, declaration_in}
 use Rattle.bag_check.proofs.Repeats.{same_any}
 use Rattle.bag_explain.specs.Lines.{NumberedFile, malformed_from, numbered_from}
-use Rattle.bag_explain.specs.Listings.{Listing, listing_by, listing_of, listings_of}
+use Rattle.bag_explain.specs.Listings.{Listing, listing_of, listings_of}
 use Rattle.bag_explain.specs.Listings.{unless_malformed}
 use Rattle.bag_explain.specs.Places.{Place, at_unlisted, name_of, places_of, when}
 use Rattle.bag_explain.specs.Places.{of_payload, files_in, faulty_line}
-use Rattle.bag_explain.specs.Places.{faulty_lines, unknown_at, repeated_after, malformed_at}
-use Rattle.bag_explain.specs.Places.{astray_at, repeated_at, missing_at, unlisted_at, wrong_at}
+use Rattle.bag_explain.specs.Places.{faulty_lines, unknown_at, repeated_after}
+use Rattle.bag_explain.specs.Places.{astray_at, repeated_at, missing_at, wrong_at}
 use Rattle.bag_explain.specs.Places.{malformed_places, astray_places, repeated_places}
 use Rattle.bag_explain.specs.Places.{missing_places, unlisted_places, wrong_places}
 use Rattle.bag_explain.specs.Findings.{has_some}

@@ -1,4 +1,5 @@
 pub mod Lines
+pub mod Numbers
 pub mod Listings
 pub mod Places
 pub mod Findings

@@ -3,21 +3,13 @@ use Rattle.std.specs.Prelude.{ℕ, List, [], ◌∷◌, map}
 use Rattle.bag_text.specs.declared.algorithm.Algorithm.{Algorithm}
 use Rattle.bag_text.specs.Lines.{lines_of}
 use Rattle.bag_tree.specs.Facts.{FileFact}
-use Rattle.bag_check.specs.declared.manifests.Kind as check
-use Rattle.bag_check.specs.declared.manifests.Kind.TheVariants as kinds
+use Rattle.bag_check.specs.declared.manifests.Kind.{Kind}
 use Rattle.bag_check.specs.Manifests.{Manifest, manifests_of}
-use Rattle.bag_explain.specs.declared.kind.Kind.{Kind}
-use Rattle.bag_explain.specs.declared.kind.Kind.TheVariants.{Payload, Tag}
 use Rattle.bag_explain.specs.Lines.{NumberedFile, numbered_from, malformed_from}
-
--- the kind of manifests, as bag_check's definitions have it
-abbrev pub kind_of : Kind → check.Kind
-kind_of Payload = kinds.Payload
-kind_of Tag = kinds.Tag
 
 -- a manifest: the numbers of its malformed lines, and what its lines list where none is malformed
 pub record Listing : Type 0 where
-  pub kind : check.Kind
+  pub kind : Kind
   pub algorithm : Algorithm
   pub malformed : List ℕ
   pub files : List NumberedFile

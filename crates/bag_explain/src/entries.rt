@@ -5,9 +5,7 @@ ghost use Rattle.std.specs.List.{flat_map};
 ghost use Rattle.std.specs.BTreeSet.{contains_by};
 ghost use Rattle.bag_tree.specs.Path.{is_payload};
 ghost use Rattle.bag_check.specs.Manifests.{is_listed};
-ghost use Rattle.bag_check.specs.Check.{is_astray, is_wrong};
 ghost use Rattle.schedule.specs.Pushes.{Pushes};
-ghost use Rattle.bag_explain.specs.Listings.{kind_of};
 ghost use Rattle.bag_explain.specs.Places.{when, entry_place, at_unlisted, files_in};
 ghost use Rattle.bag_explain.specs.Places.{astray_at, repeated_at, missing_at, unlisted_at};
 ghost use Rattle.bag_explain.specs.Places.{wrong_at};
@@ -17,13 +15,10 @@ ghost use Rattle.bag_explain.specs.Places.{repeated_after};
 ghost use Rattle.bag_explain.specs.Findings.{printed_places};
 ghost use Rattle.bag_explain.specs.inner.Stages.{fault_of, places_in, printed_in, printed_listings};
 
-use crate::files_by_path::FilesByPath;
-use crate::kind::Kind;
 use crate::listing::{Listing, NumberedEntry};
 use crate::print::{push_digest, push_entry, push_line, push_unlisted};
-use bag_check::BagFault;
-use bag_text::{Algorithm, Entry};
-use bag_tree::{FileFacts, has_unsafe_part, is_payload};
+use bag_check::{BagFault, FilesByPath, Kind, is_astray, is_wrong};
+use bag_tree::{FileFacts, is_payload};
 use std::alloc::{AllocError, Global};
 use std::collections::BTreeSet;
 
@@ -136,17 +131,6 @@ fn push_if_astray(
         return Ok(());
     }
     push_listed(text, BagFault::UnsafePath, listing, entry)
-}
-
-fn is_astray(kind: Kind, entry: &Entry) -> bool
-    ensures { result ≡ is_astray (kind_of kind) entry.now }
-{
-    let path = entry.path().as_bytes();
-    has_unsafe_part(path)
-        || match kind {
-            Kind::Payload => !is_payload(path),
-            Kind::Tag => is_payload(path),
-        }
 }
 
 // Appends the line of a fault of the path of an entry.
@@ -349,13 +333,4 @@ fn push_if_wrong(
         listing.name(),
         entry.line(),
     )
-}
-
-fn is_wrong(algorithm: Algorithm, files: &FilesByPath<'_>, entry: &Entry) -> bool
-    ensures { result ≡ is_wrong algorithm files.now entry.now }
-{
-    match files.file_at(entry.path()) {
-        None => false,
-        Some(file) => file.digests().by(algorithm) != entry.digest(),
-    }
 }

@@ -2,9 +2,9 @@ ghost use Rattle.std.specs.Prelude.{◌≡◌, IfOk, string_bytes};
 ghost use Rattle.bag_explain.specs.Findings.{explanation_of};
 
 use crate::entries::push_listings;
-use crate::files_by_path::FilesByPath;
 use crate::read_manifests::listings;
 use crate::tag_files::push_tag_files;
+use bag_check::FilesByPath;
 use bag_tree::Facts;
 use std::alloc::{AllocError, Global};
 

@@ -6,13 +6,16 @@ ghost use Rattle.bag_text.specs.declared.algorithm.Algorithm.{Algorithm};
 ghost use Rattle.bag_text.specs.Lines.{lines_of};
 ghost use Rattle.bag_text.specs.ListedFile.{ListedFile};
 ghost use Rattle.bag_text.specs.Reading.{entries_of};
-ghost use Rattle.bag_tree.specs.Facts.{TreeFacts};
+ghost use Rattle.bag_tree.specs.Tree.{Files};
+ghost use Rattle.bag_tree.specs.Facts.{TreeFacts, facts_of_tree};
 ghost use Rattle.bag_check.specs.declared.fault.BagFault.{BagFault};
 ghost use Rattle.bag_check.specs.Check.{holds, first_fault};
+ghost use Rattle.bag_check.specs.Named.{only_named, named_facts_of};
 ghost use Rattle.bag_check.specs.Valid.{IsValid};
-ghost use Rattle.bag_explain.specs.Lines.{numbered_from};
+ghost use Rattle.bag_explain.specs.Lines.{numbered_from, malformed_from};
+ghost use Rattle.bag_explain.specs.Numbers.{ListsAt, IsMalformedAt};
 ghost use Rattle.bag_explain.specs.Places.{places_of, files_in};
-ghost use Rattle.bag_explain.specs.Findings.{findings_of, has_some, first_of};
+ghost use Rattle.bag_explain.specs.Findings.{findings_of, explanation_of, has_some, first_of};
 
 /// A fault holds exactly where it has a place, so all that hold are among the findings, and no
 /// other; the first finding has the fault that a check answers; and there is no finding exactly
@@ -27,4 +30,25 @@ pub fn findings_law()
     ensures listed { (algorithm : Algorithm) (text : List ℕ) (files : List ListedFile)
         → entries_of algorithm text ≡ Ok files
         → files_in (numbered_from algorithm 1 (lines_of text)) ≡ files }
+{}
+
+/// The number of a line is its own: counted from 1 over all lines of the text, the line of this
+/// number lists the file that it is said to list, or is malformed where it is said to be.
+pub fn numbers_law()
+    ensures listed { (algorithm : Algorithm) (text : List ℕ)
+        → AllByRecursion (ListsAt algorithm (lines_of text))
+        (numbered_from algorithm 1 (lines_of text)) }
+    ensures malformed { (algorithm : Algorithm) (text : List ℕ)
+        → AllByRecursion (IsMalformedAt algorithm (lines_of text))
+        (malformed_from algorithm 1 (lines_of text)) }
+{}
+
+/// Where only the digests are known which a tree's manifests ask for, as their names say it, what
+/// is found wrong is what all digests show: of a tree's files, and of any facts.
+pub fn named_findings_law()
+    ensures findings { (tree : Files)
+        → findings_of (named_facts_of tree) ≡ findings_of (facts_of_tree tree) }
+    ensures explanation { (tree : Files)
+        → explanation_of (named_facts_of tree) ≡ explanation_of (facts_of_tree tree) }
+    ensures facts { (facts : TreeFacts) → findings_of (only_named facts) ≡ findings_of facts }
 {}

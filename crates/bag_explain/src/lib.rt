@@ -4,8 +4,6 @@
 
 mod entries;
 mod explain_bag;
-mod files_by_path;
-mod kind;
 mod law;
 mod listing;
 mod print;
@@ -13,7 +11,7 @@ mod read_manifests;
 mod tag_files;
 
 pub use explain_bag::explain;
-pub use law::findings_law;
+pub use law::{findings_law, named_findings_law, numbers_law};
 
 #[cfg(test)]
 mod tests;

@@ -1,6 +1,6 @@
 ghost use Rattle.std.specs.Prelude.{◌≡◌};
 
-use crate::kind::Kind;
+use bag_check::Kind;
 use bag_text::{Algorithm, Entry};
 use std::marker::Model;
 
@@ -49,12 +49,12 @@ pub(crate) struct Listing {
 }
 
 impl Model for Listing {
-    ghost use Rattle.bag_explain.specs.Listings.{Listing, kind_of};
+    ghost use Rattle.bag_explain.specs.Listings.{Listing};
 
     ghost Value = { Listing };
 
     ghost view = { λ l. record {
-      kind = kind_of l.kind;
+      kind = l.kind;
       algorithm = l.algorithm;
       malformed = l.malformed.items;
       files = l.entries.items;
@@ -62,8 +62,7 @@ impl Model for Listing {
 }
 
 impl Listing {
-    ghost use Rattle.bag_check.specs.Manifests.{manifest_name};
-    ghost use Rattle.bag_explain.specs.Listings.{kind_of, unless_malformed};
+    ghost use Rattle.bag_explain.specs.Listings.{unless_malformed};
     ghost use Rattle.bag_explain.specs.Places.{name_of};
 
     /// A manifest of this kind and algorithm has these malformed lines, and lists these entries.
@@ -74,7 +73,7 @@ impl Listing {
         entries: Vec<NumberedEntry>,
     ) -> Listing
         ensures { result ≡ record {
-          kind = kind_of kind;
+          kind = kind;
           algorithm = algorithm;
           malformed = malformed.items;
           files = unless_malformed malformed.items entries.items;
@@ -93,7 +92,7 @@ impl Listing {
     }
 
     pub(crate) fn kind(&self) -> Kind
-        ensures { kind_of result ≡ self.now.kind }
+        ensures { result ≡ self.now.kind }
     {
         self.kind
     }

@@ -3,11 +3,10 @@ ghost use Rattle.bag_text.specs.Lines.{lines_of};
 ghost use Rattle.bag_text.specs.Reading.{entries_of};
 ghost use Rattle.bag_check.specs.Manifests.{manifest_at, manifests_of_kind};
 ghost use Rattle.bag_explain.specs.Lines.{numbered, if_malformed};
-ghost use Rattle.bag_explain.specs.Listings.{kind_of, listing_of, listings_of};
+ghost use Rattle.bag_explain.specs.Listings.{listing_of, listings_of};
 
-use crate::files_by_path::FilesByPath;
-use crate::kind::Kind;
 use crate::listing::{Listing, NumberedEntry};
+use bag_check::{FilesByPath, Kind};
 use bag_text::{Algorithm, Entry, TextFault, lines, manifest};
 use std::alloc::{AllocError, Global};
 
@@ -29,7 +28,7 @@ fn read_kind(
     found: &mut Vec<Listing>,
 ) -> Result<(), AllocError>
     ensures { OnOk result (found.new.items
-        ≡ found.old.items ++ map listing_of (manifests_of_kind (kind_of kind) files.now)) }
+        ≡ found.old.items ++ map listing_of (manifests_of_kind kind files.now)) }
 {
     read(alloc, files, kind, Algorithm::Md5, found)?;
     read(alloc, files, kind, Algorithm::Sha1, found)?;
@@ -46,7 +45,7 @@ fn read(
     found: &mut Vec<Listing>,
 ) -> Result<(), AllocError>
     ensures { OnOk result (found.new.items
-        ≡ found.old.items ++ map listing_of (manifest_at (kind_of kind) algorithm files.now)) }
+        ≡ found.old.items ++ map listing_of (manifest_at kind algorithm files.now)) }
 {
     let Some(text) = files.text_at(kind.manifest_name(algorithm)) else {
         return Ok(());
@@ -64,7 +63,7 @@ fn read_text(
     text: &[u8],
 ) -> Result<Listing, AllocError>
     ensures { IfOk result (λ listing. listing ≡ listing_of record {
-      kind = kind_of kind;
+      kind = kind;
       algorithm = algorithm;
       text = text.now;
     }) }

@@ -12,10 +12,10 @@ ghost use Rattle.bag_explain.specs.Findings.{printed_places};
 ghost use Rattle.bag_explain.specs.inner.Stages.{tree_of, printed_faults, first_faults};
 ghost use Rattle.bag_explain.specs.inner.Stages.{printed_of};
 
-use crate::files_by_path::FilesByPath;
-use crate::kind::{Kind, is_unknown};
 use crate::print::{push_file, push_line};
-use bag_check::BagFault;
+use bag_check::{
+    BagFault, FilesByPath, Kind, is_supported_encoding, is_supported_version, is_unknown,
+};
 use bag_text::{Algorithm, TextFault, declaration};
 use bag_tree::PAYLOAD_FOLDER;
 use std::alloc::AllocError;
@@ -143,12 +143,6 @@ fn declares_other_version(declared: &[u8]) -> bool
     }
 }
 
-fn is_supported_version(version: &[u8]) -> bool
-    ensures { result ≡ is_supported_version version.now }
-{
-    version == b"1.0".as_slice() || version == b"0.97".as_slice()
-}
-
 fn has_other_encoding(declared: Option<&[u8]>) -> bool
     ensures { result ≡ declares_other (λ version encoding. is_supported_encoding encoding)
         (option_copied declared.entry) }
@@ -167,13 +161,6 @@ fn declares_other_encoding(declared: &[u8]) -> bool
         Ok(found) => !is_supported_encoding(found.encoding),
         Err(_) => false,
     }
-}
-
-/// An encoding's name is compared without its case.
-fn is_supported_encoding(encoding: &[u8]) -> bool
-    ensures { result ≡ is_supported_encoding encoding.now }
-{
-    encoding.eq_ignore_ascii_case(b"UTF-8")
 }
 
 // ---- which files there are

@@ -108,5 +108,7 @@ fn many_faults(rt: HostRuntime) -> Result<(), Fail> {
 #[test]
 fn laws(_rt: HostRuntime) -> Result<(), Fail> {
     findings_law();
+    named_findings_law();
+    numbers_law();
     Ok(())
 }

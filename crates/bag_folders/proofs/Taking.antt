@@ -11,11 +11,12 @@ use Rattle.bag_tree.specs.declared.fault.TreeFault.{TreeFault}
 use Rattle.bag_tree.specs.declared.fault.TreeFault.TheVariants.{Listing, NotAFile, TooDeep, TooMany}
 use Rattle.bag_tree.specs.declared.fault.TreeFault.TheVariants.{TextTooLong, Device, Memory}
 use Rattle.bag_tree.specs.declared.fault.TreeFault.TheVariants.{BadPath}
-use Rattle.bag_tree.specs.Facts.{FileFact, fact_of_file}
+use Rattle.bag_tree.specs.Facts.{FileFact, fact_by}
 use Rattle.bag_tree.specs.Fault.{RefusesFor}
 use Rattle.bag_tree.specs.Path.{is_read_text}
 use Rattle.bag_tree.specs.Tree.{File, longest_text, fault_of_text}
-use Rattle.bag_folders.specs.Pieces.{with_piece}
+use Rattle.bag_digest.specs.declared.algorithms.Algorithms.{Algorithms}
+use Rattle.bag_folders.specs.Pieces.{Hashed, with_piece, hashed_with}
 use Rattle.bag_folders.specs.Pieces.{IsReadFault}
 
 -- the file that is hashed has this path, its bytes are what the reader gave since it had these, and
@@ -43,12 +44,14 @@ taken_end file path had has now count room t e l p =
     whole file had has now t.gave (subst (λ n. Consumes has now (take n room)) e p.0) (p.1 e l)
 
 -- so the facts of that file are those of all that the reader had, which fits
-pub taken_facts : (file : File) (path : List ℕ) (had has : Option (List ℕ)) (facts : FileFact)
-    → Taken file path had has → facts ≡ fact_of_file file
-    → IfSome had (λ all. all ≡ file.bytes)
-    → IfSome had (λ all. facts ≡ fact_of_file record { path = path; bytes = all })
-taken_facts file path None has facts t e w = tt
-taken_facts file path (Some all) has facts t e w = rw (w, ← t.named) e
+pub taken_facts : (hashed : Hashed) (wanted : Algorithms) (path : List ℕ)
+    (had has : Option (List ℕ)) (facts : FileFact)
+    → Taken hashed.file path had has → hashed.wanted ≡ wanted
+    → facts ≡ fact_by hashed.wanted hashed.file
+    → IfSome had (λ all. all ≡ hashed.file.bytes)
+    → IfSome had (λ all. facts ≡ fact_by wanted record { path = path; bytes = all })
+taken_facts hashed wanted path None has facts t v e w = tt
+taken_facts hashed wanted path (Some all) has facts t v e w = rw (w, ← t.named, ← v) e
 
 pub taken_fits : (file : File) (path : List ℕ) (had has : Option (List ℕ)) → Taken file path had has
     → IfSome had (λ all. all ≡ file.bytes)
@@ -67,6 +70,18 @@ taken_more file fed path had has now piece t c e fits =
       gave = Consumes-trans had has now file.bytes piece t.gave c;
       fits = subst (λ p. fault_of_text p (file.bytes ++ piece) ≡ None) t.named fits;
     })
+
+-- the same of what is hashed, and of what is wanted of it
+pub hashed_more : (hashed fed : Hashed) (wanted : Algorithms) (path : List ℕ)
+    (had has now : Option (List ℕ)) (piece : List ℕ)
+    → Taken hashed.file path had has × (hashed.wanted ≡ wanted) → Consumes has now piece
+    → fed ≡ hashed_with hashed piece
+    → fault_of_text hashed.file.path (hashed.file.bytes ++ piece) ≡ None
+    → Taken fed.file path had now × (fed.wanted ≡ wanted)
+hashed_more hashed fed wanted path had has now piece t c e fits = (
+  taken_more hashed.file fed.file path had has now piece t.0 c (ap (λ h. h.file) e) fits,
+  ap (λ h. h.wanted) e ∙ t.1,
+)
 
 -- a read failed, and none of the bytes was lost
 pub taken_kept : (file : File) (path : List ℕ) (had has now : Option (List ℕ))

@@ -1,3 +1,4 @@
 pub mod Pieces
 pub mod Folders
+pub mod Disk
 pub mod inner

@@ -3,10 +3,21 @@ use Rattle.std.specs.Prelude.{◌≡◌, ◌⊎◌, ℕ, List, ◌++◌}
 use Rattle.bag_tree.specs.declared.fault.TreeFault.{TreeFault}
 use Rattle.bag_tree.specs.declared.fault.TreeFault.TheVariants.{Memory, Device, TextTooLong}
 use Rattle.bag_tree.specs.Tree.{File}
+use Rattle.bag_digest.specs.declared.algorithms.Algorithms.{Algorithms}
 
 -- the file with a piece more
 abbrev pub with_piece : File → List ℕ → File
 with_piece file piece = record { path = file.path; bytes = file.bytes ++ piece }
+
+-- a file of which these bytes came so far, and whose digests are wanted
+pub record Hashed : Type 0 where
+  pub wanted : Algorithms
+  pub file : File
+
+-- the same with a piece more
+abbrev pub hashed_with : Hashed → List ℕ → Hashed
+hashed_with hashed piece =
+    record { wanted = hashed.wanted; file = with_piece hashed.file piece }
 
 -- A reader that hasn't ended after so many reads counts as one that failed: a call has to end
 -- whatever the reader does. It is as many as a word of 32 bits counts, so files of 32 terabytes fit

@@ -2,7 +2,8 @@ use bag_tree::{Facts, TreeFault};
 
 /// Where folders are read from: a disk, or memory.
 pub trait Folders {
-    ghost use Rattle.std.specs.Prelude.{◌≡◌, ◌≢◌, ℕ, List, Result, Option, None, IfErr, IfSome};
+    ghost use Rattle.std.specs.Prelude.{◌≡◌, ◌≢◌, ℕ, List, Result, Option, Some, None};
+    ghost use Rattle.std.specs.Prelude.{IfErr, IfSome, option_copied};
     ghost use Rattle.bag_tree.specs.declared.fault.TreeFault.{TreeFault};
     ghost use Rattle.bag_tree.specs.declared.fault.TreeFault.TheVariants.{BadPath};
     ghost use Rattle.bag_tree.specs.Facts.{TreeFacts};
@@ -11,10 +12,19 @@ pub trait Folders {
     // What a read of each path gives, where it is known.
     ghost gives: { Self → Option (List ℕ → Result TreeFacts TreeFault) } = { λ _. None };
 
+    // Where each read that fails does so, where that is known.
+    ghost fails_at: { Self → Option (List ℕ) } = { λ _. None };
+
     /// The facts of the tree in the folder of this path, or the first reason found why it can't be
     /// read; which of several is left open. It is never `BadPath`.
     fn read(&mut self, path: &str) -> Result<Facts, TreeFault>
         ensures known { IfSome (gives self.old) (λ answer. IsOrMemory result (answer path.now)) }
         ensures kept { gives self.new ≡ gives self.old }
+        ensures place { fails_at self.new ≡ fails_at self.old }
         ensures faults { IfErr result (λ fault. fault ≢ BadPath) };
+
+    /// Where the last read failed, where that is known: a path below the folder, or `.` for the
+    /// folder itself.
+    fn failed_at(&self) -> Option<&str>
+        ensures { IfSome (fails_at self.now) (λ place. option_copied result ≡ Some place) };
 }

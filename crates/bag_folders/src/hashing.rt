@@ -1,17 +1,18 @@
 ghost use Rattle.std.specs.Prelude.{◌≡◌, if◌then◌else◌, [], ◌++◌, length, nat_lt};
 ghost use Rattle.std.specs.Prelude.{IfOk, OnOk, OnErr};
-ghost use Rattle.bag_tree.specs.Facts.{fact_of_file};
+ghost use Rattle.bag_tree.specs.Facts.{fact_by};
 ghost use Rattle.bag_tree.specs.Fault.{RefusesFor};
 ghost use Rattle.bag_tree.specs.Tree.{longest_text, fault_of_text};
-ghost use Rattle.bag_folders.specs.Pieces.{with_piece};
+ghost use Rattle.bag_folders.specs.Pieces.{hashed_with};
 
-use bag_digest::Digester;
+use bag_digest::{Algorithms, Digester};
 use bag_tree::{FileFacts, LONGEST_TEXT, TreeFault, is_read_text};
 use std::alloc::{AllocError, Global};
 use std::marker::Model;
 
 /// A file whose bytes come in pieces: `new`, a `feed` for each piece, and `finish`. A clause sees
-/// the file, with the bytes that came so far. Bytes are kept only of the texts that describe a bag.
+/// the file, with the bytes that came so far, and what is wanted of it. Bytes are kept only of the
+/// texts that describe a bag.
 #[derive(Drop)]
 pub struct Hashing {
     path: String,
@@ -22,21 +23,29 @@ pub struct Hashing {
 impl Model for Hashing {
     ghost use Rattle.std.specs.Prelude.{string_bytes};
     ghost use Rattle.std.specs.Option.{option_map};
-    ghost use Rattle.bag_tree.specs.Tree.{File};
+    ghost use Rattle.bag_folders.specs.Pieces.{Hashed};
     ghost use Rattle.bag_folders.specs.inner.Kept.{IsKept};
 
-    ghost Value = { File };
+    ghost Value = { Hashed };
 
-    ghost view = { λ h. record { path = string_bytes h.path; bytes = h.digester } };
+    ghost view = { λ h. record {
+      wanted = h.digester.wanted;
+      file = record { path = string_bytes h.path; bytes = h.digester.bytes };
+    } };
 
-    ghost invariant = { λ h. IsKept (record { path = string_bytes h.path; bytes = h.digester })
+    ghost invariant = { λ h.
+        IsKept (record { path = string_bytes h.path; bytes = h.digester.bytes })
         (option_map (λ t. t.items) h.text) };
 }
 
 impl Hashing {
-    /// A file of this path, of which no byte has come yet.
-    pub fn new(alloc: Global, path: &str) -> Result<Hashing, AllocError>
-        ensures { IfOk result (λ hashing. hashing ≡ record { path = path.now; bytes = [] }) }
+    /// A file of this path, of which no byte has come yet, and whose digests by these algorithms
+    /// are wanted.
+    pub fn new(alloc: Global, path: &str, wanted: Algorithms) -> Result<Hashing, AllocError>
+        ensures { IfOk result (λ hashing. hashing ≡ record {
+          wanted = wanted;
+          file = record { path = path.now; bytes = [] };
+        }) }
     {
         let text = if is_read_text(path.as_bytes()) {
             Some(Vec::new(alloc))
@@ -45,7 +54,7 @@ impl Hashing {
         };
         Ok(Hashing {
             path: String::from_str(alloc, path)?,
-            digester: Digester::new(),
+            digester: Digester::new(wanted),
             text,
         })
     }
@@ -54,8 +63,8 @@ impl Hashing {
     /// text that describes the bag would be over `LONGEST_TEXT`, and with `Memory`.
     pub fn feed(&mut self, piece: &[u8]) -> Result<(), TreeFault>
         ensures refused { RefusesFor
-            (fault_of_text self.old.path (self.old.bytes ++ piece.now)) result }
-        ensures ok { OnOk result (self.new ≡ with_piece self.old piece.now) }
+            (fault_of_text self.old.file.path (self.old.file.bytes ++ piece.now)) result }
+        ensures ok { OnOk result (self.new ≡ hashed_with self.old piece.now) }
         ensures err { OnErr result (self.new ≡ self.old) }
     {
         if let Some(text) = &mut self.text {
@@ -67,7 +76,7 @@ impl Hashing {
 
     /// The facts of the file, which has no further bytes.
     pub fn finish(self) -> FileFacts
-        ensures { result ≡ fact_of_file self }
+        ensures { result ≡ fact_by self.wanted self.file }
     {
         FileFacts::new(self.path, self.digester.finish(), self.text)
     }

@@ -3,18 +3,23 @@
 #![tactic(auto)]
 
 mod disk_folders;
+mod failure;
 mod folders;
 mod hashing;
+mod listing;
 mod memory_folders;
 mod read_file;
 mod walk;
+mod watched_file;
+mod watcher;
 
 pub use disk_folders::DiskFolders;
 pub use folders::Folders;
 pub use hashing::Hashing;
 pub use memory_folders::MemoryFolders;
-pub use read_file::{MOST_READS, hash_reader};
+pub use read_file::{MOST_READS, hash_reader, hash_watched};
 pub use walk::read_folder;
+pub use watcher::{Silent, Watcher};
 
 #[cfg(test)]
 mod tests;

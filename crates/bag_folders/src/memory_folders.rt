@@ -62,16 +62,22 @@ impl MemoryFolders {
 }
 
 impl Folders for MemoryFolders {
-    ghost use Rattle.std.specs.Prelude.{Some};
+    ghost use Rattle.std.specs.Prelude.{Some, codes};
     ghost use Rattle.bag_folders.specs.Folders.{read_of};
 
     ghost gives = { λ folders. Some (read_of folders) };
+
+    ghost fails_at = { λ _. Some (codes ".") };
 
     fn read(&mut self, path: &str) -> Result<Facts, TreeFault> {
         match tree_at(self.trees.as_slice(), path) {
             Some(named) => Ok(facts_of(self.alloc, &named.tree)?),
             None => Err(TreeFault::Listing),
         }
+    }
+
+    fn failed_at(&self) -> Option<&str> {
+        Some(".")
     }
 }
 

@@ -1,10 +1,14 @@
 ghost use Rattle.std.specs.Prelude.{◌≡◌, OnOk, IfOk, IfErr, IfSome, IsErrOf, Some, None};
 ghost use Rattle.std.specs.Io.KnownBytes.{IsAtEnd};
-ghost use Rattle.bag_tree.specs.Facts.{fact_of_file};
+ghost use Rattle.bag_tree.specs.Facts.{fact_by};
 ghost use Rattle.bag_tree.specs.Tree.{fault_of_text};
+ghost use Rattle.bag_folders.specs.Disk.{IsFactBy};
 ghost use Rattle.bag_folders.specs.Pieces.{IsReadFault, most_reads};
 
 use crate::hashing::Hashing;
+use crate::watched_file::WatchedFile;
+use crate::watcher::Watcher;
+use bag_digest::Algorithms;
 use bag_tree::{FileFacts, TreeFault};
 use std::alloc::Global;
 use std::io::{ErrorKind, Read};
@@ -15,17 +19,20 @@ pub const MOST_READS: u32 = u32::MAX;
 /// How many bytes are asked for at a time.
 const PIECE: usize = 8192;
 
-/// The facts of the file of this path whose bytes the reader has left, which are never held whole
-/// unless they are a text that describes a bag. Reads that were interrupted are tried again.
+/// The facts of the file of this path whose bytes the reader has left, with the digests that are
+/// wanted. The bytes are never held whole unless they are a text that describes a bag. Reads that
+/// were interrupted are tried again. Whatever the reader gives, the facts are those of some bytes.
 /// It is refused with `TextTooLong`, where such a text has over `LONGEST_TEXT` bytes; with
 /// `Device`, where a read failed or the reader didn't end within `MOST_READS`; or with `Memory`.
 pub fn hash_reader<R: Read>(
     alloc: Global,
     path: &str,
+    wanted: Algorithms,
     input: &mut R,
 ) -> Result<FileFacts, TreeFault>
+    ensures digests { IfOk result (λ facts. IsFactBy wanted path.now facts) }
     ensures facts { IfOk result (λ facts. IfSome (R.remaining input.old) (λ bytes.
-        facts ≡ fact_of_file (record { path = path.now; bytes = bytes }))) }
+        facts ≡ fact_by wanted (record { path = path.now; bytes = bytes }))) }
     ensures end { OnOk result (IsAtEnd (R.remaining input.new)) }
     ensures fits { IfOk result (λ facts. IfSome (R.remaining input.old) (λ bytes.
         fault_of_text path.now bytes ≡ None)) }
@@ -35,7 +42,7 @@ pub fn hash_reader<R: Read>(
     ensures faults { IfErr result IsReadFault }
     ensures limit { MOST_READS ≡ most_reads }
 {
-    let mut hashing = Hashing::new(alloc, path)?;
+    let mut hashing = Hashing::new(alloc, path, wanted)?;
     let mut piece = [0u8; PIECE];
     'reads: for _ in 0..MOST_READS {
         match input.read(&mut piece) {
@@ -49,4 +56,27 @@ pub fn hash_reader<R: Read>(
         }
     }
     Err(TreeFault::Device)
+}
+
+/// The same, while the watcher sees how many bytes are hashed: whatever it does, the facts are
+/// those of the file.
+pub fn hash_watched<R: Read, W: Watcher>(
+    alloc: Global,
+    path: &str,
+    wanted: Algorithms,
+    input: &mut R,
+    watcher: &mut W,
+) -> Result<FileFacts, TreeFault>
+    ensures digests { IfOk result (λ facts. IsFactBy wanted path.now facts) }
+    ensures facts { IfOk result (λ facts. IfSome (R.remaining input.old) (λ bytes.
+        facts ≡ fact_by wanted (record { path = path.now; bytes = bytes }))) }
+    ensures fits { IfOk result (λ facts. IfSome (R.remaining input.old) (λ bytes.
+        fault_of_text path.now bytes ≡ None)) }
+    ensures too_long { IsErrOf result TreeFault.TextTooLong
+        → IfSome (R.remaining input.old) (λ bytes.
+        fault_of_text path.now bytes ≡ Some TreeFault.TextTooLong) }
+    ensures faults { IfErr result IsReadFault }
+{
+    let mut watched = WatchedFile::new(input, watcher);
+    hash_reader(alloc, path, wanted, &mut watched)
 }

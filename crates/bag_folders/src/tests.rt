@@ -1,5 +1,5 @@
 use super::*;
-use bag_digest::Digests;
+use bag_digest::{Algorithms, Digests};
 use bag_tree::{FileFacts, LONGEST_TEXT, Tree, TreeFault};
 use std::alloc::Global;
 use std::io;
@@ -77,7 +77,7 @@ fn feed(hashing: &mut Hashing, pieces: &[&[u8]]) -> Result<(), TreeFault> {
 
 #[test]
 fn bytes_in_pieces(rt: HostRuntime) -> Result<(), Fail> {
-    let mut hashing = Hashing::new(rt.alloc(), "bagit.txt")?;
+    let mut hashing = Hashing::new(rt.alloc(), "bagit.txt", Algorithms::all())?;
     feed(&mut hashing, &[b"a", b"", b"bc"])?;
     is_of_abc(&rt, &hashing.finish(), "bagit.txt", Some(b"abc"));
     Ok(())
@@ -102,7 +102,7 @@ static INTERRUPTING: [Turn<'static>; 6] = [
 
 fn read_turns(alloc: Global, path: &str, turns: &[Turn<'_>]) -> Result<FileFacts, TreeFault> {
     let mut reader = Turns { turns };
-    hash_reader(alloc, path, &mut reader)
+    hash_reader(alloc, path, Algorithms::all(), &mut reader)
 }
 
 #[test]
@@ -128,7 +128,7 @@ fn read_one_by_one(rt: &impl Abort, alloc: Global, bytes: &[u8]) -> Result<(), F
         bytes,
         interrupted: false,
     };
-    let file = hash_reader(alloc, "manifest-x.txt", &mut reader)?;
+    let file = hash_reader(alloc, "manifest-x.txt", Algorithms::all(), &mut reader)?;
     assert!(rt; file.text() == Some(bytes) && file.digests() == &Digests::of(bytes));
     Ok(())
 }
@@ -155,7 +155,7 @@ fn refuses_a_long_piece(
 #[test]
 fn a_piece_beyond_the_limit_of_a_text(rt: HostRuntime) -> Result<(), Fail> {
     let long = vec![in rt.alloc(); b'x'; LONGEST_TEXT]?;
-    let mut hashing = Hashing::new(rt.alloc(), "manifest-x.txt")?;
+    let mut hashing = Hashing::new(rt.alloc(), "manifest-x.txt", Algorithms::all())?;
     refuses_a_long_piece(&rt, &mut hashing, &long)?;
     is_of_abc(&rt, &hashing.finish(), "manifest-x.txt", Some(b"abc"));
     Ok(())
@@ -195,6 +195,7 @@ fn has_two_folders(
         read_of(folders, "z"),
     ];
     assert_eq!(rt; read, [Ok(1), Ok(0), Err(TreeFault::Listing)]);
+    assert_eq!(rt; folders.failed_at(), Some("."));
     Ok(())
 }
 
@@ -209,8 +210,73 @@ fn folders_in_memory(rt: HostRuntime) -> Result<(), Fail> {
 #[test]
 fn a_folder_that_is_not_there(rt: HostRuntime) -> Result<(), Fail> {
     let mut folders = DiskFolders::new(rt.clone()?);
+    assert_eq!(rt; folders.failed_at(), None);
     let read = read_of(&mut folders, "no such folder");
     assert_eq!(rt; read, Err(TreeFault::Listing));
+    assert_eq!(rt; folders.failed_at(), Some("."));
     assert!(rt; read_folder(&rt, "").is_err());
     Ok(())
+}
+
+/// A watcher that counts what it sees.
+#[derive(Clone, Copy, Debug, Drop, PartialEq, Eq)]
+struct Counts {
+    files: u64,
+    bytes: u64,
+    hashed: u64,
+    done: u64,
+}
+
+const NOTHING: Counts = Counts {
+    files: 0,
+    bytes: 0,
+    hashed: 0,
+    done: 0,
+};
+
+impl Watcher for Counts {
+    fn listed(&mut self, files: u64, bytes: u64) {
+        self.files = files;
+        self.bytes = bytes;
+    }
+
+    fn hashed(&mut self, bytes: u64) {
+        self.hashed = self.hashed.saturating_add(bytes);
+    }
+
+    fn file_done(&mut self) {
+        self.done = self.done.saturating_add(1);
+    }
+}
+
+// A folder that isn't there is never listed.
+#[test]
+fn a_watched_folder(rt: HostRuntime) -> Result<(), Fail> {
+    let mut folders = DiskFolders::watched(rt.clone()?, NOTHING);
+    let read = read_of(&mut folders, "no such folder");
+    assert_eq!(rt; read, Err(TreeFault::Listing));
+    assert_eq!(rt; folders.watcher(), &NOTHING);
+    Ok(())
+}
+
+#[test]
+fn a_watched_file(rt: HostRuntime) -> Result<(), Fail> {
+    let mut counts = NOTHING;
+    let mut reader = OneByOne {
+        bytes: b"abc",
+        interrupted: false,
+    };
+    let wanted = Algorithms::all();
+    let file = hash_watched(rt.alloc(), "data/a", wanted, &mut reader, &mut counts)?;
+    is_of_abc(&rt, &file, "data/a", None);
+    assert_eq!(rt; counts.hashed, 3);
+    Ok(())
+}
+
+#[test]
+fn a_silent_watcher(_rt: HostRuntime) {
+    let mut silent = Silent;
+    silent.listed(2, 3);
+    silent.hashed(3);
+    silent.file_done();
 }

@@ -1,15 +1,25 @@
 -- What a checker knows of a tree of files.
-use Rattle.std.specs.Prelude.{ℕ, Bool, if◌then◌else◌, List, map, Option, Some, None}
+use Rattle.std.specs.Prelude.{◌≡◌, ℕ, Bool, if◌then◌else◌, List, map, Option, Some, None, is_some}
+use Rattle.sha2.specs.Sha512.{sha512}
+use Rattle.bag_digest.specs.declared.algorithms.Algorithms.{Algorithms}
 use Rattle.bag_digest.specs.declared.digests.Digests.{Digests}
-use Rattle.bag_digest.specs.Digests.{digests_of}
+use Rattle.bag_digest.specs.Algorithms.{all_algorithms}
+use Rattle.bag_digest.specs.Digests.{digests_by}
 use Rattle.bag_tree.specs.Path.{is_read_text}
 use Rattle.bag_tree.specs.Tree.{File, Files, payload_exists}
 
--- a file's path, its digests, and its bytes where it is a text that is read
+-- a file's path, the digests of it that are known, and its bytes where it is a text that is read
 pub record FileFact : Type 0 where
   pub path : List ℕ
   pub digests : Digests
   pub text : Option (List ℕ)
+
+-- What is kept of a file agrees with itself: its bytes are there exactly where they are of a text
+-- that is read, and their SHA-512, where it is there, is theirs.
+pub record IsConsistent (fact : FileFact) : Type 0 where
+  pub read : is_some fact.text ≡ is_read_text fact.path
+  pub sha512 : (bytes digest : List ℕ) → fact.text ≡ Some bytes
+      → fact.digests.sha512 ≡ Some digest → digest ≡ sha512 bytes
 
 -- a fact of each file, in the tree's order, and whether `data` exists
 pub record TreeFacts : Type 0 where
@@ -20,12 +30,17 @@ pub record TreeFacts : Type 0 where
 abbrev pub text_of : File → Option (List ℕ)
 text_of file = if is_read_text file.path then Some file.bytes else None
 
-abbrev pub fact_of_file : File → FileFact
-fact_of_file file = record {
+-- the fact of a file of which these digests are wanted
+abbrev pub fact_by : Algorithms → File → FileFact
+fact_by wanted file = record {
   path = file.path;
-  digests = digests_of file.bytes;
+  digests = digests_by wanted file.bytes;
   text = text_of file;
 }
+
+-- the fact with all digests
+abbrev pub fact_of_file : File → FileFact
+fact_of_file file = fact_by all_algorithms file
 
 abbrev pub facts_of_tree : Files → TreeFacts
 facts_of_tree tree = record {

@@ -16,8 +16,8 @@ use Rattle.bag_tree.specs.Path.{is_read_text}
 abbrev pub deepest_path : ℕ
 deepest_path = 32
 
--- The most files of a tree. What a checker keeps of each, its path and 132 bytes of digests, then
--- fits in some tens of megabytes.
+-- The most files of a tree. What a checker keeps of each, its path and 136 bytes for its digests,
+-- then fits in some tens of megabytes.
 abbrev pub most_files : ℕ
 most_files = 100000
 

@@ -1,15 +1,17 @@
 ghost use Rattle.std.specs.Prelude.{◌≡◌, IfOk, is_some};
+ghost use Rattle.std.specs.Option.{option_copied, option_map};
+ghost use Rattle.sha2.specs.Sha512.{sha512};
 ghost use Rattle.bag_tree.specs.Path.{is_read_text};
-ghost use Rattle.std.specs.Option.{option_copied};
 
 use crate::path::is_read_text;
 use crate::tree::TreeFile;
 use bag_digest::Digests;
+use sha2::{Digest, Sha512};
 use std::alloc::{AllocError, Global};
 use std::marker::Model;
 
-/// What a checker knows of one file: its path, its digests, and its bytes where it is one of the
-/// texts that describe a bag.
+/// What a checker knows of one file: its path, those of its digests that were wanted, and its bytes
+/// where it is one of the texts that describe a bag.
 #[derive(Drop)]
 pub struct FileFacts {
     path: String,
@@ -20,9 +22,7 @@ pub struct FileFacts {
 impl Model for FileFacts {
     ghost use Rattle.std.specs.Prelude.{string_bytes};
     ghost use Rattle.std.specs.Option.{option_map};
-    ghost use Rattle.std.specs.Prelude.{◌≡◌, is_some};
-    ghost use Rattle.bag_tree.specs.Path.{is_read_text};
-    ghost use Rattle.bag_tree.specs.Facts.{FileFact};
+    ghost use Rattle.bag_tree.specs.Facts.{FileFact, IsConsistent};
 
     ghost Value = { FileFact };
 
@@ -32,18 +32,24 @@ impl Model for FileFacts {
       text = option_map (λ t. t.items) f.text;
     } };
 
-    // The bytes are there exactly where they are of a text that is read.
-    ghost invariant = { λ f. is_some f.text ≡ is_read_text (string_bytes f.path) };
+    ghost invariant = { λ f. IsConsistent (record {
+      path = string_bytes f.path;
+      digests = f.digests;
+      text = option_map (λ t. t.items) f.text;
+    }) };
 }
 
 impl FileFacts {
     ghost use Rattle.std.specs.Prelude.{string_bytes};
-    ghost use Rattle.std.specs.Option.{option_map};
-    ghost use Rattle.bag_tree.specs.Facts.{fact_of_file};
+    ghost use Rattle.bag_tree.specs.Facts.{IsConsistent, fact_of_file};
 
     /// A file's path and digests, and its bytes where it is a text that is read.
     pub fn new(path: String, digests: Digests, text: Option<Vec<u8>>) -> FileFacts
-        requires { is_some text ≡ is_read_text (string_bytes path) }
+        requires { IsConsistent (record {
+          path = string_bytes path;
+          digests = digests;
+          text = option_map (λ t. t.items) text;
+        }) }
         ensures { result ≡ record {
           path = string_bytes path;
           digests = digests;
@@ -57,7 +63,7 @@ impl FileFacts {
         }
     }
 
-    /// The facts of one file of a tree.
+    /// The facts of one file of a tree, with all digests.
     pub(crate) fn of(alloc: Global, file: &TreeFile) -> Result<FileFacts, AllocError>
         ensures { IfOk result (λ facts. facts ≡ fact_of_file file.now) }
     {
@@ -78,7 +84,7 @@ impl FileFacts {
         self.path.as_str()
     }
 
-    /// The digests of the file's bytes.
+    /// The digests of the file's bytes that were wanted.
     pub fn digests(&self) -> &Digests
         ensures { result.now ≡ self.now.digests }
     {
@@ -93,6 +99,18 @@ impl FileFacts {
         match &self.text {
             None => None,
             Some(text) => Some(text.as_slice()),
+        }
+    }
+
+    /// The SHA-512 of the file's bytes, where it is one of the texts that describe a bag. It is
+    /// computed only where it wasn't wanted before.
+    pub fn sha512_of_text(&self) -> Option<[u8; 64]>
+        ensures { result ≡ option_map sha512 self.now.text }
+    {
+        match (&self.text, self.digests.sha512) {
+            (None, _) => None,
+            (Some(_), Some(digest)) => Some(digest),
+            (Some(text), None) => Some(Sha512::digest(text.as_slice())),
         }
     }
 }

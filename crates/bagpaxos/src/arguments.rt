@@ -1,10 +1,10 @@
 //! What the program's arguments ask for.
 
-use crate::send_arguments::{SendTask, send_command, send_task};
-use crate::site_arguments::{SiteTask, site_command, site_task};
 use clap::error::ErrorKind;
 use clap::{Arg, ArgAction, ArgMatches, Command, Error};
+use folder_checks::{CheckTask, check_command, check_task};
 use lines::Options;
+use site_commands::{SendTask, SiteTask, send_command, send_task, site_command, site_task};
 use std::alloc::{AllocError, Global};
 
 const ABOUT: &str =
@@ -44,48 +44,13 @@ The exit status is 0; 1 where the text is no schedule (`schedule line N`), memor
 Example:
   printf 'federation 7 3\\nquery 1 a 1\\n' | bagpaxos run";
 
-const CHECK_ABOUT: &str = "Checks whether a folder is a valid BagIt bag, and prints its identity";
-
-const CHECK_EXAMPLE: &str = "It prints one line:
-  valid HEX     a valid bag; HEX is its identity, the SHA-512 of its manifest-sha512.txt
-  invalid N     no valid bag; N is the first fault that holds:
-                  1 no bagit.txt                 8 a manifest of an unknown algorithm
-                  2 bagit.txt is malformed       9 a malformed line in a manifest
-                  3 neither BagIt 1.0 nor 0.97  10 an unsafe path in a manifest
-                  4 an encoding but UTF-8       11 a path twice in a payload manifest
-                  5 there is a fetch.txt        12 a listed file is missing
-                  6 no payload folder data      13 a payload file is not listed
-                  7 no manifest-sha512.txt      14 a file has another digest than the listed one
-                                                15 out of memory
-  unread N      a folder that can't be read:
-                  1 a folder can't be listed     4 over 100,000 files and folders
-                  2 neither file nor folder      5 a manifest over 64 MiB
-                  3 a path of over 32 parts      6 a file can't be read
-                                                 7 out of memory
-  memory        out of memory, before or after the folder was read
-
-With --explain, a line for each thing that is wrong comes after it, as the number of the fault and
-where it is:
-  6 data                                           a file or folder
-  9 manifest-md5.txt:2                             a line of a text
-  12 data/b.txt manifest-md5.txt:3                 a path that the line of a manifest lists
-  13 data/c.txt manifest-md5.txt                   a file that a manifest doesn't list
-  14 data/a.txt md5 manifest-md5.txt:1             a file, the algorithm, and the line
-
-The exit status is 0 for a valid bag, 1 for all else, and 2 for a mistake in the arguments.
-
-Example:
-  bagpaxos check path/to/bag";
-
 /// What the program is asked to do.
-#[derive(Clone, Copy, Debug)]
+#[derive(Debug, Drop)]
 pub enum Task<'a> {
     /// Run a schedule.
     Run(Options),
-    /// Check the folder of this path.
-    Check(&'a str),
-    /// Check it, and say all that is wrong.
-    Explain(&'a str),
+    /// Check folders.
+    Check(CheckTask<'a>),
     /// Serve as a site.
     Site(SiteTask<'a>),
     /// Ask a site that serves.
@@ -96,7 +61,7 @@ pub enum Task<'a> {
 /// clap's that goes to standard output, with status 0.
 pub fn task_of(alloc: Global, words: &[String]) -> Result<Option<Task<'_>>, Error> {
     let matches = command(alloc)?.try_get_matches_from(words)?;
-    let task = task_in(&matches);
+    let task = task_in(alloc, &matches)?;
     if let Some(Task::Send(send)) = &task {
         if let Some(mistake) = send.mistake() {
             return Err(command(alloc)?.error(ErrorKind::ValueValidation, mistake)?);
@@ -105,7 +70,14 @@ pub fn task_of(alloc: Global, words: &[String]) -> Result<Option<Task<'_>>, Erro
     Ok(task)
 }
 
-fn task_in<'a>(matches: &ArgMatches<'a>) -> Option<Task<'a>> {
+fn task_in<'a>(alloc: Global, matches: &ArgMatches<'a>) -> Result<Option<Task<'a>>, AllocError> {
+    if let Some(check) = matches.subcommand_matches("check") {
+        return Ok(Some(Task::Check(check_task(alloc, check)?)));
+    }
+    Ok(other_task_in(matches))
+}
+
+fn other_task_in<'a>(matches: &ArgMatches<'a>) -> Option<Task<'a>> {
     if let Some(run) = matches.subcommand_matches("run") {
         return Some(Task::Run(Options {
             sent: run.get_flag("sent"),
@@ -118,18 +90,10 @@ fn task_in<'a>(matches: &ArgMatches<'a>) -> Option<Task<'a>> {
             None => None,
         };
     }
-    if let Some(send) = matches.subcommand_matches("send") {
-        return match send_task(send) {
-            Some(task) => Some(Task::Send(task)),
-            None => None,
-        };
+    match send_task(matches.subcommand_matches("send")?) {
+        Some(task) => Some(Task::Send(task)),
+        None => None,
     }
-    let check = matches.subcommand_matches("check")?;
-    let folder = check.get_str("FOLDER")?;
-    if check.get_flag("explain") {
-        return Some(Task::Explain(folder));
-    }
-    Some(Task::Check(folder))
 }
 
 fn command<'a>(alloc: Global) -> Result<Command<'a>, AllocError> {
@@ -158,19 +122,4 @@ fn run_command<'a>(alloc: Global) -> Result<Command<'a>, AllocError> {
         .after_help(RUN_EXAMPLE)
         .arg(sent)?
         .arg(identities)
-}
-
-fn check_command<'a>(alloc: Global) -> Result<Command<'a>, AllocError> {
-    let folder = Arg::new(alloc, "FOLDER")
-        .required(true)
-        .help("The bag's folder");
-    let explain = Arg::new(alloc, "explain")
-        .long("explain")
-        .action(ArgAction::SetTrue)
-        .help("Then print a line for each thing that is wrong");
-    Command::new(alloc, "check")
-        .about(CHECK_ABOUT)
-        .after_help(CHECK_EXAMPLE)
-        .arg(explain)?
-        .arg(folder)
 }

@@ -2,12 +2,11 @@
 
 ghost use Rattle.std.specs.Prelude.{◌≡◌, IfOk, IfSome, IsErrOf, string_bytes};
 ghost use Rattle.std.specs.Io.KnownBytes.{Keeps};
-ghost use Rattle.bagpaxos.specs.Outcomes.{outcome_of, AnswersTo, Writes, WritesPrefix};
+ghost use Rattle.outcomes.specs.Outcomes.{Writes, WritesPrefix};
+ghost use Rattle.bagpaxos.specs.Runs.{outcome_of, AnswersTo};
 
-use crate::answer::{Answer, write_answer};
-use crate::fault::ProgramFault;
-use crate::read_all::{ReadFault, read_all};
 use lines::Options;
+use outcomes::{Answer, ProgramFault, ReadFault, read_all, write_answer};
 use schedule::{ParseFault, parse};
 use simulator::{RunFault, run, text};
 use std::alloc::{AllocError, Global};
@@ -43,7 +42,7 @@ pub fn run_on<R: Read, W: Write>(
 }
 
 /// The status and the text for the bytes of a schedule.
-#[tactic(auto, unfolding(crate::specs::Outcomes::outcome_of))]
+#[tactic(auto, unfolding(crate::specs::Runs::outcome_of))]
 fn answer_to(alloc: Global, bytes: &[u8], options: Options) -> Result<Answer, AllocError>
     ensures status { IfOk result
         (λ a. a.status ≡ (outcome_of options bytes.now).status) }

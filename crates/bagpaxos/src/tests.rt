@@ -1,17 +1,10 @@
-use crate::check_on::check_on;
-use crate::explain_on::explain_on;
-use crate::fault::ProgramFault;
-use crate::read_all::{ReadFault, read_within};
 use crate::run_on::run_on;
-use bag_folders::MemoryFolders;
-use bag_tree::Tree;
 use lines::Options;
+use outcomes::ProgramFault;
 use std::alloc::Global;
 use std::io;
 use std::io::{ErrorKind, Read, Write};
 use std::test::Fail;
-
-mod serving;
 
 /// The empty bag is deposited at site 1 and asked for there.
 const EMPTY_BAG: &str = "federation 7 3
@@ -130,14 +123,7 @@ fn a_flush_that_fails(rt: HostRuntime) -> Result<(), Fail> {
         run_on(alloc, &mut input, &mut output, BY_TREE),
         Err(ProgramFault::Output)
     );
-    let mut folders = MemoryFolders::new(alloc);
-    let mut output = with_room(alloc, 1000);
-    output.flush_fails = true;
-    assert_eq!(rt;
-        check_on(alloc, &mut folders, "gone", &mut output),
-        Err(ProgramFault::Output)
-    );
-    assert_eq!(rt; output.taken.as_slice(), b"unread 1\n".as_slice());
+    assert_eq!(rt; output.taken.as_slice(), SAID.as_bytes());
     Ok(())
 }
 
@@ -195,100 +181,5 @@ fn a_write_that_fails(rt: HostRuntime) -> Result<(), Fail> {
             SAID.as_bytes().get(..room).unwrap_or(b"")
         );
     }
-    Ok(())
-}
-
-/// Each piece is a read, and so are the interruption before it and the read that finds the end.
-#[test]
-fn a_reader_without_an_end(rt: HostRuntime) -> Result<(), Fail> {
-    let text = "12345";
-    for limit in 0..8 {
-        let mut input = in_pieces(text, 2, usize::MAX);
-        assert_eq!(rt;
-            read_within(rt.alloc(), &mut input, limit).err(),
-            Some(ReadFault::Input)
-        );
-    }
-    let mut input = in_pieces(text, 2, usize::MAX);
-    let bytes = read_within(rt.alloc(), &mut input, 8)?;
-    assert_eq!(rt; bytes.as_slice(), text.as_bytes());
-    Ok(())
-}
-
-#[test]
-fn numbers_of_faults(rt: HostRuntime) {
-    assert_eq!(rt; ProgramFault::Input.number(), 1);
-    assert_eq!(rt; ProgramFault::Output.number(), 2);
-}
-
-const DECLARATION: &[u8] = b"BagIt-Version: 1.0\nTag-File-Character-Encoding: UTF-8\n";
-
-/// A manifest of one file, whose content is `abc`.
-const MANIFEST: &[u8] =
-    b"ddaf35a193617abacc417349ae20413112e6fa4e89a97ea20a9eeee64b55d39a2192992a274fc1a836ba3c23a3feebbd454d4423643ce80e2a9ac94fa54ca49f  data/a.txt\n";
-
-/// What GNU's sha512sum says of it.
-const VALID: &str =
-    "valid 215bd58c6a916674a9510b1073640601453a663b0d8fc20ee1ae1c7f39d891190c7c6e1f1431a58c83e9a90fc801f4abd1b48ab183c8116af3ee9b58f17cde56\n";
-
-/// A valid bag in the folder `valid`, and one whose file has another content in the folder `changed`.
-fn two_bags(alloc: Global) -> Result<MemoryFolders, Fail> {
-    let mut folders = MemoryFolders::new(alloc);
-    for (name, content) in [("valid", b"abc"), ("changed", b"abd")] {
-        let mut tree = Tree::new(alloc);
-        tree.add("bagit.txt", DECLARATION)?;
-        tree.add("manifest-sha512.txt", MANIFEST)?;
-        tree.add("data/a.txt", content)?;
-        folders.add(name, tree)?;
-    }
-    Ok(folders)
-}
-
-#[test]
-fn verdicts(rt: HostRuntime) -> Result<(), Fail> {
-    let mut folders = two_bags(rt.alloc())?;
-    for (path, status, line) in [
-        ("valid", 0u8, VALID),
-        ("changed", 1, "invalid 14\n"),
-        ("elsewhere", 1, "unread 1\n"),
-    ] {
-        let mut output = Vec::new(rt.alloc());
-        assert_eq!(rt;
-            check_on(rt.alloc(), &mut folders, path, &mut output),
-            Ok(status)
-        );
-        assert_eq!(rt; output.as_slice(), line.as_bytes());
-    }
-    Ok(())
-}
-
-#[test]
-fn a_verdict_that_cannot_be_written(rt: HostRuntime) -> Result<(), Fail> {
-    let mut folders = two_bags(rt.alloc())?;
-    let line = "invalid 14\n".as_bytes();
-    for room in 0..line.len() {
-        let mut output = with_room(rt.alloc(), room);
-        assert_eq!(rt;
-            check_on(rt.alloc(), &mut folders, "changed", &mut output),
-            Err(ProgramFault::Output)
-        );
-        assert_eq!(rt; output.taken.as_slice(), line.get(..room).unwrap_or(b""));
-    }
-    Ok(())
-}
-
-#[test]
-fn all_that_is_wrong(rt: HostRuntime) -> Result<(), Fail> {
-    let alloc = rt.alloc();
-    let mut folders = MemoryFolders::new(alloc);
-    folders.add("empty", Tree::new(alloc))?;
-    let mut output = Vec::new(alloc);
-    assert_eq!(rt;
-        explain_on(alloc, &mut folders, "empty", &mut output),
-        Ok(1)
-    );
-    assert_eq!(rt; explain_on(alloc, &mut folders, "gone", &mut output), Ok(1));
-    let want = "invalid 1\n1 bagit.txt\n6 data\n7 manifest-sha512.txt\nunread 1\n";
-    assert_eq!(rt; output.as_slice(), want.as_bytes());
     Ok(())
 }

@@ -151,12 +151,3 @@ fn datagrams_where_they_are_asked_for(rt: HostRuntime) -> Result<(), Fail> {
     assert_eq!(rt; said.as_str(), "");
     Ok(())
 }
-
-#[test]
-fn texts_that_are_written(rt: HostRuntime) -> Result<(), Fail> {
-    let mut output = Vec::new(rt.alloc());
-    assert_eq!(rt; write_all(&mut output, b"down 3\n"), Ok(()));
-    assert_eq!(rt; write_all(&mut output, b""), Ok(()));
-    assert_eq!(rt; output.as_slice(), b"down 3\n".as_slice());
-    Ok(())
-}

@@ -1,16 +1,14 @@
 -- A site that is called between turns.
 use Rattle.std.proofs.Common.{◌≡◌, ◌↔◌, Bool, true, false, inl, inr, Option, Some, None, IsSome}
-use Rattle.std.proofs.Common.{Result, Ok, Err, refl, sym, subst, ap, ◌∙◌}
+use Rattle.std.proofs.Common.{Result, Ok, Err, refl, sym, subst, ◌∙◌}
 use Rattle.std.specs.Prelude.{IsErrOf}
 use Rattle.cell_device.specs.Devices.{Device}
 use Rattle.records.specs.declared.record.Record.{Record}
-use Rattle.book.specs.declared.fault.CommitFault.TheVariants as commits
-use Rattle.book.specs.Volumes.{Volume}
 use Rattle.proposer.specs.Sessions.{Session}
 use Rattle.site.specs.declared.answer.Answer.{Answer}
 use Rattle.site.specs.declared.fault.SiteFault.{SiteFault}
 use Rattle.site.specs.declared.fault.SiteFault.TheVariants as faults
-use Rattle.site.specs.Answered.{IsAnswered, Gives, Keeps, Commits}
+use Rattle.site.specs.Answered.{IsAnswered, Keeps}
 use Rattle.site.specs.Calls.{Input}
 use Rattle.site.specs.Effects.{Effect}
 use Rattle.site.specs.Sites.{OpenSite, StandsFor, effect}

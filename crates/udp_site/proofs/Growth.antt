@@ -1,7 +1,7 @@
 -- Traffic that grows, and bytes that are appended, one part after another.
 use Rattle.std.specs.Prelude.{◌≡◌, ℕ, List, [], ◌++◌, Option, Some, None}
 use Rattle.std.specs.Io.KnownBytes.{Appends}
-use Rattle.std.proofs.Common.{sym, ap, ◌∙◌, append_assoc, append-nil, subst, refl}
+use Rattle.std.proofs.Common.{sym, ap, ◌∙◌, append_assoc, append-nil, subst}
 use Rattle.udp_site.specs.Traffic.{Move, Grows}
 
 pub Grows-trans : (a b c : Option (List Move)) (m n : List Move) → Grows a b m → Grows b c n

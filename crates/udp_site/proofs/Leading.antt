@@ -1,18 +1,18 @@
 -- Turns, and then one more.
-use Rattle.std.specs.Prelude.{◌≡◌, ℕ, ◌+◌, ◌<◌, false, List, [], ◌∷◌, ◌++◌, length, Option, Some}
+use Rattle.std.specs.Prelude.{◌≡◌, ℕ, ◌+◌, ◌<◌, false, List, [], ◌∷◌, ◌++◌, length}
 use Rattle.std.specs.Prelude.{Result, Ok, Err, IsErrAnd}
 use Rattle.std.specs.List.{flat_map}
 use Rattle.std.specs.Io.KnownBytes.{Appends}
-use Rattle.std.proofs.Common.{inl, inr, refl, ap, sym, ◌∙◌, subst, append-nil, length-append, arith}
+use Rattle.std.proofs.Common.{inl, inr, refl, ap, sym, ◌∙◌, subst, append-nil, length-append}
 use Rattle.std.proofs.lemmas.List.{flat_map_more}
-use Rattle.lines.proofs.KnownBytes.{Appends-trans}
+use Rattle.outcomes.proofs.KnownBytes.{Appends-trans}
 use Rattle.site.specs.Sites.{OpenSite}
 use Rattle.udp_site.specs.declared.fault.ServeFault.{ServeFault}
 use Rattle.udp_site.specs.declared.fault.ServeFault.TheVariants as faults
 use Rattle.udp_site.specs.Traffic.{Move, Grows}
 use Rattle.udp_site.specs.Turns.{Serving, IsServing}
 use Rattle.udp_site.specs.Served.{Rule, Outside, Turned, Leads, Shows, moves_of, text_of}
-use Rattle.udp_site.specs.Served.{is_the_last, EndsBetween, EndsWithin, EndsByTheCell, Serves}
+use Rattle.udp_site.specs.Served.{is_the_last, EndsBetween, EndsWithin, Serves}
 use Rattle.udp_site.specs.inner.OneTurn.{Adds, Whole, Part, OneTurn}
 use Rattle.udp_site.specs.inner.OneTurn as one
 use Rattle.udp_site.proofs.Growth.{Grows-trans, Grows-none, Appends-none}
@@ -102,26 +102,26 @@ module _ {C : Type 0} (rule : Rule C) where
       short : length so_far.1 < wanted
       short = subst (λ (n : ℕ). n < wanted) (sym so_far.6) fewer
 
-      between : one.None rule mid after so_far.0 new
-          → EndsBetween rule before after start so_far.0 so_far.1
-      between none = (so_far.7, shows_more before mid after so_far.1 [] [] so_far.8 none.1)
+      between : (moves : List Move) → one.None rule mid after so_far.0 new moves
+          → EndsBetween rule before after start so_far.0 so_far.1 moves
+      between moves none =
+          (so_far.7, shows_more before mid after so_far.1 moves [] so_far.8 none.1)
 
-      within : (part : Part rule mid after so_far.0 new)
-          → EndsWithin rule before after start part.1 so_far.1
-      within (turn, next, comes, site, moves, text, adds) = (
+      within : (moves : Turned → List Move) (text : Turned → List ℕ)
+          (part : Part rule mid after so_far.0 new moves text)
+          → EndsWithin rule before after start part.1 so_far.1 moves text
+      within moves text (turn, next, comes, site, adds) = (
         so_far.0,
         so_far.7,
         turn,
         comes,
-        moves,
-        text,
-        shows_more before mid after so_far.1 _ _ so_far.8 adds,
+        shows_more before mid after so_far.1 (moves turn) (text turn) so_far.8 adds,
       )
 
       pub ended : (fault : ServeFault)
           → OneTurn rule mid after so_far.0 new idle_then tried_then (Err fault)
           → Ended wanted (Err fault)
-      ended faults.Port none = (so_far.0, so_far.1, none.0, (short, between none))
+      ended faults.Port none = (so_far.0, so_far.1, none.0, (short, between _ none))
       ended faults.Cell (whole, needs_opening) = (
         whole.1,
         so_far.1,
@@ -139,9 +139,11 @@ module _ {C : Type 0} (rule : Rule C) where
           ap (λ (s : OpenSite C). s.book.needs_opening) whole.3 ∙ needs_opening,
         ),
       )
-      ended faults.Memory (inl none) = (so_far.0, so_far.1, none.0, (short, inl (between none)))
-      ended faults.Memory (inr part) = (part.1, so_far.1, part.3, (short, inr (within part)))
-      ended faults.Output part = (part.1, so_far.1, part.3, (short, within part))
+      ended faults.Memory (inl none) = (so_far.0, so_far.1, none.0, (short, inl (between _ none)))
+      ended faults.Memory (inr (count, part)) =
+          (part.1, so_far.1, part.3, (short, inr (count, within _ _ part)))
+      ended faults.Output (count, part) =
+          (part.1, so_far.1, part.3, (short, (count, within _ _ part)))
 
       pub ended_so : (result : Result (Unit {0}) ServeFault) (fault : ServeFault)
           → IsErrAnd result (λ e. e ≡ fault) → Ended wanted (Err fault) → Ended wanted result

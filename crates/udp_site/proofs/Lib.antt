@@ -5,10 +5,14 @@ pub mod Calling
 pub mod Same
 pub mod Requested
 pub mod Waiting
+pub mod Searching
+pub mod Settled
+pub mod Going
 pub mod Waited
 pub mod Growth
 pub mod Leading
 pub mod Printed
+pub mod Proposals
 pub mod Stopped
 pub mod TurnEnds
 pub mod Questions

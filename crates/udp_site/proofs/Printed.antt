@@ -1,7 +1,7 @@
 -- The lines of notices: their text, and whether one of them stops the site.
 use Rattle.std.specs.Prelude.{◌≡◌, ◌||◌, Bool, List, [], ◌∷◌, ◌++◌, map}
 use Rattle.std.specs.List.{flat_map, list_any}
-use Rattle.std.proofs.Common.{refl, ap, sym, ◌∙◌}
+use Rattle.std.proofs.Common.{refl, ap, ◌∙◌}
 use Rattle.std.proofs.lemmas.List.Folds.{flat_map-map}
 use Rattle.site.specs.declared.fault.SiteFault.TheVariants as faults
 use Rattle.world_law.specs.declared.line.Line.{Line}

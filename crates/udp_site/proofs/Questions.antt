@@ -1,11 +1,11 @@
 -- Members that are asked for a slot's bag, one after another.
 use Rattle.std.proofs.Common.{◌≡◌, ℕ, ◌+◌, ◌-◌, ◌<◌, ◌==◌, Bool, true, false, not, cond, inl, inr}
-use Rattle.std.proofs.Common.{List, [], ◌∷◌, ◌++◌, map, Option, Some, None, Result, Ok, Err, refl, sym}
+use Rattle.std.proofs.Common.{List, [], ◌∷◌, ◌++◌, map, Option, Result, Ok, Err, refl, sym}
 use Rattle.std.proofs.Common.{ap, subst, ◌∙◌, append_assoc, append-nil, add-one, arith, suc, zero}
 use Rattle.std.proofs.Math.Nat.{add-zero, add-suc}
 use Rattle.std.proofs.lemmas.List.Elements.{filter-append}
 use Rattle.std.specs.Prelude.{IsErrAnd}
-use Rattle.std.specs.List.{filter, flat_map}
+use Rattle.std.specs.List.{flat_map}
 use Rattle.std.proofs.lemmas.List.{map-append}
 use Rattle.fed_types.specs.Sites.{Membership, sites_to, count_of}
 use Rattle.fed_types.specs.Slots.{SlotName}
@@ -27,7 +27,7 @@ use Rattle.world_law.specs.Networks.{Notice, Refused}
 use Rattle.world_law.specs.Worlds.{line_of}
 use Rattle.udp_site.specs.declared.fault.ServeFault.{ServeFault}
 use Rattle.udp_site.specs.declared.fault.ServeFault.TheVariants as faults
-use Rattle.udp_site.specs.Traffic.{Post, Move, Grows, all_handed}
+use Rattle.udp_site.specs.Traffic.{Post, Move, all_handed}
 use Rattle.udp_site.specs.Turns.{Serving, Done, IsServing, Asks, members, number, posts_to}
 use Rattle.udp_site.specs.Turns.{sealed_posts}
 use Rattle.udp_site.specs.inner.Asking.{others_of}

@@ -11,7 +11,6 @@ use Rattle.bag_tree.specs.Fault.{IsOrMemory}
 use Rattle.dgram.specs.declared.body.Body.{Body}
 use Rattle.dgram.specs.declared.body.Body.TheVariants as bodies
 use Rattle.dgram.specs.declared.message.Message.{Message}
-use Rattle.dgram.specs.Encoding.{datagram_of}
 use Rattle.site.specs.declared.fault.SiteFault.TheVariants as faults
 use Rattle.site.specs.Calls as calls
 use Rattle.site.specs.Sites.{OpenSite}
@@ -19,9 +18,9 @@ use Rattle.world_law.specs.declared.line.Line.{Line}
 use Rattle.world_law.specs.Networks.{Refused, Dropped}
 use Rattle.udp_site.specs.declared.fault.ServeFault.{ServeFault}
 use Rattle.udp_site.specs.Replies.{tree_answer}
-use Rattle.udp_site.specs.Traffic.{Move, From}
+use Rattle.udp_site.specs.Traffic.{Move}
 use Rattle.udp_site.specs.Requests.{Request, Says, request_by, request_in}
-use Rattle.udp_site.specs.Turns.{Serving, Coming, Done, IsServing, Asks, comes_of, turn_of, members}
+use Rattle.udp_site.specs.Turns.{Serving, Done, IsServing, Asks, comes_of, members}
 use Rattle.udp_site.specs.Turns.{number, asked, answer_to, reply_notice, query_replies, posts_of}
 use Rattle.udp_site.specs.Turns.{notices_of, deposit_replies, takes_tree}
 use Rattle.udp_site.specs.inner.Coming.{ComesTo}

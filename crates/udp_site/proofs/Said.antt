@@ -1,5 +1,5 @@
 -- How a turn comes out: whole, or broken off.
-use Rattle.std.proofs.Common.{◌≡◌, ℕ, List, Option, Result, Ok, Err, sym, subst}
+use Rattle.std.proofs.Common.{◌≡◌, List, Option, Result, Ok, Err, sym, subst}
 use Rattle.std.specs.Prelude.{IsErrAnd}
 use Rattle.site.specs.Sites.{OpenSite}
 use Rattle.world_law.specs.declared.line.Line.{Line}

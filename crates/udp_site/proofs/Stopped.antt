@@ -25,7 +25,7 @@ use Rattle.world_law.specs.Networks.{Notice, notice_of}
 use Rattle.udp_site.specs.Requests.{Request, Waits, Says, Deposits, Queries, Noise}
 use Rattle.udp_site.specs.Served.{or_one}
 use Rattle.udp_site.specs.Turns.{Serving, Done, IsCalled, Asks, notices_of, proposal_notices}
-use Rattle.udp_site.specs.Turns.{reply_notice, answer_to, number, takes_tree, proposes, idles_if}
+use Rattle.udp_site.specs.Turns.{reply_notice, number, takes_tree, proposes, idles_if}
 use Rattle.udp_site.specs.Turns.{comes_of, tries, one_more_idle, slot_of}
 use Rattle.udp_site.specs.Rounds.{next_waiting}
 
@@ -113,7 +113,7 @@ module _ {C : Type 0} (device : C → Device) where
       proposed old None None (is, same) = absurd (impossible (said done _ is stops))
       proposed old None (Some slot) (is, same) = absurd (impossible (said done _ is stops))
       proposed old (Some place) None (is, same) = absurd (impossible (said done _ is stops))
-      proposed old (Some place) (Some slot) (result, called_so, is) =
+      proposed old (Some place) (Some slot) (result, called_so, refuses, is) =
           called (tries old place) new (calls.Proposes slot) result called_so
           (proposal_says (number old) (calls.Proposes slot) result (said done _ is stops))
 

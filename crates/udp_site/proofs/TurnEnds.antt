@@ -1,9 +1,10 @@
 -- How one turn ends.
-use Rattle.std.specs.Prelude.{◌≡◌, ◌⊎◌, ℕ, suc, Bool, true, List, [], ◌∷◌, length, take, Option}
+use Rattle.std.specs.Prelude.{◌≡◌, ◌⊎◌, ℕ, Bool, true, List, [], ◌∷◌, length, take, Option}
 use Rattle.std.specs.Prelude.{Result, Ok, Err, IsErrAnd}
 use Rattle.std.specs.List.{flat_map, list_any}
 use Rattle.std.specs.Io.KnownBytes.{Appends}
-use Rattle.std.proofs.Common.{inl, inr, refl, ap, sym, ◌∙◌, subst, take_all, le_refl}
+use Rattle.std.proofs.Common.{inl, inr, ap, sym, ◌∙◌, subst}
+use Rattle.std.proofs.Math.Seq.{take-length}
 use Rattle.site.specs.Sites.{OpenSite}
 use Rattle.world_law.specs.declared.line.Line.{Line}
 use Rattle.lines.specs.Texts.{line_text}
@@ -16,12 +17,18 @@ use Rattle.udp_site.specs.Served.{is_the_last}
 use Rattle.udp_site.specs.inner.Coming.{ComesTo, at}
 use Rattle.udp_site.specs.inner.OneTurn as one
 use Rattle.udp_site.specs.inner.OneTurn.{OneTurn}
+use Rattle.udp_site.specs.inner.Receiving.{Receives}
 use Rattle.udp_site.specs.inner.Stopping.{line_of_the_cell}
 use Rattle.udp_site.proofs.Growth.{Grows-trans, Appends-none}
 use Rattle.udp_site.proofs.Printed.{one_is_last, text_is}
 
 module _ {C : Type 0} (rule : Rule C) (before after : Outside) (old : Serving C)
     (site : OpenSite C) (idle tried : ℕ) where
+  none_written : after.written ≡ before.written → Appends before.written after.written []
+  none_written same =
+      subst (λ (w : Option (List ℕ)). Appends before.written w []) (sym same)
+      (Appends-none before.written)
+
   -- the result of a `?`
   pub returned : (result : Result (Unit {0}) ServeFault) (fault : ServeFault)
       → IsErrAnd result (λ e. e ≡ fault)
@@ -33,27 +40,13 @@ module _ {C : Type 0} (rule : Rule C) (before after : Outside) (old : Serving C)
       ends
 
   -- nothing was received
-  pub not_begun : (fault : ServeFault) → (fault ≡ faults.Port) ⊎ (fault ≡ faults.Memory)
-      → old.site ≡ site → Grows before.traffic after.traffic []
-      → after.written ≡ before.written
+  pub not_begun : (fault : ServeFault) → Receives before.traffic after.traffic (Err fault)
+      → old.site ≡ site → after.written ≡ before.written
       → OneTurn rule before after old site idle tried (Err fault)
-  not_begun fault which same grows written =
-      let none : one.None rule before after old site = (
-        same,
-        (
-          grows,
-          subst (λ (w : Option (List ℕ)). Appends before.written w []) (sym written)
-              (Appends-none before.written),
-        ),
-      ) in
-      elim which [
-        | inl is ↦
-            subst (λ (f : ServeFault). OneTurn rule before after old site idle tried (Err f))
-            (sym is) none
-        | inr is ↦
-            subst (λ (f : ServeFault). OneTurn rule before after old site idle tried (Err f))
-            (sym is) (inl none)
-      ]
+  not_begun faults.Port failed same written = (same, (failed, none_written written))
+  not_begun faults.Cell received same written = absurd received
+  not_begun faults.Memory grows same written = inl (same, (grows, none_written written))
+  not_begun faults.Output received same written = absurd received
 
   -- this was received
   module _ (took : Taken) (mid : Option (List Move)) (start lines : List Line)
@@ -68,17 +61,17 @@ module _ {C : Type 0} (rule : Rule C) (before after : Outside) (old : Serving C)
     broken_off faults.Output comes written = absurd comes
     broken_off faults.Memory (done, next, comes, same, count, grows) written =
         inr (
-          record { took = took; done = done },
-          next,
-          comes.0,
-          same,
-          suc count,
-          0,
+          count,
           (
-            Grows-trans before.traffic mid after.traffic (Took took ∷ [])
-                (take count (all_handed done.posts)) received grows,
-            subst (λ (w : Option (List ℕ)). Appends before.written w []) (sym written)
-                (Appends-none before.written),
+            record { took = took; done = done },
+            next,
+            comes.0,
+            same,
+            (
+              Grows-trans before.traffic mid after.traffic (Took took ∷ [])
+                  (take count (all_handed done.posts)) received grows,
+              none_written written,
+            ),
           ),
         )
 
@@ -115,23 +108,41 @@ module _ {C : Type 0} (rule : Rule C) (before after : Outside) (old : Serving C)
         )
 
         -- a part of its text was written
-        part : (count : ℕ)
+        in_writing : (count : ℕ)
             → Appends before.written after.written
             (take count (flat_map (line_text by_identity) lines))
-            → one.Part rule before after old site
+            → one.InWriting rule before after old site
         unfolding turn
-        part count written = (
-          turn,
-          comes.1,
-          comes.2.0,
-          comes.3,
-          length (moves_of turn),
+        in_writing count written = (
           count,
           (
-            subst (Grows before.traffic after.traffic)
-                (sym (take_all (length (moves_of turn)) (moves_of turn) (le_refl _))) moved,
-            subst (λ (t : List ℕ). Appends before.written after.written (take count t)) text
-                written,
+            turn,
+            comes.1,
+            comes.2.0,
+            comes.3,
+            (
+              moved,
+              subst (λ (t : List ℕ). Appends before.written after.written (take count t)) text
+                  written,
+            ),
+          ),
+        )
+
+        -- nothing of its text was written
+        unwritten : after.written ≡ before.written → one.Unwritten rule before after old site
+        unfolding turn
+        unwritten same = (
+          length (all_handed comes.0.posts),
+          (
+            turn,
+            comes.1,
+            comes.2.0,
+            comes.3,
+            (
+              subst (λ (moves : List Move). Grows before.traffic after.traffic (Took took ∷ moves))
+                  (sym (take-length (all_handed comes.0.posts))) moved,
+              none_written same,
+            ),
           ),
         )
 
@@ -139,13 +150,14 @@ module _ {C : Type 0} (rule : Rule C) (before after : Outside) (old : Serving C)
             → (count : ℕ)
             → Appends before.written after.written
             (take count (flat_map (line_text by_identity) lines))
+            → (fault ≡ faults.Memory → after.written ≡ before.written)
             → OneTurn rule before after old site idle tried (Err fault)
-        cut fault (inl is) count written =
+        cut fault (inl is) count written same =
             subst (λ (f : ServeFault). OneTurn rule before after old site idle tried (Err f))
-            (sym is) (part count written)
-        cut fault (inr is) count written =
+            (sym is) (in_writing count written)
+        cut fault (inr is) count written same =
             subst (λ (f : ServeFault). OneTurn rule before after old site idle tried (Err f))
-            (sym is) (inr (part count written))
+            (sym is) (inr (unwritten (same is)))
 
   -- a site that its cell failed needs opening
   pub stopped : one.Whole rule before after old site idle tried true

@@ -1,5 +1,5 @@
 -- A turn in which nothing came.
-use Rattle.std.proofs.Common.{◌≡◌, ◌≢◌, ℕ, ◌+◌, ◌%◌, ◌==◌, Bool, true, false, List, [], ◌∷◌}
+use Rattle.std.proofs.Common.{◌≡◌, ◌≢◌, ℕ, ◌+◌, ◌%◌, ◌==◌, Bool, true, false, List, []}
 use Rattle.std.proofs.Common.{Option, Some, None, Result, Ok, Err, refl, sym, ap, subst, ◌∙◌}
 use Rattle.std.proofs.Common.{append-nil, arith}
 use Rattle.std.proofs.lemmas.Bool.Decides.{nat_tests}
@@ -18,8 +18,8 @@ use Rattle.udp_site.specs.Turns.{Serving, Coming, Done, IsServing, number, posts
 use Rattle.udp_site.specs.Turns.{proposal_notices, one_more_idle, tries, slot_of, proposing}
 use Rattle.udp_site.specs.Turns.{proposes, proposes_next, idles_if, idles}
 use Rattle.udp_site.specs.inner.Coming.{ComesTo, at}
-use Rattle.udp_site.proofs.Called.{could_be_called}
 use Rattle.udp_site.proofs.Handed.{grows_by_no_posts, no_part}
+use Rattle.udp_site.proofs.Proposals.{could_propose}
 use Rattle.udp_site.proofs.Said.{broken_off}
 
 abbrev pub nothing : Done
@@ -144,9 +144,9 @@ module _ {C : Type 0} (device : C → Device) (ports : List ℕ) (old : Serving 
 
     idles_so : (done : Done) (next : Serving C) → proposing device ports tried_now slot done next
         → at (idle + 1) (place + 1) (idles device ports old) done next
-    idles_so done next (result, called, done_is) = (
+    idles_so done next (result, called, refuses, done_is) = (
       its_turn e done next
-          (proposes_at place (Some slot) is slot_there done next (result, called, done_is)),
+          (proposes_at place (Some slot) is slot_there done next (result, called, refuses, done_is)),
       called.idle ∙ ap (λ (n : ℕ). n + 1) idle_is,
       called.tried,
     )
@@ -166,11 +166,11 @@ module _ {C : Type 0} (device : C → Device) (ports : List ℕ) (old : Serving 
         → (r : Result (Unit {0}) ServeFault) → IsErrAnd r (λ f. f ≡ faults.Memory)
         → ComesTo (at (idle + 1) (place + 1) (idles device ports old)) a a lines lines start r
     no_memory a lines r failed =
-        let call = could_be_called device tried_now (Proposes slot) serves in
+        let call = could_propose device tried_now slot serves in
         let done : Done = record {
           posts = posts_of ports call.0;
           notices = proposal_notices (number tried_now) (Proposes slot) call.0;
         } in
         broken_off (at (idle + 1) (place + 1) (idles device ports old)) a a lines lines start done
-        tried_now (idles_so done tried_now (call.0, call.1, refl)) there
+        tried_now (idles_so done tried_now (call.0, call.1, call.2, refl)) there
         (no_part a (all_handed done.posts)) r failed

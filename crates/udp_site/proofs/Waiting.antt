@@ -127,7 +127,7 @@ deposits_within : (rs : List Record) → length (deposits_of rs) ≤ length rs
 unfolding deposits_of
 deposits_within rs = omega (arith, at_most [] rs)
 
-waits_within : (rs : List Record) (place : ℕ) → waits rs place ≡ true → place < length rs
+pub waits_within : (rs : List Record) (place : ℕ) → waits rs place ≡ true → place < length rs
 waits_within rs place is = go (slice_get (deposits_of rs) place) refl is
   where
     differ : false ≡ true → ⊥

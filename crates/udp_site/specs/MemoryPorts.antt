@@ -9,10 +9,11 @@ use Rattle.udp_site.specs.declared.memory_port.Arrival.TheVariants as arrivals
 use Rattle.udp_site.specs.declared.memory_port.MemoryPort.{MemoryPort}
 use Rattle.udp_site.specs.declared.port_move.PortMove.{PortMove}
 use Rattle.udp_site.specs.declared.port_move.PortMove.TheVariants as moves
-use Rattle.udp_site.specs.Traffic.{Taken, Nothing, From, Move, Took, Handed, taken}
+use Rattle.udp_site.specs.Traffic.{Taken, Nothing, From, Move, Took, Failed, Handed, taken}
 
 abbrev pub move_of : PortMove → Move
 move_of (moves.Took turn) = Took (taken turn)
+move_of moves.Failed = Failed
 move_of (moves.Handed port bytes) = Handed (port, bytes.items)
 
 -- what a turn is to bring; none, where the receive fails
@@ -29,7 +30,7 @@ coming_of port = map brings port.arrivals.items
 abbrev pub fails_of : MemoryPort → Bool
 fails_of port = port.sends_fail
 
--- all that it took in and was handed
+-- all that it took in and was handed, and which receives failed
 abbrev pub traffic_of : MemoryPort → List Move
 traffic_of port = map move_of port.moves.items
 

@@ -1,12 +1,8 @@
 -- What a site has done that served so many turns, or was stopped by a fault.
 use Rattle.std.specs.Prelude.{◌≡◌, ◌⊎◌, ◌<◌, ◌||◌, ℕ, Bool, true, false, List, [], ◌∷◌, ◌++◌}
-use Rattle.std.specs.Prelude.{length, map, take, Option, Some, None, Result, Ok, Err}
+use Rattle.std.specs.Prelude.{length, take, Option, Result, Ok, Err}
 use Rattle.std.specs.List.{flat_map}
 use Rattle.std.specs.Io.KnownBytes.{Appends}
-use Rattle.cell_device.specs.Devices.{Device}
-use Rattle.bag_tree.specs.declared.fault.TreeFault.{TreeFault}
-use Rattle.bag_tree.specs.Facts.{TreeFacts}
-use Rattle.site.specs.declared.fault.SiteFault.{SiteFault}
 use Rattle.site.specs.declared.fault.SiteFault.TheVariants as sites
 use Rattle.world_law.specs.Networks.{Notice, Refused}
 use Rattle.world_law.specs.Worlds.{line_of}
@@ -14,8 +10,8 @@ use Rattle.lines.specs.declared.print_line.Options.{Options}
 use Rattle.lines.specs.Texts.{line_text}
 use Rattle.udp_site.specs.declared.fault.ServeFault.{ServeFault}
 use Rattle.udp_site.specs.declared.fault.ServeFault.TheVariants as faults
-use Rattle.udp_site.specs.Traffic.{Taken, Move, Took, Grows, all_handed}
-use Rattle.udp_site.specs.Turns.{Serving, Coming, Done, IsServing, turn_of}
+use Rattle.udp_site.specs.Traffic.{Taken, Move, Took, Failed, Grows, all_handed}
+use Rattle.udp_site.specs.Turns.{Serving, Coming, Done}
 
 -- ---- the text
 
@@ -35,6 +31,10 @@ pub record Turned : Type 0 where
 
 abbrev pub moves_of : Turned → List Move
 moves_of turn = Took turn.took ∷ all_handed turn.done.posts
+
+-- it was received, and the first so many of its datagrams were handed out
+abbrev pub first_moves : (count : ℕ) → Turned → List Move
+first_moves count turn = Took turn.took ∷ take count (all_handed turn.done.posts)
 
 abbrev pub text_of : Turned → List ℕ
 text_of turn = flat_map notice_text turn.done.notices
@@ -78,17 +78,27 @@ Shows before after turns moves text =
 
 -- what was outside as the call began, and is when it ends
 module _ {C : Type 0} (rule : Rule C) (before after : Outside) where
-  -- whole turns, and nothing more
-  abbrev pub EndsBetween : (start end : Serving C) → List Turned → Type 0
-  EndsBetween start end turns = Leads rule start turns end × Shows before after turns [] []
+  -- whole turns, and then no turn, but these moves
+  abbrev pub EndsBetween : (start end : Serving C) → List Turned → List Move → Type 0
+  EndsBetween start end turns moves = Leads rule start turns end × Shows before after turns moves []
 
-  -- whole turns, and then a turn that was broken off: of its moves and of its text there is a part
-  abbrev pub EndsWithin : (start end : Serving C) → List Turned → Type 0
-  EndsWithin start end turns =
+  -- whole turns, and then one of which these moves were made, and this text was written
+  abbrev pub EndsWithin :
+      (start end : Serving C) → List Turned → (Turned → List Move) → (Turned → List ℕ) → Type 0
+  EndsWithin start end turns moves text =
       (mid : Serving C) × Leads rule start turns mid
       × (turn : Turned) × rule mid turn.took turn.done end
-      × (moves : ℕ) × (text : ℕ)
-      × Shows before after turns (take moves (moves_of turn)) (take text (text_of turn))
+      × Shows before after turns (moves turn) (text turn)
+
+  -- the last turn was received, and broken off before anything of it was written
+  abbrev pub EndsUnwritten : (start end : Serving C) → List Turned → Type 0
+  EndsUnwritten start end turns =
+      (count : ℕ) × EndsWithin start end turns (first_moves count) (λ turn. [])
+
+  -- all of the last turn was handed out, and a part of its text was written
+  abbrev pub EndsInWriting : (start end : Serving C) → List Turned → Type 0
+  EndsInWriting start end turns =
+      (count : ℕ) × EndsWithin start end turns moves_of (λ turn. take count (text_of turn))
 
   -- whole turns, and then a whole turn in which the site's cell failed it
   abbrev pub EndsByTheCell : (start end : Serving C) → List Turned → Type 0
@@ -97,20 +107,20 @@ module _ {C : Type 0} (rule : Rule C) (before after : Outside) where
       × (turn : Turned) × rule mid turn.took turn.done end × (is_the_last turn ≡ true)
       × Shows before after turns (moves_of turn) (text_of turn)
 
-  -- Ok: so many turns, all whole. Port: fewer turns, all whole. Cell: the site needs opening, and
-  -- that is why the last turn was the last. Memory, Output: the last turn was broken off, or none
-  -- was begun.
+  -- Ok: so many turns, all whole. Port: fewer, all whole, and then a receive that failed. Cell: the
+  -- site needs opening, and that is why the last turn was the last. Memory: fewer, all whole, and
+  -- then none or one that is unwritten. Output: the last turn's text failed to be written.
   abbrev pub Serves :
       (start end : Serving C) → (wanted : ℕ) → (turns : List Turned)
       → Result (Unit {0}) ServeFault → Type 0
   Serves start end wanted turns (Ok served) =
-      (length turns ≡ wanted) × EndsBetween start end turns
+      (length turns ≡ wanted) × EndsBetween start end turns []
   Serves start end wanted turns (Err faults.Port) =
-      (length turns < wanted) × EndsBetween start end turns
+      (length turns < wanted) × EndsBetween start end turns (Failed ∷ [])
   Serves start end wanted turns (Err faults.Cell) =
       (length turns < wanted) × EndsByTheCell start end turns
       × (end.site.book.needs_opening ≡ true)
   Serves start end wanted turns (Err faults.Memory) =
-      (length turns < wanted) × (EndsBetween start end turns ⊎ EndsWithin start end turns)
+      (length turns < wanted) × (EndsBetween start end turns [] ⊎ EndsUnwritten start end turns)
   Serves start end wanted turns (Err faults.Output) =
-      (length turns < wanted) × EndsWithin start end turns
+      (length turns < wanted) × EndsInWriting start end turns

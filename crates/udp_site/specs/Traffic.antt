@@ -18,15 +18,24 @@ abbrev pub taken : Turn → Taken
 taken turns.Idle = Nothing
 taken (turns.Got port bytes) = From port bytes.items
 
--- a port took this in, or this was handed to it
+-- a port took this in, a receive at it failed, or this was handed to it
 pub data Move : Type 0 where
   Took : Taken → Move
+  Failed : Move
   Handed : Post → Move
 
 -- traffic, where it is known, grows by these moves
 abbrev pub Grows : Option (List Move) → Option (List Move) → List Move → Type 0
 Grows None new moves = ⊤
 Grows (Some before) new moves = new ≡ Some (before ++ moves)
+
+-- a turn is waited for: what it brings is taken in, or the receive fails; where memory ran out
+-- neither
+abbrev pub IsReceived :
+    Option (List Move) → Option (List Move) → Result Turn PortFault → Type 0
+IsReceived old new (Ok turn) = Grows old new (Took (taken turn) ∷ [])
+IsReceived old new (Err faults.Device) = Grows old new (Failed ∷ [])
+IsReceived old new (Err faults.Memory) = Grows old new []
 
 -- these datagrams are handed out, in order
 unfoldable pub all_handed : List Post → List Move

@@ -26,7 +26,7 @@ use Rattle.site.specs.declared.answer.Reply.TheVariants as replies
 use Rattle.site.specs.declared.answer.Sealed.{Sealed}
 use Rattle.site.specs.declared.fault.SiteFault.{SiteFault}
 use Rattle.site.specs.declared.fault.SiteFault.TheVariants as faults
-use Rattle.site.specs.Answered.{IsAnswered}
+use Rattle.site.specs.Answered.{IsAnswered, IsRefused}
 use Rattle.site.specs.Calls as calls
 use Rattle.site.specs.Calls.{Input, reply_of}
 use Rattle.site.specs.Effects.{Effect}
@@ -250,12 +250,20 @@ one_more_idle s = record s { idle = s.idle + 1 }
 abbrev pub tries : {C : Type 0} → Serving C → (place : ℕ) → Serving C
 tries s place = record s { tried = place + 1 }
 
+-- where the definitions refuse its call, a site that needs no opening refuses so, whatever memory
+-- there is
+abbrev pub Refuses : {C : Type 0} → Serving C → Input → Result Answer SiteFault → Type 0
+Refuses old input result =
+    old.site.book.needs_opening ≡ false
+    → IsRefused (effect old.site old.session input) result
+
 -- it proposes the slot's deposit
 abbrev pub proposing :
     {C : Type 0} → (C → Device) → List ℕ → Serving C → SlotName → Coming C
 proposing device ports old slot done new =
     (result : Result Answer SiteFault)
     × IsCalled device old (calls.Proposes slot) result new
+    × Refuses old (calls.Proposes slot) result
     × (done ≡ record {
       posts = posts_of ports result;
       notices = proposal_notices (number old) (calls.Proposes slot) result;

@@ -3,5 +3,5 @@ use Rattle.std.specs.Prelude.{ℕ}
 use Rattle.udp_site.specs.declared.udp_port.UdpPort.{UdpPort}
 
 -- how often a call has failed
-abbrev pub failures_of : UdpPort → ℕ
+abbrev pub failures_of : {R : Type 0} → UdpPort R → ℕ
 failures_of port = port.failures

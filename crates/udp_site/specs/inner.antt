@@ -5,3 +5,4 @@ pub mod Waiting
 pub mod Stopping
 pub mod Asking
 pub mod Arrivals
+pub mod Receiving

@@ -1,12 +1,12 @@
 //! Turns in which nothing came.
 
-ghost use Rattle.std.specs.Prelude.{◌≡◌, ◌+◌, ◌-◌, ◌<◌, ◌≤◌, is_some, IfSome};
-ghost use Rattle.std.specs.List.{find, list_any, range_with_len};
+ghost use Rattle.std.specs.Prelude.{◌≡◌, ◌+◌, ◌<◌, ◌≤◌, ℕ, true, is_some, IfSome};
+ghost use Rattle.std.specs.List.{list_any};
 ghost use Rattle.records.specs.Words.{known_of};
 ghost use Rattle.udp_site.specs.Rounds.{waits, next_waiting};
 ghost use Rattle.udp_site.specs.Turns.{Serving, IsServing, idles, proposing};
 ghost use Rattle.udp_site.specs.inner.Coming.{ComesTo, at};
-ghost use Rattle.udp_site.specs.inner.Waiting.{says_known};
+ghost use Rattle.udp_site.specs.inner.Waiting.{says_known, is_settled, AreSettled, IsFirst};
 
 use crate::fault::ServeFault;
 use crate::handing::hand_answer;
@@ -26,6 +26,8 @@ pub(crate) struct Round {
     pub(crate) idle: u32,
     /// The place, among the deposits, after that which was tried last.
     pub(crate) tried: usize,
+    /// All deposits before this place have a known bag, so that no search begins before it.
+    pub(crate) settled: usize,
 }
 
 /// Nothing came: where the count of such turns is a multiple of the site's number, it proposes the
@@ -41,16 +43,20 @@ pub(crate) fn idle<C: Cell, P: Port>(
     requires { round.old.idle < 4294967295 }
     ensures comes { (old : Serving C) → old.site ≡ site.old → old.idle ≡ round.old.idle
         → old.tried ≡ round.old.tried → IsServing old
+        → AreSettled site.old.book.records round.old.settled
         → ComesTo (at round.new.idle round.new.tried (idles C.device ports.now old))
         (P.traffic port.old) (P.traffic port.new) lines.old.items lines.new.items site.new result }
     ensures count { round.new.idle ≤ round.old.idle + 1 }
+    ensures settled { AreSettled site.old.book.records round.old.settled
+        → AreSettled site.old.book.records round.new.settled }
     ensures later { P.failures port.old ≤ P.failures port.new }
 {
     round.idle += 1;
     if round.idle % u32::from(site.number().number()) != 0 {
         return Ok(());
     }
-    let Some(place) = next_waiting(site, round.tried) else {
+    round.settled = past_settled(site, round.settled);
+    let Some(place) = next_waiting(site, round.tried, round.settled) else {
         return Ok(());
     };
     let Some(slot) = site.deposited(place) else {
@@ -81,29 +87,51 @@ fn propose<C: Cell, P: Port>(
     Ok(())
 }
 
+// The first place, from this one on, that isn't settled.
+fn past_settled<C: Cell>(site: &Site<C>, from: usize) -> usize
+    ensures { (place : ℕ) → from ≤ place → place < result
+        → is_settled site.now.book.records place ≡ true }
+{
+    for place in from..site.records().len() {
+        if !is_settled(site, place) {
+            return place;
+        }
+    }
+    from
+}
+
 // The first deposit without a known bag, from this place on, and then from the first one on.
-fn next_waiting<C: Cell>(site: &Site<C>, from: usize) -> Option<usize>
-    ensures next { result ≡ next_waiting site.now.book.records from }
+fn next_waiting<C: Cell>(site: &Site<C>, from: usize, settled: usize) -> Option<usize>
+    ensures next { AreSettled site.now.book.records settled
+        → result ≡ next_waiting site.now.book.records from }
     ensures within { IfSome result (λ place. place < 18446744073709551615) }
 {
-    match first_waiting(site, from, site.records().len()) {
+    match first_waiting(site, from.max(settled)) {
         Some(place) => Some(place),
-        None => first_waiting(site, 0, from),
+        None => first_waiting(site, settled),
     }
 }
 
-// The first of the places from one to before another whose deposit has no known bag.
-fn first_waiting<C: Cell>(site: &Site<C>, from: usize, to: usize) -> Option<usize>
-    ensures { result ≡ find (waits site.now.book.records) (range_with_len from (to - from)) }
+// The first deposit without a known bag, from this place on.
+fn first_waiting<C: Cell>(site: &Site<C>, from: usize) -> Option<usize>
+    ensures first { IsFirst (waits site.now.book.records) from result }
+    ensures within { IfSome result (λ place. place < 18446744073709551615) }
 {
-    (from..to).find(|place| waits(site, *place))
+    for place in from..site.records().len() {
+        let slot = site.deposited(place)?;
+        if !is_known(site, slot) {
+            return Some(place);
+        }
+    }
+    None
 }
 
-fn waits<C: Cell>(site: &Site<C>, place: usize) -> bool
-    ensures { result ≡ waits site.now.book.records place }
+// Whether a deposit is at this place, and its slot has a known bag.
+fn is_settled<C: Cell>(site: &Site<C>, place: usize) -> bool
+    ensures { result ≡ is_settled site.now.book.records place }
 {
     match site.deposited(place) {
-        Some(slot) => !is_known(site, slot),
+        Some(slot) => is_known(site, slot),
         None => false,
     }
 }

@@ -16,7 +16,7 @@ enum Arrival {
 }
 
 /// A port in memory: it brings what it was given to bring, turn by turn, and then nothing; and it
-/// keeps all that it brought and was handed.
+/// keeps all that it brought and was handed, and which receives failed.
 #[derive(Drop)]
 pub struct MemoryPort {
     alloc: Global,
@@ -87,7 +87,7 @@ impl MemoryPort {
         self.sends_fail = fail;
     }
 
-    /// All that it brought and was handed, in order.
+    /// All that it brought and was handed, and which receives failed, in order.
     pub fn moves(&self) -> &[PortMove]
         ensures { map move_of result.now ≡ traffic_of self.now }
     {
@@ -143,10 +143,10 @@ impl MemoryPort {
 }
 
 impl Port for MemoryPort {
-    ghost use Rattle.std.specs.Prelude.{◌≡◌, [], ◌∷◌, Some, IfOk, OnErr};
+    ghost use Rattle.std.specs.Prelude.{◌≡◌, Some};
     ghost use Rattle.cell_device.specs.Calls.{HasCause};
     ghost use Rattle.udp_site.specs.declared.port_fault.PortFault.TheVariants.{Device};
-    ghost use Rattle.udp_site.specs.Traffic.{Took, Grows, taken, IsHanded};
+    ghost use Rattle.udp_site.specs.Traffic.{IsReceived, IsHanded};
     ghost use Rattle.udp_site.specs.MemoryPorts.{coming_of, fails_of, traffic_of, failures_of};
     ghost use Rattle.udp_site.specs.MemoryPorts.{Comes, FailsAs};
 
@@ -155,9 +155,8 @@ impl Port for MemoryPort {
     ghost failures = { failures_of };
 
     fn receive(&mut self) -> Result<Turn, PortFault>
-        ensures took { IfOk result (λ turn. Grows (Some (traffic_of self.old)) (Some (traffic_of self.new))
-            (Took (taken turn) ∷ [])) }
-        ensures failed { OnErr result (Grows (Some (traffic_of self.old)) (Some (traffic_of self.new)) []) }
+        ensures received { IsReceived (Some (traffic_of self.old)) (Some (traffic_of self.new))
+            result }
         ensures cause { HasCause Device (failures_of self.old) (failures_of self.new) result }
         ensures comes { Comes (coming_of self.old) (coming_of self.new) result }
         ensures fails { fails_of self.new ≡ fails_of self.old }
@@ -168,6 +167,7 @@ impl Port for MemoryPort {
             self.arrivals.pop_front();
             Ok(turn)
         } else {
+            self.keep(PortMove::Failed)?;
             self.arrivals.pop_front();
             Err(self.fail())
         }

@@ -1,6 +1,6 @@
-ghost use Rattle.std.specs.Prelude.{ℕ, ◌≡◌, List, [], ◌∷◌, Option, None, IfOk, OnErr};
+ghost use Rattle.std.specs.Prelude.{ℕ, List, Option, None};
 ghost use Rattle.cell_device.specs.Calls.{HasCause};
-ghost use Rattle.udp_site.specs.Traffic.{Move, Took, Grows, taken, IsHanded};
+ghost use Rattle.udp_site.specs.Traffic.{Move, IsReceived, IsHanded};
 ghost use Rattle.udp_site.specs.declared.port_fault.PortFault.TheVariants as faults;
 
 use crate::port_fault::PortFault;
@@ -8,7 +8,7 @@ use crate::turn::Turn;
 
 /// Where datagrams come in and are handed out.
 pub trait Port {
-    // All that it took in and was handed, in order, where that is known.
+    // All that it took in and was handed, and which receives failed, in order, where that is known.
     ghost traffic: { Self → Option (List Move) } = { λ _. None };
 
     // How often its device has failed.
@@ -16,9 +16,7 @@ pub trait Port {
 
     /// Waits for a datagram, for as long as the port waits in one turn.
     fn receive(&mut self) -> Result<Turn, PortFault>
-        ensures took { IfOk result (λ turn. Grows (traffic self.old) (traffic self.new)
-            (Took (taken turn) ∷ [])) }
-        ensures failed { OnErr result (Grows (traffic self.old) (traffic self.new) []) }
+        ensures received { IsReceived (traffic self.old) (traffic self.new) result }
         ensures cause { HasCause faults.Device (failures self.old) (failures self.new) result };
 
     /// Hands out a datagram for a port. With `Device` it is lost, and yet handed out; with

@@ -5,6 +5,8 @@ use crate::turn::Turn;
 pub enum PortMove {
     /// It was waited at for one turn, which brought this.
     Took(Turn),
+    /// It was waited at for one turn, and the receive failed.
+    Failed,
     /// It was handed these bytes for the port of this number.
     Handed(u16, Vec<u8>),
 }

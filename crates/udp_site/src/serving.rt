@@ -8,11 +8,12 @@ ghost use Rattle.cell_device.specs.Calls.{HasCause};
 ghost use Rattle.proposer.specs.Sessions.{Session};
 ghost use Rattle.lines.specs.Texts.{line_text};
 ghost use Rattle.udp_site.specs.Failing.{OnlyByFailing};
-ghost use Rattle.udp_site.specs.Traffic.{Took, Grows, taken};
 ghost use Rattle.udp_site.specs.Served.{Serves, Turned, by_identity};
 ghost use Rattle.udp_site.specs.Turns.{Serving, IsServing, begins, turn_of};
 ghost use Rattle.udp_site.specs.inner.OneTurn.{OneTurn};
+ghost use Rattle.udp_site.specs.inner.Receiving.{Receives};
 ghost use Rattle.udp_site.specs.inner.Stopping.{line_of_the_cell};
+ghost use Rattle.udp_site.specs.inner.Waiting.{AreSettled};
 
 use crate::fault::ServeFault;
 use crate::idling::Round;
@@ -22,7 +23,8 @@ use crate::turn::Turn;
 use crate::turning::take_turn;
 use bag_folders::Folders;
 use cell_device::Cell;
-use lines::{Options, push_line, write_all};
+use lines::{Options, push_line};
+use outcomes::write_all;
 use site::{Site, SiteFault};
 use std::alloc::{AllocError, Global};
 use std::io::Write;
@@ -49,7 +51,11 @@ pub fn serve<C: Cell, P: Port, F: Folders, W: Write>(
         result }
     ensures kept { F.gives folders.new ≡ F.gives folders.old }
 {
-    let mut round = Round { idle: 0, tried: 0 };
+    let mut round = Round {
+        idle: 0,
+        tried: 0,
+        settled: 0,
+    };
     let mut lines = Vec::new(alloc);
     'turns: for _ in 0..turns {
         lines.clear();
@@ -75,11 +81,16 @@ fn one_turn<C: Cell, P: Port, F: Folders, W: Write>(
     requires lines { lines.old.items ≡ [] }
     ensures turn { (old : Serving C) → old.site ≡ site.old → old.idle ≡ round.old.idle
         → old.tried ≡ round.old.tried → IsServing old
+        → AreSettled site.old.book.records round.old.settled
         → OneTurn (turn_of C.device ports.now (F.gives folders.old))
         (record { traffic = P.traffic port.old; written = W.contents output.old })
         (record { traffic = P.traffic port.new; written = W.contents output.new })
         old site.new round.new.idle round.new.tried result }
     ensures count { round.new.idle ≤ round.old.idle + 1 }
+    ensures settled { OnOk result ((old : Serving C) → old.site ≡ site.old
+        → old.idle ≡ round.old.idle → old.tried ≡ round.old.tried → IsServing old
+        → AreSettled site.old.book.records round.old.settled
+        → AreSettled site.new.book.records round.new.settled) }
     ensures port { OnlyByFailing ServeFault.Port (P.failures port.old) (P.failures port.new)
         result }
     ensures kept { F.gives folders.new ≡ F.gives folders.old }
@@ -99,10 +110,7 @@ fn one_turn<C: Cell, P: Port, F: Folders, W: Write>(
 
 // Receives once.
 fn receive<P: Port>(port: &mut P) -> Result<Turn, ServeFault>
-    ensures took { IfOk result (λ turn. Grows (P.traffic port.old) (P.traffic port.new)
-        (Took (taken turn) ∷ [])) }
-    ensures failed { OnErr result (Grows (P.traffic port.old) (P.traffic port.new) []) }
-    ensures fault { IfErr result (λ f. (f ≡ ServeFault.Port) ⊎ (f ≡ ServeFault.Memory)) }
+    ensures received { Receives (P.traffic port.old) (P.traffic port.new) result }
     ensures cause { HasCause ServeFault.Port (P.failures port.old) (P.failures port.new) result }
 {
     match port.receive() {
@@ -118,6 +126,8 @@ fn write_lines<W: Write>(alloc: Global, lines: &[Line], output: &mut W) -> Resul
         (flat_map (line_text by_identity) lines.now)) }
     ensures part { OnErr result ((count : ℕ) × Appends (W.contents output.old)
         (W.contents output.new) (take count (flat_map (line_text by_identity) lines.now))) }
+    ensures none { IfErr result (λ f. f ≡ ServeFault.Memory
+        → W.contents output.new ≡ W.contents output.old) }
     ensures fault { IfErr result (λ f. (f ≡ ServeFault.Output) ⊎ (f ≡ ServeFault.Memory)) }
 {
     if lines.is_empty() {

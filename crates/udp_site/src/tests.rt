@@ -14,7 +14,9 @@ mod bag_agreed;
 mod failures;
 mod loopback;
 mod noise;
+mod refusals;
 mod sockets;
+mod without_room;
 
 // The port of the one site, and that of a client.
 const SITE: u16 = 5001;
@@ -32,7 +34,10 @@ const BAG: &str = "cf83e1357eefb8bdf1542850d66d8007d620e4050b5715dc83f4a921d36ce
 
 // The one site of federation 7, over a cell that holds nothing.
 fn new_site(alloc: Global) -> Result<Site<MemoryCell>, Fail> {
-    let cell = MemoryCell::new(alloc, Vec::new(alloc));
+    opened(alloc, MemoryCell::new(alloc, Vec::new(alloc)))
+}
+
+fn opened(alloc: Global, cell: MemoryCell) -> Result<Site<MemoryCell>, Fail> {
     let owner = Owner {
         members: Members::new(7, 1)?,
         site: SiteNo::new(1)?,
@@ -43,17 +48,22 @@ fn new_site(alloc: Global) -> Result<Site<MemoryCell>, Fail> {
     }
 }
 
-// The folder `x`, which holds the empty bag.
-fn one_bag(alloc: Global) -> Result<MemoryFolders, Fail> {
+// A bag without payload files, whose manifest has these bytes.
+fn bag_with(alloc: Global, manifest: &[u8]) -> Result<Tree, Fail> {
     let mut tree = Tree::new(alloc);
     tree.add_folder();
     tree.add(
         "bagit.txt",
         b"BagIt-Version: 1.0\nTag-File-Character-Encoding: UTF-8\n",
     )?;
-    tree.add("manifest-sha512.txt", b"")?;
+    tree.add("manifest-sha512.txt", manifest)?;
+    Ok(tree)
+}
+
+// The folder `x`, which holds the empty bag.
+fn one_bag(alloc: Global) -> Result<MemoryFolders, Fail> {
     let mut folders = MemoryFolders::new(alloc);
-    folders.add("x", tree)?;
+    folders.add("x", bag_with(alloc, b"")?)?;
     Ok(folders)
 }
 

@@ -4,6 +4,7 @@ ghost use Rattle.std.specs.Prelude.{◌≡◌, ◌+◌, ◌<◌, ◌≤◌};
 ghost use Rattle.udp_site.specs.Traffic.{taken, From};
 ghost use Rattle.udp_site.specs.Turns.{Serving, IsServing, turn_of};
 ghost use Rattle.udp_site.specs.inner.Coming.{ComesTo, at};
+ghost use Rattle.udp_site.specs.inner.Waiting.{AreSettled};
 
 use crate::asking::{Asked, asked_by};
 use crate::depositing::take_folder;
@@ -34,10 +35,13 @@ pub(crate) fn take_turn<C: Cell, P: Port, F: Folders>(
     requires { round.old.idle < 4294967295 }
     ensures comes { (old : Serving C) → old.site ≡ site.old → old.idle ≡ round.old.idle
         → old.tried ≡ round.old.tried → IsServing old
+        → AreSettled site.old.book.records round.old.settled
         → ComesTo (at round.new.idle round.new.tried
         (turn_of C.device ports.now (F.gives folders.old) old (taken turn.now)))
         (P.traffic port.old) (P.traffic port.new) lines.old.items lines.new.items site.new result }
     ensures count { round.new.idle ≤ round.old.idle + 1 }
+    ensures settled { AreSettled site.old.book.records round.old.settled
+        → AreSettled site.old.book.records round.new.settled }
     ensures later { P.failures port.old ≤ P.failures port.new }
     ensures kept { F.gives folders.new ≡ F.gives folders.old }
 {

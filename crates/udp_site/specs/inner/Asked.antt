@@ -4,7 +4,7 @@ use Rattle.dgram.specs.declared.message.Message.{Message}
 use Rattle.dgram.specs.Decoded.{message_of}
 use Rattle.udp_site.specs.declared.asking.Asked.{Asked}
 use Rattle.udp_site.specs.declared.asking.Asked.TheVariants as asks
-use Rattle.udp_site.specs.Requests.{Request, Says, Deposits, Queries, Noise, request_in}
+use Rattle.udp_site.specs.Requests.{Says, Deposits, Queries, Noise, request_in}
 
 abbrev pub IsAsked : (federation : ℕ) → List ℕ → Asked → Type 0
 IsAsked federation bytes asks.Hear =

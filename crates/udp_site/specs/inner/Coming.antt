@@ -1,5 +1,5 @@
 -- What a part of a turn comes to, in the code's variables.
-use Rattle.std.specs.Prelude.{◌≡◌, ℕ, List, [], ◌++◌, map, take, Option, Some, None, Result, Ok, Err}
+use Rattle.std.specs.Prelude.{◌≡◌, ℕ, List, [], ◌++◌, map, take, Option, Result, Ok, Err}
 use Rattle.fed_types.specs.Slots.{SlotName}
 use Rattle.site.specs.Sites.{OpenSite}
 use Rattle.world_law.specs.declared.line.Line.{Line}

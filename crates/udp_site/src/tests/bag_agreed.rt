@@ -11,7 +11,7 @@ const COMES: [(u16, &str); 5] = [
     (CLIENT, QUERY),
 ];
 
-const SENT: &str = "9000: 4250012000000000000000070101610000000100I
+pub(super) const SENT: &str = "9000: 4250012000000000000000070101610000000100I
 5001: 425001010000000000000007010161000000010000000101
 5001: 42500102000000000000000701016100000001000000010100
 5001: 425001030000000000000007010161000000010000000101I
@@ -19,13 +19,13 @@ const SENT: &str = "9000: 4250012000000000000000070101610000000100I
 9000: 4250012100000000000000070101610000000100I
 ";
 
-const SAID: &str = "registered 1 a 1 I
+pub(super) const SAID: &str = "registered 1 a 1 I
 known 1 a 1 I
 reply 1 a 1 known I
 ";
 
-// The turns that are to come.
-fn bring_turns(alloc: Global, port: &mut MemoryPort) -> Result<(), Fail> {
+// The seven turns that are to come.
+pub(super) fn bring_turns(alloc: Global, port: &mut MemoryPort) -> Result<(), Fail> {
     bring(alloc, port, CLIENT, DEPOSIT)?;
     port.idle()?;
     for (from, digits) in &COMES {

@@ -6,12 +6,16 @@ use std::io;
 use std::io::{ErrorKind, Write};
 
 // The replies without a bag, up to their codes.
-const DEPOSIT_REPLY: &str = "42500120000000000000000701016100000001";
+pub(super) const DEPOSIT_REPLY: &str = "42500120000000000000000701016100000001";
 
-const QUERY_REPLY: &str = "42500121000000000000000701016100000001";
+pub(super) const QUERY_REPLY: &str = "42500121000000000000000701016100000001";
 
 // The port was handed these replies for the client, one a line, none of which names a bag.
-fn replied(alloc: Global, port: &MemoryPort, replies: &[(&str, &str)]) -> Result<bool, Fail> {
+pub(super) fn replied(
+    alloc: Global,
+    port: &MemoryPort,
+    replies: &[(&str, &str)],
+) -> Result<bool, Fail> {
     let mut want = String::new(alloc);
     for (reply, code) in replies {
         let line = format!(in alloc; "{CLIENT}: {reply}{code}{:0128}\n", 0)?;
@@ -99,8 +103,8 @@ fn a_send_fails(rt: HostRuntime) -> Result<(), Fail> {
 
 /// A writer with room for so many bytes.
 #[derive(Drop)]
-struct Narrow {
-    room: usize,
+pub(super) struct Narrow {
+    pub(super) room: usize,
 }
 
 impl Write for Narrow {

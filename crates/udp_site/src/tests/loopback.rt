@@ -1,7 +1,6 @@
 //! Three sites of one process agree on a bag over sockets, and each tells a client.
 
 use super::*;
-use std::net::Net;
 
 const SITES: u8 = 3;
 
@@ -34,11 +33,11 @@ fn open_station(alloc: Global, number: u8, port: UdpPort) -> Result<Station, Fai
     }
 }
 
-fn open_stations<R: Net + AllocGlobal>(net: &R) -> Result<Vec<Station>, Fail> {
-    let mut stations = Vec::new(net.alloc());
+fn open_stations(rt: &HostRuntime) -> Result<Vec<Station>, Fail> {
+    let mut stations = Vec::new(rt.alloc());
     for number in 1..=SITES {
-        let port = UdpPort::bind(net, 0, 20)?;
-        stations.push(open_station(net.alloc(), number, port)?)?;
+        let port = UdpPort::bind(rt, 0, 20)?;
+        stations.push(open_station(rt.alloc(), number, port)?)?;
     }
     Ok(stations)
 }

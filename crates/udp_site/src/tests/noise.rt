@@ -12,73 +12,89 @@ const NOT_FOR_A_SITE: [&str; 3] = [
 ];
 
 // All beginnings of these bytes.
-fn bring_beginnings(alloc: Global, port: &mut MemoryPort, digits: &str) -> Result<usize, Fail> {
+fn bring_beginnings(alloc: Global, port: &mut MemoryPort, digits: &str) -> Result<(), Fail> {
     let bytes = hex::decode(alloc, digits)?;
     for count in 0..bytes.len() {
         port.bring(CLIENT, bytes.get(..count).unwrap_or(b""))?;
     }
-    Ok(bytes.len())
+    Ok(())
 }
 
 // These bytes with one and more after them.
-fn bring_longer(alloc: Global, port: &mut MemoryPort, digits: &str) -> Result<usize, Fail> {
+fn bring_longer(alloc: Global, port: &mut MemoryPort, digits: &str) -> Result<(), Fail> {
     let mut bytes = hex::decode(alloc, digits)?;
     for _ in 0..30 {
         bytes.push(1)?;
         port.bring(CLIENT, bytes.as_slice())?;
     }
-    Ok(30)
+    Ok(())
 }
 
-fn bring_not_for_a_site(alloc: Global, port: &mut MemoryPort) -> Result<usize, Fail> {
+fn bring_not_for_a_site(alloc: Global, port: &mut MemoryPort) -> Result<(), Fail> {
     for digits in &NOT_FOR_A_SITE {
         let digits = with_bag(alloc, digits)?;
         bring(alloc, port, CLIENT, digits.as_str().trim())?;
     }
-    Ok(NOT_FOR_A_SITE.len())
+    Ok(())
 }
 
-// So many pieces of up to 1,024 bytes as they come, by a seed.
-fn bring_bytes(alloc: Global, port: &mut MemoryPort, count: usize) -> Result<(), Fail> {
-    let mut seed = 17u32;
-    for place in 0..count {
+// Messages that are cut, longer than they say, or for no site of the federation: 79 of them.
+fn bring_near_misses(alloc: Global, port: &mut MemoryPort) -> Result<(), Fail> {
+    bring_beginnings(alloc, port, PREPARE)?;
+    bring_beginnings(alloc, port, DEPOSIT)?;
+    bring_longer(alloc, port, PREPARE)?;
+    bring_not_for_a_site(alloc, port)
+}
+
+// A hundred pieces of 40 bytes by a linear congruence, each of which begins with 0.
+fn bring_hundred(alloc: Global, port: &mut MemoryPort) -> Result<(), Fail> {
+    let mut x = 1u32;
+    for _ in 0..100 {
         let mut bytes = Vec::new(alloc);
-        for _ in 0..place.saturating_mul(41) % 1025 {
-            seed = seed.wrapping_mul(1664525).wrapping_add(1013904223);
-            bytes.push((seed >> 24) as u8)?;
+        for place in 0..40 {
+            x = x.wrapping_mul(1103515245).wrapping_add(12345) % 2147483648;
+            let byte = (x / 65536 % 256) as u8;
+            bytes.push(if place == 0 { 0 } else { byte })?;
         }
         port.bring(CLIENT, bytes.as_slice())?;
     }
     Ok(())
 }
 
-// A hundred pieces.
-fn bring_noise(alloc: Global, port: &mut MemoryPort) -> Result<(), Fail> {
-    let mut count = bring_beginnings(alloc, port, PREPARE)?;
-    count = count.saturating_add(bring_beginnings(alloc, port, DEPOSIT)?);
-    count = count.saturating_add(bring_longer(alloc, port, PREPARE)?);
-    count = count.saturating_add(bring_not_for_a_site(alloc, port)?);
-    bring_bytes(alloc, port, 100usize.saturating_sub(count))
-}
-
-fn are_all_dropped(output: &[u8]) -> bool {
-    output.len() == 1000
+fn are_all_dropped(output: &[u8], count: u32) -> bool {
+    output.len() / 10 == count as usize
         && output
             .chunks(10)
             .all(|line| line == b"dropped 1\n".as_slice())
 }
 
-// Of a hundred pieces of noise there are a hundred lines, and nothing is sent or recorded.
-fn drops_noise(bench: &mut Bench) -> Result<bool, Fail> {
-    bring_noise(bench.alloc, &mut bench.port)?;
-    serve_turns(bench, 100)?;
+// There is a line for each of so many pieces of noise, and nothing is sent or recorded.
+fn drops_noise(bench: &mut Bench, count: u32) -> Result<bool, Fail> {
+    serve_turns(bench, count)?;
     let is_quiet = sent(bench.alloc, &bench.port)?.is_empty();
-    Ok(is_quiet && are_all_dropped(&bench.output) && bench.site.records().is_empty())
+    Ok(is_quiet && are_all_dropped(&bench.output, count) && bench.site.records().is_empty())
+}
+
+fn drops_near_misses(bench: &mut Bench) -> Result<bool, Fail> {
+    bring_near_misses(bench.alloc, &mut bench.port)?;
+    drops_noise(bench, 79)
+}
+
+#[test]
+fn near_misses_are_dropped(rt: HostRuntime) -> Result<(), Fail> {
+    let mut bench = new_bench(rt.alloc())?;
+    assert!(rt; drops_near_misses(&mut bench)?);
+    Ok(())
+}
+
+fn drops_a_hundred(bench: &mut Bench) -> Result<bool, Fail> {
+    bring_hundred(bench.alloc, &mut bench.port)?;
+    drops_noise(bench, 100)
 }
 
 #[test]
 fn noise_is_dropped(rt: HostRuntime) -> Result<(), Fail> {
     let mut bench = new_bench(rt.alloc())?;
-    assert!(rt; drops_noise(&mut bench)?);
+    assert!(rt; drops_a_hundred(&mut bench)?);
     Ok(())
 }

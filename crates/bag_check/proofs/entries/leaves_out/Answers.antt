@@ -1,7 +1,8 @@
-use Rattle.std.proofs.Common.{not, ◌&&◌, ap, ◌∙◌}
+use Rattle.std.proofs.Common.{◌≤◌, length, not, ◌&&◌, ap, sym, subst, ◌∙◌}
 use Rattle.bag_tree.specs.Path.{is_payload}
 use Rattle.bag_tree.specs.Facts.{FileFact}
 use Rattle.bag_check.specs.Check.{is_unlisted}
+use Rattle.bag_check.proofs.Counted.{none_unlisted}
 use Rattle.bag_check.proofs.Keyed.{has_text}
 use Rattle.bag_check.proofs.Repeats.{same_any}
 use Rattle.bag_check.proofs.entries.leaves_out.Goals as goal
@@ -13,3 +14,10 @@ returns c =
     (λ (f : FileFact). is_payload f.path && not (has_text f.path c.in_ok-listed.listed))
     (is_unlisted c.args.entries.now)
     (λ f. ap (λ t. is_payload f.path && not t) (each f.path)) c.args.files.now
+
+pub returns-then-payload_count-entries : goal.returns-then-payload_count-entries
+returns-then-payload_count-entries c =
+    sym
+    (none_unlisted c.args.entries.now c.args.files.now c.requires.placed c.requires.once
+    c.requires.there (subst (λ n. n ≤ length c.args.entries.now) c.payload_count.ensures
+    c.if-payload_count-entries.true))

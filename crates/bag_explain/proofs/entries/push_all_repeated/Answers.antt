@@ -1,12 +1,9 @@
-use Rattle.std.proofs.Common.{◌≡◌, ◌++◌, ℕ, List, [], Bool, not, ◌||◌, ap, sym, ◌∙◌, refl, subst}
+use Rattle.std.proofs.Common.{◌≡◌, not, ◌||◌, ap, sym, ◌∙◌, subst}
 use Rattle.std.proofs.Common.{arith, append-nil, string_bytes, length, get_or, ◌<◌}
 use Rattle.std.proofs.lemmas.Grind.{common_steps}
 use Rattle.std.specs.Str.{bytes_eq}
-use Rattle.bag_text.specs.ListedFile.{ListedFile}
-use Rattle.bag_check.specs.declared.fault.BagFault.TheVariants.{DuplicateEntry}
-use Rattle.bag_check.specs.Manifests.{is_listed}
 use Rattle.bag_check.proofs.Keyed.{has_text, has_text-inserted}
-use Rattle.bag_explain.specs.Places.{repeated_after, repeated_at}
+use Rattle.bag_explain.specs.Places.{repeated_after}
 use Rattle.bag_explain.proofs.Repeated.{listed_next, repeated_more, repeated_all, by_negation}
 use Rattle.bag_explain.proofs.entries.push_all_repeated.Goals as goal
 

@@ -1,4 +1,4 @@
-use Rattle.std.proofs.Common.{string_bytes, refl}
+use Rattle.std.proofs.Common.{string_bytes}
 use Rattle.bag_explain.specs.Listings.{Listing}
 use Rattle.bag_explain.specs.Findings.{printed_places}
 use Rattle.bag_explain.specs.inner.Stages.{fault_of, places_in}

@@ -1,4 +1,4 @@
-use Rattle.std.proofs.Common.{◌++◌, ℕ, List, get_or, refl, sym, ap, ◌∙◌, append-nil, string_bytes}
+use Rattle.std.proofs.Common.{◌++◌, ℕ, List, get_or, sym, ap, ◌∙◌, append-nil, string_bytes}
 use Rattle.std.proofs.lemmas.List.{get_or_default}
 use Rattle.bag_check.specs.declared.fault.BagFault.TheVariants.{MalformedLine}
 use Rattle.bag_explain.specs.Places.{at_line, malformed_at}

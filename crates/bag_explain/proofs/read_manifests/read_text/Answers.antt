@@ -1,6 +1,5 @@
 use Rattle.std.proofs.Common.{◌+◌, ℕ, [], refl, ap, ◌∙◌}
 use Rattle.bag_explain.specs.Lines.{numbered_from, malformed_from}
-use Rattle.bag_explain.specs.Listings.{kind_of}
 use Rattle.bag_explain.proofs.Numbering.{malformed_more, numbered_more, all_read, texts_of}
 use Rattle.bag_explain.proofs.read_manifests.read_text.Goals as goal
 
@@ -34,7 +33,7 @@ loop-line-preserved c =
 pub returns : goal.returns
 returns c =
     all_read
-    (record { kind = kind_of c.args.kind; algorithm = c.args.algorithm; text = c.args.text.now })
+    (record { kind = c.args.kind; algorithm = c.args.algorithm; text = c.args.text.now })
     c.deref-line-items.result.now c.loop-line.line-index c.loop-line.malformed.items
     c.loop-line.entries.items c.new.result c.loop-line-test.false
     (ap texts_of c.deref-line-items.ensures.value ∙ c.in_ok-lines.ensures)

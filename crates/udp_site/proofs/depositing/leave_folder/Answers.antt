@@ -1,4 +1,4 @@
-use Rattle.std.proofs.Common.{◌≡◌, ℕ, List, [], Err, subst, sym, refl, append-nil}
+use Rattle.std.proofs.Common.{◌≡◌, List, [], Err, subst, sym, refl, append-nil}
 use Rattle.std.specs.Prelude.{IsErrAnd}
 use Rattle.udp_site.specs.declared.fault.ServeFault.{ServeFault}
 use Rattle.udp_site.specs.Replies.{tree_answer}

@@ -1,6 +1,5 @@
-use Rattle.std.proofs.Common.{◌≡◌, ℕ, List, ◌∙◌, Result, Ok, Err, subst, sym, ap, refl}
+use Rattle.std.proofs.Common.{ℕ, List, Result, Err, subst}
 use Rattle.fed_types.specs.Slots.{SlotName}
-use Rattle.bag_tree.specs.Facts.{TreeFacts}
 use Rattle.bag_check.specs.Check.{check_of}
 use Rattle.site.specs.declared.answer.Answer.{Answer}
 use Rattle.site.specs.declared.fault.SiteFault.{SiteFault}

@@ -2,7 +2,7 @@ use Rattle.std.proofs.Common.{Option, sym, subst}
 use Rattle.dgram.specs.declared.answers.DepositAnswer.{DepositAnswer}
 use Rattle.udp_site.specs.Traffic.{Grows, all_handed}
 use Rattle.udp_site.specs.Turns.{deposit_replies}
-use Rattle.udp_site.proofs.Handed.{grows_by_no_posts, handed_on}
+use Rattle.udp_site.proofs.Handed.{grows_by_no_posts}
 use Rattle.udp_site.proofs.depositing.tell.Goals as goal
 
 pub returns-in_default-clause-handed : goal.returns-in_default-clause-handed

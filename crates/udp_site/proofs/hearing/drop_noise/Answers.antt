@@ -3,7 +3,7 @@ use Rattle.udp_site.specs.inner.Coming.{Notes}
 use Rattle.site.specs.Sites.{OpenSite}
 use Rattle.world_law.specs.Networks.{Dropped}
 use Rattle.udp_site.specs.Traffic.{all_handed}
-use Rattle.udp_site.specs.Turns.{Done, drops, number}
+use Rattle.udp_site.specs.Turns.{drops, number}
 use Rattle.udp_site.proofs.Handed.{no_part, grows_by_no_posts}
 use Rattle.udp_site.proofs.Said.{broken_off}
 use Rattle.udp_site.proofs.hearing.drop_noise.Goals as goal

@@ -1,12 +1,10 @@
-use Rattle.std.proofs.Common.{ℕ, List, Option, Some, Result, ◌≡◌, ◌∙◌, subst, sym, ap}
+use Rattle.std.proofs.Common.{ℕ, List, Option, Some, Result, subst}
 use Rattle.udp_site.specs.inner.Coming.{Notes}
 use Rattle.dgram.specs.declared.message.Message.{Message}
-use Rattle.dgram.specs.Decoded.{message_of}
 use Rattle.site.specs.declared.answer.Answer.{Answer}
 use Rattle.site.specs.declared.fault.SiteFault.{SiteFault}
 use Rattle.site.specs.Calls.{Arrives}
-use Rattle.site.specs.Sites.{OpenSite}
-use Rattle.udp_site.specs.Turns.{Serving, IsServing, Done, members, number, posts_of, notices_of}
+use Rattle.udp_site.specs.Turns.{Done, number, posts_of, notices_of}
 use Rattle.udp_site.proofs.Called.{Answers}
 use Rattle.udp_site.proofs.Calling.{calls_whole, calls_part, calls_failed}
 use Rattle.udp_site.proofs.Handed.{whole_part}

@@ -1,29 +1,19 @@
-use Rattle.std.proofs.Common.{ℕ, List, Result, ◌∙◌, subst, sym, ap}
-use Rattle.fed_types.specs.Slots.{SlotName}
-use Rattle.site.specs.declared.answer.Answer.{Answer}
-use Rattle.site.specs.declared.fault.SiteFault.{SiteFault}
+use Rattle.std.proofs.Common.{ℕ, ◌∙◌, subst, sym, ap}
 use Rattle.site.specs.Calls.{Proposes}
 use Rattle.site.specs.Sites.{OpenSite}
 use Rattle.udp_site.specs.Traffic.{all_handed}
-use Rattle.udp_site.specs.Turns.{Done, number, posts_of, proposal_notices}
+use Rattle.udp_site.specs.Turns.{posts_of, proposal_notices}
 use Rattle.udp_site.specs.inner.Coming.{Notes}
-use Rattle.udp_site.proofs.Calling.{calls_whole, calls_part, calls_failed}
 use Rattle.udp_site.proofs.Handed.{whole_part}
+use Rattle.udp_site.proofs.Proposals.{proposes_whole, proposes_part, proposes_failed}
 use Rattle.udp_site.proofs.idling.propose.Goals as goal
-
--- what is done of an answer
-abbrev done_of : List ℕ → (site : ℕ) → SlotName → Result Answer SiteFault → Done
-done_of ports site slot result = record {
-  posts = posts_of ports result;
-  notices = proposal_notices site (Proposes slot) result;
-}
 
 pub returns-clause-comes : goal.returns-clause-comes
 returns-clause-comes g c old same serves =
-    calls_whole g.C.Cell.device old (Proposes c.args.slot.now)
-    (done_of c.args.ports.now (number old) c.args.slot.now) c.propose-answer.result
+    proposes_whole g.C.Cell.device c.args.ports.now old c.args.slot.now c.propose-answer.result
     c.args.site.now c.propose-answer.new.self same serves c.propose-answer.ensures.answer
-    c.propose-answer.ensures.needs_open c.propose-answer.ensures.untouched
+    c.propose-answer.ensures.refused c.propose-answer.ensures.needs_open
+    c.propose-answer.ensures.untouched
     (g.P.Port.traffic c.args.port.now) (g.P.Port.traffic c.hand_answer.new.port)
     c.args.lines.now.items c.say_proposal.new.lines.items c.in_ok-hand_answer.ensures.hands
     (subst (λ (site : ℕ). Notes c.args.lines.now.items c.say_proposal.new.lines.items
@@ -34,20 +24,20 @@ returns-clause-comes g c old same serves =
 
 pub returns-in_err-hand_answer-clause-comes : goal.returns-in_err-hand_answer-clause-comes
 returns-in_err-hand_answer-clause-comes g c old same serves =
-    calls_failed g.C.Cell.device old (Proposes c.args.slot.now)
-    (done_of c.args.ports.now (number old) c.args.slot.now) c.propose-answer.result
+    proposes_failed g.C.Cell.device c.args.ports.now old c.args.slot.now c.propose-answer.result
     c.args.site.now c.propose-answer.new.self same serves c.propose-answer.ensures.answer
-    c.propose-answer.ensures.needs_open c.propose-answer.ensures.untouched
+    c.propose-answer.ensures.refused c.propose-answer.ensures.needs_open
+    c.propose-answer.ensures.untouched
     (g.P.Port.traffic c.args.port.now) (g.P.Port.traffic c.hand_answer.new.port)
     c.args.lines.now.items c.args.lines.now.items c.in_err-hand_answer.field-0.0
     c.from_residual.result c.from_residual.ensures.1 c.in_err-hand_answer.ensures.hands
 
 pub returns-in_err-say_proposal-clause-comes : goal.returns-in_err-say_proposal-clause-comes
 returns-in_err-say_proposal-clause-comes g c old same serves =
-    calls_part g.C.Cell.device old (Proposes c.args.slot.now)
-    (done_of c.args.ports.now (number old) c.args.slot.now) c.propose-answer.result
+    proposes_part g.C.Cell.device c.args.ports.now old c.args.slot.now c.propose-answer.result
     c.args.site.now c.propose-answer.new.self same serves c.propose-answer.ensures.answer
-    c.propose-answer.ensures.needs_open c.propose-answer.ensures.untouched
+    c.propose-answer.ensures.refused c.propose-answer.ensures.needs_open
+    c.propose-answer.ensures.untouched
     (g.P.Port.traffic c.args.port.now) (g.P.Port.traffic c.hand_answer.new.port)
     c.args.lines.now.items c.say_proposal.new.lines.items
     (whole_part (g.P.Port.traffic c.args.port.now) (g.P.Port.traffic c.hand_answer.new.port)

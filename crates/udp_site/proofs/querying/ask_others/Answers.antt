@@ -1,4 +1,4 @@
-use Rattle.std.proofs.Common.{◌≡◌, ℕ, Ok, ap, subst, arith, le_refl, le_trans}
+use Rattle.std.proofs.Common.{◌≡◌, ℕ, Ok, subst, arith, le_refl, le_trans}
 use Rattle.fed_types.specs.Sites.{sites_to, count_of}
 use Rattle.udp_site.specs.Turns.{members}
 use Rattle.udp_site.specs.inner.Asking.{others_of}

@@ -1,7 +1,8 @@
-use Rattle.std.specs.Prelude.{◌≡◌, List, true, false, take}
+use Rattle.std.specs.Prelude.{List, true, false, take}
 use Rattle.std.specs.List.{flat_map, list_any}
 use Rattle.std.specs.Io.KnownBytes.{Appends}
 use Rattle.std.proofs.Common.{refl, ap, sym, ◌∙◌, subst}
+use Rattle.site.specs.Sites.{OpenSite}
 use Rattle.world_law.specs.declared.line.Line.{Line}
 use Rattle.lines.specs.Texts.{line_text}
 use Rattle.udp_site.specs.Traffic.{taken}
@@ -9,12 +10,14 @@ use Rattle.udp_site.specs.Requests.{request_of}
 use Rattle.udp_site.specs.Served.{by_identity}
 use Rattle.udp_site.specs.Turns.{turn_of, members}
 use Rattle.udp_site.specs.inner.Stopping.{line_of_the_cell}
+use Rattle.udp_site.specs.inner.Waiting.{AreSettled}
+use Rattle.udp_site.proofs.Going.{settled_after}
 use Rattle.udp_site.proofs.Stopped.{last_needs_opening}
 use Rattle.udp_site.proofs.TurnEnds.{returned, not_begun, broken_off, whole, cut, stopped}
 use Rattle.udp_site.proofs.serving.one_turn.Goals as goal
 
 pub returns-in_err-turn-clause-turn : goal.returns-in_err-turn-clause-turn
-returns-in_err-turn-clause-turn g c old site idle tried serving =
+returns-in_err-turn-clause-turn g c old site idle tried serving are =
     returned
     (turn_of g.C.Cell.device c.args.ports.now (g.F.Folders.gives c.args.folders.now))
     (record {
@@ -38,10 +41,10 @@ returns-in_err-turn-clause-turn g c old site idle tried serving =
       written = g.W.Write.contents c.args.output.now;
     })
     old c.args.site.now c.args.round.now.idle c.args.round.now.tried
-    c.in_err-turn.field-0.0 c.in_err-turn.ensures.fault site c.in_err-turn.ensures.failed refl)
+    c.in_err-turn.field-0.0 c.in_err-turn.ensures.received site refl)
 
 pub returns-in-Err-clause-turn : goal.returns-in-Err-clause-turn
-returns-in-Err-clause-turn g c old site idle tried serving =
+returns-in-Err-clause-turn g c old site idle tried serving are =
     broken_off
     (turn_of g.C.Cell.device c.args.ports.now (g.F.Folders.gives c.args.folders.now))
     (record {
@@ -54,12 +57,12 @@ returns-in-Err-clause-turn g c old site idle tried serving =
     })
     old c.take_turn.new.site c.take_turn.new.round.idle c.take_turn.new.round.tried
     (taken c.in_ok-turn.turn) (g.P.Port.traffic c.receive.new.port) c.args.lines.now.items
-    c.take_turn.new.lines.items c.in_ok-turn.ensures.took
-    c.in-Err.field-0 (c.in-Err.ensures.comes old site idle tried serving)
+    c.take_turn.new.lines.items c.in_ok-turn.ensures.received
+    c.in-Err.field-0 (c.in-Err.ensures.comes old site idle tried serving are)
     refl
 
 pub returns-in_err-write_lines-clause-turn : goal.returns-in_err-write_lines-clause-turn
-returns-in_err-write_lines-clause-turn g c old site idle tried serving =
+returns-in_err-write_lines-clause-turn g c old site idle tried serving are =
     let count = c.in_err-write_lines.ensures.part.0 in
     returned
     (turn_of g.C.Cell.device c.args.ports.now (g.F.Folders.gives c.args.folders.now))
@@ -86,16 +89,16 @@ returns-in_err-write_lines-clause-turn g c old site idle tried serving =
     })
     old c.take_turn.new.site c.take_turn.new.round.idle c.take_turn.new.round.tried
     (taken c.in_ok-turn.turn) (g.P.Port.traffic c.receive.new.port) c.args.lines.now.items
-    c.take_turn.new.lines.items c.in_ok-turn.ensures.took
-    c.requires.lines (c.in-Ok.ensures.comes old site idle tried serving)
+    c.take_turn.new.lines.items c.in_ok-turn.ensures.received
+    c.requires.lines (c.in-Ok.ensures.comes old site idle tried serving are)
     c.in_err-write_lines.field-0.0 c.in_err-write_lines.ensures.fault count
     (subst
     (λ (l : List Line). Appends (g.W.Write.contents c.args.output.now)
     (g.W.Write.contents c.write_lines.new.output) (take count (flat_map (line_text by_identity) l)))
-    c.deref.ensures.value c.in_err-write_lines.ensures.part.1))
+    c.deref.ensures.value c.in_err-write_lines.ensures.part.1) c.in_err-write_lines.ensures.none)
 
 pub returns-then-is_refused-clause-turn : goal.returns-then-is_refused-clause-turn
-returns-then-is_refused-clause-turn g c old site idle tried serving =
+returns-then-is_refused-clause-turn g c old site idle tried serving are =
     stopped
     (turn_of g.C.Cell.device c.args.ports.now (g.F.Folders.gives c.args.folders.now))
     (record {
@@ -119,8 +122,8 @@ returns-then-is_refused-clause-turn g c old site idle tried serving =
     })
     old c.take_turn.new.site c.take_turn.new.round.idle c.take_turn.new.round.tried
     (taken c.in_ok-turn.turn) (g.P.Port.traffic c.receive.new.port) c.args.lines.now.items
-    c.take_turn.new.lines.items c.in_ok-turn.ensures.took
-    c.requires.lines (c.in-Ok.ensures.comes old site idle tried serving) true
+    c.take_turn.new.lines.items c.in_ok-turn.ensures.received
+    c.requires.lines (c.in-Ok.ensures.comes old site idle tried serving are) true
     (sym c.if-is_refused.true ∙ c.is_refused.ensures
     ∙ ap (list_any line_of_the_cell) c.deref-2.ensures.value)
     (subst
@@ -133,7 +136,7 @@ returns-then-is_refused-clause-turn g c old site idle tried serving =
     comes)
 
 pub returns-clause-turn : goal.returns-clause-turn
-returns-clause-turn g c old site idle tried serving =
+returns-clause-turn g c old site idle tried serving are =
     whole
     (turn_of g.C.Cell.device c.args.ports.now (g.F.Folders.gives c.args.folders.now))
     (record {
@@ -146,11 +149,21 @@ returns-clause-turn g c old site idle tried serving =
     })
     old c.take_turn.new.site c.take_turn.new.round.idle c.take_turn.new.round.tried
     (taken c.in_ok-turn.turn) (g.P.Port.traffic c.receive.new.port) c.args.lines.now.items
-    c.take_turn.new.lines.items c.in_ok-turn.ensures.took
-    c.requires.lines (c.in-Ok.ensures.comes old site idle tried serving) false
+    c.take_turn.new.lines.items c.in_ok-turn.ensures.received
+    c.requires.lines (c.in-Ok.ensures.comes old site idle tried serving are) false
     (sym c.if-is_refused.false ∙ c.is_refused.ensures
     ∙ ap (list_any line_of_the_cell) c.deref-2.ensures.value)
     (subst
     (λ (l : List Line). Appends (g.W.Write.contents c.args.output.now)
     (g.W.Write.contents c.write_lines.new.output) (flat_map (line_text by_identity) l))
     c.deref.ensures.value c.in_ok-write_lines.ensures.whole)
+
+pub returns-clause-settled : goal.returns-clause-settled
+returns-clause-settled g c old site idle tried serving are =
+    settled_after g.C.Cell.device c.args.ports.now (g.F.Folders.gives c.args.folders.now) old
+    (taken c.in_ok-turn.turn) c.take_turn.new.round.idle c.take_turn.new.round.tried
+    c.take_turn.new.round.settled (g.P.Port.traffic c.receive.new.port)
+    (g.P.Port.traffic c.take_turn.new.port) c.args.lines.now.items c.take_turn.new.lines.items
+    c.take_turn.new.site (c.in-Ok.ensures.comes old site idle tried serving are)
+    (subst (λ (s : OpenSite g.row.C.Denot). AreSettled s.book.records
+    c.take_turn.new.round.settled) (sym site) (c.in-Ok.ensures.settled are))

@@ -10,6 +10,7 @@ use Rattle.udp_site.proofs.serving.serve.Goals as goal
 pub turns-init : goal.turns-init
 turns-init g c = record {
   idle = omega arith;
+  settled = λ session serving place before. absurd (omega (arith, before));
   later = le_refl _;
   kept = refl;
   led = λ session serving. (
@@ -32,6 +33,10 @@ turns-init g c = record {
 pub turns-preserved : goal.turns-preserved
 turns-preserved g c = record {
   idle = omega (arith, c.in_ok-one_turn.ensures.count, c.turns.invariant.idle);
+  settled = λ session serving.
+      let so_far = c.turns.invariant.led session serving in
+      c.in_ok-one_turn.ensures.settled so_far.0 so_far.2 so_far.3 so_far.4 so_far.5
+      (c.turns.invariant.settled session serving);
   later = le_trans c.turns.invariant.later c.one_turn.ensures.port.later;
   kept = c.one_turn.ensures.kept ∙ c.turns.invariant.kept;
   led = λ session serving.
@@ -66,7 +71,8 @@ turns-preserved g c = record {
       so_far.0 c.one_turn.new.site c.one_turn.new.round.idle c.one_turn.new.round.tried
       (Ok tt))
       c.turns.invariant.kept
-      (c.in_ok-one_turn.ensures.turn so_far.0 so_far.2 so_far.3 so_far.4 so_far.5));
+      (c.in_ok-one_turn.ensures.turn so_far.0 so_far.2 so_far.3 so_far.4 so_far.5
+      (c.turns.invariant.settled session serving)));
 }
 
 pub returns-in_err-one_turn-clause-served : goal.returns-in_err-one_turn-clause-served
@@ -120,7 +126,8 @@ returns-in_err-one_turn-clause-served g c session serving =
     so_far.0 c.one_turn.new.site c.one_turn.new.round.idle c.one_turn.new.round.tried
     (Err c.in_err-one_turn.field-0.0))
     c.turns.invariant.kept
-    (c.in_err-one_turn.ensures.turn so_far.0 so_far.2 so_far.3 so_far.4 so_far.5)))
+    (c.in_err-one_turn.ensures.turn so_far.0 so_far.2 so_far.3 so_far.4 so_far.5
+    (c.turns.invariant.settled session serving))))
 
 pub returns-clause-served : goal.returns-clause-served
 returns-clause-served g c session serving =

@@ -1,6 +1,7 @@
 use Rattle.std.specs.Prelude.{◌≡◌, ◌≤◌}
 use Rattle.proposer.specs.Sessions.{Session}
 use Rattle.udp_site.specs.Turns.{IsServing, begins, turn_of}
+use Rattle.udp_site.specs.inner.Waiting.{AreSettled}
 use Rattle.udp_site.proofs.Leading.{SoFar}
 use Rattle.udp_site.proofs.serving.serve.Given as goal
 
@@ -8,6 +9,8 @@ use Rattle.udp_site.proofs.serving.serve.Given as goal
 abbrev pub invariant-turns : goal.invariant-turns
 invariant-turns g l = record {
   idle : l.round.idle ≤ l.counter;
+  settled : (session : Session) → IsServing (begins l.fn.site session)
+      → AreSettled l.site.book.records l.round.settled;
   later : g.P.Port.failures l.fn.port ≤ g.P.Port.failures l.port;
   kept : g.F.Folders.gives l.folders ≡ g.F.Folders.gives l.fn.folders;
   led : (session : Session) → IsServing (begins l.fn.site session)

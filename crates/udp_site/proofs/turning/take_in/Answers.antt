@@ -1,13 +1,11 @@
-use Rattle.std.proofs.Common.{◌≡◌, ◌∙◌, ℕ, List, Option, Some, refl, sym, ap, subst}
-use Rattle.dgram.specs.declared.message.Message.{Message}
+use Rattle.std.proofs.Common.{◌≡◌, ℕ, List, subst}
 use Rattle.dgram.specs.Decoded.{message_of}
 use Rattle.udp_site.specs.declared.asking.Asked.{Asked}
 use Rattle.udp_site.specs.declared.asking.Asked.TheVariants as asks
-use Rattle.udp_site.specs.Requests.{Request, Says, Deposits, Queries, Noise, request_in}
+use Rattle.udp_site.specs.Requests.{Says, Deposits, Queries, Noise}
 use Rattle.udp_site.specs.Traffic.{From, all_handed}
-use Rattle.udp_site.specs.Turns.{Serving, IsServing, members, comes_of, turn_of}
+use Rattle.udp_site.specs.Turns.{Serving, members, turn_of}
 use Rattle.udp_site.specs.inner.Asked.{IsAsked}
-use Rattle.udp_site.specs.inner.Coming.{ComesTo}
 use Rattle.udp_site.proofs.Handed.{no_part}
 use Rattle.udp_site.proofs.Requested.{by_request, could_come}
 use Rattle.udp_site.proofs.Said.{broken_off}

@@ -1,4 +1,4 @@
-use Rattle.std.proofs.Common.{◌≡◌, ◌∙◌, ℕ, List, sym, subst}
+use Rattle.std.proofs.Common.{◌∙◌, ℕ, List, sym, subst}
 use Rattle.dgram.specs.Decoded.{message_of}
 use Rattle.udp_site.specs.declared.turn.Turn.{Turn}
 use Rattle.udp_site.specs.Traffic.{From, taken}
@@ -9,15 +9,15 @@ use Rattle.udp_site.proofs.Said.{comes_too}
 use Rattle.udp_site.proofs.turning.take_turn.Goals as goal
 
 pub returns-in-Idle-clause-comes : goal.returns-in-Idle-clause-comes
-returns-in-Idle-clause-comes g c old there idle tried serves =
+returns-in-Idle-clause-comes g c old there idle tried serves are =
     subst (λ (turn : Turn). ComesTo (at c.idle.new.round.idle c.idle.new.round.tried
     (turn_of g.C.Cell.device c.args.ports.now (g.F.Folders.gives c.args.folders.now) old
     (taken turn))) (g.P.Port.traffic c.args.port.now) (g.P.Port.traffic c.idle.new.port)
     c.args.lines.now.items c.idle.new.lines.items c.idle.new.site c.idle.result)
-    (sym c.in-Idle.is) (c.idle.ensures.comes old there idle tried serves)
+    (sym c.in-Idle.is) (c.idle.ensures.comes old there idle tried serves are)
 
 pub returns-in-Got-clause-comes : goal.returns-in-Got-clause-comes
-returns-in-Got-clause-comes g c old there idle tried serves =
+returns-in-Got-clause-comes g c old there idle tried serves are =
     let rule = turn_of g.C.Cell.device c.args.ports.now (g.F.Folders.gives c.args.folders.now) old in
     let before = g.P.Port.traffic c.args.port.now in
     let after = g.P.Port.traffic c.take_in.new.port in

@@ -1,0 +1,56 @@
+-- What an explained check of a folder answers.
+use Rattle.std.specs.Prelude.{◌≡◌, ◌⊎◌, ℕ, List, [], ◌∷◌, ◌++◌}
+use Rattle.std.specs.Prelude.{Option, Some, None, Result, Ok, Err, IfSome}
+use Rattle.std.specs.Fmt.{decimal}
+use Rattle.schedule.specs.Escapes.{escaped_text}
+use Rattle.bag_tree.specs.declared.fault.TreeFault.{TreeFault}
+use Rattle.bag_tree.specs.Facts.{TreeFacts}
+use Rattle.bag_tree.specs.Fault.{number_of}
+use Rattle.bag_explain.specs.Findings.{explanation_of}
+use Rattle.folder_checks.specs.declared.checking.Verdict.{Verdict}
+use Rattle.folder_checks.specs.declared.checking.Verdict.TheVariants.{Valid, Invalid, Unread}
+use Rattle.outcomes.specs.Outcomes.{Outcome, no_memory}
+use Rattle.folder_checks.specs.Verdicts.{verdict_of, IsOrMemory, outcome_of_verdict}
+
+-- the lines of what is wrong with a tree that was read
+abbrev pub lines_of : Result TreeFacts TreeFault → List ℕ
+lines_of (Ok facts) = explanation_of facts
+lines_of (Err fault) = []
+
+-- the line of a place where a folder can't be read: the fault's number, a space, and the place
+abbrev pub unread_line : TreeFault → Option (List ℕ) → List ℕ
+unread_line fault None = []
+unread_line fault (Some place) = decimal (number_of fault) ++ 32 ∷ (escaped_text place ++ 10 ∷ [])
+
+-- the lines after a verdict: where the folder wasn't read, that of the place, if there is one
+abbrev pub lines_after : Verdict → Result TreeFacts TreeFault → Option (List ℕ) → List ℕ
+lines_after (Unread fault) read place = unread_line fault place
+lines_after (Valid bag) read place = lines_of read
+lines_after (Invalid fault) read place = lines_of read
+
+-- a verdict's exit status, its line, and these lines
+abbrev pub outcome_with : Verdict → List ℕ → Outcome
+outcome_with verdict lines = record {
+  status = (outcome_of_verdict verdict).status;
+  text = (outcome_of_verdict verdict).text ++ lines;
+}
+
+-- the place is the known one
+abbrev pub IsPlace : Option (List ℕ) → Option (List ℕ) → Type 0
+IsPlace known place = IfSome known (λ it. place ≡ Some it)
+
+-- what an explained check may end with, and what is written of it then: that of the folder's
+-- verdict with all that is wrong, or that memory ran out
+abbrev pub ExplainsFor : Result TreeFacts TreeFault → Option (List ℕ) → (Outcome → Type 0) → Type 0
+ExplainsFor read known P =
+    ((verdict : Verdict) × (place : Option (List ℕ)) × IsOrMemory verdict (verdict_of read)
+    × IsPlace known place × P (outcome_with verdict (lines_after verdict read place)))
+    ⊎ P no_memory
+
+-- the status and the text are those of the folder's verdict with all that is wrong
+abbrev pub IsAnswer : Result TreeFacts TreeFault → Option (List ℕ) → ℕ → List ℕ → Type 0
+IsAnswer read known status text =
+    (verdict : Verdict) × (place : Option (List ℕ)) × IsOrMemory verdict (verdict_of read)
+    × IsPlace known place
+    × (status ≡ (outcome_with verdict (lines_after verdict read place)).status)
+    × (text ≡ (outcome_with verdict (lines_after verdict read place)).text)

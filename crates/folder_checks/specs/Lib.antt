@@ -1,0 +1,3 @@
+pub mod Verdicts
+pub mod Explanations
+pub mod Reports

@@ -1,0 +1,71 @@
+-- What a check of one or several folders answers.
+use Rattle.std.specs.Prelude.{◌≡◌, ◌⊎◌, ℕ, Bool, true, false, if◌then◌else◌, nat_eq}
+use Rattle.std.specs.Prelude.{List, [], ◌∷◌, ◌++◌, Option, Result}
+use Rattle.std.specs.List.{flat_map, list_all}
+use Rattle.schedule.specs.Escapes.{escaped_text}
+use Rattle.bag_tree.specs.declared.fault.TreeFault.{TreeFault}
+use Rattle.bag_tree.specs.Facts.{TreeFacts}
+use Rattle.folder_checks.specs.declared.report.Report.{Report}
+use Rattle.folder_checks.specs.declared.report.Report.TheVariants.{Brief, Explained}
+use Rattle.outcomes.specs.Outcomes.{Outcome, no_memory}
+use Rattle.folder_checks.specs.Verdicts.{verdict_of, AnswersFor}
+use Rattle.folder_checks.specs.Explanations.{ExplainsFor}
+
+-- what a check of a folder may end with, from what a read of it gives and where it fails
+abbrev pub ReportsFor : Report → Result TreeFacts TreeFault → Option (List ℕ)
+    → (Outcome → Type 0) → Type 0
+ReportsFor Brief read place P = AnswersFor (verdict_of read) P
+ReportsFor Explained read place P = ExplainsFor read place P
+
+-- ---- several folders
+
+-- a name and a space where a line begins, and nothing elsewhere
+abbrev pub name_where : Bool → List ℕ → List ℕ
+name_where true name = name ++ 32 ∷ []
+name_where false name = []
+
+-- the text with this name before each line, where `begins` says whether a line begins here
+unfoldable pub named_from : List ℕ → Bool → List ℕ → List ℕ
+named_from name begins [] = []
+named_from name begins (byte ∷ bytes) =
+    name_where begins name ++ byte ∷ named_from name (nat_eq byte 10) bytes
+
+-- the outcome with the folder's path, escaped, before each line
+abbrev pub named_outcome : List ℕ → Outcome → Outcome
+named_outcome path outcome = record {
+  status = outcome.status;
+  text = named_from (escaped_text path) true outcome.text;
+}
+
+-- the outcome is one that the check of the folder of this path, of several, may end with
+abbrev pub IsReport : Report → Result TreeFacts TreeFault → Option (List ℕ) → List ℕ
+    → Outcome → Type 0
+IsReport report read place path outcome =
+    ReportsFor report read place (λ plain. outcome ≡ named_outcome path plain)
+    ⊎ (outcome ≡ no_memory)
+
+-- each outcome is one that the check of its folder may end with
+unfoldable pub AreReports : Report → (List ℕ → Result TreeFacts TreeFault) → Option (List ℕ)
+    → List (List ℕ) → List Outcome → Type 0
+AreReports report gives place [] [] = Unit {0}
+AreReports report gives place [] (outcome ∷ outcomes) = ⊥
+AreReports report gives place (path ∷ paths) [] = ⊥
+AreReports report gives place (path ∷ paths) (outcome ∷ outcomes) =
+    IsReport report (gives path) place path outcome × AreReports report gives place paths outcomes
+
+-- all have the status 0
+abbrev pub all_valid : List Outcome → Bool
+all_valid outcomes = list_all (λ outcome. nat_eq outcome.status 0) outcomes
+
+-- one text after another, and the status 0 where each has it
+abbrev pub all_of : List Outcome → Outcome
+all_of outcomes = record {
+  status = if all_valid outcomes then 0 else 1;
+  text = flat_map (λ outcome. outcome.text) outcomes;
+}
+
+-- what the checks of these folders may end with, and what is written of it then
+abbrev pub ReportsAll : Report → (List ℕ → Result TreeFacts TreeFault) → Option (List ℕ)
+    → List (List ℕ) → (Outcome → Type 0) → Type 0
+ReportsAll report gives place paths P =
+    (outcomes : List Outcome) × AreReports report gives place paths outcomes × P (all_of outcomes)

@@ -1,0 +1,103 @@
+//! The arguments of the command `check`.
+
+use crate::report::Report;
+use clap::{Arg, ArgAction, ArgMatches, Command};
+use std::alloc::{AllocError, Global};
+
+const ABOUT: &str = "Checks whether folders are valid BagIt bags, and prints their identities";
+
+const EXAMPLE: &str = "It prints one line:
+  valid HEX     a valid bag; HEX is its identity, the SHA-512 of its manifest-sha512.txt
+  invalid N     no valid bag; N is the first fault that holds:
+                  1 no bagit.txt                 8 a manifest of an unknown algorithm
+                  2 bagit.txt is malformed       9 a malformed line in a manifest
+                  3 neither BagIt 1.0 nor 0.97  10 an unsafe path in a manifest
+                  4 an encoding but UTF-8       11 a path twice in a payload manifest
+                  5 there is a fetch.txt        12 a listed file is missing
+                  6 no payload folder data      13 a payload file is not listed
+                  7 no manifest-sha512.txt      14 a file has another digest than the listed one
+                                                15 out of memory
+  unread N      a folder that can't be read:
+                  1 a folder can't be listed     4 over 100,000 files and folders
+                  2 neither file nor folder      5 a text over 64 MiB
+                  3 a path of over 32 parts      6 a file can't be read
+                                                 7 out of memory
+  memory        out of memory, before or after the folder was read
+
+With --explain, a line for each thing that is wrong comes after it, as the number of the fault and
+where it is, a space as %20:
+  6 data                                           a file or folder
+  9 manifest-md5.txt:2                             a line of a text
+  12 data/b.txt manifest-md5.txt:3                 a path that the line of a manifest lists
+  13 data/c.txt manifest-md5.txt                   a file that a manifest doesn't list
+  14 data/a.txt md5 manifest-md5.txt:1             a file, the algorithm, and the line
+  6 data/a.txt                                     after `unread 6`: what can't be read, `.` for
+                                                   the folder itself
+
+Of several folders, each of these lines has the folder before it, as in
+  path/to/bag invalid 14
+
+With --progress, or where standard error is a terminal and a check takes its time, lines there say
+how far it is: 1000 of 2500 files, 4096000 of 10240000 bytes, 300 MB/s
+
+The exit status is 0 where each folder is a valid bag, 1 for all else, and 2 for a mistake in the
+arguments.
+
+Examples:
+  bagpaxos check path/to/bag
+  bagpaxos check --explain path/to/bag
+  bagpaxos check --progress path/to/bag
+  bagpaxos check path/to/bag path/to/another";
+
+/// Folders to check.
+#[derive(Debug, Drop)]
+pub struct CheckTask<'a> {
+    /// Their paths, of which there is one or more.
+    pub paths: Vec<&'a str>,
+    pub report: Report,
+    /// Whether to say how far it is.
+    pub progress: bool,
+}
+
+/// What these arguments of the command ask for.
+pub fn check_task<'a>(
+    alloc: Global,
+    matches: &ArgMatches<'a>,
+) -> Result<CheckTask<'a>, AllocError> {
+    let mut paths = Vec::new(alloc);
+    if let Some(folders) = matches.get_strs("FOLDER") {
+        paths.extend_from_slice(folders)?;
+    }
+    let report = if matches.get_flag("explain") {
+        Report::Explained
+    } else {
+        Report::Brief
+    };
+    Ok(CheckTask {
+        paths,
+        report,
+        progress: matches.get_flag("progress"),
+    })
+}
+
+/// The command, with its help.
+pub fn check_command<'a>(alloc: Global) -> Result<Command<'a>, AllocError> {
+    let folders = Arg::new(alloc, "FOLDER")
+        .required(true)
+        .num_args(1..)
+        .help("The bags' folders");
+    let explain = Arg::new(alloc, "explain")
+        .long("explain")
+        .action(ArgAction::SetTrue)
+        .help("Then print a line for each thing that is wrong");
+    let progress = Arg::new(alloc, "progress")
+        .long("progress")
+        .action(ArgAction::SetTrue)
+        .help("Say on standard error how far it is");
+    Command::new(alloc, "check")
+        .about(ABOUT)
+        .after_help(EXAMPLE)
+        .arg(explain)?
+        .arg(progress)?
+        .arg(folders)
+}

@@ -1,0 +1,23 @@
+//! The command `check`: whether folders are valid bags, what is wrong where they aren't, and how far
+//! a check is.
+#![tactic(auto)]
+
+mod arguments;
+mod checking;
+mod checking_each;
+mod command;
+mod explaining;
+mod named;
+mod progress;
+mod report;
+
+pub use arguments::{CheckTask, check_command, check_task};
+pub use checking::{Verdict, check_on};
+pub use checking_each::check_each_on;
+pub use command::check_folders;
+pub use explaining::explain_on;
+pub use progress::{Progress, Saying};
+pub use report::Report;
+
+#[cfg(test)]
+mod tests;

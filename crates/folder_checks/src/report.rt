@@ -1,0 +1,41 @@
+//! What is said of a checked folder.
+
+ghost use Rattle.std.specs.Prelude.{◌≡◌, IfOk, IfSome, string_bytes};
+ghost use Rattle.folder_checks.specs.Reports.{ReportsFor};
+
+use crate::checking::{line_of, verdict_on};
+use crate::explaining::answer_on;
+use bag_folders::Folders;
+use outcomes::Answer;
+use std::alloc::{AllocError, Global};
+
+/// How much is said of a folder.
+#[derive(Clone, Copy, Debug, PartialEq, Eq)]
+pub enum Report {
+    /// The line of its verdict.
+    Brief,
+    /// Also all that is wrong, or where it can't be read.
+    Explained,
+}
+
+/// The answer for the folder of this path.
+pub(crate) fn answer_for<F: Folders>(
+    alloc: Global,
+    folders: &mut F,
+    path: &str,
+    report: Report,
+) -> Result<Answer, AllocError>
+    ensures ok { IfOk result (λ answer. IfSome (F.gives folders.old) (λ gives.
+        ReportsFor report (gives path.now) (F.fails_at folders.old) (λ outcome.
+        (answer.status ≡ outcome.status) × (string_bytes answer.text ≡ outcome.text)))) }
+    ensures kept { F.gives folders.new ≡ F.gives folders.old }
+    ensures place { F.fails_at folders.new ≡ F.fails_at folders.old }
+{
+    match report {
+        Report::Brief => {
+            let verdict = verdict_on(alloc, folders, path);
+            line_of(alloc, verdict)
+        }
+        Report::Explained => answer_on(alloc, folders, path),
+    }
+}

@@ -1,0 +1,16 @@
+//! How a command of the program ends: its exit status, and what it wrote. Reading and writing to
+//! the end.
+#![tactic(auto)]
+
+mod answer;
+mod fault;
+mod reading;
+mod writing;
+
+pub use answer::{Answer, write_answer, write_bytes};
+pub use fault::ProgramFault;
+pub use reading::{MOST_READS, ReadFault, read_all, read_within};
+pub use writing::{WriteFault, write_all};
+
+#[cfg(test)]
+mod tests;

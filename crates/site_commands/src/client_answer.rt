@@ -1,0 +1,71 @@
+//! What a client is told by a site, as a status and a line.
+
+use dgram::{DepositAnswer, QueryAnswer};
+use fed_types::{BagId, SiteNo, Slot};
+use lines::{Options, push_line};
+use outcomes::Answer;
+use std::alloc::{AllocError, Global};
+use world_law::{Line, NamedBag, NamedReply};
+
+/// The answer to a deposit.
+pub(crate) fn deposit_text(
+    alloc: Global,
+    to: SiteNo,
+    slot: Slot,
+    answer: DepositAnswer,
+) -> Result<Answer, AllocError> {
+    let site = to.number();
+    match answer {
+        DepositAnswer::Registered(bag) => {
+            let bag = named(bag);
+            line_text(alloc, &Line::Registered { site, slot, bag })
+        }
+        DepositAnswer::OtherDeposit(_) => refused(alloc, site, 11),
+        DepositAnswer::OtherKnown(_) => refused(alloc, site, 12),
+        DepositAnswer::Device => refused(alloc, site, 13),
+        DepositAnswer::Memory => refused(alloc, site, 14),
+        DepositAnswer::NeedsOpen => refused(alloc, site, 15),
+        DepositAnswer::Tree(fault) => refused(alloc, site, 20 + fault.number()),
+        DepositAnswer::Bag(fault) => refused(alloc, site, 40 + fault.number()),
+    }
+}
+
+/// The answer to a query.
+pub(crate) fn query_text(
+    alloc: Global,
+    to: SiteNo,
+    slot: Slot,
+    answer: QueryAnswer,
+) -> Result<Answer, AllocError> {
+    let site = to.number();
+    let reply = match answer {
+        QueryAnswer::Known(bag) => NamedReply::Known(named(bag)),
+        QueryAnswer::Pending(bag) => NamedReply::Pending(named(bag)),
+        QueryAnswer::Nothing => NamedReply::Nothing,
+        QueryAnswer::NeedsOpen => return refused(alloc, site, 15),
+    };
+    line_text(alloc, &Line::Replied { site, slot, reply })
+}
+
+// A line, in which the bag has its identity.
+fn line_text(alloc: Global, line: &Line) -> Result<Answer, AllocError> {
+    let options = Options {
+        sent: false,
+        identities: true,
+    };
+    let mut text = String::new(alloc);
+    push_line(alloc, &mut text, options, line)?;
+    Ok(Answer { status: 0, text })
+}
+
+// The site refuses, for the reason of this code.
+fn refused(alloc: Global, site: u8, code: u8) -> Result<Answer, AllocError> {
+    Ok(Answer {
+        status: 1,
+        text: format!(in alloc; "refused {site} {code}\n")?,
+    })
+}
+
+fn named(bag: BagId) -> NamedBag {
+    NamedBag { bag, tree: 0 }
+}

@@ -1,0 +1,61 @@
+//! The command `send`: a client of a site of the members file.
+
+use crate::client::{Request, send_on};
+use crate::members_at::{members_at, port_of};
+use crate::send_arguments::SendTask;
+use crate::serving_command::socket;
+use crate::stop::{Stop, write_stop};
+use dgram::FolderPath;
+use fed_types::Slot;
+use outcomes::ProgramFault;
+use std::alloc::{AllocError, Global};
+use std::io;
+use std::io::Write;
+
+/// Asks as the arguments say. The answer is written to standard output.
+pub fn send_to_site(rt: &HostRuntime, task: &SendTask<'_>) -> Result<u8, ProgramFault> {
+    let mut output = io::writer(rt);
+    match try_to_send(rt, task, &mut output) {
+        Ok(answer) => answer,
+        Err(stop) => write_stop(rt.alloc(), &mut output, stop),
+    }
+}
+
+// What came of it, or why nothing was sent.
+fn try_to_send<W: Write>(
+    rt: &HostRuntime,
+    task: &SendTask<'_>,
+    output: &mut W,
+) -> Result<Result<u8, ProgramFault>, Stop> {
+    let members = members_at(rt, task.members)?;
+    let target = port_of(&members, task.to)?;
+    let slot = slot_of(rt.alloc(), task)?;
+    let path = path_of(rt.alloc(), task)?;
+    let mut port = socket(rt, 0, task.wait)?;
+    let request = Request {
+        federation: members.members().federation(),
+        to: task.to,
+        target,
+        slot: &slot,
+    };
+    Ok(send_on(rt.alloc(), &mut port, &request, path, output))
+}
+
+// The slot, which the arguments name within its limits.
+fn slot_of(alloc: Global, task: &SendTask<'_>) -> Result<Slot, Stop> {
+    match String::from_str(alloc, task.object) {
+        Ok(object) => Slot::new(object, task.version).or(Err(Stop::Memory)),
+        Err(AllocError) => Err(Stop::Memory),
+    }
+}
+
+// The folder's path, if the arguments name one, within its limits.
+fn path_of(alloc: Global, task: &SendTask<'_>) -> Result<Option<FolderPath>, Stop> {
+    match task.path {
+        Some(path) => match String::from_str(alloc, path) {
+            Ok(path) => Ok(FolderPath::new(path)),
+            Err(AllocError) => Err(Stop::Memory),
+        },
+        None => Ok(None),
+    }
+}

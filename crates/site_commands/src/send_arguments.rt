@@ -1,0 +1,110 @@
+//! The arguments of the command `send`.
+
+use crate::site_arguments::{members_argument, wait_argument};
+use clap::{Arg, ArgMatches, Command, value_parser};
+use dgram::LONGEST_PATH;
+use fed_types::{LONGEST_OBJECT, SiteNo};
+use std::alloc::{AllocError, Global};
+
+const ABOUT: &str = "Deposits a bag at a site that serves, or asks it for one";
+
+const EXAMPLE: &str =
+    "With PATH it deposits the folder of this path, which the site reads, as version V of the object
+OBJ; without it asks which bag is version V of OBJ. It prints one line, of site N:
+  registered N OBJ V HEX       the bag of this identity is deposited
+  reply N OBJ V known HEX      the bag of this identity is version V of OBJ
+  reply N OBJ V pending HEX    the site deposited this bag, and doesn't know which one it is
+  reply N OBJ V nothing        the site doesn't know which bag it is
+  refused N CODE               11 another bag is deposited       14 out of memory
+                               12 another bag is known           15 the site has to be restarted
+                               13 the site's cell failed
+                               20 + n: the folder can't be read, as `unread n` of bagpaxos check
+                               40 + n: it is no valid bag, as `invalid n` of bagpaxos check
+  no answer                    the site doesn't answer
+or `members unread`, `members line N`, `not a member`, `socket` or `memory`, as bagpaxos site.
+
+The exit status is 0 for `registered` and `reply`, 1 for all else, and 2 for a mistake in the
+arguments.
+
+Example:
+  bagpaxos send --members members --to 1 --wait 1000 report 1 path/to/bag";
+
+/// What to ask of a site.
+#[derive(Clone, Copy, Debug)]
+pub struct SendTask<'a> {
+    pub members: &'a str,
+    pub to: SiteNo,
+    pub wait: u32,
+    /// 1 to 200 bytes.
+    pub object: &'a str,
+    /// 1 or more.
+    pub version: u32,
+    /// 1 to `LONGEST_PATH` bytes.
+    pub path: Option<&'a str>,
+}
+
+impl SendTask<'_> {
+    /// The argument that is beyond its limits, if there is one.
+    pub fn mistake(&self) -> Option<&'static str> {
+        if self.object.is_empty() || LONGEST_OBJECT < self.object.len() {
+            return Some("an object has 1 to 200 bytes");
+        }
+        match self.path {
+            Some(path) if path.is_empty() || LONGEST_PATH < path.len() => {
+                Some("a path has 1 to 400 bytes")
+            }
+            _ => None,
+        }
+    }
+}
+
+/// What these arguments of the command ask for.
+pub fn send_task<'a>(matches: &ArgMatches<'a>) -> Option<SendTask<'a>> {
+    Some(SendTask {
+        members: matches.get_str("members")?,
+        to: SiteNo::new(matches.get_one::<u8>("to")?).ok()?,
+        wait: matches.get_one::<u32>("wait")?,
+        object: matches.get_str("OBJ")?,
+        version: matches.get_one::<u32>("V")?,
+        path: matches.get_str("PATH"),
+    })
+}
+
+/// The command, with its help.
+pub fn send_command<'a>(alloc: Global) -> Result<Command<'a>, AllocError> {
+    Command::new(alloc, "send")
+        .about(ABOUT)
+        .after_help(EXAMPLE)
+        .arg(members_argument(alloc))?
+        .arg(to_argument(alloc))?
+        .arg(wait_argument(alloc))?
+        .arg(object_argument(alloc))?
+        .arg(version_argument(alloc))?
+        .arg(path_argument(alloc))
+}
+
+fn to_argument<'a>(alloc: Global) -> Arg<'a> {
+    Arg::new(alloc, "to")
+        .long("to")
+        .value_name("N")
+        .required(true)
+        .value_parser(value_parser!(u8).range(1..=15))
+        .help("The number of the site, 1 to 15")
+}
+
+fn object_argument<'a>(alloc: Global) -> Arg<'a> {
+    Arg::new(alloc, "OBJ")
+        .required(true)
+        .help("The name of the object, 1 to 200 bytes")
+}
+
+fn version_argument<'a>(alloc: Global) -> Arg<'a> {
+    Arg::new(alloc, "V")
+        .required(true)
+        .value_parser(value_parser!(u32).range(1..))
+        .help("The version, 1 to 4294967295")
+}
+
+fn path_argument<'a>(alloc: Global) -> Arg<'a> {
+    Arg::new(alloc, "PATH").help("The folder to deposit, 1 to 400 bytes, as the site names it")
+}

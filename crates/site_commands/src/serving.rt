@@ -1,0 +1,62 @@
+//! One site that serves.
+
+use crate::stop::{Stop, write_numbered, write_stop};
+use bag_folders::Folders;
+use book::OpenFault;
+use cell_device::Cell;
+use fed_types::{Members, SiteNo};
+use outcomes::ProgramFault;
+use records::Owner;
+use site::Site;
+use std::alloc::{AllocError, Global};
+use std::io::Write;
+use udp_site::{Port, ServeFault, serve};
+
+/// Opens the site of this number, and serves so many turns. Its lines are written, and the exit
+/// status is 0; or it is 1, and a last line says why: `not a member`, `open N` with the number of
+/// the `OpenFault`, or `stopped N` with that of the `ServeFault`.
+pub fn site_on<C: Cell + Drop, P: Port, F: Folders, W: Write>(
+    alloc: Global,
+    cell: C,
+    members: Members,
+    number: SiteNo,
+    port: &mut P,
+    folders: &mut F,
+    ports: &[u16],
+    turns: u32,
+    output: &mut W,
+) -> Result<u8, ProgramFault> {
+    if !members.has(number) {
+        return write_stop(alloc, output, Stop::NotAMember);
+    }
+    let site = number;
+    match Site::open(alloc, cell, Owner { members, site }) {
+        Ok(mut site) => match serve(alloc, &mut site, port, folders, ports, turns, output) {
+            Ok(()) => Ok(0),
+            Err(fault) => write_stopped(alloc, output, fault),
+        },
+        Err((_, fault)) => write_numbered(output, open_line(alloc, fault)),
+    }
+}
+
+// Says why the site stopped serving, unless that is because nothing can be written.
+fn write_stopped<W: Write>(
+    alloc: Global,
+    output: &mut W,
+    fault: ServeFault,
+) -> Result<u8, ProgramFault> {
+    if fault == ServeFault::Output {
+        return Err(ProgramFault::Output);
+    }
+    write_numbered(output, stopped_line(alloc, fault))
+}
+
+fn open_line(alloc: Global, fault: OpenFault) -> Result<String, AllocError> {
+    let number = fault.number();
+    format!(in alloc; "open {number}\n")
+}
+
+fn stopped_line(alloc: Global, fault: ServeFault) -> Result<String, AllocError> {
+    let number = fault.number();
+    format!(in alloc; "stopped {number}\n")
+}

@@ -1,0 +1,53 @@
+//! Why the program doesn't begin what it was asked for.
+
+use outcomes::{ProgramFault, write_answer};
+use std::alloc::{AllocError, Global};
+use std::io::Write;
+
+/// Why a site doesn't serve, or nothing is sent.
+#[derive(Clone, Copy, Debug, PartialEq, Eq)]
+pub(crate) enum Stop {
+    /// The members file can't be read.
+    MembersUnread,
+    /// This line of the members file is the first at fault.
+    MembersLine(usize),
+    /// No member has the site's number.
+    NotAMember,
+    /// The file of the cell can't be opened.
+    CellUnopened,
+    /// There is no socket.
+    Socket,
+    /// An allocation failed.
+    Memory,
+}
+
+/// Writes why, as a line, and gives the status 1.
+pub(crate) fn write_stop<W: Write>(
+    alloc: Global,
+    output: &mut W,
+    stop: Stop,
+) -> Result<u8, ProgramFault> {
+    match stop {
+        Stop::MembersUnread => write_answer(output, 1, "members unread\n"),
+        Stop::MembersLine(line) => write_numbered(output, members_line(alloc, line)),
+        Stop::NotAMember => write_answer(output, 1, "not a member\n"),
+        Stop::CellUnopened => write_answer(output, 1, "open 4\n"),
+        Stop::Socket => write_answer(output, 1, "socket\n"),
+        Stop::Memory => write_answer(output, 1, "memory\n"),
+    }
+}
+
+/// Writes this line, or that there was no memory for it, and gives the status 1.
+pub(crate) fn write_numbered<W: Write>(
+    output: &mut W,
+    line: Result<String, AllocError>,
+) -> Result<u8, ProgramFault> {
+    match line {
+        Ok(line) => write_answer(output, 1, line.as_str()),
+        Err(AllocError) => write_answer(output, 1, "memory\n"),
+    }
+}
+
+fn members_line(alloc: Global, line: usize) -> Result<String, AllocError> {
+    format!(in alloc; "members line {line}\n")
+}

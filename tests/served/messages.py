@@ -1,0 +1,70 @@
+"""Datagrams and journals of layout 1, as docs/FORMATS.md has them. No test of itself."""
+from typing import NamedTuple
+
+FEDERATION = 7
+BALLOT_BYTES = 5
+# The kinds of datagrams, and of records.
+PREPARE, PROMISE, ACCEPT, ACCEPTED, REFUSED, ASK, KNOWN = range(1, 8)
+DEPOSIT, QUERY, DEPOSIT_REPLY, QUERY_REPLY = 16, 17, 32, 33
+DEPOSITED, ROUND, PROMISED, VOTED, LEARNED = range(1, 6)
+
+
+class Message(NamedTuple):
+    """A datagram's parts: its sender is 0 for a client."""
+
+    kind: int
+    sender: int
+    object: str
+    version: int
+    body: bytes = b""
+
+    def bytes(self):
+        name = self.object.encode()
+        head = b"BP\x01" + bytes([self.kind]) + FEDERATION.to_bytes(8, "big")
+        head += bytes([self.sender, len(name)]) + name
+        return head + self.version.to_bytes(4, "big") + self.body
+
+
+class Record(NamedTuple):
+    """A record of a journal."""
+
+    kind: int
+    object: str
+    version: int
+    body: bytes
+
+
+def message(datagram):
+    """The message of a datagram of this federation."""
+    assert datagram[:3] == b"BP\x01" and datagram[4:12] == FEDERATION.to_bytes(8, "big")
+    name, version, body = named(datagram[13:])
+    return Message(datagram[3], datagram[12], name, version, body)
+
+
+def named(bytes):
+    """An object and a version, and what follows."""
+    end = 1 + bytes[0]
+    name, version = bytes[1:end].decode(), int.from_bytes(bytes[end : end + 4], "big")
+    return name, version, bytes[end + 4 :]
+
+
+def ballot(round, site):
+    return round.to_bytes(4, "big") + bytes([site])
+
+
+def deposit(object, version, path):
+    """A client's deposit of the folder of this path."""
+    path = str(path).encode()
+    return Message(DEPOSIT, 0, object, version, len(path).to_bytes(2, "big") + path)
+
+
+def records(journal):
+    """The records of a whole journal."""
+    assert journal[:12] == b"BPJ1" + FEDERATION.to_bytes(8, "big")
+    found, at = [], 13
+    while at < len(journal):
+        end = at + 2 + int.from_bytes(journal[at : at + 2], "big")
+        assert end <= len(journal)
+        found.append(Record(journal[at + 2], *named(journal[at + 3 : end])))
+        at = end
+    return found
