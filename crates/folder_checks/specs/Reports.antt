@@ -1,6 +1,6 @@
 -- What a check of one or several folders answers.
 use Rattle.std.specs.Prelude.{◌≡◌, ◌⊎◌, ℕ, Bool, true, false, if◌then◌else◌, nat_eq}
-use Rattle.std.specs.Prelude.{List, [], ◌∷◌, ◌++◌, Option, Result}
+use Rattle.std.specs.Prelude.{List, [], ◌∷◌, ◌++◌, take, Option, Result}
 use Rattle.std.specs.List.{flat_map, list_all}
 use Rattle.schedule.specs.Escapes.{escaped_text}
 use Rattle.bag_tree.specs.declared.fault.TreeFault.{TreeFault}
@@ -69,3 +69,22 @@ abbrev pub ReportsAll : Report → (List ℕ → Result TreeFacts TreeFault) →
     → List (List ℕ) → (Outcome → Type 0) → Type 0
 ReportsAll report gives place paths P =
     (outcomes : List Outcome) × AreReports report gives place paths outcomes × P (all_of outcomes)
+
+-- ---- all folders that are asked for
+
+-- what a check of these folders may end with, and what is written of it then: of one its own lines,
+-- of several the lines of each with its name
+abbrev pub ReportsOn : Report → (List ℕ → Result TreeFacts TreeFault) → Option (List ℕ)
+    → List (List ℕ) → (Outcome → Type 0) → Type 0
+ReportsOn report gives place [] P = ReportsAll report gives place [] P
+ReportsOn report gives place (path ∷ []) P = ReportsFor report (gives path) place P
+ReportsOn report gives place (path ∷ next ∷ paths) P =
+    ReportsAll report gives place (path ∷ next ∷ paths) P
+
+-- the same of the folders that were checked when the output failed: of several the first ones
+abbrev pub ReportsFirst : Report → (List ℕ → Result TreeFacts TreeFault) → Option (List ℕ)
+    → List (List ℕ) → (Outcome → Type 0) → Type 0
+ReportsFirst report gives place [] P = ReportsAll report gives place [] P
+ReportsFirst report gives place (path ∷ []) P = ReportsFor report (gives path) place P
+ReportsFirst report gives place (path ∷ next ∷ paths) P =
+    (count : ℕ) × ReportsAll report gives place (take count (path ∷ next ∷ paths)) P

@@ -1,23 +1,23 @@
 //! The command `check`: folders of the file system.
 
 use crate::arguments::CheckTask;
-use crate::checking::check_on;
-use crate::checking_each::check_each_on;
-use crate::explaining::explain_on;
+use crate::checking_all::check_all_on;
 use crate::progress::{Progress, Saying};
-use crate::report::Report;
-use bag_folders::{DiskFolders, Folders};
+use bag_folders::DiskFolders;
 use outcomes::{ProgramFault, write_answer};
-use std::alloc::{AllocError, Global};
+use std::alloc::AllocError;
 use std::io;
-use std::io::{IsTerminal, Stderr, Write};
+use std::io::{IsTerminal, Stderr};
 
 /// Checks as the arguments say. The lines are written to standard output, and how far it is to
 /// standard error.
 pub fn check_folders(rt: &HostRuntime, task: &CheckTask<'_>) -> Result<u8, ProgramFault> {
     let mut output = io::writer(rt);
     match watched(rt, task.progress) {
-        Ok(mut folders) => check_in(rt.alloc(), &mut folders, task, &mut output),
+        Ok(mut folders) => {
+            let paths = task.paths.as_slice();
+            check_all_on(rt.alloc(), &mut folders, paths, task.report, &mut output)
+        }
         Err(AllocError) => write_answer(&mut output, 1, "memory\n"),
     }
 }
@@ -38,18 +38,4 @@ fn watched(
     };
     let watcher = Progress::new(rt.alloc(), rt.clone()?, errors, saying);
     Ok(DiskFolders::watched(rt.clone()?, watcher))
-}
-
-// Checks the folders among these.
-fn check_in<F: Folders, W: Write>(
-    alloc: Global,
-    folders: &mut F,
-    task: &CheckTask<'_>,
-    output: &mut W,
-) -> Result<u8, ProgramFault> {
-    match (task.paths.as_slice(), task.report) {
-        ([path], Report::Brief) => check_on(alloc, folders, path, output),
-        ([path], Report::Explained) => explain_on(alloc, folders, path, output),
-        (paths, report) => check_each_on(alloc, folders, paths, report, output),
-    }
 }

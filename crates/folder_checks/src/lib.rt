@@ -4,6 +4,7 @@
 
 mod arguments;
 mod checking;
+mod checking_all;
 mod checking_each;
 mod command;
 mod explaining;
@@ -13,6 +14,7 @@ mod report;
 
 pub use arguments::{CheckTask, check_command, check_task};
 pub use checking::{Verdict, check_on};
+pub use checking_all::check_all_on;
 pub use checking_each::check_each_on;
 pub use command::check_folders;
 pub use explaining::explain_on;

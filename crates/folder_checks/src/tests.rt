@@ -185,6 +185,29 @@ fn several_folders_explained(rt: HostRuntime) -> Result<(), Fail> {
     Ok(())
 }
 
+#[test]
+fn one_folder_or_several(rt: HostRuntime) -> Result<(), Fail> {
+    let explained = "invalid 14\n14 data/a.txt sha512 manifest-sha512.txt:1\n";
+    for (paths, report, want) in [
+        (&["changed"] as &[&str], Report::Brief, "invalid 14\n"),
+        (&["changed"], Report::Explained, explained),
+        (
+            &["gone", "changed"],
+            Report::Brief,
+            "gone unread 1\nchanged invalid 14\n",
+        ),
+    ] {
+        let mut folders = two_bags(rt.alloc())?;
+        let mut output = Vec::new(rt.alloc());
+        assert_eq!(rt;
+            check_all_on(rt.alloc(), &mut folders, paths, report, &mut output),
+            Ok(1)
+        );
+        assert_eq!(rt; output.as_slice(), want.as_bytes());
+    }
+    Ok(())
+}
+
 /// A clock that has no time.
 #[derive(Clone, Copy, Debug, Drop)]
 struct NoClock;
