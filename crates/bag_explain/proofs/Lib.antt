@@ -7,3 +7,14 @@ pub mod NumberLaws
 pub mod PlaceLaws
 pub mod FindingLaws
 pub mod NamedFindings
+pub mod Members
+pub mod ListedLines
+pub mod RisingLines
+pub mod EarlierEntries
+pub mod ListedEntries
+pub mod TagFilePlaces
+pub mod EntryPlaces
+pub mod MalformedPlaces
+pub mod RepeatedPlaces
+pub mod UnlistedPlaces
+pub mod ExactPlaces

@@ -2,5 +2,6 @@ pub mod Lines
 pub mod Numbers
 pub mod Listings
 pub mod Places
+pub mod Wrong
 pub mod Findings
 pub mod inner

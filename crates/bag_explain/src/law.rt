@@ -1,6 +1,6 @@
 //! Laws of findings, over every tree, each as the contract of a function that does nothing.
 
-ghost use Rattle.std.specs.Prelude.{◌≡◌, ◌↔◌, ℕ, List, [], true, Ok};
+ghost use Rattle.std.specs.Prelude.{◌≡◌, ◌↔◌, ℕ, List, [], true, Ok, Contains};
 ghost use Rattle.std.specs.List.{AllByRecursion};
 ghost use Rattle.bag_text.specs.declared.algorithm.Algorithm.{Algorithm};
 ghost use Rattle.bag_text.specs.Lines.{lines_of};
@@ -14,7 +14,8 @@ ghost use Rattle.bag_check.specs.Named.{only_named, named_facts_of};
 ghost use Rattle.bag_check.specs.Valid.{IsValid};
 ghost use Rattle.bag_explain.specs.Lines.{numbered_from, malformed_from};
 ghost use Rattle.bag_explain.specs.Numbers.{ListsAt, IsMalformedAt};
-ghost use Rattle.bag_explain.specs.Places.{places_of, files_in};
+ghost use Rattle.bag_explain.specs.Places.{Place, places_of, files_in};
+ghost use Rattle.bag_explain.specs.Wrong.{IsWrongAt};
 ghost use Rattle.bag_explain.specs.Findings.{findings_of, explanation_of, has_some, first_of};
 
 /// A fault holds exactly where it has a place, so all that hold are among the findings, and no
@@ -41,6 +42,13 @@ pub fn numbers_law()
     ensures malformed { (algorithm : Algorithm) (text : List ℕ)
         → AllByRecursion (IsMalformedAt algorithm (lines_of text))
         (malformed_from algorithm 1 (lines_of text)) }
+{}
+
+/// The places that a fault has are those where it holds, by what a manifest lists on which line and
+/// what the tree has: no other is named, and none is left out.
+pub fn places_law()
+    ensures placed { (fault : BagFault) (facts : TreeFacts) (place : Place)
+        → Contains (places_of fault facts) place ↔ IsWrongAt fault facts place }
 {}
 
 /// Where only the digests are known which a tree's manifests ask for, as their names say it, what

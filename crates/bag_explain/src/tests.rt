@@ -110,5 +110,6 @@ fn laws(_rt: HostRuntime) -> Result<(), Fail> {
     findings_law();
     named_findings_law();
     numbers_law();
+    places_law();
     Ok(())
 }
