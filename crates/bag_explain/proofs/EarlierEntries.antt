@@ -67,7 +67,9 @@ repeated_before before (first ∷ entries) number entry (least, others) h =
     (repeated_after (before ++ first.file ∷ []) entries) entry h) [
       | inl here ↦
           let (listed, is) = in_when (is_listed first.file.path before) first entry here in
-          (inl is, inl (subst (λ (e : NumberedFile). is_listed e.file.path before ≡ true) is listed))
+          let early : is_listed entry.file.path before ≡ true =
+          subst (λ (e : NumberedFile). is_listed e.file.path before ≡ true) is listed in
+          (inl is, inl early)
       | inr there ↦
           let rest = repeated_before (before ++ first.file ∷ []) entries (first.line + 1) entry
           others there in

@@ -18,3 +18,8 @@ pub mod MalformedPlaces
 pub mod RepeatedPlaces
 pub mod UnlistedPlaces
 pub mod ExactPlaces
+pub mod Pairs
+pub mod ManifestNames
+pub mod RisingPairs
+pub mod KeyedPlaces
+pub mod OncePlaces

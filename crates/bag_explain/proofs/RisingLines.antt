@@ -13,8 +13,8 @@ Rises number [] = Unit {0}
 Rises number (entry ∷ entries) = (number ≤ entry.line) × Rises (entry.line + 1) entries
 
 -- what rises from a number rises from each below it
-rises_below : (low number : ℕ) (entries : List NumberedFile) → low ≤ number → Rises number entries
-    → Rises low entries
+pub rises_below : (low number : ℕ) (entries : List NumberedFile) → low ≤ number
+    → Rises number entries → Rises low entries
 rises_below low number [] h all = tt
 rises_below low number (entry ∷ entries) h (first, others) = (omega arith, others)
 

@@ -1,6 +1,6 @@
 //! Laws of findings, over every tree, each as the contract of a function that does nothing.
 
-ghost use Rattle.std.specs.Prelude.{◌≡◌, ◌↔◌, ℕ, List, [], true, Ok, Contains};
+ghost use Rattle.std.specs.Prelude.{◌≡◌, ◌≢◌, ◌↔◌, ℕ, List, [], true, Ok, Contains, AllPairs};
 ghost use Rattle.std.specs.List.{AllByRecursion};
 ghost use Rattle.bag_text.specs.declared.algorithm.Algorithm.{Algorithm};
 ghost use Rattle.bag_text.specs.Lines.{lines_of};
@@ -45,10 +45,14 @@ pub fn numbers_law()
 {}
 
 /// The places that a fault has are those where it holds, by what a manifest lists on which line and
-/// what the tree has: no other is named, and none is left out.
+/// what the tree has: no other is named, and none is left out. None is named twice, where each file
+/// of the tree has a path of its own.
 pub fn places_law()
     ensures placed { (fault : BagFault) (facts : TreeFacts) (place : Place)
         → Contains (places_of fault facts) place ↔ IsWrongAt fault facts place }
+    ensures once { (fault : BagFault) (facts : TreeFacts)
+        → AllPairs (λ a b. a.path ≢ b.path) facts.files
+        → AllPairs (λ a b. a ≢ b) (places_of fault facts) }
 {}
 
 /// Where only the digests are known which a tree's manifests ask for, as their names say it, what
