@@ -12,7 +12,7 @@ use Rattle.bag_explain.specs.Listings.{Listing, listing_of, listings_of}
 use Rattle.bag_explain.specs.Places.{Place, at_entry, at_digest}
 use Rattle.bag_explain.specs.Places.{when, entry_place, digest_place, astray_places}
 use Rattle.bag_explain.specs.Places.{missing_places, wrong_places}
-use Rattle.bag_explain.specs.Wrong.{Lists, IsWrongAt}
+use Rattle.bag_explain.specs.Wrong.{ListsNumbered, IsWrongAt}
 use Rattle.bag_explain.proofs.Members.{In, contained_in, in_contained, in_some, some_in}
 use Rattle.bag_explain.proofs.Members.{in_when, when_in}
 use Rattle.bag_explain.proofs.ListedEntries.{entry_listed, listed_entry, of_manifest, manifest_of}
@@ -30,7 +30,7 @@ module _ (test : Listing → NumberedFile → Bool) (at : Listing → NumberedFi
   passes_at : (files : List FileFact) (place : Place)
       → In place (flat_map places (listings_of files))
       → (manifest : Manifest) × (entry : NumberedFile) × In manifest (manifests_of files)
-      × Lists manifest entry × (test (listing_of manifest) entry ≡ true)
+      × ListsNumbered manifest entry × (test (listing_of manifest) entry ≡ true)
       × (at (listing_of manifest) entry ≡ place)
   passes_at files place h =
       let one = of_manifest places files place h in
@@ -41,7 +41,7 @@ module _ (test : Listing → NumberedFile → Bool) (at : Listing → NumberedFi
 
   -- an entry that passes has a place
   at_passes : (files : List FileFact) (manifest : Manifest) (entry : NumberedFile)
-      → In manifest (manifests_of files) → Lists manifest entry
+      → In manifest (manifests_of files) → ListsNumbered manifest entry
       → test (listing_of manifest) entry ≡ true
       → In (at (listing_of manifest) entry) (flat_map places (listings_of files))
   at_passes files manifest entry m lists passed =

@@ -11,7 +11,7 @@ use Rattle.bag_explain.specs.Lines.{NumberedFile, numbered_from, malformed_from}
 use Rattle.bag_explain.specs.Numbers.{ListsAt, IsMalformedAt}
 use Rattle.bag_explain.specs.Listings.{Listing, listing_of, listings_of, unless_malformed}
 use Rattle.bag_explain.specs.Places.{Place, files_in}
-use Rattle.bag_explain.specs.Wrong.{Lists}
+use Rattle.bag_explain.specs.Wrong.{ListsNumbered}
 use Rattle.bag_explain.specs.Findings.{has_some}
 use Rattle.bag_explain.proofs.LineLaws.{Agrees, text_agrees}
 use Rattle.bag_explain.proofs.NumberLaws.{numbered_are, malformed_are}
@@ -63,7 +63,7 @@ module _ (manifest : Manifest) where
 
   -- the entries of the listing are what the manifest lists
   pub entry_listed : (entry : NumberedFile) → In entry (listing_of manifest).files
-      → Lists manifest entry
+      → ListsNumbered manifest entry
   unfolding listing_of
   entry_listed entry h =
       let parts = in_unless malformed numbered entry h in
@@ -73,7 +73,7 @@ module _ (manifest : Manifest) where
             (numbered_are manifest.algorithm manifest.text) parts.1,
       )
 
-  pub listed_entry : (entry : NumberedFile) → Lists manifest entry
+  pub listed_entry : (entry : NumberedFile) → ListsNumbered manifest entry
       → In entry (listing_of manifest).files
   unfolding listing_of
   listed_entry entry ((files, e), lists) =

@@ -31,8 +31,8 @@ IsNamed facts name manifest =
     × (manifest_name manifest.kind manifest.algorithm ≡ name)
 
 -- no line of the manifest is malformed, and the line of the entry's number lists its file
-abbrev pub Lists : Manifest → NumberedFile → Type 0
-Lists manifest entry =
+abbrev pub ListsNumbered : Manifest → NumberedFile → Type 0
+ListsNumbered manifest entry =
     ((files : List ListedFile) × (entries manifest ≡ Ok files))
     × ListsAt manifest.algorithm (lines_of manifest.text) entry
 
@@ -40,12 +40,14 @@ Lists manifest entry =
 abbrev pub HasEntry : TreeFacts → List ℕ → List ℕ → ℕ → (Manifest → ListedFile → Type 0) → Type 0
 HasEntry facts path name line Is =
     (manifest : Manifest) × (file : ListedFile) × IsNamed facts name manifest
-    × Lists manifest (record { line = line; file = file }) × (file.path ≡ path) × Is manifest file
+    × ListsNumbered manifest (record { line = line; file = file }) × (file.path ≡ path)
+    × Is manifest file
 
 -- the manifest lists a file of this path on an earlier line
 abbrev pub ListsEarlier : Manifest → List ℕ → ℕ → Type 0
 ListsEarlier manifest path line =
-    (entry : NumberedFile) × Lists manifest entry × (entry.file.path ≡ path) × (entry.line < line)
+    (entry : NumberedFile) × ListsNumbered manifest entry × (entry.file.path ≡ path)
+    × (entry.line < line)
 
 -- the fault holds of the tree at this place
 unfoldable pub IsWrongAt : BagFault → TreeFacts → Place → Type 0
