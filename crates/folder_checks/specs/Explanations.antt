@@ -39,13 +39,16 @@ outcome_with verdict lines = record {
 abbrev pub IsPlace : Option (List ℕ) → Option (List ℕ) → Type 0
 IsPlace known place = IfSome known (λ it. place ≡ Some it)
 
+-- what is written of the folder's verdict with all that is wrong, where there is room for it
+abbrev pub SaysAllFor : Result TreeFacts TreeFault → Option (List ℕ) → (Outcome → Type 0) → Type 0
+SaysAllFor read known P =
+    (verdict : Verdict) × (place : Option (List ℕ)) × IsOrMemory verdict (verdict_of read)
+    × IsPlace known place × P (outcome_with verdict (lines_after verdict read place))
+
 -- what an explained check may end with, and what is written of it then: that of the folder's
 -- verdict with all that is wrong, or that memory ran out
 abbrev pub ExplainsFor : Result TreeFacts TreeFault → Option (List ℕ) → (Outcome → Type 0) → Type 0
-ExplainsFor read known P =
-    ((verdict : Verdict) × (place : Option (List ℕ)) × IsOrMemory verdict (verdict_of read)
-    × IsPlace known place × P (outcome_with verdict (lines_after verdict read place)))
-    ⊎ P no_memory
+ExplainsFor read known P = SaysAllFor read known P ⊎ P no_memory
 
 -- the status and the text are those of the folder's verdict with all that is wrong
 abbrev pub IsAnswer : Result TreeFacts TreeFault → Option (List ℕ) → ℕ → List ℕ → Type 0

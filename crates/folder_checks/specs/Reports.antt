@@ -8,14 +8,20 @@ use Rattle.bag_tree.specs.Facts.{TreeFacts}
 use Rattle.folder_checks.specs.declared.report.Report.{Report}
 use Rattle.folder_checks.specs.declared.report.Report.TheVariants.{Brief, Explained}
 use Rattle.outcomes.specs.Outcomes.{Outcome, no_memory}
-use Rattle.folder_checks.specs.Verdicts.{verdict_of, AnswersFor}
-use Rattle.folder_checks.specs.Explanations.{ExplainsFor}
+use Rattle.folder_checks.specs.Verdicts.{verdict_of, SaysFor}
+use Rattle.folder_checks.specs.Explanations.{SaysAllFor}
 
--- what a check of a folder may end with, from what a read of it gives and where it fails
+-- what is written of a folder, from what a read of it gives and where it fails, where there is room
+-- for its lines
+abbrev pub TellsFor : Report → Result TreeFacts TreeFault → Option (List ℕ)
+    → (Outcome → Type 0) → Type 0
+TellsFor Brief read place P = SaysFor (verdict_of read) P
+TellsFor Explained read place P = SaysAllFor read place P
+
+-- what a check of a folder may end with: its lines, or that memory ran out
 abbrev pub ReportsFor : Report → Result TreeFacts TreeFault → Option (List ℕ)
     → (Outcome → Type 0) → Type 0
-ReportsFor Brief read place P = AnswersFor (verdict_of read) P
-ReportsFor Explained read place P = ExplainsFor read place P
+ReportsFor report read place P = TellsFor report read place P ⊎ P no_memory
 
 -- ---- several folders
 
@@ -37,11 +43,12 @@ named_outcome path outcome = record {
   text = named_from (escaped_text path) true outcome.text;
 }
 
--- the outcome is one that the check of the folder of this path, of several, may end with
+-- the outcome is one that the check of the folder of this path, of several, may end with: its lines
+-- with its name, or that memory ran out, without one
 abbrev pub IsReport : Report → Result TreeFacts TreeFault → Option (List ℕ) → List ℕ
     → Outcome → Type 0
 IsReport report read place path outcome =
-    ReportsFor report read place (λ plain. outcome ≡ named_outcome path plain)
+    TellsFor report read place (λ plain. outcome ≡ named_outcome path plain)
     ⊎ (outcome ≡ no_memory)
 
 -- each outcome is one that the check of its folder may end with

@@ -48,8 +48,11 @@ outcome_of_verdict (Unread fault) =
           ++ 10 ∷ [];
     }
 
+-- what is written of this verdict, where there is room for its line
+abbrev pub SaysFor : Verdict → (Outcome → Type 0) → Type 0
+SaysFor wanted P = (verdict : Verdict) × IsOrMemory verdict wanted × P (outcome_of_verdict verdict)
+
 -- what a check may end with, and what is written of it then: that of the folder's verdict, or that
 -- memory ran out
 abbrev pub AnswersFor : Verdict → (Outcome → Type 0) → Type 0
-AnswersFor wanted P =
-    ((verdict : Verdict) × IsOrMemory verdict wanted × P (outcome_of_verdict verdict)) ⊎ P no_memory
+AnswersFor wanted P = SaysFor wanted P ⊎ P no_memory

@@ -34,7 +34,7 @@ where it is, a space as %20:
   6 data/a.txt                                     after `unread 6`: what can't be read, `.` for
                                                    the folder itself
 
-Of several folders, each of these lines has the folder before it, as in
+Of several folders, each of these lines but `memory` has the folder before it, as in
   path/to/bag invalid 14
 
 With --progress, or where standard error is a terminal and a check takes its time, lines there say

@@ -1,7 +1,7 @@
 //! What is said of a checked folder.
 
 ghost use Rattle.std.specs.Prelude.{◌≡◌, IfOk, IfSome, string_bytes};
-ghost use Rattle.folder_checks.specs.Reports.{ReportsFor};
+ghost use Rattle.folder_checks.specs.Reports.{TellsFor};
 
 use crate::checking::{line_of, verdict_on};
 use crate::explaining::answer_on;
@@ -26,7 +26,7 @@ pub(crate) fn answer_for<F: Folders>(
     report: Report,
 ) -> Result<Answer, AllocError>
     ensures ok { IfOk result (λ answer. IfSome (F.gives folders.old) (λ gives.
-        ReportsFor report (gives path.now) (F.fails_at folders.old) (λ outcome.
+        TellsFor report (gives path.now) (F.fails_at folders.old) (λ outcome.
         (answer.status ≡ outcome.status) × (string_bytes answer.text ≡ outcome.text)))) }
     ensures kept { F.gives folders.new ≡ F.gives folders.old }
     ensures place { F.fails_at folders.new ≡ F.fails_at folders.old }
