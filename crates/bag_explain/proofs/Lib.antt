@@ -23,3 +23,5 @@ pub mod ManifestNames
 pub mod RisingPairs
 pub mod KeyedPlaces
 pub mod OncePlaces
+pub mod AllFindings
+pub mod FindingOrder

@@ -1,6 +1,6 @@
 -- What a list has, from its first element on.
-use Rattle.std.proofs.Common.{◌≡◌, ℕ, suc, zero, ◌⊎◌, Bool, true, false, List, [], ◌∷◌, ◌++◌}
-use Rattle.std.proofs.Common.{refl, sym, subst, inl, inr, arith}
+use Rattle.std.proofs.Common.{◌≡◌, ℕ, suc, zero, ◌⊎◌, Bool, true, false, List, [], ◌∷◌, ◌++◌, map}
+use Rattle.std.proofs.Common.{refl, sym, ap, subst, inl, inr, arith}
 use Rattle.std.specs.Prelude.{Contains}
 use Rattle.std.specs.List.{AllByRecursion, flat_map}
 use Rattle.bag_check.specs.declared.manifests.Kind.{Kind}
@@ -67,6 +67,19 @@ some_in f (first ∷ xs) x y (inl e) k =
     in_left (f first) (flat_map f xs) y (subst (λ z. In y (f z)) (sym e) k)
 some_in f (first ∷ xs) x y (inr h) k =
     in_right (f first) (flat_map f xs) y (some_in f xs x y h k)
+
+-- ---- what a function makes of each element
+
+pub in_map : {X Y : Type 0} (f : X → Y) (xs : List X) (y : Y) → In y (map f xs)
+    → (x : X) × In x xs × (f x ≡ y)
+in_map f [] y h = absurd h
+in_map f (x ∷ xs) y (inl e) = (x, inl refl, e)
+in_map f (x ∷ xs) y (inr h) = let rest = in_map f xs y h in (rest.0, inr rest.1, rest.2)
+
+pub map_in : {X Y : Type 0} (f : X → Y) (xs : List X) (x : X) → In x xs → In (f x) (map f xs)
+map_in f [] x h = absurd h
+map_in f (first ∷ xs) x (inl e) = inl (ap f e)
+map_in f (first ∷ xs) x (inr h) = inr (map_in f xs x h)
 
 -- ---- one element, where a test passes
 

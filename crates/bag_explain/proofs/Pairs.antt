@@ -1,5 +1,5 @@
 -- What holds of each element and each that comes after it.
-use Rattle.std.proofs.Common.{ℕ, suc, Bool, true, false, List, [], ◌∷◌, ◌++◌}
+use Rattle.std.proofs.Common.{ℕ, suc, Bool, true, false, List, [], ◌∷◌, ◌++◌, map}
 use Rattle.std.proofs.Common.{get_or, refl, subst, inl, inr, arith}
 use Rattle.std.specs.Prelude.{AllPairs}
 use Rattle.std.specs.List.{flat_map}
@@ -7,7 +7,7 @@ use Rattle.std.proofs.lemmas.List.Elements.{Contains-get_or}
 use Rattle.std.proofs.lemmas.List.Kept.{AllPairs-cons}
 use Rattle.bag_explain.specs.Listings.{unless_malformed}
 use Rattle.bag_explain.specs.Places.{when}
-use Rattle.bag_explain.proofs.Members.{In, contained_in, in_contained, in_either, in_some}
+use Rattle.bag_explain.proofs.Members.{In, contained_in, in_contained, in_either, in_some, in_map}
 
 -- each element is related to all that come after it
 abbrev pub Pairs : {X : Type 0} → (X → X → Type 0) → List X → Type 0
@@ -54,6 +54,26 @@ pairs_each R S f one two (x ∷ xs) (first, others) =
     (λ y z h k.
     let (other, there, here) = in_some f xs z k in
     two x other (first other there) y z h here)
+
+-- so it is of what a function makes of each
+pub pairs_map : {X Y : Type 0} (R : X → X → Type 0) (S : Y → Y → Type 0) (f : X → Y)
+    → ((a b : X) → R a b → S (f a) (f b)) → (xs : List X) → Pairs R xs → Pairs S (map f xs)
+pairs_map R S f keeps [] h = tt
+pairs_map R S f keeps (x ∷ xs) (first, others) = (
+  λ y there.
+      let (other, among, is) = in_map f xs y there in
+      subst (S (f x)) is (keeps x other (first other among)),
+  pairs_map R S f keeps xs others,
+)
+
+-- and it is so where any two of the list are related
+pub pairs_any : {X : Type 0} (R : X → X → Type 0) (xs : List X)
+    → ((x y : X) → In x xs → In y xs → R x y) → Pairs R xs
+pairs_any R [] any = tt
+pairs_any R (x ∷ xs) any = (
+  λ y there. any x y (inl refl) (inr there),
+  pairs_any R xs (λ y z h k. any y z (inr h) (inr k)),
+)
 
 pub pairs_when : {X : Type 0} (R : X → X → Type 0) (test : Bool) (x : X)
     → Pairs R (when test (x ∷ []))

@@ -1,6 +1,7 @@
 //! Laws of findings, over every tree, each as the contract of a function that does nothing.
 
-ghost use Rattle.std.specs.Prelude.{◌≡◌, ◌≢◌, ◌↔◌, ℕ, List, [], true, Ok, Contains, AllPairs};
+ghost use Rattle.std.specs.Prelude.{◌≡◌, ◌≢◌, ◌≤◌, ◌↔◌, ℕ, List, [], true, Ok};
+ghost use Rattle.std.specs.Prelude.{Contains, AllPairs};
 ghost use Rattle.std.specs.List.{AllByRecursion};
 ghost use Rattle.bag_text.specs.declared.algorithm.Algorithm.{Algorithm};
 ghost use Rattle.bag_text.specs.Lines.{lines_of};
@@ -10,13 +11,15 @@ ghost use Rattle.bag_tree.specs.Tree.{Files};
 ghost use Rattle.bag_tree.specs.Facts.{TreeFacts, facts_of_tree};
 ghost use Rattle.bag_check.specs.declared.fault.BagFault.{BagFault};
 ghost use Rattle.bag_check.specs.Check.{holds, first_fault};
+ghost use Rattle.bag_check.specs.Fault.{number_of};
 ghost use Rattle.bag_check.specs.Named.{only_named, named_facts_of};
 ghost use Rattle.bag_check.specs.Valid.{IsValid};
 ghost use Rattle.bag_explain.specs.Lines.{numbered_from, malformed_from};
 ghost use Rattle.bag_explain.specs.Numbers.{ListsAt, IsMalformedAt};
 ghost use Rattle.bag_explain.specs.Places.{Place, places_of, files_in};
 ghost use Rattle.bag_explain.specs.Wrong.{IsWrongAt};
-ghost use Rattle.bag_explain.specs.Findings.{findings_of, explanation_of, has_some, first_of};
+ghost use Rattle.bag_explain.specs.Findings.{Finding, findings_of, explanation_of};
+ghost use Rattle.bag_explain.specs.Findings.{has_some, first_of};
 
 /// A fault holds exactly where it has a place, so all that hold are among the findings, and no
 /// other; the first finding has the fault that a check answers; and there is no finding exactly
@@ -53,6 +56,18 @@ pub fn places_law()
     ensures once { (fault : BagFault) (facts : TreeFacts)
         → AllPairs (λ a b. a.path ≢ b.path) facts.files
         → AllPairs (λ a b. a ≢ b) (places_of fault facts) }
+{}
+
+/// Everything that is wrong is found at each of its places, and nothing else; the least fault comes
+/// first. Nothing is found twice, where each file of the tree has a path of its own.
+pub fn all_found_law()
+    ensures found { (facts : TreeFacts) (finding : Finding)
+        → Contains (findings_of facts) finding ↔ IsWrongAt finding.fault facts finding.place }
+    ensures order { (facts : TreeFacts)
+        → AllPairs (λ a b. number_of a.fault ≤ number_of b.fault) (findings_of facts) }
+    ensures once { (facts : TreeFacts)
+        → AllPairs (λ a b. a.path ≢ b.path) facts.files
+        → AllPairs (λ a b. a ≢ b) (findings_of facts) }
 {}
 
 /// Where only the digests are known which a tree's manifests ask for, as their names say it, what

@@ -11,7 +11,7 @@ mod read_manifests;
 mod tag_files;
 
 pub use explain_bag::explain;
-pub use law::{findings_law, named_findings_law, numbers_law, places_law};
+pub use law::{all_found_law, findings_law, named_findings_law, numbers_law, places_law};
 
 #[cfg(test)]
 mod tests;

@@ -111,5 +111,6 @@ fn laws(_rt: HostRuntime) -> Result<(), Fail> {
     named_findings_law();
     numbers_law();
     places_law();
+    all_found_law();
     Ok(())
 }
