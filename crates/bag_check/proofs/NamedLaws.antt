@@ -13,7 +13,7 @@ use Rattle.bag_text.specs.ListedFile.{ListedFile}
 use Rattle.bag_digest.specs.declared.algorithms.Algorithms.{Algorithms}
 use Rattle.bag_digest.specs.declared.digests.Digests.{Digests}
 use Rattle.bag_digest.specs.Algorithms.{has_algorithm}
-use Rattle.bag_digest.specs.Digests.{digest_by}
+use Rattle.bag_digest.specs.Digests.{digest_by, is_digest}
 use Rattle.bag_tree.specs.Tree.{File, Files, payload_exists}
 use Rattle.bag_tree.specs.Facts.{FileFact, TreeFacts, fact_by, fact_of_file, facts_of_tree}
 use Rattle.bag_check.specs.declared.fault.BagFault.{BagFault}
@@ -29,7 +29,7 @@ use Rattle.bag_check.specs.Manifests.{Manifest, file_at, has_file, text_at, sha5
 use Rattle.bag_check.specs.Manifests.{manifest_name, manifest_in, manifest_at, manifests_of_kind}
 use Rattle.bag_check.specs.Manifests.{manifests_of, kinds, algorithms, entries, passes}
 use Rattle.bag_check.specs.Manifests.{is_malformed, is_unknown}
-use Rattle.bag_check.specs.Check.{is_digest, has_other_digest, is_wrong, is_missing, is_unlisted}
+use Rattle.bag_check.specs.Check.{has_other_digest, is_wrong, is_missing, is_unlisted}
 use Rattle.bag_check.specs.Check.{is_astray, repeats, if_payload, declaration_in}
 use Rattle.bag_check.specs.Check.{is_bad_declaration, declares_other, is_supported_version}
 use Rattle.bag_check.specs.Check.{is_supported_encoding, some_manifest, holds, all_faults}

@@ -13,7 +13,7 @@ use Rattle.bag_text.specs.declared.algorithm.Algorithm.{Algorithm}
 use Rattle.bag_text.specs.declared.algorithm.Algorithm.TheVariants.{Md5, Sha1, Sha256, Sha512}
 use Rattle.bag_text.specs.ListedFile.{ListedFile}
 use Rattle.bag_tree.specs.Path.{is_unsafe, is_payload}
-use Rattle.bag_digest.specs.Digests.{digest_by}
+use Rattle.bag_digest.specs.Digests.{digest_by, is_digest}
 use Rattle.bag_tree.specs.Facts.{FileFact, TreeFacts}
 use Rattle.bag_check.specs.declared.manifests.Kind.{Kind}
 use Rattle.bag_check.specs.declared.manifests.Kind.TheVariants.{Payload, Tag}
@@ -21,7 +21,7 @@ use Rattle.bag_check.specs.Manifests.{Manifest, file_at, has_file, text_at, algo
 use Rattle.bag_check.specs.Manifests.{manifest_name, manifest_at, manifests_of, manifests_of_kind}
 use Rattle.bag_check.specs.Manifests.{is_listed}
 use Rattle.bag_check.specs.Check.{is_astray, is_on_wrong_side, repeats, is_unlisted}
-use Rattle.bag_check.specs.Check.{is_digest, has_other_digest, is_wrong, if_payload}
+use Rattle.bag_check.specs.Check.{has_other_digest, is_wrong, if_payload}
 use Rattle.bag_check.specs.Valid.{IsFile, IsPayloadFile, IsTagFile, HasText, ListsFiles, IsDigested}
 use Rattle.bag_check.specs.Valid.{IsListing}
 use Rattle.bag_check.proofs.Readings.{of_both, of_kind}

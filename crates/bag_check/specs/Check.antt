@@ -14,7 +14,7 @@ use Rattle.bag_text.specs.declared.algorithm.Algorithm.{Algorithm}
 use Rattle.bag_text.specs.ListedFile.{ListedFile}
 use Rattle.bag_text.specs.Reading.{declaration_of}
 use Rattle.bag_tree.specs.Path.{is_unsafe, is_payload}
-use Rattle.bag_digest.specs.Digests.{digest_by}
+use Rattle.bag_digest.specs.Digests.{digest_by, is_digest}
 use Rattle.bag_tree.specs.Facts.{FileFact, TreeFacts}
 use Rattle.bag_check.specs.declared.fault.BagFault.{BagFault}
 use Rattle.bag_check.specs.declared.fault.BagFault.TheVariants.{NoDeclaration, BadDeclaration}
@@ -75,11 +75,6 @@ repeats (entry ∷ entries) = is_listed entry.path entries || repeats entries
 -- a payload file that isn't listed
 abbrev pub is_unlisted : List ListedFile → FileFact → Bool
 is_unlisted entries file = is_payload file.path && not (is_listed file.path entries)
-
--- the digest is known, and is this one
-abbrev pub is_digest : List ℕ → Option (List ℕ) → Bool
-is_digest digest None = false
-is_digest digest (Some known) = bytes_eq known digest
 
 -- the file is there, and its digest isn't this one; a digest that isn't known isn't
 abbrev pub has_other_digest : Algorithm → List ℕ → Option FileFact → Bool

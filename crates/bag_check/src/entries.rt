@@ -6,7 +6,7 @@ ghost use Rattle.std.specs.Option.{option_copied};
 ghost use Rattle.std.specs.BTreeSet.{contains_by};
 ghost use Rattle.bag_tree.specs.Path.{is_payload};
 ghost use Rattle.bag_check.specs.Manifests.{is_listed};
-ghost use Rattle.bag_check.specs.Check.{is_astray, is_digest, is_missing, is_wrong};
+ghost use Rattle.bag_check.specs.Check.{is_astray, is_missing, is_wrong};
 ghost use Rattle.bag_check.specs.Check.{has_other_digest};
 ghost use Rattle.bag_check.specs.Check.{repeats, is_unlisted};
 ghost use Rattle.bag_check.specs.inner.Order.{fault_of_listings, has_astray, has_repeat};
@@ -188,17 +188,7 @@ pub fn is_wrong(algorithm: Algorithm, files: &FilesByPath<'_>, entry: &Entry) ->
 fn has_other_digest(algorithm: Algorithm, entry: &Entry, file: &FileFacts) -> bool
     ensures { result ≡ has_other_digest algorithm entry.now.digest (Some file.now) }
 {
-    !is_digest(entry.digest(), file.digests().by(algorithm))
-}
-
-/// Whether a digest is known, and is this one.
-fn is_digest(digest: &[u8], known: Option<&[u8]>) -> bool
-    ensures { result ≡ is_digest digest.now (option_copied known.entry) }
-{
-    match known {
-        None => false,
-        Some(known) => known == digest,
-    }
+    !file.has_digest(algorithm, entry.digest())
 }
 
 // ---- files of the payload that a payload manifest doesn't list

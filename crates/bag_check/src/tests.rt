@@ -1,12 +1,8 @@
-ghost use Rattle.std.specs.Prelude.{◌≡◌, ◌↔◌, IfOk, IsTrue, is_some};
-ghost use Rattle.std.specs.Option.{option_map};
-ghost use Rattle.bag_digest.specs.Digests.{digests_by};
-ghost use Rattle.bag_tree.specs.Facts.{text_of};
-ghost use Rattle.bag_tree.specs.Path.{is_read_text};
+ghost use Rattle.std.specs.Prelude.{◌↔◌, IsTrue};
 ghost use Rattle.bag_check.specs.Valid.{IsValid};
 
 use super::*;
-use bag_digest::{Algorithms, Digester, Digests};
+use bag_digest::{Algorithms, Digester};
 use bag_tree::{Facts, FileFacts, Tree, TreeFile, facts_of, is_read_text};
 use bags::*;
 use fed_types::BagId;
@@ -62,32 +58,16 @@ fn number(alloc: Global, files: &[File], more: &[File]) -> Result<u8, Fail> {
     Ok(number_of(alloc, &facts))
 }
 
-fn digests_by(wanted: Algorithms, bytes: &[u8]) -> Digests
-    ensures { result ≡ digests_by wanted bytes.now }
-{
-    let mut digester = Digester::new(wanted);
-    digester.feed(bytes);
-    digester.finish()
-}
-
-/// A file's bytes, where it is a text that is read.
-fn text_of(alloc: Global, file: &TreeFile) -> Result<Option<Vec<u8>>, AllocError>
-    ensures text { IfOk result (λ text. option_map (λ t. t.items) text ≡ text_of file.now) }
-    ensures read { IfOk result (λ text. is_some text ≡ is_read_text file.now.path) }
-{
-    if is_read_text(file.path().as_bytes()) {
-        Ok(Some(Vec::from_slice(alloc, file.bytes())?))
-    } else {
-        Ok(None)
-    }
-}
-
 /// The facts of a file, of which these digests alone are known.
 fn fact_by(alloc: Global, wanted: Algorithms, file: &TreeFile) -> Result<FileFacts, AllocError> {
     let path = String::from_str(alloc, file.path())?;
-    let digests = digests_by(wanted, file.bytes());
-    let text = text_of(alloc, file)?;
-    Ok(FileFacts::new(path, digests, text))
+    if is_read_text(file.path().as_bytes()) {
+        let bytes = Vec::from_slice(alloc, file.bytes())?;
+        return Ok(FileFacts::kept(path, wanted, bytes));
+    }
+    let mut digester = Digester::new(wanted);
+    digester.feed(file.bytes());
+    Ok(FileFacts::hashed(path, digester.finish()))
 }
 
 fn facts_by(alloc: Global, wanted: Algorithms, tree: &Tree) -> Result<Facts, AllocError> {

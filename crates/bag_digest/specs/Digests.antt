@@ -1,5 +1,7 @@
 -- The digests of bytes, by the algorithms that manifests may use.
-use Rattle.std.specs.Prelude.{ℕ, if◌then◌else◌, List, [], ◌++◌, Option, Some, None}
+use Rattle.std.specs.Prelude.{ℕ, Bool, false, if◌then◌else◌, List, [], ◌++◌}
+use Rattle.std.specs.Prelude.{Option, Some, None}
+use Rattle.std.specs.Str.{bytes_eq}
 use Rattle.md5.specs.Md5.{md5}
 use Rattle.sha1.specs.Sha1.{sha1}
 use Rattle.sha2.specs.Sha256.{sha256}
@@ -29,6 +31,11 @@ digest_by Md5 digests = digests.md5
 digest_by Sha1 digests = digests.sha1
 digest_by Sha256 digests = digests.sha256
 digest_by Sha512 digests = digests.sha512
+
+-- the digest is known, and is this one
+abbrev pub is_digest : List ℕ → Option (List ℕ) → Bool
+is_digest digest None = false
+is_digest digest (Some known) = bytes_eq known digest
 
 -- what a digester was fed: the bytes so far, of which these digests are wanted
 pub record Feed : Type 0 where

@@ -1,10 +1,13 @@
 ghost use Rattle.std.specs.Prelude.{◌≡◌};
 ghost use Rattle.std.specs.Option.{option_copied};
-ghost use Rattle.bag_digest.specs.Digests.{digests_of, digest_by};
+ghost use Rattle.bag_digest.specs.Digests.{digests_of, digest_by, is_digest};
 
 use crate::algorithms::Algorithms;
 use crate::digester::Digester;
 use bag_text::Algorithm;
+use md5::{Digest as _, Md5};
+use sha1::Sha1;
+use sha2::{Digest, Sha256, Sha512};
 
 /// Digests of one file's bytes, by the algorithms that were wanted of those that a manifest may use
 /// (RFC 1321, FIPS 180-4).
@@ -36,6 +39,28 @@ impl Digests {
             Algorithm::Sha256 => bytes_of(&self.sha256),
             Algorithm::Sha512 => bytes_of(&self.sha512),
         }
+    }
+
+    /// Whether the digest by this algorithm was wanted, and is this one.
+    pub fn has(&self, algorithm: Algorithm, digest: &[u8]) -> bool
+        ensures { result ≡ is_digest digest.now (digest_by algorithm self.now) }
+    {
+        match self.by(algorithm) {
+            None => false,
+            Some(known) => known == digest,
+        }
+    }
+}
+
+/// Whether this is the digest of the bytes by this algorithm.
+pub fn is_digest_of(digest: &[u8], algorithm: Algorithm, bytes: &[u8]) -> bool
+    ensures { result ≡ is_digest digest.now (digest_by algorithm (digests_of bytes.now)) }
+{
+    match algorithm {
+        Algorithm::Md5 => digest == Md5::digest(bytes).as_slice(),
+        Algorithm::Sha1 => digest == Sha1::digest(bytes).as_slice(),
+        Algorithm::Sha256 => digest == Sha256::digest(bytes).as_slice(),
+        Algorithm::Sha512 => digest == Sha512::digest(bytes).as_slice(),
     }
 }
 

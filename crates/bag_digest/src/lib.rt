@@ -9,7 +9,7 @@ mod fed;
 
 pub use algorithms::Algorithms;
 pub use digester::Digester;
-pub use digests::Digests;
+pub use digests::{Digests, is_digest_of};
 
 #[cfg(test)]
 mod tests;

@@ -32,6 +32,18 @@ fn digests_of_bytes(rt: HostRuntime) {
     assert_eq!(rt; digests.sha512, Some(ABC_SHA512));
 }
 
+/// `abc` has these digests, and no other ones, and another text hasn't these.
+#[test]
+fn digests_that_are_given(rt: HostRuntime) {
+    let digests = Digests::of(b"abc");
+    for &(algorithm, _, digest) in &EACH {
+        assert!(rt; digests.has(algorithm, digest) && !digests.has(algorithm, &digest[1..]));
+        assert!(rt; is_digest_of(digest, algorithm, b"abc"));
+        assert!(rt; !is_digest_of(&digest[1..], algorithm, b"abc"));
+        assert!(rt; !is_digest_of(digest, algorithm, b"abd"));
+    }
+}
+
 /// The wanted digests of `abc`, which comes in three pieces.
 fn digests_in_pieces(wanted: Algorithms) -> Digests {
     let mut digester = Digester::new(wanted);
@@ -101,6 +113,7 @@ fn only_the_wanted_digests(rt: HostRuntime) {
         for &(other, _, _) in &EACH {
             let wanted = if alone.has(other) { Some(digest) } else { None };
             assert_eq!(rt; digests.by(other), wanted);
+            assert_eq!(rt; digests.has(other, digest), alone.has(other));
         }
         assert_eq!(rt; (alone.has(algorithm), none.by(algorithm)), (true, None));
     }

@@ -16,26 +16,30 @@ use std::marker::Model;
 #[derive(Drop)]
 pub struct Hashing {
     path: String,
-    digester: Digester,
-    text: Option<Vec<u8>>,
+    wanted: Algorithms,
+    contents: Contents,
+}
+
+/// What is kept of the bytes that came so far.
+#[derive(Drop)]
+enum Contents {
+    Text(Vec<u8>),
+    Hashed(Digester),
 }
 
 impl Model for Hashing {
     ghost use Rattle.std.specs.Prelude.{string_bytes};
-    ghost use Rattle.std.specs.Option.{option_map};
     ghost use Rattle.bag_folders.specs.Pieces.{Hashed};
-    ghost use Rattle.bag_folders.specs.inner.Kept.{IsKept};
+    ghost use Rattle.bag_folders.specs.inner.Contents.{bytes_in, AreOfFile};
 
     ghost Value = { Hashed };
 
     ghost view = { λ h. record {
-      wanted = h.digester.wanted;
-      file = record { path = string_bytes h.path; bytes = h.digester.bytes };
+      wanted = h.wanted;
+      file = record { path = string_bytes h.path; bytes = bytes_in h.contents };
     } };
 
-    ghost invariant = { λ h.
-        IsKept (record { path = string_bytes h.path; bytes = h.digester.bytes })
-        (option_map (λ t. t.items) h.text) };
+    ghost invariant = { λ h. AreOfFile (string_bytes h.path) h.wanted h.contents };
 }
 
 impl Hashing {
@@ -47,15 +51,15 @@ impl Hashing {
           file = record { path = path.now; bytes = [] };
         }) }
     {
-        let text = if is_read_text(path.as_bytes()) {
-            Some(Vec::new(alloc))
+        let contents = if is_read_text(path.as_bytes()) {
+            Contents::Text(Vec::new(alloc))
         } else {
-            None
+            Contents::Hashed(Digester::new(wanted))
         };
         Ok(Hashing {
             path: String::from_str(alloc, path)?,
-            digester: Digester::new(wanted),
-            text,
+            wanted,
+            contents,
         })
     }
 
@@ -67,18 +71,28 @@ impl Hashing {
         ensures ok { OnOk result (self.new ≡ hashed_with self.old piece.now) }
         ensures err { OnErr result (self.new ≡ self.old) }
     {
-        if let Some(text) = &mut self.text {
-            keep(text, piece)?;
+        match &mut self.contents {
+            Contents::Text(text) => keep(text, piece),
+            Contents::Hashed(digester) => {
+                digester.feed(piece);
+                Ok(())
+            }
         }
-        self.digester.feed(piece);
-        Ok(())
     }
 
     /// The facts of the file, which has no further bytes.
     pub fn finish(self) -> FileFacts
         ensures { result ≡ fact_by self.wanted self.file }
     {
-        FileFacts::new(self.path, self.digester.finish(), self.text)
+        let Hashing {
+            path,
+            wanted,
+            contents,
+        } = self;
+        match contents {
+            Contents::Text(text) => FileFacts::kept(path, wanted, text),
+            Contents::Hashed(digester) => FileFacts::hashed(path, digester.finish()),
+        }
     }
 }
 

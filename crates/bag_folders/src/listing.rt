@@ -173,7 +173,8 @@ fn too_many(alloc: Global) -> Result<Failure, AllocError>
 
 /// A folder's path, and a path below it.
 pub(crate) fn joined(alloc: Global, folder: &str, below: &str) -> Result<String, AllocError> {
-    let mut path = String::from_str(alloc, folder)?;
+    let mut path = String::with_capacity(alloc, folder.len() + 1 + below.len())?;
+    path.push_str(folder)?;
     if !folder.is_empty() && !below.is_empty() {
         path.push('/')?;
     }

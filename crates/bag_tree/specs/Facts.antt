@@ -1,6 +1,5 @@
 -- What a checker knows of a tree of files.
-use Rattle.std.specs.Prelude.{◌≡◌, ℕ, Bool, if◌then◌else◌, List, map, Option, Some, None, is_some}
-use Rattle.sha2.specs.Sha512.{sha512}
+use Rattle.std.specs.Prelude.{ℕ, Bool, if◌then◌else◌, List, map, Option, Some, None}
 use Rattle.bag_digest.specs.declared.algorithms.Algorithms.{Algorithms}
 use Rattle.bag_digest.specs.declared.digests.Digests.{Digests}
 use Rattle.bag_digest.specs.Algorithms.{all_algorithms}
@@ -13,13 +12,6 @@ pub record FileFact : Type 0 where
   pub path : List ℕ
   pub digests : Digests
   pub text : Option (List ℕ)
-
--- What is kept of a file agrees with itself: its bytes are there exactly where they are of a text
--- that is read, and their SHA-512, where it is there, is theirs.
-pub record IsConsistent (fact : FileFact) : Type 0 where
-  pub read : is_some fact.text ≡ is_read_text fact.path
-  pub sha512 : (bytes digest : List ℕ) → fact.text ≡ Some bytes
-      → fact.digests.sha512 ≡ Some digest → digest ≡ sha512 bytes
 
 -- a fact of each file, in the tree's order, and whether `data` exists
 pub record TreeFacts : Type 0 where

@@ -2,3 +2,4 @@ pub mod Fault
 pub mod Path
 pub mod Tree
 pub mod Facts
+pub mod inner

@@ -1,65 +1,77 @@
-ghost use Rattle.std.specs.Prelude.{◌≡◌, IfOk, is_some};
+ghost use Rattle.std.specs.Prelude.{◌≡◌, true, false, Some, None, IfOk, is_some};
 ghost use Rattle.std.specs.Option.{option_copied, option_map};
 ghost use Rattle.sha2.specs.Sha512.{sha512};
+ghost use Rattle.bag_digest.specs.Digests.{digests_by, digest_by, is_digest};
 ghost use Rattle.bag_tree.specs.Path.{is_read_text};
 
+use crate::kept_text::KeptText;
 use crate::path::is_read_text;
 use crate::tree::TreeFile;
-use bag_digest::Digests;
-use sha2::{Digest, Sha512};
+use bag_digest::{Algorithms, Digests};
+use bag_text::Algorithm;
 use std::alloc::{AllocError, Global};
 use std::marker::Model;
 
-/// What a checker knows of one file: its path, those of its digests that were wanted, and its bytes
-/// where it is one of the texts that describe a bag.
+/// What a checker knows of one file: its path, its digests by the algorithms that were wanted, and
+/// its bytes where it is one of the texts that describe a bag.
 #[derive(Drop)]
 pub struct FileFacts {
     path: String,
-    digests: Digests,
-    text: Option<Vec<u8>>,
+    contents: Contents,
+}
+
+/// What is kept of a file's bytes.
+#[derive(Drop)]
+enum Contents {
+    Text(KeptText),
+    Hashed(Digests),
 }
 
 impl Model for FileFacts {
-    ghost use Rattle.std.specs.Prelude.{string_bytes};
-    ghost use Rattle.std.specs.Option.{option_map};
-    ghost use Rattle.bag_tree.specs.Facts.{FileFact, IsConsistent};
+    ghost use Rattle.std.specs.Prelude.{◌≡◌, string_bytes};
+    ghost use Rattle.bag_tree.specs.Facts.{FileFact};
+    ghost use Rattle.bag_tree.specs.Path.{is_read_text};
+    ghost use Rattle.bag_tree.specs.inner.Contents.{fact_in, is_text};
 
     ghost Value = { FileFact };
 
-    ghost view = { λ f. record {
-      path = string_bytes f.path;
-      digests = f.digests;
-      text = option_map (λ t. t.items) f.text;
-    } };
+    ghost view = { λ f. fact_in (string_bytes f.path) f.contents };
 
-    ghost invariant = { λ f. IsConsistent (record {
-      path = string_bytes f.path;
-      digests = f.digests;
-      text = option_map (λ t. t.items) f.text;
-    }) };
+    // The texts that describe a bag are kept, and no other file.
+    ghost invariant = { λ f. is_text f.contents ≡ is_read_text (string_bytes f.path) };
 }
 
 impl FileFacts {
     ghost use Rattle.std.specs.Prelude.{string_bytes};
-    ghost use Rattle.bag_tree.specs.Facts.{IsConsistent, fact_of_file};
+    ghost use Rattle.bag_tree.specs.Facts.{fact_of_file};
 
-    /// A file's path and digests, and its bytes where it is a text that is read.
-    pub fn new(path: String, digests: Digests, text: Option<Vec<u8>>) -> FileFacts
-        requires { IsConsistent (record {
-          path = string_bytes path;
-          digests = digests;
-          text = option_map (λ t. t.items) text;
-        }) }
+    /// A text that describes a bag, of these bytes, whose digests by these algorithms are wanted.
+    pub fn kept(path: String, wanted: Algorithms, bytes: Vec<u8>) -> FileFacts
+        requires { is_read_text (string_bytes path) ≡ true }
         ensures { result ≡ record {
           path = string_bytes path;
-          digests = digests;
-          text = option_map (λ t. t.items) text;
+          digests = digests_by wanted bytes.items;
+          text = Some bytes.items;
         } }
     {
         FileFacts {
             path,
-            digests,
-            text,
+            contents: Contents::Text(KeptText::new(wanted, bytes)),
+        }
+    }
+
+    /// Any other file, of these digests.
+    pub fn hashed(path: String, digests: Digests) -> FileFacts
+        requires { is_read_text (string_bytes path) ≡ false }
+        ensures { result ≡ record {
+          path = string_bytes path;
+          digests = digests;
+          text = None;
+        } }
+    {
+        FileFacts {
+            path,
+            contents: Contents::Hashed(digests),
         }
     }
 
@@ -68,13 +80,12 @@ impl FileFacts {
         ensures { IfOk result (λ facts. facts ≡ fact_of_file file.now) }
     {
         let path = String::from_str(alloc, file.path())?;
-        let digests = Digests::of(file.bytes());
-        let text = if is_read_text(file.path().as_bytes()) {
-            Some(Vec::from_slice(alloc, file.bytes())?)
+        if is_read_text(file.path().as_bytes()) {
+            let bytes = Vec::from_slice(alloc, file.bytes())?;
+            Ok(FileFacts::kept(path, Algorithms::all(), bytes))
         } else {
-            None
-        };
-        Ok(FileFacts::new(path, digests, text))
+            Ok(FileFacts::hashed(path, Digests::of(file.bytes())))
+        }
     }
 
     /// The path, relative to the tree's own folder.
@@ -84,11 +95,14 @@ impl FileFacts {
         self.path.as_str()
     }
 
-    /// The digests of the file's bytes that were wanted.
-    pub fn digests(&self) -> &Digests
-        ensures { result.now ≡ self.now.digests }
+    /// Whether the digest of the file's bytes by this algorithm was wanted, and is this one.
+    pub fn has_digest(&self, algorithm: Algorithm, digest: &[u8]) -> bool
+        ensures { result ≡ is_digest digest.now (digest_by algorithm self.now.digests) }
     {
-        &self.digests
+        match &self.contents {
+            Contents::Text(text) => text.has_digest(algorithm, digest),
+            Contents::Hashed(digests) => digests.has(algorithm, digest),
+        }
     }
 
     /// The file's bytes, where it is one of the texts that describe a bag.
@@ -96,21 +110,19 @@ impl FileFacts {
         ensures value { option_copied result ≡ self.now.text }
         ensures read { is_some self.now.text ≡ is_read_text self.now.path }
     {
-        match &self.text {
-            None => None,
-            Some(text) => Some(text.as_slice()),
+        match &self.contents {
+            Contents::Text(text) => Some(text.bytes()),
+            Contents::Hashed(_) => None,
         }
     }
 
-    /// The SHA-512 of the file's bytes, where it is one of the texts that describe a bag. It is
-    /// computed only where it wasn't wanted before.
+    /// The SHA-512 of the file's bytes, where it is one of the texts that describe a bag.
     pub fn sha512_of_text(&self) -> Option<[u8; 64]>
         ensures { result ≡ option_map sha512 self.now.text }
     {
-        match (&self.text, self.digests.sha512) {
-            (None, _) => None,
-            (Some(_), Some(digest)) => Some(digest),
-            (Some(text), None) => Some(Sha512::digest(text.as_slice())),
+        match &self.contents {
+            Contents::Text(text) => Some(text.sha512()),
+            Contents::Hashed(_) => None,
         }
     }
 }

@@ -5,6 +5,7 @@
 mod facts;
 mod fault;
 mod file_facts;
+mod kept_text;
 mod limits;
 mod path;
 mod tree;
