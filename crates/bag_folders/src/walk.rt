@@ -46,7 +46,7 @@ pub(crate) fn read_watched<R: Files + AllocGlobal + Clone + Drop, W: Watcher>(
     let listing = list_folder(rt, folder)?;
     watcher.listed(listing.files.len() as u64, listing.bytes());
     let wanted = named_by_files(listing.files.as_slice());
-    let mut files = Vec::new(rt.alloc());
+    let mut files = Vec::with_capacity(rt.alloc(), listing.files.len())?;
     let payload = listing.payload;
     for file in listing.files {
         files.push(hash_listed(rt, folder, file, wanted, watcher)?)?;

@@ -34,8 +34,7 @@ answered facts verdict lines (Ok a) is same s t = λ known. (
   known,
   is,
   known_is known,
-  s,
-  t ∙ ap (λ l. (outcome_with verdict l).text) (same known),
+  (s, t ∙ ap (λ l. (outcome_with verdict l).text) (same known)),
 )
 
 -- the answer for a folder that wasn't read
@@ -47,7 +46,7 @@ pub unread : (read : Result TreeFacts TreeFault) (known place : Option (List ℕ
     → IfOk r (λ a. IsAnswer read known a.status (string_bytes a.text))
 unread read known place fault (Err e) is at s t = tt
 unread read known place fault (Ok a) is at s t =
-    (Unread fault, place, same fault is, at, s, t)
+    (Unread fault, place, same fault is, at, (s, t))
   where
     same : (fault : TreeFault) → tree_numbers.IsOrMemory {T = TreeFacts} (Err fault) read
         → IsOrMemory (Unread fault) (verdict_of read)

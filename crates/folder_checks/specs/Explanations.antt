@@ -53,7 +53,4 @@ ExplainsFor read known P = SaysAllFor read known P ⊎ P no_memory
 -- the status and the text are those of the folder's verdict with all that is wrong
 abbrev pub IsAnswer : Result TreeFacts TreeFault → Option (List ℕ) → ℕ → List ℕ → Type 0
 IsAnswer read known status text =
-    (verdict : Verdict) × (place : Option (List ℕ)) × IsOrMemory verdict (verdict_of read)
-    × IsPlace known place
-    × (status ≡ (outcome_with verdict (lines_after verdict read place)).status)
-    × (text ≡ (outcome_with verdict (lines_after verdict read place)).text)
+    SaysAllFor read known (λ outcome. (status ≡ outcome.status) × (text ≡ outcome.text))
