@@ -2,7 +2,6 @@ ghost use Rattle.std.specs.Prelude.{◌≡◌, ℕ, not, false, ◌&&◌, List, 
 ghost use Rattle.std.specs.Cmp.Lexicographic.{slice_cmp};
 ghost use Rattle.std.specs.Ordering.{nat_cmp};
 ghost use Rattle.std.specs.List.{list_any, filter};
-ghost use Rattle.std.specs.Option.{option_copied};
 ghost use Rattle.std.specs.BTreeSet.{contains_by};
 ghost use Rattle.bag_tree.specs.Path.{is_payload};
 ghost use Rattle.bag_check.specs.Manifests.{is_listed};

@@ -1,11 +1,10 @@
-ghost use Rattle.std.specs.Prelude.{◌≡◌, ◌∷◌, ◌++◌, [], codes};
+ghost use Rattle.std.specs.Prelude.{◌∷◌, ◌++◌};
 ghost use Rattle.std.specs.Fmt.{decimal};
-ghost use Rattle.bag_text.specs.Algorithms.{algorithm_name};
 ghost use Rattle.bag_check.specs.Fault.{number_of};
 ghost use Rattle.schedule.specs.Escapes.{escaped_text};
 ghost use Rattle.schedule.specs.Pushes.{Pushes};
 ghost use Rattle.bag_explain.specs.Places.{at_file, at_line, at_entry, at_digest, at_unlisted};
-ghost use Rattle.bag_explain.specs.Findings.{printed_fault, printed_line};
+ghost use Rattle.bag_explain.specs.Findings.{printed_fault};
 
 use bag_check::BagFault;
 use bag_text::Algorithm;

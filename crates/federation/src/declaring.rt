@@ -1,6 +1,6 @@
 //! Trees of files.
 
-ghost use Rattle.std.specs.Prelude.{◌≡◌, OnOk};
+ghost use Rattle.std.specs.Prelude.{OnOk};
 ghost use Rattle.world_law.specs.Trees.{tree_at};
 ghost use Rattle.world_law.specs.Worlds.{World, on_tree, on_folder, on_file};
 ghost use Rattle.federation.specs.Federations.{StandsFor};

@@ -1,6 +1,6 @@
 //! Deposits: a tree is checked, its bag is seen, and then the site is called.
 
-ghost use Rattle.std.specs.Prelude.{◌≡◌, ◌<◌, ◌+◌, length, OnOk, IfOk, List, Result};
+ghost use Rattle.std.specs.Prelude.{◌<◌, ◌+◌, length, OnOk, IfOk, List, Result};
 ghost use Rattle.fed_types.specs.Values.{IsBag};
 ghost use Rattle.fed_types.specs.declared.bag_id.BagId.{BagId};
 ghost use Rattle.bag_check.specs.Check.{check_of};

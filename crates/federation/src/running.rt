@@ -1,6 +1,6 @@
 //! The commands of a schedule.
 
-ghost use Rattle.std.specs.Prelude.{◌≡◌, ◌<◌, ◌+◌, length, OnOk};
+ghost use Rattle.std.specs.Prelude.{◌<◌, ◌+◌, length, OnOk};
 ghost use Rattle.world_law.specs.Networks.{Ask};
 ghost use Rattle.world_law.specs.Worlds.{World, after_line, after_command, on_call, at_member, event_at};
 ghost use Rattle.federation.specs.Federations.{StandsFor};

@@ -1,7 +1,6 @@
 //! What is said of an event.
 
-ghost use Rattle.std.specs.Prelude.{ℕ, ◌≡◌, ◌++◌, List, OnOk, IfOk};
-ghost use Rattle.std.specs.Option.{option_to_list};
+ghost use Rattle.std.specs.Prelude.{ℕ, ◌≡◌, ◌++◌, List, OnOk};
 ghost use Rattle.stations.specs.Calls.{input_of};
 ghost use Rattle.world_law.specs.Trees.{SeenBag};
 ghost use Rattle.world_law.specs.Worlds.{World, named_bag, named_reply, with_line, skips};

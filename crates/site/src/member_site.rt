@@ -1,5 +1,5 @@
-ghost use Rattle.std.specs.Prelude.{◌≡◌, ◌↔◌, true, false, List, ◌∷◌, [], None, Some, Ok, Err, map};
-ghost use Rattle.std.specs.Prelude.{Result, IfOk, IsErrOf, IsOk};
+ghost use Rattle.std.specs.Prelude.{◌≡◌, ◌↔◌, true, false, [], None, Some, Ok, Err, map};
+ghost use Rattle.std.specs.Prelude.{Result, IfOk, IsErrOf};
 ghost use Rattle.std.specs.Option.{option_copied};
 ghost use Rattle.site_tables.specs.Contents.{deposits_of, slot_at};
 ghost use Rattle.bag_check.specs.Check.{check_of};

@@ -2,7 +2,6 @@
 
 ghost use Rattle.std.specs.Prelude.{◌≡◌};
 ghost use Rattle.udp_site.specs.Replies.{bag_answer, deposit_answer, tree_answer, query_answer};
-ghost use Rattle.udp_site.specs.Replies.{reply_answer};
 
 use bag_check::BagFault;
 use bag_tree::TreeFault;

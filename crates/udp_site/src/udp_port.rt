@@ -26,7 +26,7 @@ pub struct UdpPort<R: Clock + Drop = HostRuntime> {
 
 impl<R: Clock + Drop> UdpPort<R> {
     ghost use Rattle.std.specs.Prelude.{◌≡◌, ◌≤◌, IfOk};
-    ghost use Rattle.cell_device.specs.Calls.{HasCause, one_more};
+    ghost use Rattle.cell_device.specs.Calls.{one_more};
     ghost use Rattle.udp_site.specs.declared.port_fault.PortFault.TheVariants.{Device};
     ghost use Rattle.udp_site.specs.UdpPorts.{failures_of};
 

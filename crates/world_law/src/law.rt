@@ -1,4 +1,4 @@
-ghost use Rattle.std.specs.Prelude.{ℕ, List};
+ghost use Rattle.std.specs.Prelude.{List};
 ghost use Rattle.fed_types.specs.Quorums.{QuorumSystem, AreQuorums};
 ghost use Rattle.world_law.specs.Laws.{OneBagABallot, VotesWereAskedFor, VotesAreOnRecord};
 ghost use Rattle.world_law.specs.Laws.{PriorsStay, ProposalsAreBacked, KnownWasChosen, ChosenStays};
