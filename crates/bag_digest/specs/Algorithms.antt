@@ -1,5 +1,5 @@
 -- Sets of the algorithms that manifests may use.
-use Rattle.std.specs.Prelude.{Bool, true, false, ◌||◌}
+use Rattle.std.specs.Prelude.{Bool, true, false, ◌||◌, ◌&&◌}
 use Rattle.bag_text.specs.declared.algorithm.Algorithm.{Algorithm}
 use Rattle.bag_text.specs.declared.algorithm.Algorithm.TheVariants.{Md5, Sha1, Sha256, Sha512}
 use Rattle.bag_digest.specs.declared.algorithms.Algorithms.{Algorithms}
@@ -25,4 +25,13 @@ either_of a b = record {
   sha1 = a.sha1 || b.sha1;
   sha256 = a.sha256 || b.sha256;
   sha512 = a.sha512 || b.sha512;
+}
+
+-- the algorithms of both sets
+abbrev pub both_of : Algorithms → Algorithms → Algorithms
+both_of a b = record {
+  md5 = a.md5 && b.md5;
+  sha1 = a.sha1 && b.sha1;
+  sha256 = a.sha256 && b.sha256;
+  sha512 = a.sha512 && b.sha512;
 }

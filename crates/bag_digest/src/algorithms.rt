@@ -13,7 +13,7 @@ pub struct Algorithms {
 
 impl Algorithms {
     ghost use Rattle.bag_digest.specs.Algorithms.{all_algorithms, no_algorithms};
-    ghost use Rattle.bag_digest.specs.Algorithms.{has_algorithm, either_of};
+    ghost use Rattle.bag_digest.specs.Algorithms.{has_algorithm, either_of, both_of};
 
     /// Each of the four.
     pub fn all() -> Algorithms
@@ -59,6 +59,18 @@ impl Algorithms {
             sha1: self.sha1 || other.sha1,
             sha256: self.sha256 || other.sha256,
             sha512: self.sha512 || other.sha512,
+        }
+    }
+
+    /// The algorithms of both sets.
+    pub fn and(self, other: Algorithms) -> Algorithms
+        ensures { result ≡ both_of self other }
+    {
+        Algorithms {
+            md5: self.md5 && other.md5,
+            sha1: self.sha1 && other.sha1,
+            sha256: self.sha256 && other.sha256,
+            sha512: self.sha512 && other.sha512,
         }
     }
 }

@@ -126,6 +126,8 @@ fn sets_of_algorithms(rt: HostRuntime) {
         assert!(rt; !found.has(algorithm));
         found = found.or(alone);
         assert!(rt; found.has(algorithm));
+        assert_eq!(rt; found.and(alone), alone);
     }
     assert_eq!(rt; found, Algorithms::all());
+    assert_eq!(rt; found.and(Algorithms::none()), Algorithms::none());
 }

@@ -9,7 +9,7 @@ use crate::read_file::hash_watched;
 use crate::watcher::{Silent, Watcher};
 use bag_check::named_by;
 use bag_digest::Algorithms;
-use bag_tree::{Facts, FileFacts, TreeFault};
+use bag_tree::{Facts, FileFacts, TreeFault, is_text_named};
 use std::fs;
 use std::fs::{Files, OpenFile};
 
@@ -46,12 +46,16 @@ pub(crate) fn read_watched<R: Files + AllocGlobal + Clone + Drop, W: Watcher>(
     let listing = list_folder(rt, folder)?;
     watcher.listed(listing.files.len() as u64, listing.bytes());
     let wanted = named_by_files(listing.files.as_slice());
+    let of_texts = named_by_tag_manifests(listing.files.as_slice());
     let mut files = Vec::with_capacity(rt.alloc(), listing.files.len())?;
     let payload = listing.payload;
     for file in listing.files {
         files.push(hash_listed(rt, folder, file, wanted, watcher)?)?;
     }
-    Ok(Facts::new(files, payload))
+    let mut facts = Facts::new(files, payload);
+    // Each of these is asked for as often as a tag manifest lists the text.
+    facts.compute_digests(of_texts);
+    Ok(facts)
 }
 
 /// The algorithms that the manifests among these files name.
@@ -63,6 +67,17 @@ fn named_by_files(files: &[ListedFile]) -> Algorithms
         wanted = wanted.or(named_by(file.path.as_str()));
     }
     wanted
+}
+
+/// The algorithms that the tag manifests among these files name.
+fn named_by_tag_manifests(files: &[ListedFile]) -> Algorithms {
+    let mut named = Algorithms::none();
+    for file in files {
+        if is_text_named(b"tagmanifest-", file.path.as_bytes()) {
+            named = named.or(named_by(file.path.as_str()));
+        }
+    }
+    named
 }
 
 /// The facts of a file that was listed.

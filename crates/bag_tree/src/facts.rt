@@ -3,6 +3,7 @@ ghost use Rattle.bag_tree.specs.Facts.{facts_of_tree};
 
 use crate::file_facts::FileFacts;
 use crate::tree::Tree;
+use bag_digest::Algorithms;
 use std::alloc::{AllocError, Global};
 use std::marker::Model;
 
@@ -34,6 +35,17 @@ impl Facts {
         ensures { result.now ≡ self.now.files }
     {
         self.files.as_slice()
+    }
+
+    /// Computes those wanted digests of the texts that describe the bag which are by one of these
+    /// algorithms. Else each is computed whenever it is asked for. Nothing changes that a clause
+    /// sees.
+    pub fn compute_digests(&mut self, by: Algorithms)
+        ensures { self.new ≡ self.old }
+    {
+        for file in self.files.iter_mut() {
+            file.compute_digests(by);
+        }
     }
 
     /// Whether the payload's folder `data` exists.

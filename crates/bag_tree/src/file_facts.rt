@@ -82,9 +82,22 @@ impl FileFacts {
         let path = String::from_str(alloc, file.path())?;
         if is_read_text(file.path().as_bytes()) {
             let bytes = Vec::from_slice(alloc, file.bytes())?;
-            Ok(FileFacts::kept(path, Algorithms::all(), bytes))
+            let mut facts = FileFacts::kept(path, Algorithms::all(), bytes);
+            facts.compute_digests(Algorithms::all());
+            Ok(facts)
         } else {
             Ok(FileFacts::hashed(path, Digests::of(file.bytes())))
+        }
+    }
+
+    /// Computes those wanted digests of a text that are by one of these algorithms, so that asking
+    /// for them takes no time. Nothing changes that a clause sees.
+    pub fn compute_digests(&mut self, by: Algorithms)
+        ensures { self.new ≡ self.old }
+    {
+        match &mut self.contents {
+            Contents::Text(text) => text.compute_digests(by),
+            Contents::Hashed(_) => {}
         }
     }
 

@@ -2,23 +2,25 @@ ghost use Rattle.std.specs.Prelude.{◌≡◌};
 ghost use Rattle.bag_digest.specs.Digests.{digests_by, digest_by, is_digest};
 ghost use Rattle.sha2.specs.Sha512.{sha512};
 
-use bag_digest::{Algorithms, is_digest_of};
+use bag_digest::{Algorithms, Digester, Digests, is_digest_of};
 use bag_text::Algorithm;
 use sha2::{Digest, Sha512};
 use std::marker::Model;
 
-/// The bytes of a text that describes a bag, and the algorithms by which its digests are wanted. The
-/// SHA-512 is computed at once, where it is wanted, since that of one text is the bag's identity;
-/// the others are computed when they are asked for, since tag manifests alone should ask.
+/// The bytes of a text that describes a bag, and the algorithms by which its digests are wanted. A
+/// digest is computed when it is asked for, since of most texts none is, and kept for the next time
+/// where that was said before.
 #[derive(Drop)]
 pub(crate) struct KeptText {
     wanted: Algorithms,
     bytes: Vec<u8>,
-    sha512: Option<[u8; 64]>,
+    /// Those of the digests that were computed.
+    computed: Digests,
 }
 
 impl Model for KeptText {
     ghost use Rattle.std.specs.Prelude.{◌≡◌};
+    ghost use Rattle.bag_digest.specs.declared.algorithms.Algorithms.{Algorithms};
     ghost use Rattle.bag_digest.specs.Digests.{digests_by};
     ghost use Rattle.bag_tree.specs.inner.Kept.{Kept};
 
@@ -26,7 +28,8 @@ impl Model for KeptText {
 
     ghost view = { λ t. record { wanted = t.wanted; bytes = t.bytes.items } };
 
-    ghost invariant = { λ t. t.sha512 ≡ (digests_by t.wanted t.bytes.items).sha512 };
+    ghost invariant = { λ t.
+        (by : Algorithms) × (t.computed ≡ digests_by by t.bytes.items) };
 }
 
 impl KeptText {
@@ -34,15 +37,10 @@ impl KeptText {
     pub(crate) fn new(wanted: Algorithms, bytes: Vec<u8>) -> KeptText
         ensures { result ≡ record { wanted = wanted; bytes = bytes.items } }
     {
-        let sha512 = if wanted.sha512 {
-            Some(Sha512::digest(bytes.as_slice()))
-        } else {
-            None
-        };
         KeptText {
             wanted,
             bytes,
-            sha512,
+            computed: Digester::new(Algorithms::none()).finish(),
         }
     }
 
@@ -52,15 +50,27 @@ impl KeptText {
         self.bytes.as_slice()
     }
 
+    /// Computes those wanted digests that are by one of these algorithms.
+    pub(crate) fn compute_digests(&mut self, by: Algorithms)
+        ensures { self.new ≡ self.old }
+    {
+        let mut digester = Digester::new(self.wanted.and(by));
+        digester.feed(self.bytes.as_slice());
+        self.computed = digester.finish();
+    }
+
     /// Whether the digest by this algorithm is wanted, and is this one.
+    #[tactic(auto, using(crate::proofs::Known::of_computed, crate::proofs::Known::of_wanted))]
     pub(crate) fn has_digest(&self, algorithm: Algorithm, digest: &[u8]) -> bool
         ensures { result ≡ is_digest digest.now
             (digest_by algorithm (digests_by self.now.wanted self.now.bytes)) }
     {
-        match (algorithm, &self.sha512) {
-            (Algorithm::Sha512, None) => false,
-            (Algorithm::Sha512, Some(known)) => known.as_slice() == digest,
-            _ => self.wanted.has(algorithm) && is_digest_of(digest, algorithm, self.bytes()),
+        if !self.wanted.has(algorithm) {
+            return false;
+        }
+        match self.computed.by(algorithm) {
+            None => is_digest_of(digest, algorithm, self.bytes()),
+            Some(known) => known == digest,
         }
     }
 
@@ -68,7 +78,7 @@ impl KeptText {
     pub(crate) fn sha512(&self) -> [u8; 64]
         ensures { result ≡ sha512 self.now.bytes }
     {
-        match self.sha512 {
+        match self.computed.sha512 {
             None => Sha512::digest(self.bytes.as_slice()),
             Some(digest) => digest,
         }

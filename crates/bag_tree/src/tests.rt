@@ -1,5 +1,5 @@
 use super::*;
-use bag_digest::Digests;
+use bag_digest::{Algorithms, Digests};
 use bag_text::Algorithm;
 use std::alloc::Global;
 use std::process::Abort;
@@ -55,6 +55,40 @@ fn facts_of_a_small_tree(rt: HostRuntime) -> Result<(), Fail> {
     let tree = tree_of(rt.alloc(), &["bagit.txt", "data/a.txt"])?;
     let facts = facts_of(rt.alloc(), &tree)?;
     has_both_files(&rt, &tree, &facts);
+    Ok(())
+}
+
+/// A text of `abc`, of which the SHA-1 alone is wanted.
+fn has_one_digest(rt: &impl Abort, file: &FileFacts) {
+    let abc = Digests::of(b"abc");
+    for &algorithm in &ALGORITHMS {
+        let digest = abc.by(algorithm).unwrap_or(b"");
+        let want = algorithm == Algorithm::Sha1;
+        assert_eq!(rt; file.has_digest(algorithm, digest), want);
+    }
+    assert_eq!(rt; file.sha512_of_text(), abc.sha512);
+}
+
+#[test]
+fn digests_before_and_after_they_are_computed(rt: HostRuntime) -> Result<(), Fail> {
+    let wanted = Algorithms {
+        sha1: true,
+        ..Algorithms::none()
+    };
+    let path = String::from_str(rt.alloc(), "bagit.txt")?;
+    let bytes = Vec::from_slice(rt.alloc(), b"abc")?;
+    let mut files = Vec::new(rt.alloc());
+    files.push(FileFacts::kept(path, wanted, bytes))?;
+    let mut facts = Facts::new(files, false);
+    for file in facts.files() {
+        has_one_digest(&rt, file);
+    }
+    facts.compute_digests(Algorithms::all());
+    for file in facts.files() {
+        has_one_digest(&rt, file);
+        assert_eq!(rt; file.text(), Some(b"abc".as_slice()));
+    }
+    assert_eq!(rt; facts.files().len(), 1);
     Ok(())
 }
 

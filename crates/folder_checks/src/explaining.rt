@@ -11,6 +11,7 @@ ghost use Rattle.folder_checks.specs.Explanations.{unread_line};
 
 use crate::checking::{Verdict, line_of};
 use bag_check::check;
+use bag_digest::Algorithms;
 use bag_explain::explain;
 use bag_folders::Folders;
 use bag_tree::{Facts, TreeFault};
@@ -56,7 +57,11 @@ pub(crate) fn answer_on<F: Folders>(
     ensures place { F.fails_at folders.new ≡ F.fails_at folders.old }
 {
     match folders.read(path) {
-        Ok(facts) => answer_of(alloc, &facts),
+        Ok(mut facts) => {
+            // A text may be listed astray as often as an adversary likes.
+            facts.compute_digests(Algorithms::all());
+            answer_of(alloc, &facts)
+        }
         Err(fault) => {
             let line = place_line(alloc, fault, folders.failed_at())?;
             with_lines(alloc, Verdict::Unread(fault), line.as_str())

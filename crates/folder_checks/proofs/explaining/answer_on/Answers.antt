@@ -7,7 +7,8 @@ use Rattle.folder_checks.proofs.explaining.answer_on.Goals as goal
 pub returns-in-Ok-clause-ok : goal.returns-in-Ok-clause-ok
 returns-in-Ok-clause-ok g c =
     read_known (g.F.Folders.gives c.args.folders.now) (g.F.Folders.fails_at c.args.folders.now)
-    c.args.path.now c.in-Ok.facts c.answer_of.result c.in-Ok.ensures.known c.answer_of.ensures
+    c.args.path.now c.compute_digests.new.self c.answer_of.result
+    (rw c.compute_digests.ensures c.in-Ok.ensures.known) c.answer_of.ensures
 
 pub returns-in_ok-line-in-Err-clause-ok : goal.returns-in_ok-line-in-Err-clause-ok
 returns-in_ok-line-in-Err-clause-ok g c =
