@@ -5,7 +5,7 @@ ghost use Rattle.std.specs.List.{flat_map};
 ghost use Rattle.std.specs.BTreeSet.{contains_by};
 ghost use Rattle.bag_tree.specs.Path.{is_payload};
 ghost use Rattle.bag_check.specs.Manifests.{is_listed};
-ghost use Rattle.schedule.specs.Pushes.{Pushes};
+ghost use Rattle.words.specs.Pushes.{Pushes};
 ghost use Rattle.bag_explain.specs.Places.{when, entry_place, at_unlisted, files_in};
 ghost use Rattle.bag_explain.specs.Places.{astray_at, repeated_at, missing_at, unlisted_at};
 ghost use Rattle.bag_explain.specs.Places.{wrong_at};

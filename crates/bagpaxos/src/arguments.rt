@@ -60,14 +60,28 @@ pub enum Task<'a> {
 /// What these words ask for, the program's own name being the first of them. Help is an error of
 /// clap's that goes to standard output, with status 0.
 pub fn task_of(alloc: Global, words: &[String]) -> Result<Option<Task<'_>>, Error> {
-    let matches = command(alloc)?.try_get_matches_from(words)?;
+    let matches = matches_of(alloc, words)?;
     let task = task_in(alloc, &matches)?;
-    if let Some(Task::Send(send)) = &task {
-        if let Some(mistake) = send.mistake() {
-            return Err(command(alloc)?.error(ErrorKind::ValueValidation, mistake)?);
-        }
+    match mistake_in(&task) {
+        Some(mistake) => Err(refusal(alloc, mistake)?),
+        None => Ok(task),
     }
-    Ok(task)
+}
+
+fn matches_of<'a>(alloc: Global, words: &'a [String]) -> Result<ArgMatches<'a>, Error> {
+    command(alloc)?.try_get_matches_from(words)
+}
+
+// What clap doesn't see of a mistake.
+fn mistake_in(task: &Option<Task>) -> Option<&'static str> {
+    match task {
+        Some(Task::Send(send)) => send.mistake(),
+        _ => None,
+    }
+}
+
+fn refusal(alloc: Global, mistake: &str) -> Result<Error, AllocError> {
+    command(alloc)?.error(ErrorKind::ValueValidation, mistake)
 }
 
 fn task_in<'a>(alloc: Global, matches: &ArgMatches<'a>) -> Result<Option<Task<'a>>, AllocError> {
@@ -96,30 +110,53 @@ fn other_task_in<'a>(matches: &ArgMatches<'a>) -> Option<Task<'a>> {
     }
 }
 
+// Each part is added in a call of its own: a command is much for a proof to carry past a `?`.
 fn command<'a>(alloc: Global) -> Result<Command<'a>, AllocError> {
+    let command = with_subcommand(Ok(program(alloc)), check_command(alloc));
+    let command = with_subcommand(command, run_command(alloc));
+    let command = with_subcommand(command, send_command(alloc));
+    with_subcommand(command, site_command(alloc))
+}
+
+fn program<'a>(alloc: Global) -> Command<'a> {
     Command::new(alloc, "bagpaxos")
         .about(ABOUT)
         .after_help(EXAMPLE)
         .version("0.1.0")
         .subcommand_required(true)
-        .subcommand(check_command(alloc)?)?
-        .subcommand(run_command(alloc)?)?
-        .subcommand(send_command(alloc)?)?
-        .subcommand(site_command(alloc)?)
+}
+
+fn with_subcommand<'a>(
+    command: Result<Command<'a>, AllocError>,
+    subcommand: Result<Command<'a>, AllocError>,
+) -> Result<Command<'a>, AllocError> {
+    command?.subcommand(subcommand?)
 }
 
 fn run_command<'a>(alloc: Global) -> Result<Command<'a>, AllocError> {
-    let sent = Arg::new(alloc, "sent")
+    let run = Command::new(alloc, "run")
+        .about(RUN_ABOUT)
+        .after_help(RUN_EXAMPLE);
+    with_argument(run.arg(sent_argument(alloc)), identities_argument(alloc))
+}
+
+fn with_argument<'a>(
+    command: Result<Command<'a>, AllocError>,
+    argument: Arg<'a>,
+) -> Result<Command<'a>, AllocError> {
+    command?.arg(argument)
+}
+
+fn sent_argument<'a>(alloc: Global) -> Arg<'a> {
+    Arg::new(alloc, "sent")
         .long("sent")
         .action(ArgAction::SetTrue)
-        .help("Print a line for each datagram that is sent");
-    let identities = Arg::new(alloc, "identities")
+        .help("Print a line for each datagram that is sent")
+}
+
+fn identities_argument<'a>(alloc: Global) -> Arg<'a> {
+    Arg::new(alloc, "identities")
         .long("identities")
         .action(ArgAction::SetTrue)
-        .help("Name a bag by the 128 hex digits of its identity, not by its tree");
-    Command::new(alloc, "run")
-        .about(RUN_ABOUT)
-        .after_help(RUN_EXAMPLE)
-        .arg(sent)?
-        .arg(identities)
+        .help("Name a bag by the 128 hex digits of its identity, not by its tree")
 }

@@ -6,6 +6,10 @@ use Rattle.std.specs.Prelude.{ℕ, ◌-◌, ◌^◌}
 abbrev pub federation_bits : ℕ
 federation_bits = 64
 
+-- the greatest number of a federation; the least is 0
+abbrev pub greatest_federation : ℕ
+greatest_federation = 2 ^ federation_bits - 1
+
 -- the greatest number of a site, so that a set of sites is a word of 64 bits; the least is 1
 abbrev pub greatest_site : ℕ
 greatest_site = 63

@@ -5,7 +5,7 @@ use Rattle.fed_types.specs.Lists.{is_in}
 use Rattle.schedule.specs.declared.fate.Fate.{Fate}
 use Rattle.site.specs.Calls.{Arrives}
 use Rattle.site.specs.Effects.{Send}
-use Rattle.world_law.specs.declared.line.Line.{Line}
+use Rattle.lines.specs.declared.line.Line.{Line}
 use Rattle.world_law.specs.Networks.{Network, Happening, Deliver, datagram_at, happens, takes, arrives}
 use Rattle.world_law.specs.Networks.{SiteState, new_site, Mode, Up, reaches}
 use Rattle.world_law.specs.Worlds.{World, quorums, after_event, event_at, unless_down, mode_of}

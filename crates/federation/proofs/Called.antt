@@ -29,9 +29,9 @@ use Rattle.stations.specs.Modes.{is_down, is_up}
 use Rattle.stations.specs.Owners.{owner_of, place_of}
 use Rattle.stations.specs.Stations.{Undergoes, ComesTo, reached, reply_in}
 use Rattle.stations.specs.Stations as stations
-use Rattle.world_law.specs.declared.line.Line.{Line}
-use Rattle.world_law.specs.declared.line.Line.TheVariants as printed
-use Rattle.world_law.specs.declared.line.Reason.TheVariants as reasons
+use Rattle.lines.specs.declared.line.Line.{Line}
+use Rattle.lines.specs.declared.line.Line.TheVariants as printed
+use Rattle.lines.specs.declared.line.Reason.TheVariants as reasons
 use Rattle.world_law.specs.Networks.{Mode, Up, Down, NeedsOpening, SiteState, Happening, Outcome}
 use Rattle.world_law.specs.Networks.{Event, Stop, Start, happens, takes, happening, goes_down, opened}
 use Rattle.world_law.specs.Networks.{stops, starts, replies, Deposit, Ask, Query, Raw}
@@ -39,7 +39,8 @@ use Rattle.world_law.specs.Trees.{tree_at}
 use Rattle.world_tables.specs.Firsts as firsts
 use Rattle.world_law.specs.Worlds.{World, mode_of, quorums, after_event, event_at, unless_down}
 use Rattle.world_law.specs.Worlds.{on_start, skips, own_lines, on_raw, on_checked, on_deposit}
-use Rattle.world_law.specs.Worlds.{with_line, with_seen, named_reply, sent_lines, at_member}
+use Rattle.lines.specs.Named.{named_reply}
+use Rattle.world_law.specs.Worlds.{with_line, with_seen, sent_lines, at_member}
 use Rattle.world_tables.specs.Numbers as numbers
 use Rattle.world_tables.specs.Numbers.{is_named}
 use Rattle.federation.specs.declared.federation.Federation.{Federation}

@@ -13,9 +13,9 @@ use Rattle.dgram.specs.Messages.{IsMessage}
 use Rattle.site.specs.Calls.{Input, Arrives}
 use Rattle.site.specs.Datagrams.{datagram}
 use Rattle.site.specs.Effects.{Send}
-use Rattle.world_law.specs.declared.line.Line.{Line}
-use Rattle.world_law.specs.declared.line.Line.TheVariants as lines
-use Rattle.world_law.specs.declared.line.Reason.TheVariants as reasons
+use Rattle.lines.specs.declared.line.Line.{Line}
+use Rattle.lines.specs.declared.line.Line.TheVariants as lines
+use Rattle.lines.specs.declared.line.Reason.TheVariants as reasons
 use Rattle.world_law.specs.Networks.{Deliver, Happening, datagram_at, takes, happens}
 use Rattle.world_law.specs.Worlds.{World, mode_of, quorums, after_event, event_at, unless_down}
 use Rattle.world_law.specs.Worlds.{skips, with_named, on_deliver, on_datagram}

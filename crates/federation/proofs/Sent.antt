@@ -7,8 +7,8 @@ use Rattle.dgram.specs.Encoding.{datagram_of, body_from, from_byte}
 use Rattle.site.specs.declared.answer.Sealed.{Sealed}
 use Rattle.site.specs.Datagrams.{datagram, handed_out}
 use Rattle.site.specs.Effects.{Send}
-use Rattle.world_law.specs.declared.line.Line.{Line}
-use Rattle.world_law.specs.declared.line.Line.TheVariants as lines
+use Rattle.lines.specs.declared.line.Line.{Line}
+use Rattle.lines.specs.declared.line.Line.TheVariants as lines
 use Rattle.world_law.specs.Worlds.{sent_lines}
 use Rattle.world_law.proofs.Sends.{sender_byte}
 use Rattle.federation.specs.Sent.{line_sent, lines_sent, places_from, AreSent, SENDER_PLACE}

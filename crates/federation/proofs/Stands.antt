@@ -11,7 +11,7 @@ use Rattle.stations.specs.declared.station.Station.{Station}
 use Rattle.stations.specs.declared.told.Told.{Told}
 use Rattle.stations.specs.Modes.{is_down}
 use Rattle.stations.specs.Stations.{reached}
-use Rattle.world_law.specs.declared.line.Line.{Line}
+use Rattle.lines.specs.declared.line.Line.{Line}
 use Rattle.world_law.specs.Networks.{Mode, Up, Down, NeedsOpening, Network, SiteState, Happening}
 use Rattle.world_law.specs.Networks.{Outcome, takes, reaches, happening}
 use Rattle.world_law.specs.Worlds.{World, quorums, own_lines, sent_lines}

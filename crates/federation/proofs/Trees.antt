@@ -4,7 +4,7 @@ use Rattle.std.proofs.Common.{refl, sym, ap, subst, ◌∙◌}
 use Rattle.std.specs.Prelude.{is_some}
 use Rattle.bag_tree.specs.declared.fault.TreeFault.{TreeFault}
 use Rattle.bag_tree.specs.Tree.{Files, no_files, fault_of_added}
-use Rattle.world_law.specs.declared.line.Reason.TheVariants as reasons
+use Rattle.lines.specs.declared.line.Reason.TheVariants as reasons
 use Rattle.world_law.specs.Trees.{NumberedTree, tree_at}
 use Rattle.world_law.specs.Worlds.{World, with_trees, skips, on_tree, on_folder, on_file, on_added}
 use Rattle.world_tables.specs.declared.trees.Added.{Added}

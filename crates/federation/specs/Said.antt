@@ -6,9 +6,9 @@ use Rattle.site.specs.declared.answer.Line as answers
 use Rattle.site.specs.Calls.{Input}
 use Rattle.stations.specs.declared.told.Said.{Said}
 use Rattle.stations.specs.Stations.{notice_said}
-use Rattle.world_law.specs.declared.line.Line.{Line}
-use Rattle.world_law.specs.Networks.{line_notice}
-use Rattle.world_law.specs.Trees.{SeenBag}
+use Rattle.lines.specs.declared.line.Line.{Line}
+use Rattle.lines.specs.Notices.{line_notice}
+use Rattle.lines.specs.Named.{SeenBag}
 use Rattle.world_law.specs.Worlds.{own_lines}
 
 -- what a station tells of a call, as a line, if there is one

@@ -3,8 +3,8 @@ use Rattle.std.specs.Prelude.{ℕ, zero, suc, ◌+◌, ◌≡◌, get_or, List, 
 use Rattle.std.specs.Prelude.{slice_get}
 use Rattle.site.specs.Datagrams.{datagram}
 use Rattle.site.specs.Effects.{Send}
-use Rattle.world_law.specs.declared.line.Line.{Line}
-use Rattle.world_law.specs.declared.line.Line.TheVariants as lines
+use Rattle.lines.specs.declared.line.Line.{Line}
+use Rattle.lines.specs.declared.line.Line.TheVariants as lines
 use Rattle.federation.specs.declared.delivering.Arrival.{Arrival}
 
 -- the place of the sender's byte in a datagram: after the magic, the layout, the kind and the

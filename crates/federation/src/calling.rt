@@ -13,10 +13,10 @@ use crate::saying::tell;
 use crate::sending::send_all;
 use bag_tree::Facts;
 use fed_types::{Slot, slots_are_well_formed};
+use lines::Reason;
 use schedule::Fate;
 use stations::{Call, Told};
 use std::alloc::AllocError;
-use world_law::Reason;
 
 impl Federation {
     /// The place of a site's station, where it is a member.

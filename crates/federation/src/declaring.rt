@@ -6,9 +6,9 @@ ghost use Rattle.world_law.specs.Worlds.{World, on_tree, on_folder, on_file};
 ghost use Rattle.federation.specs.Federations.{StandsFor};
 
 use crate::federation::Federation;
+use lines::Reason;
 use schedule::TreeNo;
 use std::alloc::AllocError;
-use world_law::Reason;
 use world_tables::Added;
 
 impl Federation {

@@ -14,10 +14,10 @@ use crate::federation::Federation;
 use bag_tree::Facts;
 use dgram::{DgramFault, decode};
 use fed_types::Slot;
+use lines::{Line, Reason};
 use schedule::Fate;
 use stations::Call;
 use std::alloc::{AllocError, Global};
-use world_law::{Line, Reason};
 
 /// A datagram that arrives: the site that it goes to, and its bytes.
 #[derive(Drop)]

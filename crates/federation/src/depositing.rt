@@ -6,7 +6,8 @@ ghost use Rattle.fed_types.specs.declared.bag_id.BagId.{BagId};
 ghost use Rattle.bag_check.specs.Check.{check_of};
 ghost use Rattle.bag_check.specs.Fault.{IsOrMemory};
 ghost use Rattle.bag_check.specs.declared.fault.BagFault.{BagFault};
-ghost use Rattle.world_law.specs.Trees.{SeenBag, tree_at};
+ghost use Rattle.lines.specs.Named.{SeenBag};
+ghost use Rattle.world_law.specs.Trees.{tree_at};
 ghost use Rattle.world_law.specs.Worlds.{World, on_deposit, on_checked};
 ghost use Rattle.world_tables.specs.Firsts as firsts;
 ghost use Rattle.federation.specs.Federations.{StandsFor};
@@ -16,10 +17,10 @@ use crate::federation::Federation;
 use bag_check::{BagFault, check};
 use bag_tree::{Facts, facts_of};
 use fed_types::{BagId, Slot, bags_are_well_formed, slots_are_well_formed};
+use lines::Reason;
 use schedule::{Fate, TreeNo};
 use stations::Call;
 use std::alloc::AllocError;
-use world_law::Reason;
 use world_tables::SeenBags;
 
 impl Federation {

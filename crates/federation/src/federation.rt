@@ -5,10 +5,10 @@ ghost use Rattle.world_law.specs.Networks.{new_site};
 ghost use Rattle.federation.specs.Federations.{StandsFor, AreNew, IsStation};
 
 use fed_types::{Members, SiteNo, members_are_well_formed};
+use lines::Line;
 use records::Owner;
 use stations::Station;
 use std::alloc::{AllocError, Global};
-use world_law::Line;
 use world_tables::{Datagrams, SeenBags, Trees};
 
 /// A federation as a schedule makes it: its sites, the datagrams that they sent, each by the place

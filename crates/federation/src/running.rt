@@ -7,9 +7,9 @@ ghost use Rattle.federation.specs.Federations.{StandsFor};
 
 use crate::federation::Federation;
 use fed_types::Slot;
+use lines::Reason;
 use schedule::{Call, Command, Fate};
 use std::alloc::AllocError;
-use world_law::Reason;
 
 impl Federation {
     /// Runs the line of this number: its command, if it has one. `Err`: out of memory, and nothing

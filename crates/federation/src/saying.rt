@@ -2,18 +2,19 @@
 
 ghost use Rattle.std.specs.Prelude.{ℕ, ◌≡◌, ◌++◌, List, OnOk};
 ghost use Rattle.stations.specs.Calls.{input_of};
-ghost use Rattle.world_law.specs.Trees.{SeenBag};
-ghost use Rattle.world_law.specs.Worlds.{World, named_bag, named_reply, with_line, skips};
+ghost use Rattle.lines.specs.Named.{SeenBag};
+ghost use Rattle.lines.specs.Named.{named_bag, named_reply};
+ghost use Rattle.world_law.specs.Worlds.{World, with_line, skips};
 ghost use Rattle.world_tables.specs.Firsts as firsts;
 ghost use Rattle.federation.specs.Federations.{StandsFor};
 ghost use Rattle.federation.specs.Said.{lines_said, line_said};
 
 use crate::federation::Federation;
 use fed_types::BagId;
+use lines::{Line, NamedBag, NamedReply, Reason};
 use site::{Line as SiteLine, Reply};
 use stations::{Call, Said};
 use std::alloc::{AllocError, Global};
-use world_law::{Line, NamedBag, NamedReply, Reason};
 use world_tables::SeenBags;
 
 impl Federation {

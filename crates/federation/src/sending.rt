@@ -5,9 +5,9 @@ ghost use Rattle.site.specs.Datagrams.{handed_out};
 ghost use Rattle.world_tables.specs.Numbers.{StandsForSame};
 ghost use Rattle.federation.specs.Sent.{line_sent, lines_sent, places_from, SENDER_PLACE};
 
+use lines::{Line, SentBytes};
 use site::Sealed;
 use std::alloc::AllocError;
-use world_law::{Line, SentBytes};
 use world_tables::Datagrams;
 
 /// The place of the sender's byte in a datagram: after the magic, the layout, the kind and the

@@ -10,9 +10,9 @@ ghost use Rattle.std.specs.Prelude.{Some};
 use crate::federation::Federation;
 use crate::saying::named_reply;
 use fed_types::Slot;
+use lines::{Line, Reason};
 use site::{Reply, SiteFault};
 use std::alloc::AllocError;
-use world_law::{Line, Reason};
 
 impl Federation {
     /// A member is asked what it knows of the slot.

@@ -16,9 +16,9 @@ use bag_explain::explain;
 use bag_folders::Folders;
 use bag_tree::{Facts, TreeFault};
 use outcomes::{Answer, ProgramFault, write_answer};
-use schedule::push_escaped;
 use std::alloc::{AllocError, Global};
 use std::io::Write;
+use words::push_escaped;
 
 /// Checks the folder of this path, and writes its verdict as `check_on` does, with the same status;
 /// then a line for each fault at each place where it holds, or for the place where the folder can't

@@ -1,11 +1,11 @@
 //! Texts with the name of a folder before each line.
 
 ghost use Rattle.std.specs.Prelude.{◌≡◌, true, IfOk};
-ghost use Rattle.schedule.specs.Escapes.{escaped_text};
+ghost use Rattle.words.specs.Escapes.{escaped_text};
 ghost use Rattle.folder_checks.specs.Reports.{named_from};
 
-use schedule::push_escaped;
 use std::alloc::{AllocError, Global};
+use words::push_escaped;
 
 /// The text with this path, escaped, and a space before each line.
 pub(crate) fn named(alloc: Global, path: &str, text: &str) -> Result<Vec<u8>, AllocError>

@@ -5,19 +5,19 @@ use Rattle.std.specs.List.{flat_map, join_with_byte}
 use Rattle.std.specs.Fmt.{decimal}
 use Rattle.hex.specs.Hex.{encode_lower}
 use Rattle.fed_types.specs.Slots.{SlotName}
-use Rattle.schedule.specs.Escapes.{escaped_text}
+use Rattle.words.specs.Escapes.{escaped_text}
 use Rattle.bag_check.specs.Fault as bag_faults
 use Rattle.site.specs.declared.fault.SiteFault.{SiteFault}
 use Rattle.site.specs.declared.fault.SiteFault.TheVariants.{InvalidBag}
 use Rattle.site.specs.Faults as site_faults
-use Rattle.world_law.specs.declared.line.Line.{Line}
-use Rattle.world_law.specs.declared.line.Line.TheVariants.{Registered, Known, Replied, Refused}
-use Rattle.world_law.specs.declared.line.Line.TheVariants.{Dropped, Skip, Down, Up, Sent}
-use Rattle.world_law.specs.declared.line.NamedBag.{NamedBag}
-use Rattle.world_law.specs.declared.line.NamedReply.{NamedReply}
-use Rattle.world_law.specs.declared.line.NamedReply.TheVariants as replies
-use Rattle.world_law.specs.declared.line.Reason.{Reason}
-use Rattle.world_law.specs.declared.line.Reason.TheVariants as reasons
+use Rattle.lines.specs.declared.line.Line.{Line}
+use Rattle.lines.specs.declared.line.Line.TheVariants.{Registered, Known, Replied, Refused}
+use Rattle.lines.specs.declared.line.Line.TheVariants.{Dropped, Skip, Down, Up, Sent}
+use Rattle.lines.specs.declared.line.NamedBag.{NamedBag}
+use Rattle.lines.specs.declared.line.NamedReply.{NamedReply}
+use Rattle.lines.specs.declared.line.NamedReply.TheVariants as replies
+use Rattle.lines.specs.declared.line.Reason.{Reason}
+use Rattle.lines.specs.declared.line.Reason.TheVariants as reasons
 use Rattle.lines.specs.declared.print_line.Options.{Options}
 
 -- a bag by its tree, as `#3`, or by the 128 hex digits of its identity

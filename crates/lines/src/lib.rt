@@ -1,10 +1,14 @@
-//! The lines that a run of sites prints: the text of each.
+//! The lines that a run of sites prints, and the text of each.
 #![tactic(auto)]
 
+mod line;
 mod print_line;
 mod print_words;
+mod sent_bytes;
 
+pub use line::{Line, NamedBag, NamedReply, Reason};
 pub use print_line::{Options, push_line, push_printed};
+pub use sent_bytes::SentBytes;
 
 #[cfg(test)]
 mod tests;

@@ -1,10 +1,10 @@
 ghost use Rattle.std.specs.Prelude.{◌≡◌};
-ghost use Rattle.schedule.specs.Pushes.{Pushes};
+ghost use Rattle.words.specs.Pushes.{Pushes};
 ghost use Rattle.lines.specs.Texts.{line_text, is_printed, printed_line};
 
+use crate::line::Line;
 use crate::print_words::push_words;
 use std::alloc::{AllocError, Global};
-use world_law::Line;
 
 /// How lines are written.
 #[derive(Clone, Copy, Debug)]

@@ -1,16 +1,17 @@
 ghost use Rattle.std.specs.Prelude.{◌≡◌, [], ◌∷◌};
 ghost use Rattle.std.specs.List.{join_with_byte};
 ghost use Rattle.hex.specs.Hex.{encode_lower};
-ghost use Rattle.schedule.specs.Pushes.{Pushes};
+ghost use Rattle.words.specs.Pushes.{Pushes};
 ghost use Rattle.lines.specs.Texts.{words_of, slot_words, bag_word, reply_words};
 ghost use Rattle.lines.specs.Texts.{fault_words, reason_word};
 
+use crate::line::{Line, NamedBag, NamedReply, Reason};
 use crate::print_line::Options;
+use crate::sent_bytes::SentBytes;
 use fed_types::Slot;
-use schedule::push_escaped;
 use site::SiteFault;
 use std::alloc::{AllocError, Global};
-use world_law::{Line, NamedBag, NamedReply, Reason, SentBytes};
+use words::push_escaped;
 
 /// Appends the words of a line, one space between them.
 pub(crate) fn push_words(

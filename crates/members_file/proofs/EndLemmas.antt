@@ -4,7 +4,7 @@ use Rattle.std.proofs.Common.{length, None, refl, sym, ap, ◌∙◌, subst, ari
 use Rattle.std.proofs.Common.{append_assoc}
 use Rattle.std.specs.Str.Lines.{lines}
 use Rattle.std.proofs.lemmas.Bool.{eqb-true}
-use Rattle.schedule.specs.Words.{words_of}
+use Rattle.words.specs.Words.{words_of}
 use Rattle.members_file.specs.Files.{AreDistinct, AreSites}
 use Rattle.members_file.specs.Files.{are_blank}
 use Rattle.members_file.specs.Lines.{site_in}

@@ -5,7 +5,7 @@ use Rattle.std.proofs.Common.{length, Some, refl, sym, ap, ◌∙◌, subst, ari
 use Rattle.std.specs.Str.Lines.{lines}
 use Rattle.std.proofs.lemmas.Bool.{false≢true}
 use Rattle.std.proofs.lemmas.Option.{same_Some}
-use Rattle.schedule.specs.Words.{words_of}
+use Rattle.words.specs.Words.{words_of}
 use Rattle.members_file.specs.Files.{HasFault, IsTextOf}
 use Rattle.members_file.specs.Files.{MembersFile, are_blank, named_by, no_federation, no_site}
 use Rattle.members_file.specs.Lines.{federation_in}

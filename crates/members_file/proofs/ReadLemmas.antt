@@ -4,7 +4,7 @@ use Rattle.std.proofs.Common.{length, Option, Some, None, Err, refl, sym, ap, â—
 use Rattle.std.proofs.Common.{append_assoc}
 use Rattle.std.specs.Option.{ok_or}
 use Rattle.std.specs.Str.Lines.{lines}
-use Rattle.schedule.specs.Words.{words_of}
+use Rattle.words.specs.Words.{words_of}
 use Rattle.members_file.specs.declared.members_fault.MembersFault.{MembersFault}
 use Rattle.members_file.specs.Files.{ArePorts, HasFault}
 use Rattle.members_file.specs.Files.{are_blank, no_federation, no_site}

@@ -8,9 +8,9 @@ use Rattle.std.specs.Str.{bytes_eq}
 use Rattle.std.proofs.lemmas.Bool.{eqb-true, eq-eqb}
 use Rattle.std.proofs.lemmas.Option.{same_Some}
 use Rattle.std.proofs.lemmas.List.Elements.{All-nil, All-cons}
-use Rattle.schedule.specs.Words.{◌>>=◌, number_in, words_of}
-use Rattle.schedule.proofs.GrammarLemmas.{IsNumeral-number_in}
-use Rattle.schedule.proofs.TokenLemmas.{bind_some}
+use Rattle.words.specs.Words.{◌>>=◌, number_in, words_of}
+use Rattle.words.proofs.GrammarLemmas.{IsNumeral-number_in}
+use Rattle.words.proofs.StepLemmas.{bind_some}
 use Rattle.members_file.specs.Files.{AreDistinct, AreSites, AreSitesFrom}
 use Rattle.members_file.specs.Limits.{most_sites, greatest_port}
 use Rattle.members_file.specs.Lines.{site_in}

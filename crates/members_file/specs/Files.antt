@@ -6,7 +6,7 @@ use Rattle.std.specs.Prelude.{List, [], ◌∷◌, ◌++◌, length, replicate, 
 use Rattle.std.specs.List.{AllPairs, list_all}
 use Rattle.std.specs.Str.Lines.{lines}
 use Rattle.fed_types.specs.Sites.{Membership, membership_of}
-use Rattle.schedule.specs.Words.{words_of}
+use Rattle.words.specs.Words.{words_of}
 use Rattle.members_file.specs.Limits.{most_sites, greatest_port}
 use Rattle.members_file.specs.Lines.{federation_in, site_in}
 

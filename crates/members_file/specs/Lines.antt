@@ -1,8 +1,8 @@
 -- The lines of a members file, each by its words.
 use Rattle.std.specs.Prelude.{ℕ, List, [], ◌∷◌, codes, if◌then◌else◌, Option, Some, None}
 use Rattle.std.specs.Str.{bytes_eq}
-use Rattle.schedule.specs.Limits.{greatest_federation}
-use Rattle.schedule.specs.Words.{◌>>=◌, number_in}
+use Rattle.fed_types.specs.Limits.{greatest_federation}
+use Rattle.words.specs.Words.{◌>>=◌, number_in}
 use Rattle.members_file.specs.Limits.{most_sites, greatest_port}
 
 -- F, of `federation F`

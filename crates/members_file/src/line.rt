@@ -1,10 +1,10 @@
 ghost use Rattle.std.specs.Prelude.{◌≡◌, map, IfOk};
-ghost use Rattle.schedule.specs.Words.{words_of};
+ghost use Rattle.words.specs.Words.{words_of};
 ghost use Rattle.members_file.specs.Lines.{federation_in, site_in};
 ghost use Rattle.members_file.specs.inner.Sites.{next_port};
 
-use schedule::{parse_number, split_words};
 use std::alloc::{AllocError, Global};
+use words::{parse_number, split_words};
 
 // The most sites that a members file can have.
 const MOST_SITES: u64 = 15;

@@ -8,8 +8,8 @@ use crate::line::{next_port, parse_federation};
 use crate::member_ports::MemberPorts;
 use crate::members_fault::MembersFault;
 use fed_types::Members;
-use schedule::{first_line, split_words};
 use std::alloc::{AllocError, Global};
+use words::{first_line, split_words};
 
 /// The members and ports of a text, or the number of its first line at fault. `Memory` is answered
 /// only where an allocation failed.

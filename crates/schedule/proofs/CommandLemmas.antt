@@ -22,9 +22,10 @@ use Rattle.schedule.specs.Limits.{greatest_site, greatest_tree, greatest_amount}
 use Rattle.schedule.specs.Lines.{site_token, tree_token, amount_token, slot_tokens, call_tokens}
 use Rattle.schedule.specs.Lines.{fate_tokens, command_tokens}
 use Rattle.schedule.specs.Tokens.{Token, Number, Object, IsWordFor, AreWordsFor}
-use Rattle.schedule.proofs.GrammarLemmas.{number_in-from, IsNumeral-number_in}
+use Rattle.words.proofs.GrammarLemmas.{number_in-from, IsNumeral-number_in}
 use Rattle.schedule.proofs.FateLemmas.{fate_of-from, fate_of-says}
-use Rattle.schedule.proofs.TokenLemmas.{bind_some, text_of-from, IsTextFor-text_of, object_of-from}
+use Rattle.words.proofs.StepLemmas.{bind_some}
+use Rattle.schedule.proofs.TokenLemmas.{text_of-from, IsTextFor-text_of, object_of-from}
 use Rattle.schedule.proofs.TokenLemmas.{IsObject-object_of, bytes_of-from, IsHexFor-bytes_of}
 use Rattle.schedule.proofs.TokenLemmas.{of_each, of_each_and}
 

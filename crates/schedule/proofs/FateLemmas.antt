@@ -9,13 +9,14 @@ use Rattle.schedule.specs.declared.fate.DeviceCall.{DeviceCall}
 use Rattle.schedule.specs.declared.fate.DeviceCall.TheVariants.{Append, Sync}
 use Rattle.schedule.specs.declared.fate.Fate.{Fate}
 use Rattle.schedule.specs.declared.fate.Fate.TheVariants.{Whole, StopsIn, StopsAfter, FailsIn}
-use Rattle.schedule.specs.Words.{◌>>=◌}
+use Rattle.words.specs.Words.{◌>>=◌}
 use Rattle.schedule.specs.Commands.{amount_of, device_of, stop_of, fail_of, fate_of}
 use Rattle.schedule.specs.Limits.{greatest_amount}
 use Rattle.schedule.specs.Lines.{device_token, amount_token, fate_tokens}
 use Rattle.schedule.specs.Tokens.{IsWordFor, AreWordsFor}
-use Rattle.schedule.proofs.GrammarLemmas.{number_in-from, IsNumeral-number_in}
-use Rattle.schedule.proofs.TokenLemmas.{bind_some, of_each}
+use Rattle.words.proofs.GrammarLemmas.{number_in-from, IsNumeral-number_in}
+use Rattle.words.proofs.StepLemmas.{bind_some}
+use Rattle.schedule.proofs.TokenLemmas.{of_each}
 
 amount-from : (word : List ℕ) (n : ℕ) → IsWordFor word (amount_token n) → amount_of word ≡ Some n
 amount-from word n is = number_in-from 0 greatest_amount word n is

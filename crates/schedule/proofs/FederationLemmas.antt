@@ -11,13 +11,14 @@ use Rattle.std.proofs.lemmas.Option.{same_Some}
 use Rattle.std.proofs.lemmas.Slice.Eq.{bytes_eq-Decides}
 use Rattle.fed_types.specs.Limits.{most_members, greatest_weight}
 use Rattle.fed_types.specs.Sites.{Membership, membership_of, count_of}
-use Rattle.schedule.specs.Words.{◌>>=◌, number_in}
+use Rattle.words.specs.Words.{◌>>=◌, number_in}
 use Rattle.schedule.specs.Commands.{federation_of, weights_in, weights_of}
-use Rattle.schedule.specs.Limits.{greatest_federation}
+use Rattle.fed_types.specs.Limits.{greatest_federation}
 use Rattle.schedule.specs.Lines.{federation_tokens, AreWordsForMembers}
 use Rattle.schedule.specs.Tokens.{Token, Number, IsWordFor, AreWordsFor}
-use Rattle.schedule.proofs.GrammarLemmas.{number_in-from, IsNumeral-number_in}
-use Rattle.schedule.proofs.TokenLemmas.{bind_some, of_each, of_each_and}
+use Rattle.words.proofs.GrammarLemmas.{number_in-from, IsNumeral-number_in}
+use Rattle.words.proofs.StepLemmas.{bind_some}
+use Rattle.schedule.proofs.TokenLemmas.{of_each, of_each_and}
 
 -- the token of a weight
 abbrev weight_token : ℕ → Token

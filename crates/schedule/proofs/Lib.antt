@@ -1,14 +1,6 @@
-pub mod LineLemmas
-pub mod NumberLemmas
-pub mod GrammarLemmas
-pub mod TextLemmas
 pub mod PlanLemmas
-pub mod Utf8Lemmas
-pub mod EscapeLemmas
 pub mod WordLemmas
 pub mod PrintedWords
-pub mod HexDigits
-pub mod UnescapeLemmas
 pub mod TokenLemmas
 pub mod FateLemmas
 pub mod CommandLemmas

@@ -11,7 +11,7 @@ use Rattle.schedule.specs.Plans.{Plan, is_skipped, later_line, later_lines, line
 use Rattle.schedule.specs.Plans.{plan_after, plan_with}
 use Rattle.schedule.specs.Commands.{federation_of}
 use Rattle.schedule.specs.Faults.{IsOrMemory}
-use Rattle.schedule.specs.Words.{words_of}
+use Rattle.words.specs.Words.{words_of}
 
 -- the lines read earlier, and then what the rest says
 abbrev pub with_earlier : List (Option Command) → Result (List (Option Command)) ℕ

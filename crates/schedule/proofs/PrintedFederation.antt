@@ -6,10 +6,10 @@ use Rattle.fed_types.specs.Limits.{most_members}
 use Rattle.fed_types.specs.Sites.{Membership, count_of}
 use Rattle.fed_types.specs.Values.{IsMembership}
 use Rattle.schedule.specs.Commands.{federation_of}
-use Rattle.schedule.specs.Limits.{greatest_federation}
+use Rattle.fed_types.specs.Limits.{greatest_federation}
 use Rattle.schedule.specs.Texts.{federation_words}
 use Rattle.schedule.specs.inner.Printed.{IsWord}
-use Rattle.schedule.proofs.PrintedWords.{number_in-decimal}
+use Rattle.words.proofs.PrintedWords.{number_in-decimal}
 use Rattle.schedule.proofs.WeightLemmas.{weights_of-printed, IsWord-weights}
 use Rattle.schedule.proofs.WordLemmas.{IsWord-computed, IsWord-decimal}
 

@@ -20,7 +20,7 @@ use Rattle.schedule.specs.declared.command.Command.TheVariants as commands
 use Rattle.schedule.specs.declared.fate.DeviceCall.TheVariants.{Append, Sync}
 use Rattle.schedule.specs.declared.fate.Fate.{Fate}
 use Rattle.schedule.specs.declared.fate.Fate.TheVariants.{Whole, StopsIn, StopsAfter, FailsIn}
-use Rattle.schedule.specs.Words.{words_of}
+use Rattle.words.specs.Words.{words_of}
 use Rattle.schedule.specs.Commands.{federation_of}
 use Rattle.schedule.specs.Lines.{call_tokens, fate_tokens, command_tokens}
 use Rattle.schedule.specs.Plans.{Plan, is_skipped, later_line, later_lines, line_then, plan_from}
@@ -29,9 +29,9 @@ use Rattle.schedule.specs.Schedules.{IsCommand, IsPlan}
 use Rattle.schedule.specs.Texts.{words_for, federation_words, federation_line, printed_line}
 use Rattle.schedule.specs.Texts.{printed_weights, schedule_text}
 use Rattle.schedule.specs.inner.Printed.{IsWord}
-use Rattle.schedule.proofs.EscapeLemmas.{IsAbove}
-use Rattle.schedule.proofs.GrammarLemmas.{HasWords-words_of}
-use Rattle.schedule.proofs.LineLemmas.{ends_line, lines_of_more_parts}
+use Rattle.words.proofs.EscapeLemmas.{IsAbove}
+use Rattle.words.proofs.GrammarLemmas.{HasWords-words_of}
+use Rattle.words.proofs.LineLemmas.{ends_line, lines_of_more_parts}
 use Rattle.schedule.proofs.PlanLemmas.{plan_after-skipped, plan_after-federation}
 use Rattle.schedule.proofs.PrintedFederation.{AreWords-federation, federation_of-printed}
 use Rattle.schedule.proofs.SaysLemmas.{later_line-from, no_skip-words}

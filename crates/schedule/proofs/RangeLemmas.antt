@@ -8,7 +8,7 @@ use Rattle.fed_types.specs.Limits.{greatest_weight}
 use Rattle.fed_types.specs.Sites.{IsWeight, Membership, count_of}
 use Rattle.fed_types.specs.Values.{IsMembership}
 use Rattle.schedule.specs.declared.command.Command.{Command}
-use Rattle.schedule.specs.Grammar.{HasWords, spaces, word}
+use Rattle.words.specs.Grammar.{HasWords, spaces, word}
 use Rattle.schedule.specs.Lines.{command_tokens, federation_tokens}
 use Rattle.schedule.specs.Plans.{Plan, plan_of}
 use Rattle.schedule.specs.Schedules.{NamesMembers, Says, AllSay, IsCommand, IsPlan}

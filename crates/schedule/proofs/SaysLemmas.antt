@@ -8,15 +8,15 @@ use Rattle.std.proofs.lemmas.Option.{same_Some}
 use Rattle.schedule.specs.declared.call.Call.TheVariants.{Deposit, Propose, Deliver, Ask}
 use Rattle.schedule.specs.declared.command.Command.{Command}
 use Rattle.schedule.specs.declared.command.Command.TheVariants as commands
-use Rattle.schedule.specs.Words.{words_of}
+use Rattle.words.specs.Words.{words_of}
 use Rattle.schedule.specs.Commands.{command_of}
-use Rattle.schedule.specs.Grammar.{HasWords, spaces, word}
+use Rattle.words.specs.Grammar.{HasWords, spaces, word}
 use Rattle.schedule.specs.Lines.{command_tokens}
 use Rattle.schedule.specs.Plans.{is_skipped, later_line}
 use Rattle.schedule.specs.Schedules.{IsSkipped, Says}
 use Rattle.schedule.specs.Tokens.{Token, Keyword, Number, Text, Object, Hex, AreWordsFor}
 use Rattle.schedule.proofs.CommandLemmas.{command_of-from, command_of-says}
-use Rattle.schedule.proofs.GrammarLemmas.{words_of-from, HasWords-words_of}
+use Rattle.words.proofs.GrammarLemmas.{words_of-from, HasWords-words_of}
 
 -- ---- skipped lines
 

@@ -6,14 +6,14 @@ use Rattle.std.specs.Str.Lines.{lines}
 use Rattle.std.proofs.lemmas.Bool.{cases_Bool}
 use Rattle.fed_types.specs.Sites.{Membership}
 use Rattle.schedule.specs.declared.command.Command.{Command}
-use Rattle.schedule.specs.Words.{words_of}
+use Rattle.words.specs.Words.{words_of}
 use Rattle.schedule.specs.Commands.{federation_of}
 use Rattle.schedule.specs.Lines.{federation_tokens}
 use Rattle.schedule.specs.Plans.{Plan, is_skipped, later_line, later_lines, line_then, plan_from}
 use Rattle.schedule.specs.Plans.{plan_after, plan_of, plan_with}
 use Rattle.schedule.specs.Schedules.{IsSkipped, NamesMembers, AllSay, IsTextOf}
 use Rattle.schedule.proofs.FederationLemmas.{federation_of-from, federation_of-says}
-use Rattle.schedule.proofs.GrammarLemmas.{words_of-from, HasWords-words_of}
+use Rattle.words.proofs.GrammarLemmas.{words_of-from, HasWords-words_of}
 use Rattle.schedule.proofs.PlanLemmas.{plan_after-skipped, plan_after-federation, plan_after-none}
 use Rattle.schedule.proofs.SaysLemmas.{is_skipped-from, IsSkipped-is_skipped, no_skip-tokens}
 use Rattle.schedule.proofs.SaysLemmas.{later_line-from, Says-later_line}

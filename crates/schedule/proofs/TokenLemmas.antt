@@ -15,25 +15,21 @@ use Rattle.hex.proofs.HexLemmas.{decode_of-ok}
 use Rattle.percent_encoding.specs.Percent.{percent_decode}
 use Rattle.fed_types.specs.Limits.{longest_object}
 use Rattle.fed_types.specs.Slots.{IsObjectName}
-use Rattle.schedule.specs.Words.{◌>>=◌, text_of, object_of, bytes_of}
-use Rattle.schedule.specs.Grammar.{Unescapes}
+use Rattle.words.specs.Words.{text_of, bytes_of}
+use Rattle.schedule.specs.Commands.{object_of}
+use Rattle.words.proofs.StepLemmas.{bind_some}
+use Rattle.words.specs.Grammar.{Unescapes}
 use Rattle.schedule.specs.Tokens.{Token, Keyword, Number, Text, Object, Hex, IsTextFor, IsHexFor}
 use Rattle.schedule.specs.Tokens.{IsWordFor, AreWordsFor, HasWord, printed_token}
 use Rattle.schedule.specs.inner.Printed.{IsWord}
-use Rattle.schedule.proofs.GrammarLemmas.{IsNumeral-number_in}
-use Rattle.schedule.proofs.TextLemmas.{percent_decode-some, text_of-utf8, text_of-not_utf8}
-use Rattle.schedule.proofs.UnescapeLemmas.{percent_decode-from, Unescapes-percent_decode}
-use Rattle.schedule.proofs.UnescapeLemmas.{decode_of-from, AreHexDigitsOf-decode_of}
+use Rattle.words.proofs.GrammarLemmas.{IsNumeral-number_in}
+use Rattle.words.proofs.TextLemmas.{percent_decode-some, text_of-utf8, text_of-not_utf8}
+use Rattle.words.proofs.UnescapeLemmas.{percent_decode-from, Unescapes-percent_decode}
+use Rattle.words.proofs.UnescapeLemmas.{decode_of-from, AreHexDigitsOf-decode_of}
 use Rattle.schedule.proofs.WordLemmas.{all_above, IsWord-computed, IsWord-decimal, IsWord-escaped}
 use Rattle.schedule.proofs.WordLemmas.{IsWord-hex_word}
-use Rattle.schedule.proofs.PrintedWords.{number_in-decimal, text_of-escaped, bytes_of-hex_word}
-
--- ---- what a step found
-
-pub bind_some : {A B : Type 0} (found : Option A) (step : A → Option B) (b : B)
-    → (found >>= step) ≡ Some b → (a : A) × (found ≡ Some a) × (step a ≡ Some b)
-bind_some None step b is = absurd (cc is)
-bind_some (Some a) step b is = (a, refl, is)
+use Rattle.words.proofs.PrintedWords.{number_in-decimal, text_of-escaped}
+use Rattle.schedule.proofs.PrintedWords.{bytes_of-hex_word}
 
 -- ---- a text, a name and bytes
 

@@ -16,12 +16,12 @@ use Rattle.fed_types.specs.Limits.{greatest_weight}
 use Rattle.fed_types.specs.Sites.{IsWeight, AreWeights, IsMemberCount, Membership, count_of}
 use Rattle.std.specs.Result.{result_ok, IsOk, IfOk}
 use Rattle.std.proofs.Common.{Result, Ok, Err}
-use Rattle.schedule.specs.Words.{number_in, ◌>>=◌}
+use Rattle.words.specs.Words.{number_in, ◌>>=◌}
 use Rattle.schedule.specs.Commands.{weights_in, weights_of}
 use Rattle.schedule.specs.Texts.{printed_weights, federation_words, federation_line}
 use Rattle.schedule.specs.inner.Printed.{IsWord, spaced_weights}
 use Rattle.schedule.proofs.WordLemmas.{IsWord-decimal}
-use Rattle.schedule.proofs.PrintedWords.{number_in-decimal}
+use Rattle.words.proofs.PrintedWords.{number_in-decimal}
 
 -- a word that names a weight, after those whose weights were read
 pub weights_in-more : (front : List ℕ) (word : List ℕ) (words : List (List ℕ)) (w : ℕ)

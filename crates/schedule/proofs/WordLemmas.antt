@@ -7,10 +7,10 @@ use Rattle.std.proofs.lemmas.Bool.{and_parts, ltb-true, ne_eqb, agree_below_at}
 use Rattle.std.proofs.lemmas.Fmt.{decimal_nonempty, decimal_by_steps}
 use Rattle.std.proofs.lemmas.List.Elements.{All-nil, All-cons, All-push}
 use Rattle.hex.specs.Hex.{lower_digits, encode_with, encode_lower, IsBytes}
-use Rattle.schedule.specs.Escapes.{escaped_text}
+use Rattle.words.specs.Escapes.{escaped_text}
 use Rattle.schedule.specs.Tokens.{hex_word}
 use Rattle.schedule.specs.inner.Printed.{IsWord}
-use Rattle.schedule.proofs.EscapeLemmas.{IsAbove, All-escaped, length-escaped}
+use Rattle.words.proofs.EscapeLemmas.{IsAbove, All-escaped, length-escaped}
 
 -- the same as a test, which computes on a word that is written out
 abbrev pub all_above : List ℕ → Bool

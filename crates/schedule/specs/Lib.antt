@@ -1,13 +1,9 @@
 pub mod Limits
-pub mod Words
-pub mod Escapes
-pub mod Grammar
 pub mod Tokens
 pub mod Lines
 pub mod Commands
 pub mod Plans
 pub mod Texts
 pub mod Schedules
-pub mod Pushes
 pub mod Faults
 pub mod inner

@@ -1,11 +1,6 @@
 -- The ranges of the numbers in a schedule, beside those that `fed_types` gives members, objects and
 -- versions.
-use Rattle.std.specs.Prelude.{ℕ, ◌-◌, ◌^◌}
-use Rattle.fed_types.specs.Limits.{federation_bits}
-
--- F is 0 to this, the greatest that a federation's field of a datagram and of a cell holds
-abbrev pub greatest_federation : ℕ
-greatest_federation = 2 ^ federation_bits - 1
+use Rattle.std.specs.Prelude.{ℕ}
 
 -- S is 0 to this, which a byte holds: whether it is a member is asked when the schedule runs
 abbrev pub greatest_site : ℕ

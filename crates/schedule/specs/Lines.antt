@@ -1,6 +1,7 @@
 -- The grammar of lines: the tokens of each command, in order.
 use Rattle.std.specs.Prelude.{◌≡◌, ℕ, List, [], ◌∷◌, ◌++◌, map, replicate, codes, ◌⊎◌}
-use Rattle.fed_types.specs.Limits.{most_members, greatest_weight, greatest_version}
+use Rattle.fed_types.specs.Limits.{greatest_federation, most_members, greatest_weight}
+use Rattle.fed_types.specs.Limits.{greatest_version}
 use Rattle.fed_types.specs.Sites.{Membership, count_of}
 use Rattle.fed_types.specs.Slots.{SlotName}
 use Rattle.schedule.specs.declared.call.Call.{Call}
@@ -11,8 +12,7 @@ use Rattle.schedule.specs.declared.fate.DeviceCall.{DeviceCall}
 use Rattle.schedule.specs.declared.fate.DeviceCall.TheVariants.{Append, Sync}
 use Rattle.schedule.specs.declared.fate.Fate.{Fate}
 use Rattle.schedule.specs.declared.fate.Fate.TheVariants.{Whole, StopsIn, StopsAfter, FailsIn}
-use Rattle.schedule.specs.Limits.{greatest_federation, greatest_site, greatest_tree}
-use Rattle.schedule.specs.Limits.{greatest_amount}
+use Rattle.schedule.specs.Limits.{greatest_site, greatest_tree, greatest_amount}
 use Rattle.schedule.specs.Tokens.{Token, Keyword, Number, Text, Object, Hex, AreWordsFor}
 
 -- S, TO

@@ -1,30 +1,16 @@
 //! The grammar of schedules, as laws of the definitions. A function here does nothing: its contract
 //! is the law.
 
-ghost use Rattle.std.specs.Prelude.{◌≡◌, ◌≤◌, ◌↔◌, ℕ, List, Some, Ok, Err};
+ghost use Rattle.std.specs.Prelude.{◌≡◌, ◌↔◌, ℕ, List, Some, Ok, Err};
 ghost use Rattle.fed_types.specs.Sites.{Membership};
 ghost use Rattle.schedule.specs.declared.command.Command.{Command};
 ghost use Rattle.schedule.specs.Commands.{federation_of, command_of};
-ghost use Rattle.schedule.specs.Grammar.{HasWords, IsNumeral};
 ghost use Rattle.schedule.specs.Lines.{AreWordsForMembers, command_tokens};
 ghost use Rattle.schedule.specs.Plans.{Plan, plan_of};
 ghost use Rattle.schedule.specs.Schedules.{IsTextOf, HasFault, IsPlan};
 ghost use Rattle.schedule.specs.Texts.{schedule_text};
 ghost use Rattle.schedule.specs.Tokens.{IsTextFor, IsHexFor, AreWordsFor};
-ghost use Rattle.schedule.specs.Words.{words_of, number_in, text_of, bytes_of};
-
-/// `words_of` says which words a line has: those that spaces separate, in order.
-pub fn words_law()
-    ensures { (line : List ℕ) (words : List (List ℕ))
-        → HasWords line words ↔ (words_of line ≡ words) }
-{}
-
-/// `number_in` says which number a word is: decimal digits, of a value in the range.
-pub fn numbers_law()
-    ensures { (low high : ℕ) (word : List ℕ) (value : ℕ)
-        → (IsNumeral word value × (low ≤ value) × (value ≤ high))
-        ↔ (number_in low high word ≡ Some value) }
-{}
+ghost use Rattle.words.specs.Words.{text_of, bytes_of};
 
 /// `text_of` and `bytes_of` say which text a word is, once its escapes are undone, and which bytes
 /// its hex digits are.

@@ -8,7 +8,7 @@ mod fault;
 mod file_path;
 mod hex_bytes;
 mod law;
-mod line;
+mod line_end;
 mod parse_call;
 mod parse_command;
 mod parse_fate;
@@ -21,7 +21,6 @@ mod print_federation;
 mod print_schedule;
 mod tree_no;
 mod value;
-mod word;
 
 pub use call::Call;
 pub use command::Command;
@@ -29,14 +28,11 @@ pub use fate::{DeviceCall, Fate};
 pub use fault::ParseFault;
 pub use file_path::FilePath;
 pub use hex_bytes::HexBytes;
-pub use law::{commands_law, numbers_law, round_trip_law, schedules_law, texts_law, words_law};
-pub use line::{first_line, split_words};
+pub use law::{commands_law, round_trip_law, schedules_law, texts_law};
 pub use parse_schedule::parse;
 pub use plan::Schedule;
 pub use print_schedule::print;
 pub use tree_no::TreeNo;
-pub use value::parse_number;
-pub use word::push_escaped;
 
 #[cfg(test)]
 mod tests;

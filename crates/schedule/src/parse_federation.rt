@@ -3,8 +3,9 @@ ghost use Rattle.std.specs.Option.{option_map};
 ghost use Rattle.fed_types.specs.Sites.{AreWeights, IsMemberCount, membership_of};
 ghost use Rattle.schedule.specs.Commands.{federation_of, weights_in, weights_of};
 
-use crate::value::{parse_number, parse_weight};
+use crate::value::parse_weight;
 use fed_types::{MOST_MEMBERS, Members};
+use words::parse_number;
 
 // Room for the weights of as many members as a federation can have.
 const ROOM: usize = 63;

@@ -1,6 +1,6 @@
 ghost use Rattle.schedule.specs.declared.command.Command.TheVariants.{File, Query, Raw};
 ghost use Rattle.schedule.specs.declared.command.Command.TheVariants as commands;
-ghost use Rattle.schedule.specs.Pushes.{Pushes};
+ghost use Rattle.words.specs.Pushes.{Pushes};
 ghost use Rattle.schedule.specs.Texts.{printed_command};
 ghost use Rattle.schedule.specs.Tokens.{hex_word};
 
@@ -9,11 +9,12 @@ use crate::command::Command;
 use crate::fate::Fate;
 use crate::file_path::FilePath;
 use crate::hex_bytes::HexBytes;
+use crate::line_end::push_end;
 use crate::print_call::{push_call, push_fate, push_slot};
 use crate::tree_no::TreeNo;
-use crate::word::{push_end, push_escaped};
 use fed_types::Slot;
 use std::alloc::{AllocError, Global};
+use words::push_escaped;
 
 /// Appends a command's line.
 pub(crate) fn push_command(

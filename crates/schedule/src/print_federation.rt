@@ -2,11 +2,11 @@ ghost use Rattle.std.specs.Prelude.{◌≡◌, ◌==◌, [], ◌∷◌, codes};
 ghost use Rattle.std.specs.Fmt.{decimal};
 ghost use Rattle.std.specs.List.{join_with_byte, list_all};
 ghost use Rattle.fed_types.specs.Sites.{count_of};
-ghost use Rattle.schedule.specs.Pushes.{Pushes};
+ghost use Rattle.words.specs.Pushes.{Pushes};
 ghost use Rattle.schedule.specs.Texts.{federation_line, printed_weights};
 ghost use Rattle.schedule.specs.inner.Printed.{spaced_weights};
 
-use crate::word::push_end;
+use crate::line_end::push_end;
 use fed_types::Members;
 use std::alloc::AllocError;
 

@@ -1,7 +1,7 @@
 ghost use Rattle.std.specs.Prelude.{◌≡◌, ◌≤◌, ◌<◌, length, string_bytes, IfOk, IfSome, option_map};
 ghost use Rattle.fed_types.specs.Limits.{greatest_weight};
 ghost use Rattle.fed_types.specs.Sites.{IsWeight};
-ghost use Rattle.schedule.specs.Words.{number_in, text_of, bytes_of};
+ghost use Rattle.words.specs.Words.{number_in, text_of, bytes_of};
 ghost use Rattle.schedule.specs.Commands.{site_of, tree_of, amount_of, slot_of};
 
 use crate::file_path::FilePath;
@@ -9,30 +9,8 @@ use crate::hex_bytes::HexBytes;
 use crate::tree_no::TreeNo;
 use fed_types::{GREATEST_WEIGHT, Slot};
 use hex::FromHexError;
-use percent_encoding::percent_decode;
 use std::alloc::{AllocError, Global};
-
-/// The number of a word of one or more digits, if it is from `low` to `high`.
-pub fn parse_number(low: u64, high: u64, word: &[u8]) -> Option<u64>
-    ensures value { result ≡ number_in low high word.now }
-    ensures in_range { IfSome result (λ n. (low ≤ n) × (n ≤ high)) }
-{
-    if word.is_empty() {
-        return None;
-    }
-    let mut value: u64 = 0;
-    for byte in word {
-        if !byte.is_ascii_digit() {
-            return None;
-        }
-        value = value.checked_mul(10)?.checked_add(u64::from(*byte - b'0'))?;
-    }
-    if low <= value && value <= high {
-        Some(value)
-    } else {
-        None
-    }
-}
+use words::{parse_number, parse_text};
 
 /// The number of a site, a member or not.
 pub(crate) fn parse_site(word: &[u8]) -> Option<u8>
@@ -64,7 +42,7 @@ pub(crate) fn parse_amount(word: &[u8]) -> Option<u32>
 }
 
 /// The slot of an object's name and a version.
-#[tactic(auto, unfolding(crate::specs::Commands::slot_of, crate::specs::Words::object_of))]
+#[tactic(auto, unfolding(crate::specs::Commands::slot_of, crate::specs::Commands::object_of))]
 pub(crate) fn parse_slot(
     alloc: Global,
     object: &[u8],
@@ -92,17 +70,8 @@ pub(crate) fn parse_path(alloc: Global, word: &[u8]) -> Result<Option<FilePath>,
     Ok(FilePath::new(path))
 }
 
-// A word with its escapes undone, if that is UTF-8.
-fn parse_text(alloc: Global, word: &[u8]) -> Result<Option<String>, AllocError>
-    ensures { IfOk result (λ text. option_map string_bytes text ≡ text_of word.now) }
-{
-    let mut bytes = Vec::new(alloc);
-    percent_decode(word).append_to(&mut bytes)?;
-    Ok(String::from_utf8(bytes).ok())
-}
-
 /// Bytes, by their hex digits.
-#[tactic(auto, unfolding(crate::specs::Words::bytes_of))]
+#[tactic(auto, unfolding(words::specs::Words::bytes_of))]
 pub(crate) fn parse_bytes(alloc: Global, word: &[u8]) -> Result<Option<HexBytes>, AllocError>
     ensures { IfOk result (λ bytes. bytes ≡ bytes_of word.now) }
 {

@@ -3,7 +3,7 @@ use Rattle.std.proofs.Common.{◌≡◌, ℕ, ◌+◌, ◌<◌, ◌≤◌, List,
 use Rattle.std.proofs.Common.{get_or, refl, ap, sym, ◌∙◌}
 use Rattle.std.proofs.lemmas.List.{take_more, take_all, flat_map_more}
 use Rattle.std.specs.List.{flat_map}
-use Rattle.world_law.specs.declared.line.Line.{Line}
+use Rattle.lines.specs.declared.line.Line.{Line}
 use Rattle.lines.specs.declared.print_line.Options.{Options}
 use Rattle.lines.specs.Texts.{text_of, printed_line}
 

@@ -1,7 +1,7 @@
 ghost use Rattle.std.specs.Prelude.{◌≡◌};
 
+use lines::Line;
 use std::marker::Model;
-use world_law::Line;
 
 /// What a run says, line by line.
 #[derive(Drop)]
@@ -11,7 +11,7 @@ pub struct Trace {
 
 impl Model for Trace {
     ghost use Rattle.std.specs.Prelude.{List};
-    ghost use Rattle.world_law.specs.declared.line.Line.{Line};
+    ghost use Rattle.lines.specs.declared.line.Line.{Line};
 
     ghost Value = { List Line };
 

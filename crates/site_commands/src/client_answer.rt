@@ -2,10 +2,9 @@
 
 use dgram::{DepositAnswer, QueryAnswer};
 use fed_types::{BagId, SiteNo, Slot};
-use lines::{Options, push_line};
+use lines::{Line, NamedBag, NamedReply, Options, push_line};
 use outcomes::Answer;
 use std::alloc::{AllocError, Global};
-use world_law::{Line, NamedBag, NamedReply};
 
 /// The answer to a deposit.
 pub(crate) fn deposit_text(

@@ -31,11 +31,24 @@ pub fn site_on<C: Cell + Drop, P: Port, F: Folders, W: Write>(
     }
     let site = number;
     match Site::open(alloc, cell, Owner { members, site }) {
-        Ok(mut site) => match serve(alloc, &mut site, port, folders, ports, turns, output) {
-            Ok(()) => Ok(0),
-            Err(fault) => write_stopped(alloc, output, fault),
-        },
+        Ok(mut site) => serve_on(alloc, &mut site, port, folders, ports, turns, output),
         Err((_, fault)) => write_numbered(output, open_line(alloc, fault)),
+    }
+}
+
+// Serves so many turns, and says why it stopped before them.
+fn serve_on<C: Cell + Drop, P: Port, F: Folders, W: Write>(
+    alloc: Global,
+    site: &mut Site<C>,
+    port: &mut P,
+    folders: &mut F,
+    ports: &[u16],
+    turns: u32,
+    output: &mut W,
+) -> Result<u8, ProgramFault> {
+    match serve(alloc, site, port, folders, ports, turns, output) {
+        Ok(()) => Ok(0),
+        Err(fault) => write_stopped(alloc, output, fault),
     }
 }
 

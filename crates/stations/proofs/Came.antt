@@ -23,7 +23,7 @@ use Rattle.site.specs.Datagrams.{handed_out, datagram}
 use Rattle.site.specs.Effects.{Effect, refuses}
 use Rattle.site.specs.Sites as sites
 use Rattle.site.specs.Sites.{OpenSite}
-use Rattle.world_law.specs.Networks.{notice_of}
+use Rattle.lines.specs.Notices.{notice_of}
 use Rattle.stations.specs.declared.told.Said.TheVariants as said
 use Rattle.stations.specs.declared.told.Told.{Told}
 use Rattle.stations.specs.Stations.{Keeps, notice_said}

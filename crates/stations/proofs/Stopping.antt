@@ -9,7 +9,7 @@ use Rattle.cell_device.specs.declared.memory_cell.MemoryCell.{MemoryCell}
 use Rattle.records.specs.declared.owner.Owner.{Owner}
 use Rattle.records.specs.declared.record.Record.{Record}
 use Rattle.records.specs.Texts.{kept_record}
-use Rattle.proposer.specs.Sessions.{Session}
+use Rattle.proposer.specs.Sessions.{Session, new_session}
 use Rattle.schedule.specs.declared.fate.DeviceCall.{DeviceCall}
 use Rattle.schedule.specs.declared.fate.Fate.TheVariants as fates
 use Rattle.site.specs.declared.answer.Sealed.{Sealed}
@@ -20,30 +20,28 @@ use Rattle.site.specs.Effects.{Effect, refuses}
 use Rattle.site.specs.Sites.{OpenSite}
 use Rattle.world_law.specs.Networks.{Mode, Up, Down, NeedsOpening, SiteState, Outcome}
 use Rattle.world_law.specs.Networks.{outcome, goes_down}
-use Rattle.stations.specs.declared.place.Place.TheVariants.{Running, AtRest}
+use Rattle.stations.specs.declared.place.Place.{Place}
+use Rattle.stations.specs.declared.place.Place.TheVariants.{Running}
 use Rattle.stations.specs.declared.told.Said.TheVariants as said
 use Rattle.stations.specs.declared.told.Told.{Told}
-use Rattle.stations.specs.Stations.{Keeps, StandsFor, ComesTo, Undergoes, under_fate, reached}
+use Rattle.stations.specs.Stations.{StandsFor, ComesTo, Undergoes, under_fate, reached}
 use Rattle.stations.proofs.GoingOn.{state}
 
-module _ (owner : Owner) (input : Input) (first : ℕ) (old new : OpenSite MemoryCell)
-    (cell : MemoryCell) (told after : Told)
-    (closes : (s : SiteState) → StandsFor owner (Running new) s
-    → StandsFor owner (AtRest cell) (goes_down owner.site s None []).site)
+module _ (owner : Owner) (input : Input) (first : ℕ) (old : OpenSite MemoryCell)
+    (before place : Place) (told after : Told)
+    (closes : (s : SiteState) → StandsFor owner before s
+    → StandsFor owner place (goes_down owner.site s None []).site)
     (said : after.said ≡ Some said.GoesDown)
     (sends : after.sends.items ≡ take first told.sends.items) where
   -- of an outcome: the site is down, with the same records, and the first of the sends went out
   stops : (o : Outcome) (s : SiteState) (kept : Option Record)
       → s.records ++ option_to_list kept ≡ o.site.records
-      → ComesTo owner input (Running new) told o
-      → ComesTo owner input (AtRest cell) after
+      → ComesTo owner input before told o
+      → ComesTo owner input place after
       (goes_down owner.site s kept (take first o.sends))
   stops o s kept same comes = record {
-    stands = (
-      rw same (subst (λ (rs : List Record). Keeps owner cell rs) (append-nil o.site.records)
-          (closes o.site comes.stands).0),
-      refl,
-    );
+    stands = subst (λ (rs : List Record). StandsFor owner place (state rs new_session Down))
+        (append-nil o.site.records ∙ sym same) (closes o.site comes.stands);
     sends = ap (λ (xs : List Sealed). map handed_out xs) sends
         ∙ sym (take-map handed_out first told.sends.items)
         ∙ ap (λ (xs : List (ℕ × List ℕ)). take first xs) comes.sends
@@ -52,22 +50,22 @@ module _ (owner : Owner) (input : Input) (first : ℕ) (old new : OpenSite Memor
   }
 
   whole_stops : (s : SiteState) (e : Effect)
-      → ComesTo owner input (Running new) told (under_fate owner.site s input e fates.Whole)
-      → ComesTo owner input (AtRest cell) after
+      → ComesTo owner input before told (under_fate owner.site s input e fates.Whole)
+      → ComesTo owner input place after
       (under_fate owner.site s input e (fates.StopsAfter first))
   unfolding outcome
   whole_stops s e comes =
       stops (under_fate owner.site s input e fates.Whole) s e.commits refl comes
 
   -- what comes of a call that is done, and of the stop after it
-  pub stops_after : Undergoes owner input fates.Whole (Running old) (Running new) told
-      → Undergoes owner input (fates.StopsAfter first) (Running old) (AtRest cell) after
+  pub stops_after : Undergoes owner input fates.Whole (Running old) before told
+      → Undergoes owner input (fates.StopsAfter first) (Running old) place after
   stops_after comes s stands = go s.records s.session s.mode comes stands
     where
       go : (records : List Record) (session : Session) (mode : Mode)
-          → Undergoes owner input fates.Whole (Running old) (Running new) told
+          → Undergoes owner input fates.Whole (Running old) before told
           → StandsFor owner (Running old) (state records session mode)
-          → ComesTo owner input (AtRest cell) after (reached (quorums_of owner.members) owner.site
+          → ComesTo owner input place after (reached (quorums_of owner.members) owner.site
           (state records session mode) mode input (fates.StopsAfter first))
       go records session Up comes stands = whole_stops (state records session Up)
           (effect_of (quorums_of owner.members) owner.site records session input)
@@ -79,31 +77,31 @@ module _ (owner : Owner) (input : Input) (first : ℕ) (old new : OpenSite Memor
 
   module _ (none : first ≡ 0) (device : DeviceCall) (kept : ℕ) where
     failed_stops : (s : SiteState) (e : Effect) (commits : Option Record) → e.commits ≡ commits
-        → ComesTo owner input (Running new) told
+        → ComesTo owner input before told
         (outcome owner.site s input e commits (fates.FailsIn device kept))
-        → ComesTo owner input (AtRest cell) after
+        → ComesTo owner input place after
         (outcome owner.site s input e commits (fates.StopsIn device kept))
     unfolding outcome
     failed_stops s e None is comes =
-        subst (λ (n : ℕ). ComesTo owner input (AtRest cell) after
+        subst (λ (n : ℕ). ComesTo owner input place after
         (goes_down owner.site s None (take n e.sends))) none
         (stops (outcome owner.site s input e None (fates.FailsIn device kept)) s None
         (ap (λ (c : Option Record). s.records ++ option_to_list c) (sym is)) comes)
     failed_stops s e (Some r) is comes =
-        subst (λ (n : ℕ). ComesTo owner input (AtRest cell) after
+        subst (λ (n : ℕ). ComesTo owner input place after
         (goes_down owner.site s (kept_record kept r) (take n []))) none
         (stops (outcome owner.site s input e (Some r) (fates.FailsIn device kept)) s
         (kept_record kept r) refl comes)
 
     -- what comes of a call in which a device call fails, and of the stop there
-    pub stops_in : Undergoes owner input (fates.FailsIn device kept) (Running old) (Running new)
-        told → Undergoes owner input (fates.StopsIn device kept) (Running old) (AtRest cell) after
+    pub stops_in : Undergoes owner input (fates.FailsIn device kept) (Running old) before
+        told → Undergoes owner input (fates.StopsIn device kept) (Running old) place after
     stops_in comes s stands = go s.records s.session s.mode comes stands
       where
         go : (records : List Record) (session : Session) (mode : Mode)
-            → Undergoes owner input (fates.FailsIn device kept) (Running old) (Running new) told
+            → Undergoes owner input (fates.FailsIn device kept) (Running old) before told
             → StandsFor owner (Running old) (state records session mode)
-            → ComesTo owner input (AtRest cell) after (reached (quorums_of owner.members)
+            → ComesTo owner input place after (reached (quorums_of owner.members)
             owner.site (state records session mode) mode input (fates.StopsIn device kept))
         go records session Up comes stands = failed_stops (state records session Up)
             (effect_of (quorums_of owner.members) owner.site records session input)

@@ -6,3 +6,4 @@ pub mod Fuses
 pub mod Modes
 pub mod Stations
 pub mod Owners
+pub mod Fates

@@ -19,8 +19,10 @@ use Rattle.site.specs.Datagrams.{handed_out, datagram}
 use Rattle.site.specs.Effects.{Effect, refuses}
 use Rattle.site.specs.Sites as sites
 use Rattle.site.specs.Sites.{OpenSite}
-use Rattle.world_law.specs.Networks.{Mode, Up, Down, NeedsOpening, SiteState, Outcome, Notice}
-use Rattle.world_law.specs.Networks.{Refused, GoesDown, line_notice, outcome}
+use Rattle.lines.specs.Notices.{Notice}
+use Rattle.world_law.specs.Networks.{Mode, Up, Down, NeedsOpening, SiteState, Outcome}
+use Rattle.lines.specs.Notices.{Refused, GoesDown, line_notice}
+use Rattle.world_law.specs.Networks.{outcome}
 use Rattle.stations.specs.declared.place.Place.{Place}
 use Rattle.stations.specs.declared.place.Place.TheVariants.{Running, AtRest}
 use Rattle.stations.specs.declared.told.Said.{Said}

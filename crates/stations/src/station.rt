@@ -1,14 +1,20 @@
-ghost use Rattle.std.specs.Prelude.{◌≡◌, [], None, length, IfOk};
+ghost use Rattle.std.specs.Prelude.{◌≡◌, [], Some, None, length, take, IfOk};
+ghost use Rattle.cell_device.specs.declared.memory_cell.MemoryCell.{MemoryCell};
+ghost use Rattle.site.specs.Calls.{Input};
+ghost use Rattle.site.specs.Sites.{OpenSite};
 ghost use Rattle.world_law.specs.Networks.{SiteState, new_site, opened, goes_down};
 ghost use Rattle.stations.specs.Calls.{input_of};
+ghost use Rattle.stations.specs.Fates.{before_stop};
 ghost use Rattle.stations.specs.Modes as modes;
 ghost use Rattle.stations.specs.Stations.{StandsFor, Undergoes, reply_in};
+ghost use Rattle.stations.specs.declared.place.Place.TheVariants.{Running};
+ghost use Rattle.stations.specs.declared.told.Said.TheVariants as said;
 
 use crate::call::Call;
 use crate::fates::undergo;
 use crate::opening::open;
 use crate::place::Place;
-use crate::told::{Told, nothing};
+use crate::told::{Said, Told, nothing};
 use cell_device::MemoryCell;
 use fed_types::{SiteNo, Slot};
 use records::Owner;
@@ -74,17 +80,12 @@ impl Station {
             (input_of self.old.owner.members.federation call.now) fate self.old.place
             self.new.place told) }
     {
-        let alloc = self.alloc;
-        match self.take() {
+        match &mut self.place {
             Place::Running(site) => {
-                let (place, told) = undergo(alloc, site, call, fate)?;
-                self.place = place;
-                Ok(told)
+                let told = undergo(self.alloc, site, call, fate)?;
+                Ok(self.ended(fate, told))
             }
-            Place::AtRest(cell) => {
-                self.place = Place::AtRest(cell);
-                Ok(nothing(alloc))
-            }
+            Place::AtRest(_) => Ok(nothing(self.alloc)),
         }
     }
 
@@ -122,6 +123,38 @@ impl Station {
         let count = site.records().len();
         self.place = Place::Running(site);
         Ok(count)
+    }
+
+    // The end of a running site's call: the site stops, where that is its fate.
+    fn ended(&mut self, fate: Fate, told: Told) -> Told
+        ensures whose { self.new.owner ≡ self.old.owner }
+        ensures ends { (input : Input) (site : OpenSite MemoryCell)
+            → Undergoes self.old.owner input (before_stop fate) (Running site) self.old.place told
+            → Undergoes self.old.owner input fate (Running site) self.new.place result }
+    {
+        match fate {
+            Fate::Whole | Fate::FailsIn(..) => told,
+            Fate::StopsAfter(first) => self.stopped(told, first as usize),
+            Fate::StopsIn(..) => self.stopped(told, 0),
+        }
+    }
+
+    // The site stops, and the first of the datagrams were sent before that.
+    fn stopped(&mut self, told: Told, first: usize) -> Told
+        ensures whose { self.new.owner ≡ self.old.owner }
+        ensures said { result.said ≡ Some said.GoesDown }
+        ensures sends { result.sends.items ≡ take first told.sends.items }
+        ensures stops { (s : SiteState) → StandsFor self.old.owner self.old.place s
+            → StandsFor self.old.owner self.new.place
+            (goes_down self.old.owner.site s None []).site }
+    {
+        self.stop();
+        let mut sends = told.sends;
+        sends.truncate(first);
+        Told {
+            said: Some(Said::GoesDown),
+            sends,
+        }
     }
 
     // Its place. A cell with no bytes is left there.

@@ -6,7 +6,7 @@ use Rattle.site.specs.declared.answer.Answer.{Answer}
 use Rattle.site.specs.declared.fault.SiteFault.{SiteFault}
 use Rattle.site.specs.Calls.{Input}
 use Rattle.site.specs.Sites.{OpenSite}
-use Rattle.world_law.specs.declared.line.Line.{Line}
+use Rattle.lines.specs.declared.line.Line.{Line}
 use Rattle.udp_site.specs.declared.fault.ServeFault.{ServeFault}
 use Rattle.udp_site.specs.declared.fault.ServeFault.TheVariants as faults
 use Rattle.udp_site.specs.Traffic.{Move, Grows, all_handed}

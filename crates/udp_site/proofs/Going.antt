@@ -17,7 +17,7 @@ use Rattle.site.specs.Calls as calls
 use Rattle.site.specs.Calls.{Input}
 use Rattle.site.specs.Effects.{Effect}
 use Rattle.site.specs.Sites.{OpenSite, effect}
-use Rattle.world_law.specs.declared.line.Line.{Line}
+use Rattle.lines.specs.declared.line.Line.{Line}
 use Rattle.udp_site.specs.Traffic.{Taken, Move}
 use Rattle.udp_site.specs.Requests.{Request, Waits, Says, Deposits, Queries, Noise, request_of}
 use Rattle.udp_site.specs.Turns.{Serving, Done, IsCalled, members, takes_tree, proposes, idles_if}

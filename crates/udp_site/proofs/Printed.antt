@@ -4,19 +4,19 @@ use Rattle.std.specs.List.{flat_map, list_any}
 use Rattle.std.proofs.Common.{refl, ap, ◌∙◌}
 use Rattle.std.proofs.lemmas.List.Folds.{flat_map-map}
 use Rattle.site.specs.declared.fault.SiteFault.TheVariants as faults
-use Rattle.world_law.specs.declared.line.Line.{Line}
-use Rattle.world_law.specs.Networks as networks
-use Rattle.world_law.specs.Networks.{Notice}
-use Rattle.world_law.specs.Worlds.{line_of}
+use Rattle.lines.specs.declared.line.Line.{Line}
+use Rattle.lines.specs.Notices as kinds
+use Rattle.lines.specs.Notices.{Notice}
+use Rattle.lines.specs.Named.{line_of}
 use Rattle.lines.specs.Texts.{line_text}
 use Rattle.udp_site.specs.Served.{by_identity, notice_text, or_one, is_of_the_cell}
 use Rattle.udp_site.specs.inner.Coming.{Notes}
 use Rattle.udp_site.specs.inner.Stopping.{line_of_the_cell}
 
 line_stops : (notice : Notice) → line_of_the_cell (line_of [] notice) ≡ is_of_the_cell notice
-line_stops (networks.Refused site faults.Device) = refl
-line_stops (networks.Refused site faults.NeedsOpen) = refl
-line_stops (networks.Refused site fault) = refl
+line_stops (kinds.Refused site faults.Device) = refl
+line_stops (kinds.Refused site faults.NeedsOpen) = refl
+line_stops (kinds.Refused site fault) = refl
 line_stops notice = refl
 
 one_stops : (notices : List Notice)

@@ -19,7 +19,7 @@ use Rattle.site.specs.Calls.{Proposes, Input, on_propose, issuing, issuing_if}
 use Rattle.site.specs.Effects.{Effect}
 use Rattle.site.specs.Sites.{OpenSite, StandsFor, effect}
 use Rattle.site.proofs.Refused.{out_of_memory}
-use Rattle.world_law.specs.declared.line.Line as notes
+use Rattle.lines.specs.declared.line.Line as notes
 use Rattle.udp_site.specs.declared.fault.ServeFault.{ServeFault}
 use Rattle.udp_site.specs.declared.fault.ServeFault.TheVariants as ends
 use Rattle.udp_site.specs.Traffic.{Move, Grows, all_handed}

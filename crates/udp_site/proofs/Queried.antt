@@ -8,8 +8,8 @@ use Rattle.site.specs.declared.fault.SiteFault.{SiteFault}
 use Rattle.site.specs.declared.fault.SiteFault.TheVariants as sites
 use Rattle.site.specs.Calls.{reply_of}
 use Rattle.site.specs.Sites.{OpenSite}
-use Rattle.world_law.specs.declared.line.Line.{Line}
-use Rattle.world_law.specs.Worlds.{line_of}
+use Rattle.lines.specs.declared.line.Line.{Line}
+use Rattle.lines.specs.Named.{line_of}
 use Rattle.udp_site.specs.declared.fault.ServeFault.{ServeFault}
 use Rattle.udp_site.specs.declared.fault.ServeFault.TheVariants as faults
 use Rattle.udp_site.specs.Traffic.{Post, Move, Grows, all_handed}

@@ -22,9 +22,9 @@ use Rattle.site.specs.Calls.{on_ask}
 use Rattle.site.specs.Datagrams.{handed_out}
 use Rattle.site.specs.Effects.{to_each}
 use Rattle.site.specs.Sites.{OpenSite, StandsFor, effect}
-use Rattle.world_law.specs.declared.line.Line.{Line}
-use Rattle.world_law.specs.Networks.{Notice, Refused}
-use Rattle.world_law.specs.Worlds.{line_of}
+use Rattle.lines.specs.declared.line.Line.{Line}
+use Rattle.lines.specs.Notices.{Notice, Refused}
+use Rattle.lines.specs.Named.{line_of}
 use Rattle.udp_site.specs.declared.fault.ServeFault.{ServeFault}
 use Rattle.udp_site.specs.declared.fault.ServeFault.TheVariants as faults
 use Rattle.udp_site.specs.Traffic.{Post, Move, all_handed}

@@ -14,8 +14,8 @@ use Rattle.dgram.specs.declared.message.Message.{Message}
 use Rattle.site.specs.declared.fault.SiteFault.TheVariants as faults
 use Rattle.site.specs.Calls as calls
 use Rattle.site.specs.Sites.{OpenSite}
-use Rattle.world_law.specs.declared.line.Line.{Line}
-use Rattle.world_law.specs.Networks.{Refused, Dropped}
+use Rattle.lines.specs.declared.line.Line.{Line}
+use Rattle.lines.specs.Notices.{Refused, Dropped}
 use Rattle.udp_site.specs.declared.fault.ServeFault.{ServeFault}
 use Rattle.udp_site.specs.Replies.{tree_answer}
 use Rattle.udp_site.specs.Traffic.{Move}

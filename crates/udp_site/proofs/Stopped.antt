@@ -21,7 +21,7 @@ use Rattle.site.specs.Answered.{Keeps}
 use Rattle.site.specs.Calls as calls
 use Rattle.site.specs.Calls.{Input, reply_of}
 use Rattle.site.specs.Sites.{OpenSite, effect}
-use Rattle.world_law.specs.Networks.{Notice, notice_of}
+use Rattle.lines.specs.Notices.{Notice, notice_of}
 use Rattle.udp_site.specs.Requests.{Request, Waits, Says, Deposits, Queries, Noise}
 use Rattle.udp_site.specs.Served.{or_one}
 use Rattle.udp_site.specs.Turns.{Serving, Done, IsCalled, Asks, notices_of, proposal_notices}

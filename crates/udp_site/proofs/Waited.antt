@@ -9,7 +9,7 @@ use Rattle.fed_types.specs.Slots.{SlotName}
 use Rattle.site_tables.specs.Contents.{deposits_of, slot_at}
 use Rattle.site.specs.Calls.{Proposes}
 use Rattle.site.specs.Sites.{OpenSite}
-use Rattle.world_law.specs.declared.line.Line.{Line}
+use Rattle.lines.specs.declared.line.Line.{Line}
 use Rattle.udp_site.specs.declared.fault.ServeFault.{ServeFault}
 use Rattle.udp_site.specs.declared.fault.ServeFault.TheVariants as faults
 use Rattle.udp_site.specs.Rounds.{next_waiting}

@@ -31,7 +31,7 @@ use Rattle.site.specs.Calls as calls
 use Rattle.site.specs.Calls.{Input, reply_of}
 use Rattle.site.specs.Effects.{Effect}
 use Rattle.site.specs.Sites.{OpenSite, StandsFor, effect}
-use Rattle.world_law.specs.Networks.{Notice, Replied, Refused, Dropped, notice_of}
+use Rattle.lines.specs.Notices.{Notice, Replied, Refused, Dropped, notice_of}
 use Rattle.udp_site.specs.Traffic.{Post, Taken}
 use Rattle.udp_site.specs.Requests.{Request, Waits, Says, Deposits, Queries, Noise, request_of}
 use Rattle.udp_site.specs.Replies.{deposit_answer, tree_answer, query_answer}

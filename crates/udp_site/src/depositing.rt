@@ -1,7 +1,7 @@
 //! Folders that clients deposit.
 
 ghost use Rattle.std.specs.Prelude.{◌≤◌, ◌≡◌, List, Ok, Err, IfOk};
-ghost use Rattle.world_law.specs.declared.line.Line as lines;
+ghost use Rattle.lines.specs.declared.line.Line as lines;
 ghost use Rattle.udp_site.specs.Turns.{Serving, IsServing, deposits, deposit_replies, takes_tree};
 ghost use Rattle.udp_site.specs.inner.Coming.{ComesTo, Hands};
 
@@ -15,9 +15,9 @@ use bag_tree::{Facts, TreeFault};
 use cell_device::Cell;
 use dgram::{Body, DepositAnswer, FolderPath, Message};
 use fed_types::{SiteNo, Slot};
+use lines::Line;
 use site::Site;
 use std::alloc::Global;
-use world_law::Line;
 
 /// A client has the folder of this path deposited. It is read first.
 pub(crate) fn take_folder<C: Cell, P: Port, F: Folders>(

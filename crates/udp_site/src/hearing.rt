@@ -12,8 +12,8 @@ use crate::handing::hand_answer;
 use crate::port::Port;
 use crate::saying::{say_arrival, say_dropped};
 use cell_device::Cell;
+use lines::Line;
 use site::Site;
-use world_law::Line;
 
 /// A site's message arrives.
 pub(crate) fn hear<C: Cell, P: Port>(

@@ -14,10 +14,10 @@ use crate::port::Port;
 use crate::saying::say_proposal;
 use cell_device::Cell;
 use fed_types::Slot;
+use lines::Line;
 use records::{Entry, Record};
 use site::{Reply, Site};
 use std::alloc::Global;
-use world_law::Line;
 
 /// Where an idle site is in the round of its deposits.
 #[derive(Drop)]

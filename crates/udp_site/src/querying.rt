@@ -14,9 +14,9 @@ use crate::saying::{say_refused, say_reply};
 use cell_device::Cell;
 use dgram::{Body, Message};
 use fed_types::{SiteNo, Slot};
+use lines::Line;
 use site::{Reply, Site, SiteFault};
 use std::alloc::Global;
-use world_law::Line;
 
 /// A client asks for the slot's bag. Where the site doesn't know it, it asks the other members
 /// after its reply.

@@ -7,15 +7,15 @@ ghost use Rattle.dgram.specs.declared.message.Message as messages;
 ghost use Rattle.site.specs.Calls.{Arrives, Deposits, Proposes};
 ghost use Rattle.fed_types.specs.Slots as slots;
 ghost use Rattle.std.specs.Option.{option_to_list};
-ghost use Rattle.world_law.specs.Networks.{Refused, Dropped, notice_of};
-ghost use Rattle.world_law.specs.Worlds.{named_bag, named_reply};
+ghost use Rattle.lines.specs.Notices.{Refused, Dropped, notice_of};
+ghost use Rattle.lines.specs.Named.{named_bag, named_reply};
 ghost use Rattle.udp_site.specs.Turns.{notices_of, proposal_notices, reply_notice};
 ghost use Rattle.udp_site.specs.inner.Coming.{Notes};
 
 use fed_types::{BagId, Slot};
+use lines::{Line, NamedBag, NamedReply};
 use site::{Answer, Line as SiteLine, Reply, SiteFault};
 use std::alloc::AllocError;
-use world_law::{Line, NamedBag, NamedReply};
 
 /// Says what a site says of what arrived.
 pub(crate) fn say_arrival(

@@ -23,12 +23,11 @@ use crate::turn::Turn;
 use crate::turning::take_turn;
 use bag_folders::Folders;
 use cell_device::Cell;
-use lines::{Options, push_line};
+use lines::{Line, Options, push_line};
 use outcomes::write_all;
 use site::{Site, SiteFault};
 use std::alloc::{AllocError, Global};
 use std::io::Write;
-use world_law::Line;
 
 /// Serves so many turns. Each receives once; what came is taken in, its datagrams are handed out to
 /// the sites' ports, that of site 1 first, and its lines are written.

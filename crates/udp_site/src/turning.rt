@@ -16,9 +16,9 @@ use crate::querying::take_query;
 use crate::turn::Turn;
 use bag_folders::Folders;
 use cell_device::Cell;
+use lines::Line;
 use site::Site;
 use std::alloc::Global;
-use world_law::Line;
 
 /// Does what a turn asks for: calls the site, hands out its datagrams and then replies, and adds the
 /// lines to write.

@@ -38,7 +38,8 @@ use Rattle.site.specs.Arrivals.{on_body, is_member, on_arrival}
 use Rattle.site.specs.Calls.{Input, Arrives}
 use Rattle.site.specs.Effects.{Send, to_each, only_says, quiet}
 use Rattle.world_law.specs.Laws.{OnRecord, WasSent, IsChosen, Follows, Report, report_of}
-use Rattle.world_law.specs.Networks.{Network, Notice, Learned, notice_of}
+use Rattle.lines.specs.Notices.{Notice, Learned, notice_of}
+use Rattle.world_law.specs.Networks.{Network}
 use Rattle.world_law.proofs.Heard.{gathered_heard, gathered_promise}
 use Rattle.world_law.proofs.Kept.{vote_for, Proposes, IsCurrent, Kept}
 use Rattle.world_law.proofs.Conditions.{given_if, kept_if, and_not, unless_known_is}

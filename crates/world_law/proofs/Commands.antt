@@ -18,13 +18,14 @@ use Rattle.schedule.specs.declared.command.Command.{Command}
 use Rattle.schedule.specs.declared.command.Command.TheVariants as commands
 use Rattle.schedule.specs.declared.fate.Fate.{Fate}
 use Rattle.schedule.specs.declared.fate.Fate.TheVariants.{Whole}
-use Rattle.world_law.specs.declared.line.Line.TheVariants as lines
-use Rattle.world_law.specs.declared.line.Reason.{Reason}
-use Rattle.world_law.specs.declared.line.Reason.TheVariants as reasons
+use Rattle.lines.specs.declared.line.Line.TheVariants as lines
+use Rattle.lines.specs.declared.line.Reason.{Reason}
+use Rattle.lines.specs.declared.line.Reason.TheVariants as reasons
 use Rattle.world_law.specs.Headline.{Hands}
 use Rattle.world_law.specs.Networks.{Mode, Up, Down, NeedsOpening, Event, Deposit, Propose, Ask}
 use Rattle.world_law.specs.Networks.{Query, Deliver, Raw, Stop, Start, datagram_at}
-use Rattle.world_law.specs.Trees.{NumberedTree, SeenBag, tree_at}
+use Rattle.lines.specs.Named.{SeenBag}
+use Rattle.world_law.specs.Trees.{NumberedTree, tree_at}
 use Rattle.world_law.specs.Worlds.{World, skips, with_seen, after_event, is_member, mode_of}
 use Rattle.world_law.specs.Worlds.{at_member, unless_down, on_tree, on_folder, on_added, on_file}
 use Rattle.world_law.specs.Worlds.{checked, on_deposit, on_datagram, on_deliver, on_call, on_raw}

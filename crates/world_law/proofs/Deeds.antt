@@ -22,7 +22,8 @@ use Rattle.site.specs.Calls.{Input}
 use Rattle.site.specs.Calls as inputs
 use Rattle.site.specs.Effects.{Effect, Send, to_each, record_of}
 use Rattle.world_law.specs.Laws.{WasSent, IsChosen}
-use Rattle.world_law.specs.Networks.{Network, notice_of}
+use Rattle.lines.specs.Notices.{notice_of}
+use Rattle.world_law.specs.Networks.{Network}
 use Rattle.world_law.proofs.Heard.{gathered_stays}
 use Rattle.world_law.proofs.Kept.{Remembers}
 use Rattle.world_law.proofs.Step.{Extends, Deposits, NewEntry, NewBody, Carries, Sound, IsNew}

@@ -31,14 +31,15 @@ use Rattle.schedule.specs.declared.fate.DeviceCall.TheVariants.{Append, Sync}
 use Rattle.schedule.specs.declared.fate.Fate.{Fate}
 use Rattle.schedule.specs.declared.fate.Fate.TheVariants.{Whole, StopsIn, StopsAfter, FailsIn}
 use Rattle.bag_tree.specs.Tree.{fault_of_added}
-use Rattle.world_law.specs.declared.line.Line.{Line}
-use Rattle.world_law.specs.declared.line.Line.TheVariants as lines
-use Rattle.world_law.specs.declared.line.NamedBag.{NamedBag}
-use Rattle.world_law.specs.declared.line.NamedReply.TheVariants as named
-use Rattle.world_law.specs.declared.line.Reason.TheVariants as reasons
+use Rattle.lines.specs.declared.line.Line.{Line}
+use Rattle.lines.specs.declared.line.Line.TheVariants as lines
+use Rattle.lines.specs.declared.line.NamedBag.{NamedBag}
+use Rattle.lines.specs.declared.line.NamedReply.TheVariants as named
+use Rattle.lines.specs.declared.line.Reason.TheVariants as reasons
 use Rattle.world_law.specs.Networks.{new_site, new_network, outcome, happens, run, Ask}
 use Rattle.world_law.specs.Networks.{Deliver}
-use Rattle.world_law.specs.Trees.{tree_at, put_tree, first_tree}
+use Rattle.lines.specs.Named.{first_tree}
+use Rattle.world_law.specs.Trees.{tree_at, put_tree}
 use Rattle.world_law.specs.Worlds.{World, new_world, sent_lines, after_event, on_tree, on_folder}
 use Rattle.world_law.specs.Worlds.{on_added, on_file, on_checked, on_deposit as on_deposited}
 use Rattle.world_law.specs.Worlds.{on_datagram, on_deliver, on_call, on_raw, numbers_to, on_turn}

@@ -10,7 +10,7 @@ use Rattle.fed_types.specs.Laws.Quorums.{are_quorums}
 use Rattle.records.specs.declared.entry.Entry.TheVariants as entry
 use Rattle.schedule.specs.declared.command.Command.{Command}
 use Rattle.schedule.specs.Plans.{Plan}
-use Rattle.world_law.specs.declared.line.Line.{Line}
+use Rattle.lines.specs.declared.line.Line.{Line}
 use Rattle.world_law.specs.Headline.{LinesAgree, world_after}
 use Rattle.world_law.specs.Headline.{DepositedBefore, LinesStay, ReportsWereDeposited}
 use Rattle.world_law.specs.Headline.{BagsWereDeposited}

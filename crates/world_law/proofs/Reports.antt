@@ -8,7 +8,8 @@ use Rattle.fed_types.specs.Quorums.{QuorumSystem, AreQuorums}
 use Rattle.fed_types.specs.Slots.{SlotName}
 use Rattle.fed_types.specs.Laws.Lists.{has_cases, has_one, has_none}
 use Rattle.world_law.specs.Laws.{IsChosen, Report, report_of, notices_of, ReportsAgree}
-use Rattle.world_law.specs.Networks.{Network, new_network, Event, Notice, happens, run}
+use Rattle.lines.specs.Notices.{Notice}
+use Rattle.world_law.specs.Networks.{Network, new_network, Event, happens, run}
 use Rattle.world_law.proofs.Grows.{chosen_grows}
 use Rattle.world_law.proofs.Induction.{chosen_once}
 use Rattle.world_law.proofs.Kept.{Kept}

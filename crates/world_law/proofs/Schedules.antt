@@ -14,17 +14,21 @@ use Rattle.records.specs.declared.entry.Entry.TheVariants as entry
 use Rattle.site.specs.declared.answer.Reply.TheVariants as replies
 use Rattle.site.specs.Effects.{Send}
 use Rattle.schedule.specs.declared.command.Command.{Command}
-use Rattle.world_law.specs.declared.line.Line.{Line}
-use Rattle.world_law.specs.declared.line.Line.TheVariants as lines
-use Rattle.world_law.specs.declared.line.Reason.{Reason}
+use Rattle.lines.specs.declared.line.Line.{Line}
+use Rattle.lines.specs.declared.line.Line.TheVariants as lines
+use Rattle.lines.specs.declared.line.Reason.{Reason}
 use Rattle.world_law.specs.Headline.{reported, Hands, DepositedIn}
 use Rattle.world_law.specs.Laws.{OnRecord, IsChosen, Report, report_of, site_of}
 use Rattle.world_law.specs.Networks.{Network, new_network, new_site, Event, Deposit, Propose, Ask}
-use Rattle.world_law.specs.Networks.{Query, Deliver, Raw, Stop, Start, Notice, Registered, Learned}
-use Rattle.world_law.specs.Networks.{Replied, Refused, Dropped, GoesDown, ComesUp, Happening}
+use Rattle.lines.specs.Notices.{Notice, Registered, Learned}
+use Rattle.world_law.specs.Networks.{Query, Deliver, Raw, Stop, Start}
+use Rattle.lines.specs.Notices.{Replied, Refused, Dropped, GoesDown, ComesUp}
+use Rattle.world_law.specs.Networks.{Happening}
 use Rattle.world_law.specs.Networks.{happens}
-use Rattle.world_law.specs.Trees.{NumberedTree, SeenBag}
-use Rattle.world_law.specs.Worlds.{World, new_world, line_of, own_lines, sent_lines, after_event}
+use Rattle.lines.specs.Named.{SeenBag}
+use Rattle.world_law.specs.Trees.{NumberedTree}
+use Rattle.lines.specs.Named.{line_of}
+use Rattle.world_law.specs.Worlds.{World, new_world, own_lines, sent_lines, after_event}
 use Rattle.world_law.specs.Worlds.{quorums, next_unnamed, on_turn, pumped}
 use Rattle.world_law.specs.Worlds.{after_line, run_from}
 use Rattle.world_law.proofs.Commands.{Comes, turn_is, command_is}

@@ -24,7 +24,8 @@ use Rattle.proposer.specs.Proposals.{Current, gathered}
 use Rattle.proposer.specs.Sessions.{Session, new_session}
 use Rattle.site.specs.Effects.{Send}
 use Rattle.world_law.specs.Laws.{OnRecord, WasSent, IsChosen, Report, report_of}
-use Rattle.world_law.specs.Networks.{Mode, SiteState, Network, Notice, Outcome, Happening}
+use Rattle.lines.specs.Notices.{Notice}
+use Rattle.world_law.specs.Networks.{Mode, SiteState, Network, Outcome, Happening}
 use Rattle.world_law.specs.Networks.{happening}
 use Rattle.world_law.proofs.Kept.{vote_for, Promises, Proposes, Says, Means, Remembers, Kept}
 use Rattle.world_law.proofs.Grows.{Grows, says_grows, means_grows, remembers_grows}

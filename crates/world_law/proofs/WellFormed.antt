@@ -20,7 +20,8 @@ use Rattle.schedule.specs.declared.fate.Fate.{Fate}
 use Rattle.schedule.specs.declared.fate.Fate.TheVariants.{Whole, StopsIn, StopsAfter, FailsIn}
 use Rattle.world_law.specs.Networks.{Mode, Up, Down, NeedsOpening, SiteState, Network, new_site}
 use Rattle.world_law.specs.Networks.{new_network, Event, Deposit, Propose, Query, Deliver, Raw}
-use Rattle.world_law.specs.Networks.{Stop, Start, Notice, GoesDown, Outcome, Happening}
+use Rattle.lines.specs.Notices.{Notice, GoesDown}
+use Rattle.world_law.specs.Networks.{Stop, Start, Outcome, Happening}
 use Rattle.world_law.specs.Networks.{happening, outcome}
 use Rattle.world_law.specs.Networks.{nothing, if_member, undergoes, reaches, takes, replies}
 use Rattle.world_law.specs.Networks.{datagram_at, arrives, stops, starts, opened, happens, run}

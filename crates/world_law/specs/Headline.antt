@@ -17,9 +17,9 @@ use Rattle.schedule.specs.declared.command.Command.{Command}
 use Rattle.schedule.specs.declared.command.Command.TheVariants as commands
 use Rattle.schedule.specs.declared.fate.Fate.{Fate}
 use Rattle.schedule.specs.Plans.{Plan}
-use Rattle.world_law.specs.declared.line.Line.{Line}
-use Rattle.world_law.specs.declared.line.Line.TheVariants as lines
-use Rattle.world_law.specs.declared.line.NamedReply.TheVariants as named
+use Rattle.lines.specs.declared.line.Line.{Line}
+use Rattle.lines.specs.declared.line.Line.TheVariants as lines
+use Rattle.lines.specs.declared.line.NamedReply.TheVariants as named
 use Rattle.world_law.specs.Laws.{OnRecord, WasSent, Report}
 use Rattle.world_law.specs.Networks.{Down}
 use Rattle.world_law.specs.Trees.{tree_at}

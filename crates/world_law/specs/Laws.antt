@@ -18,7 +18,8 @@ use Rattle.proposer.specs.Proposals.{highest_prior}
 use Rattle.site.specs.declared.answer.Reply.TheVariants as replies
 use Rattle.site.specs.Effects.{Send}
 use Rattle.world_law.specs.Networks.{Network, Event, Deposit, Propose, Ask, Query, Deliver, Raw}
-use Rattle.world_law.specs.Networks.{Stop, Start, Notice, Learned, Replied, datagram_at, happens}
+use Rattle.lines.specs.Notices.{Notice, Learned, Replied}
+use Rattle.world_law.specs.Networks.{Stop, Start, datagram_at, happens}
 
 -- ---- what is on record, and what was sent
 

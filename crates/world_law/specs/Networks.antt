@@ -1,7 +1,7 @@
 -- The sites of a federation, all datagrams that were ever sent, and what each event brings about: a
 -- call of a site, a datagram's arrival, a stop, a start.
 use Rattle.std.specs.Prelude.{ℕ, zero, suc, ◌==◌, List, [], ◌∷◌, ◌++◌, length, take, slice_get}
-use Rattle.std.specs.Prelude.{Option, Some, None, Result, Ok, Err, if◌then◌else◌}
+use Rattle.std.specs.Prelude.{Option, Some, None, Result, if◌then◌else◌}
 use Rattle.std.specs.Option.{option_to_list}
 use Rattle.fed_types.specs.declared.bag_id.BagId.{BagId}
 use Rattle.fed_types.specs.Lists.{is_in}
@@ -11,13 +11,10 @@ use Rattle.bag_check.specs.declared.fault.BagFault.{BagFault}
 use Rattle.records.specs.declared.record.Record.{Record}
 use Rattle.records.specs.Texts.{kept_record}
 use Rattle.proposer.specs.Sessions.{Session, new_session}
-use Rattle.site.specs.declared.answer.Line.{Line}
-use Rattle.site.specs.declared.answer.Line.TheVariants as lines
-use Rattle.site.specs.declared.answer.Reply.{Reply}
-use Rattle.site.specs.declared.fault.SiteFault.{SiteFault}
 use Rattle.site.specs.declared.fault.SiteFault.TheVariants as faults
 use Rattle.site.specs.Calls.{Input, Deposits, Proposes, Asks, Arrives, effect_of, reply_of}
 use Rattle.site.specs.Effects.{Effect, Send, refuses}
+use Rattle.lines.specs.Notices.{Notice, Replied, Refused, GoesDown, ComesUp, notice_of}
 use Rattle.schedule.specs.declared.fate.Fate.{Fate}
 use Rattle.schedule.specs.declared.fate.Fate.TheVariants.{Whole, StopsIn, StopsAfter, FailsIn}
 
@@ -68,17 +65,6 @@ pub data Event : Type 0 where
   Stop : (site : ℕ) → Event
   Start : (site : ℕ) → Event
 
--- What is said of an event: that a site registered a deposit, learned a bag, replied, refused, or
--- dropped what arrived; that it is down; that it is up, with so many records.
-pub data Notice : Type 0 where
-  Registered : (site : ℕ) → SlotName → BagId → Notice
-  Learned : (site : ℕ) → SlotName → BagId → Notice
-  Replied : (site : ℕ) → SlotName → Reply → Notice
-  Refused : (site : ℕ) → SiteFault → Notice
-  Dropped : (site : ℕ) → Notice
-  GoesDown : (site : ℕ) → Notice
-  ComesUp : (site : ℕ) → (records : ℕ) → Notice
-
 -- what an event brings about at a site: what the site is then, what it sent, and what is said
 pub record Outcome : Type 0 where
   pub site : SiteState
@@ -92,20 +78,6 @@ pub record Happening : Type 0 where
   pub notice : Option Notice
 
 -- ---- a call, under a fate
-
--- What a site's line says. That of a deposit names no slot, since who calls does; no other input
--- registers a bag.
-abbrev pub line_notice : (site : ℕ) → Line → Input → Option Notice
-line_notice site (lines.Registered bag) (Deposits slot checked) = Some (Registered site slot bag)
-line_notice site (lines.Registered bag) input = None
-line_notice site (lines.Known slot bag) input = Some (Learned site slot bag)
-line_notice site lines.Dropped input = Some (Dropped site)
-
--- what a site says of an input: a line, if any, or a refusal
-abbrev pub notice_of : (site : ℕ) → Input → Result (Option Line) SiteFault → Option Notice
-notice_of site input (Ok None) = None
-notice_of site input (Ok (Some line)) = line_notice site line input
-notice_of site input (Err fault) = Some (Refused site fault)
 
 -- the call is done, and the site goes on
 abbrev pub goes_on : (site : ℕ) → SiteState → Input → Effect → Outcome

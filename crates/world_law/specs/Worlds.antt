@@ -15,8 +15,6 @@ use Rattle.bag_check.specs.Check.{check_of}
 use Rattle.dgram.specs.declared.message.Message.{Message}
 use Rattle.dgram.specs.Decoded.{message_of}
 use Rattle.dgram.specs.Encoding.{datagram_of, body_from, from_byte}
-use Rattle.site.specs.declared.answer.Reply.{Reply}
-use Rattle.site.specs.declared.answer.Reply.TheVariants as replies
 use Rattle.site.specs.Effects.{Send}
 use Rattle.schedule.specs.declared.call.Call.{Call}
 use Rattle.schedule.specs.declared.call.Call.TheVariants as calls
@@ -25,18 +23,16 @@ use Rattle.schedule.specs.declared.command.Command.TheVariants as commands
 use Rattle.schedule.specs.declared.fate.Fate.{Fate}
 use Rattle.schedule.specs.declared.fate.Fate.TheVariants.{Whole}
 use Rattle.schedule.specs.Plans.{Plan}
-use Rattle.world_law.specs.declared.line.Line.{Line}
-use Rattle.world_law.specs.declared.line.Line.TheVariants as lines
-use Rattle.world_law.specs.declared.line.NamedBag.{NamedBag}
-use Rattle.world_law.specs.declared.line.NamedReply.{NamedReply}
-use Rattle.world_law.specs.declared.line.NamedReply.TheVariants as named
-use Rattle.world_law.specs.declared.line.Reason.{Reason}
-use Rattle.world_law.specs.declared.line.Reason.TheVariants as reasons
+use Rattle.lines.specs.declared.line.Line.{Line}
+use Rattle.lines.specs.declared.line.Line.TheVariants as lines
+use Rattle.lines.specs.declared.line.Reason.{Reason}
+use Rattle.lines.specs.declared.line.Reason.TheVariants as reasons
 use Rattle.world_law.specs.Networks.{Mode, Up, Down, NeedsOpening, Network, new_network}
 use Rattle.world_law.specs.Networks.{Event, Deposit, Propose, Ask, Query, Deliver, Raw, Stop, Start}
-use Rattle.world_law.specs.Networks.{Notice, Registered, Learned, Replied, Refused, Dropped}
-use Rattle.world_law.specs.Networks.{GoesDown, ComesUp, datagram_at, happens}
-use Rattle.world_law.specs.Trees.{NumberedTree, SeenBag, tree_at, put_tree, first_tree}
+use Rattle.lines.specs.Notices.{Notice}
+use Rattle.world_law.specs.Networks.{datagram_at, happens}
+use Rattle.lines.specs.Named.{SeenBag, line_of}
+use Rattle.world_law.specs.Trees.{NumberedTree, tree_at, put_tree}
 
 -- The members and their network; the numbers of datagrams that a `deliver` or a turn of a `pump`
 -- has named; the trees, in the order in which they were declared; the bags, in that of their
@@ -61,25 +57,6 @@ new_world members = record {
 }
 
 -- ---- what is printed
-
--- a bag as a line names it: by its identity, and by the tree of the earliest deposit of it that
--- wasn't skipped, whatever the site answered
-abbrev pub named_bag : List SeenBag → BagId → NamedBag
-named_bag seen bag = record { bag = bag; tree = first_tree bag seen }
-
-abbrev pub named_reply : List SeenBag → Reply → NamedReply
-named_reply seen (replies.Known bag) = named.Known (named_bag seen bag)
-named_reply seen (replies.Pending bag) = named.Pending (named_bag seen bag)
-named_reply seen replies.Nothing = named.Nothing
-
-abbrev pub line_of : List SeenBag → Notice → Line
-line_of seen (Registered site slot bag) = lines.Registered site slot (named_bag seen bag)
-line_of seen (Learned site slot bag) = lines.Known site slot (named_bag seen bag)
-line_of seen (Replied site slot reply) = lines.Replied site slot (named_reply seen reply)
-line_of seen (Refused site fault) = lines.Refused site fault
-line_of seen (Dropped site) = lines.Dropped site
-line_of seen (GoesDown site) = lines.Down site
-line_of seen (ComesUp site records) = lines.Up site records
 
 -- the event's own line, if there is one
 abbrev pub own_lines : List SeenBag → Option Notice → List Line

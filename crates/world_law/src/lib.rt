@@ -3,16 +3,12 @@
 #![tactic(auto)]
 
 mod law;
-mod line;
-mod sent_bytes;
 
 pub use law::{
     bags_were_deposited, chosen_stays, known_was_chosen, lines_agree, one_bag_a_ballot,
     one_bag_a_slot, priors_stay, proposals_are_backed, reports_agree, reports_were_deposited,
     senders_are_named, sent_messages_are_well_formed, votes_were_asked_for,
 };
-pub use line::{Line, NamedBag, NamedReply, Reason};
-pub use sent_bytes::SentBytes;
 
 #[cfg(test)]
 mod tests;

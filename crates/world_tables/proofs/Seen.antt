@@ -6,7 +6,7 @@ use Rattle.std.specs.Option.{option_or}
 use Rattle.fed_types.specs.declared.bag_id.BagId.{BagId}
 use Rattle.fed_types.specs.Bags.{same_bag}
 use Rattle.fed_types.specs.Laws.Bags.{same_bag_decides}
-use Rattle.world_law.specs.Trees.{SeenBag, first_tree}
+use Rattle.lines.specs.Named.{SeenBag, first_tree}
 use Rattle.world_tables.specs.Firsts.{Firsts, first_of, StandsFor}
 
 -- nothing was seen

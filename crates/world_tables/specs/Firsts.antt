@@ -3,7 +3,7 @@ use Rattle.std.specs.Prelude.{◌≡◌, ℕ, List, [], ◌∷◌, Option, Some,
 use Rattle.std.specs.Map.{lookup}
 use Rattle.fed_types.specs.declared.bag_id.BagId.{BagId}
 use Rattle.fed_types.specs.Bags.{same_bag}
-use Rattle.world_law.specs.Trees.{SeenBag}
+use Rattle.lines.specs.Named.{SeenBag}
 
 -- bags, each with the tree of its first deposit
 abbrev pub Firsts : Type 0

@@ -1,5 +1,5 @@
 ghost use Rattle.std.specs.Prelude.{◌≡◌, ◌++◌, ◌∷◌, [], List, OnOk, OnErr};
-ghost use Rattle.world_law.specs.Trees.{SeenBag, first_tree};
+ghost use Rattle.lines.specs.Named.{SeenBag, first_tree};
 ghost use Rattle.world_tables.specs.Firsts.{StandsFor, StandsForSame};
 
 use fed_types::BagId;

@@ -2,7 +2,7 @@
 use Rattle.std.specs.Prelude.{◌≡◌, ℕ, ◌+◌, ◌==◌, ◌&&◌, not, if◌then◌else◌}
 use Rattle.std.specs.Prelude.{List, [], ◌∷◌, ◌++◌, length, Option, Some, None}
 use Rattle.std.specs.List.{list_any}
-use Rattle.schedule.specs.Words.{◌>>=◌}
+use Rattle.words.specs.Words.{◌>>=◌}
 use Rattle.members_file.specs.Files.{AreSites}
 use Rattle.members_file.specs.Lines.{site_in}
 

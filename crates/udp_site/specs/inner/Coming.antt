@@ -2,9 +2,9 @@
 use Rattle.std.specs.Prelude.{◌≡◌, ℕ, List, [], ◌++◌, map, take, Option, Result, Ok, Err}
 use Rattle.fed_types.specs.Slots.{SlotName}
 use Rattle.site.specs.Sites.{OpenSite}
-use Rattle.world_law.specs.declared.line.Line.{Line}
-use Rattle.world_law.specs.Networks.{Notice}
-use Rattle.world_law.specs.Worlds.{line_of}
+use Rattle.lines.specs.declared.line.Line.{Line}
+use Rattle.lines.specs.Notices.{Notice}
+use Rattle.lines.specs.Named.{line_of}
 use Rattle.udp_site.specs.declared.fault.ServeFault.{ServeFault}
 use Rattle.udp_site.specs.declared.fault.ServeFault.TheVariants as faults
 use Rattle.udp_site.specs.Traffic.{Post, Move, Grows, all_handed}

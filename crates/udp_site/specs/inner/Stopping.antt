@@ -1,8 +1,8 @@
 -- Lines that stop a site that serves.
 use Rattle.std.specs.Prelude.{Bool, true, false}
 use Rattle.site.specs.declared.fault.SiteFault.TheVariants as sites
-use Rattle.world_law.specs.declared.line.Line.{Line}
-use Rattle.world_law.specs.declared.line.Line.TheVariants.{Refused}
+use Rattle.lines.specs.declared.line.Line.{Line}
+use Rattle.lines.specs.declared.line.Line.TheVariants.{Refused}
 
 -- a call was refused since the site's device failed, now or before
 abbrev pub line_of_the_cell : Line → Bool

@@ -3,7 +3,7 @@ use Rattle.std.proofs.Common.{ap, ◌∙◌, subst, inl, inr, arith}
 use Rattle.std.specs.Str.Lines.{lines}
 use Rattle.std.proofs.lemmas.Bool.{cases_lt, false≢true}
 use Rattle.std.proofs.lemmas.Result.{err_from_is_err_and}
-use Rattle.schedule.specs.Words.{words_of}
+use Rattle.words.specs.Words.{words_of}
 use Rattle.members_file.specs.declared.members_fault.MembersFault.TheVariants.{Line}
 use Rattle.members_file.specs.Files.{HasFault, are_blank}
 use Rattle.members_file.specs.Lines.{federation_in}

@@ -1,6 +1,6 @@
 use Rattle.std.proofs.Common.{ℕ, List, sym, ap, ◌∙◌}
 use Rattle.std.specs.Str.Lines.{lines}
-use Rattle.schedule.specs.Words.{words_of}
+use Rattle.words.specs.Words.{words_of}
 use Rattle.members_file.specs.inner.Sites.{next_port}
 use Rattle.members_file.proofs.ReadLemmas.{BeginsSites-more, HasSites-from, HasSites-end}
 use Rattle.members_file.proofs.read.read_sites.Goals as goal

@@ -3,7 +3,7 @@ use Rattle.std.proofs.Common.{map, ◌∙◌, Bor, arith}
 use Rattle.std.specs.Str.Lines.{lines}
 use Rattle.std.proofs.lemmas.Result.{err_from_is_err_and}
 use Rattle.schedule.specs.Commands.{federation_of}
-use Rattle.schedule.specs.Words.{words_of}
+use Rattle.words.specs.Words.{words_of}
 use Rattle.schedule.specs.Plans.{plan_of, plan_after, plan_with, is_skipped}
 use Rattle.schedule.specs.Plans.{later_lines}
 use Rattle.schedule.proofs.PlanLemmas.{plan_after-skipped, plan_after-federation, plan_after-none}

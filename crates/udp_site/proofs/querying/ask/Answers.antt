@@ -3,7 +3,7 @@ use Rattle.std.specs.List.{flat_map}
 use Rattle.site.specs.declared.answer.Sealed.{Sealed}
 use Rattle.site.specs.declared.fault.SiteFault.TheVariants as sites
 use Rattle.site.specs.Sites.{OpenSite}
-use Rattle.world_law.specs.Networks.{Refused}
+use Rattle.lines.specs.Notices.{Refused}
 use Rattle.udp_site.specs.Turns.{sealed_posts}
 use Rattle.udp_site.specs.inner.Coming.{Hands, Notes}
 use Rattle.udp_site.proofs.Questions.{asks_by, isnt_asked, isnt_asked_in_part}

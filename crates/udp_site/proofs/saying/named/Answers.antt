@@ -1,5 +1,5 @@
 use Rattle.std.proofs.Common.{refl}
-use Rattle.world_law.specs.Trees.{first_tree}
+use Rattle.lines.specs.Named.{first_tree}
 use Rattle.udp_site.proofs.saying.named.Goals as goal
 
 pub returns : goal.returns

@@ -3,7 +3,7 @@ use Rattle.std.specs.List.{flat_map, list_any}
 use Rattle.std.specs.Io.KnownBytes.{Appends}
 use Rattle.std.proofs.Common.{refl, ap, sym, ◌∙◌, subst}
 use Rattle.site.specs.Sites.{OpenSite}
-use Rattle.world_law.specs.declared.line.Line.{Line}
+use Rattle.lines.specs.declared.line.Line.{Line}
 use Rattle.lines.specs.Texts.{line_text}
 use Rattle.udp_site.specs.Traffic.{taken}
 use Rattle.udp_site.specs.Requests.{request_of}

@@ -2,9 +2,9 @@ use Rattle.std.proofs.Common.{ℕ, ◌+◌, Option, Result, Some, Ok, Err, ap, s
 use Rattle.fed_types.specs.Slots.{SlotName}
 use Rattle.site.specs.declared.answer.Reply.{Reply}
 use Rattle.site.specs.declared.fault.SiteFault.{SiteFault}
-use Rattle.world_law.specs.declared.line.Line.{Line}
-use Rattle.world_law.specs.declared.line.Line.TheVariants as printed
-use Rattle.world_law.specs.declared.line.NamedReply.{NamedReply}
+use Rattle.lines.specs.declared.line.Line.{Line}
+use Rattle.lines.specs.declared.line.Line.TheVariants as printed
+use Rattle.lines.specs.declared.line.NamedReply.{NamedReply}
 use Rattle.world_law.specs.Worlds.{World, with_line}
 use Rattle.federation.specs.Federations.{StandsFor}
 use Rattle.federation.proofs.Answers.{then_ok}

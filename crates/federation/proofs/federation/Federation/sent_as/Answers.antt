@@ -1,6 +1,6 @@
 use Rattle.std.proofs.Common.{List, sym, ap}
 use Rattle.std.specs.Prelude.{slice_get}
-use Rattle.world_law.specs.declared.line.Line.{Line}
+use Rattle.lines.specs.declared.line.Line.{Line}
 use Rattle.federation.proofs.Answers.{if_ok}
 use Rattle.federation.proofs.Delivered.{none_arrives, arrives_from}
 use Rattle.federation.proofs.federation.Federation.sent_as.Goals as goal

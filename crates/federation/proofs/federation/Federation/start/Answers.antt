@@ -1,5 +1,5 @@
 use Rattle.std.proofs.Common.{refl, sym, ap, subst, ◌∙◌}
-use Rattle.world_law.specs.declared.line.Line.TheVariants as lines
+use Rattle.lines.specs.declared.line.Line.TheVariants as lines
 use Rattle.world_law.specs.Worlds.{World, mode_of}
 use Rattle.federation.specs.Federations.{StandsFor}
 use Rattle.federation.proofs.Answers.{then_ok}

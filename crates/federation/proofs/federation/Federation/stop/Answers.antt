@@ -1,5 +1,5 @@
 use Rattle.std.proofs.Common.{refl, sym, ap}
-use Rattle.world_law.specs.declared.line.Line.TheVariants as lines
+use Rattle.lines.specs.declared.line.Line.TheVariants as lines
 use Rattle.federation.proofs.Called.{stopped}
 use Rattle.federation.proofs.federation.Federation.stop.Goals as goal
 

@@ -1,13 +1,20 @@
-use Rattle.std.proofs.Common.{sym, subst, ◌∙◌}
+use Rattle.std.proofs.Common.{subst}
+use Rattle.records.specs.declared.owner.Owner.{Owner}
 use Rattle.stations.specs.Calls.{input_of}
-use Rattle.stations.specs.Stations.{StandsFor}
+use Rattle.stations.specs.Fates.{before_stop}
+use Rattle.stations.specs.Stations.{StandsFor, Undergoes}
 use Rattle.stations.specs.declared.place.Place.{Place}
-use Rattle.stations.proofs.Starting.{none_comes}
+use Rattle.stations.specs.declared.place.Place.TheVariants.{Running}
 use Rattle.stations.proofs.station.Station.call.Goals as goal
 
-pub returns-in-AtRest-clause-comes : goal.returns-in-AtRest-clause-comes
-returns-in-AtRest-clause-comes c s stands =
+pub returns-in_ok-told-in-Running-clause-comes : goal.returns-in_ok-told-in-Running-clause-comes
+returns-in_ok-told-in-Running-clause-comes c s stands =
     let owner = c.args.self.now.owner in
-    none_comes owner (input_of owner.members.federation c.args.call.now) c.args.fate
-    c.in-AtRest.cell c.nothing.result c.nothing.ensures.0 c.nothing.ensures.1 s
-    (subst (λ (p : Place). StandsFor owner p s) (sym c.take.ensures.0 ∙ c.in-AtRest.is) stands)
+    let old = c.in-Running.site in
+    let told = c.in_ok-told-in-Running.told in
+    let runs : StandsFor owner (Running old) s =
+    subst (λ (p : Place). StandsFor owner p s) c.in-Running.is stands in
+    c.ended.ensures.ends (input_of owner.members.federation c.args.call.now) old
+    (subst (λ (o : Owner). Undergoes o (input_of o.members.federation c.args.call.now)
+    (before_stop c.args.fate) (Running old) (Running c.undergo.new.site) told) runs.0
+    c.in_ok-told-in-Running.ensures) s runs

@@ -1,0 +1,10 @@
+pub mod StepLemmas
+pub mod LineLemmas
+pub mod NumberLemmas
+pub mod GrammarLemmas
+pub mod TextLemmas
+pub mod Utf8Lemmas
+pub mod EscapeLemmas
+pub mod HexDigits
+pub mod UnescapeLemmas
+pub mod PrintedWords

@@ -1,0 +1,10 @@
+use Rattle.words.proofs.GrammarLemmas.{number_in-from, IsNumeral-number_in}
+use Rattle.words.proofs.law.numbers_law.Goals as goal
+
+pub returns : goal.returns
+returns c =
+    λ low high word value. (
+      number_in-from low high word value,
+      IsNumeral-number_in low high word
+          value,
+    )

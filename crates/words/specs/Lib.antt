@@ -1,0 +1,4 @@
+pub mod Words
+pub mod Escapes
+pub mod Grammar
+pub mod Pushes

@@ -1,0 +1,16 @@
+//! The words of a text's lines: where a line ends, what its words are, which numbers and texts they
+//! stand for, and how a name is written as one word. Schedules, members files and printed lines are
+//! made of them.
+#![tactic(auto)]
+
+mod escape;
+mod law;
+mod line;
+mod number;
+mod text;
+
+pub use escape::push_escaped;
+pub use law::{numbers_law, words_law};
+pub use line::{first_line, split_words};
+pub use number::parse_number;
+pub use text::parse_text;
