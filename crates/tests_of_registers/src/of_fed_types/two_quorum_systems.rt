@@ -22,7 +22,7 @@ impl Quorums for Pair {
 
     ghost quorum_grows = { λ p xs ys a more. and_from (is_in ys p.first) (is_in ys p.second) ((is_in_decides ys p.first).1 (more p.first (here refl) ((is_in_decides xs p.first).0 (and_parts (is_in xs p.first) (is_in xs p.second) a).0))) ((is_in_decides ys p.second).1 (more p.second (there (here refl)) ((is_in_decides xs p.second).0 (and_parts (is_in xs p.first) (is_in xs p.second) a).1))) };
 
-    #[tactic(auto, unfolding(crate::specs::Lists::is_in))]
+    #[tactic(auto, unfolding(fed_types::specs::Lists::is_in))]
     fn has(&self, site: SiteNo) -> bool {
         self.first == site || self.second == site
     }

@@ -1,4 +1,4 @@
-use super::*;
+use acceptor::{Acceptor, Answer, Decision};
 use fed_types::{BagId, Ballot, SiteNo, Slot, Vote};
 use records::{Entry, Record};
 use std::alloc::Global;

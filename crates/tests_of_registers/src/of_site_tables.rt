@@ -1,7 +1,7 @@
-use super::*;
 use acceptor::{Answer, Decision};
 use fed_types::{BagId, Ballot, Members, SiteNo, Slot, Vote};
 use records::{Entry, Owner, Record, Round};
+use site_tables::Tables;
 use std::alloc::Global;
 use std::process::Abort;
 use std::test::Fail;

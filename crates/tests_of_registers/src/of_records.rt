@@ -1,8 +1,8 @@
 //! Test vectors of journals. Those of cells are the golden output of the program that opens them
 //! with a book.
 
-use super::*;
 use fed_types::{BagId, Ballot, Members, SiteNo, Slot, Vote};
+use records::{Entry, Journal, JournalFault, Owner, Record, Round, header, read_journal};
 use std::alloc::{AllocError, Global};
 use std::process::Abort;
 use std::test::Fail;

@@ -1,5 +1,5 @@
-use super::*;
 use fed_types::{BagId, Ballot, Members, Quorums, SiteNo, Slot, Vote, Voters};
+use proposer::{ProposeFault, Proposer};
 use records::{Entry, Record, Round};
 use std::alloc::Global;
 use std::test::Fail;
@@ -206,7 +206,7 @@ struct Unanimous {
 }
 
 impl Quorums for Unanimous {
-    ghost use Rattle.proposer.specs.inner.Unanimous.{all_three, meet, grow};
+    ghost use Rattle.tests_of_registers.specs.Unanimous.{all_three, meet, grow};
 
     ghost quorum_system = { λ p. all_three p.first p.second p.third };
 

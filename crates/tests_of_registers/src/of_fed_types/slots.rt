@@ -4,7 +4,7 @@ ghost use Rattle.std.specs.Prelude.{◌≡◌, ◌↔◌, IsTrue};
 
 use super::*;
 
-#[tactic(auto, using(crate::specs::Laws::Slots::same_slot_decides))]
+#[tactic(auto, using(fed_types::specs::Laws::Slots::same_slot_decides))]
 fn same_slot(a: &Slot, b: &Slot) -> bool
     ensures { IsTrue result ↔ (a.now ≡ b.now) }
 {

@@ -3,8 +3,8 @@ ghost use Rattle.std.proofs.lemmas.Bool.{and_parts, and_from};
 ghost use Rattle.fed_types.specs.Lists.{is_in, here, there};
 ghost use Rattle.fed_types.specs.Laws.Lists.{is_in_decides};
 
-use super::*;
 use fed_types::{BagId, Ballot, Members, Quorums, SiteNo, Slot, Voters};
+use learner::Learner;
 use records::{Entry, Record};
 use std::alloc::Global;
 use std::test::Fail;

@@ -1,8 +1,8 @@
 ghost use Rattle.std.specs.Prelude.{◌≡◌, Some, IsSome};
 ghost use Rattle.slot_table.specs.Rows.{row_at, IsWith};
 
-use super::*;
 use fed_types::Slot;
+use slot_table::SlotTable;
 use std::alloc::Global;
 use std::process::Abort;
 use std::test::Fail;
