@@ -3,6 +3,8 @@
 #![tactic(auto)]
 
 #[cfg(test)]
+mod memberships;
+#[cfg(test)]
 mod of_acceptor;
 #[cfg(test)]
 mod of_book;
@@ -20,3 +22,5 @@ mod of_records;
 mod of_site_tables;
 #[cfg(test)]
 mod of_slot_table;
+#[cfg(test)]
+mod values;
