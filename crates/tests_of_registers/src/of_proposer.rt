@@ -1,5 +1,7 @@
-use super::*;
-use fed_types::{BagId, Ballot, Members, Quorums, SiteNo, Slot, Vote, Voters};
+use crate::memberships::Unanimous;
+use crate::values::{ballot, slot_a};
+use fed_types::{BagId, Members, Quorums, SiteNo, Vote};
+use proposer::{ProposeFault, Proposer};
 use records::{Entry, Record, Round};
 use std::alloc::Global;
 use std::test::Fail;
@@ -9,14 +11,6 @@ const OWN: BagId = BagId([1; 64]);
 const V: BagId = BagId([2; 64]);
 
 const W: BagId = BagId([3; 64]);
-
-fn ballot(round: u32, site: u8) -> Result<Ballot, Fail> {
-    Ok(Ballot::new(round, SiteNo::new(site)?)?)
-}
-
-fn slot(alloc: Global) -> Result<Slot, Fail> {
-    Ok(Slot::new(String::from_str(alloc, "a")?, 1)?)
-}
 
 fn site_1(alloc: Global, weights: &[u8]) -> Result<Proposer<Members>, Fail> {
     let members = Members::weighted(7, weights)?;
@@ -49,7 +43,7 @@ fn is_right<Q: Quorums + Drop>(
     proposer: &mut Proposer<Q>,
     step: Step,
 ) -> Result<bool, Fail> {
-    let slot = slot(alloc)?;
+    let slot = slot_a(alloc)?;
     match step {
         Step::Begin(round) => Ok(proposer.begin(&slot, OWN)? == ballot(round, 1)?),
         Step::Spent => Ok(proposer.begin(&slot, OWN) == Err(ProposeFault::RoundsSpent)),
@@ -195,33 +189,6 @@ const NOT_BEGUN: [Step; 5] = [
 #[test]
 fn a_round_that_was_not_begun_is_used(rt: HostRuntime) -> Result<(), Fail> {
     all_right_of(rt.alloc(), &[1], &NOT_BEGUN)
-}
-
-// Three members, whose only quorum is all of them.
-#[derive(Clone, Copy)]
-struct Unanimous {
-    first: SiteNo,
-    second: SiteNo,
-    third: SiteNo,
-}
-
-impl Quorums for Unanimous {
-    ghost use Rattle.proposer.specs.inner.Unanimous.{all_three, meet, grow};
-
-    ghost quorum_system = { λ p. all_three p.first p.second p.third };
-
-    ghost quorums_meet = { λ p. meet p.first p.second p.third };
-
-    ghost quorum_grows = { λ p. grow p.first p.second p.third };
-
-    #[tactic(auto, unfolding(fed_types::specs::Lists::is_in))]
-    fn has(&self, site: SiteNo) -> bool {
-        self.first == site || self.second == site || self.third == site
-    }
-
-    fn is_quorum(&self, voters: &Voters) -> bool {
-        voters.has(self.first) && voters.has(self.second) && voters.has(self.third)
-    }
 }
 
 const ALL_MEMBERS: [Step; 6] = [

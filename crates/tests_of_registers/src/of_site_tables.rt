@@ -1,7 +1,7 @@
-use super::*;
-use acceptor::{Answer, Decision};
-use fed_types::{BagId, Ballot, Members, SiteNo, Slot, Vote};
-use records::{Entry, Owner, Record, Round};
+use crate::values::{ballot, owner, promises, slot_a, votes};
+use fed_types::{BagId, Ballot, SiteNo, Slot, Vote};
+use records::{Entry, Record, Round};
+use site_tables::Tables;
 use std::alloc::Global;
 use std::process::Abort;
 use std::test::Fail;
@@ -10,41 +10,11 @@ const V: BagId = BagId([1; 64]);
 
 const W: BagId = BagId([2; 64]);
 
-fn slot(alloc: Global) -> Result<Slot, Fail> {
-    Ok(Slot::new(String::from_str(alloc, "a")?, 1)?)
-}
-
-fn ballot(round: u32, site: u8) -> Result<Ballot, Fail> {
-    Ok(Ballot::new(round, SiteNo::new(site)?)?)
-}
-
-// Site 1 of three.
-fn owner() -> Result<Owner, Fail> {
-    Ok(Owner {
-        members: Members::new(7, 3)?,
-        site: SiteNo::new(1)?,
-    })
-}
-
 fn record(alloc: Global, body: Entry) -> Result<Record, Fail> {
     Ok(Record {
-        slot: slot(alloc)?,
+        slot: slot_a(alloc)?,
         body,
     })
-}
-
-fn promises(ballot: Ballot) -> Decision {
-    Decision {
-        entry: Some(Entry::Promise(ballot)),
-        answer: Answer::Promised(ballot, None),
-    }
-}
-
-fn votes(ballot: Ballot, bag: BagId) -> Decision {
-    Decision {
-        entry: Some(Entry::Vote(Vote { ballot, bag })),
-        answer: Answer::Accepted(Vote { ballot, bag }),
-    }
 }
 
 // The site commits a record of the slot.
@@ -90,7 +60,7 @@ fn promises_and_votes(
     let prepared = tables.prepare(slot, vote.ballot);
     commit(tables, alloc, slot, Entry::Promise(vote.ballot))?;
     Ok(
-        prepared == promises(vote.ballot)
+        prepared == promises(vote.ballot, None)
             && tables.accept(slot, vote) == votes(vote.ballot, vote.bag),
     )
 }
@@ -132,8 +102,8 @@ fn goes_from_deposit_to_known(
 #[test]
 fn a_bag_from_deposit_to_known(rt: HostRuntime) -> Result<(), Fail> {
     let alloc = rt.alloc();
-    let slot = slot(alloc)?;
-    let mut tables = Tables::new(alloc, owner()?);
+    let slot = slot_a(alloc)?;
+    let mut tables = Tables::new(alloc, owner(7, 1)?);
     goes_from_deposit_to_known(&rt, &mut tables, alloc, &slot)
 }
 
@@ -141,7 +111,7 @@ fn a_bag_from_deposit_to_known(rt: HostRuntime) -> Result<(), Fail> {
 fn opened(alloc: Global) -> Result<Tables, Fail> {
     let deposit = record(alloc, Entry::Deposit(V))?;
     let known = record(alloc, Entry::Known(W))?;
-    Ok(Tables::of(alloc, owner()?, &[deposit, known])?)
+    Ok(Tables::of(alloc, owner(7, 1)?, &[deposit, known])?)
 }
 
 // The site commits them.
@@ -158,8 +128,8 @@ fn says_both(tables: &Tables, slot: &Slot) -> bool {
 #[test]
 fn an_opened_site_says_what_it_said_before(rt: HostRuntime) -> Result<(), Fail> {
     let alloc = rt.alloc();
-    let slot = slot(alloc)?;
-    let mut tables = Tables::new(alloc, owner()?);
+    let slot = slot_a(alloc)?;
+    let mut tables = Tables::new(alloc, owner(7, 1)?);
     commit_both(&mut tables, alloc, &slot)?;
     let opened = opened(alloc)?;
     assert!(rt; says_both(&tables, &slot) && says_both(&opened, &slot));

@@ -3,8 +3,9 @@
 ghost use Rattle.std.specs.Prelude.{◌≡◌, ◌↔◌, IsTrue};
 
 use super::*;
+use crate::values::slot;
 
-#[tactic(auto, using(crate::specs::Laws::Slots::same_slot_decides))]
+#[tactic(auto, using(fed_types::specs::Laws::Slots::same_slot_decides))]
 fn same_slot(a: &Slot, b: &Slot) -> bool
     ensures { IsTrue result ↔ (a.now ≡ b.now) }
 {
@@ -36,10 +37,6 @@ fn objects_and_versions_have_ranges(rt: HostRuntime) -> Result<(), Fail> {
         assert_eq!(rt; fault, *want, "{length} bytes, version {version}");
     }
     Ok(())
-}
-
-fn slot(alloc: Global, object: &str, version: u32) -> Result<Slot, Fail> {
-    Ok(Slot::new(String::from_str(alloc, object)?, version)?)
 }
 
 fn is_other(alloc: Global, one: &Slot, object: &str, version: u32) -> Result<bool, Fail> {

@@ -1,5 +1,6 @@
-use super::*;
-use fed_types::{BagId, Ballot, SiteNo, Slot, Vote};
+use crate::values::{ballot, promises, slot, slot_a, votes};
+use acceptor::{Acceptor, Answer, Decision};
+use fed_types::{BagId, Ballot, Slot, Vote};
 use records::{Entry, Record};
 use std::alloc::Global;
 use std::test::Fail;
@@ -7,14 +8,6 @@ use std::test::Fail;
 const V: BagId = BagId([1; 64]);
 
 const W: BagId = BagId([2; 64]);
-
-fn slot(alloc: Global, object: &str) -> Result<Slot, Fail> {
-    Ok(Slot::new(String::from_str(alloc, object)?, 1)?)
-}
-
-fn ballot(round: u32, site: u8) -> Result<Ballot, Fail> {
-    Ok(Ballot::new(round, SiteNo::new(site)?)?)
-}
 
 // What the acceptor is asked, each for a ballot.
 #[derive(Clone, Copy, Debug)]
@@ -37,20 +30,6 @@ fn note(acceptor: &mut Acceptor, alloc: Global, slot: &Slot, body: Entry) -> Res
     Ok(())
 }
 
-fn promises(ballot: Ballot, vote: Option<Vote>) -> Decision {
-    Decision {
-        entry: Some(Entry::Promise(ballot)),
-        answer: Answer::Promised(ballot, vote),
-    }
-}
-
-fn votes(ballot: Ballot, bag: BagId) -> Decision {
-    Decision {
-        entry: Some(Entry::Vote(Vote { ballot, bag })),
-        answer: Answer::Accepted(Vote { ballot, bag }),
-    }
-}
-
 fn votes_again(ballot: Ballot, bag: BagId) -> Decision {
     Decision {
         entry: None,
@@ -68,7 +47,7 @@ fn refuses(asked: Ballot, standing: Ballot) -> Decision {
 #[test]
 fn one_slot_from_promise_to_promise(rt: HostRuntime) -> Result<(), Fail> {
     let alloc = rt.alloc();
-    let slot = slot(alloc, "a")?;
+    let slot = slot_a(alloc)?;
     let mut acceptor = Acceptor::new(alloc);
     let (b11, b12, b13, b21) = (ballot(1, 1)?, ballot(1, 2)?, ballot(1, 3)?, ballot(2, 1)?);
     let prior = Some(Vote {
@@ -98,7 +77,7 @@ fn one_slot_from_promise_to_promise(rt: HostRuntime) -> Result<(), Fail> {
 #[test]
 fn slots_are_apart(rt: HostRuntime) -> Result<(), Fail> {
     let alloc = rt.alloc();
-    let (a, b) = (slot(alloc, "a")?, slot(alloc, "b")?);
+    let (a, b) = (slot_a(alloc)?, slot(alloc, "b", 1)?);
     let mut acceptor = Acceptor::new(alloc);
     acceptor.reserve(&b)?;
     let (low, high) = (ballot(1, 1)?, ballot(9, 1)?);
@@ -111,7 +90,7 @@ fn slots_are_apart(rt: HostRuntime) -> Result<(), Fail> {
 #[test]
 fn other_records_change_nothing(rt: HostRuntime) -> Result<(), Fail> {
     let alloc = rt.alloc();
-    let slot = slot(alloc, "a")?;
+    let slot = slot_a(alloc)?;
     let mut acceptor = Acceptor::new(alloc);
     for body in [Entry::Deposit(V), Entry::Known(W)] {
         note(&mut acceptor, alloc, &slot, body)?;

@@ -1,8 +1,9 @@
 //! Test vectors of journals. Those of cells are the golden output of the program that opens them
 //! with a book.
 
-use super::*;
-use fed_types::{BagId, Ballot, Members, SiteNo, Slot, Vote};
+use crate::values::{ballot, owner, push_hex, slot};
+use fed_types::{BagId, Vote};
+use records::{Entry, Journal, JournalFault, Owner, Record, Round, header, read_journal};
 use std::alloc::{AllocError, Global};
 use std::process::Abort;
 use std::test::Fail;
@@ -20,23 +21,8 @@ const B: BagId = BagId([0xbb; 64]);
 
 const HEADER_7_1: &str = "42504a31000000000000000701";
 
-fn owner(federation: u64, site: u8) -> Result<Owner, Fail> {
-    Ok(Owner {
-        members: Members::new(federation, 3)?,
-        site: SiteNo::new(site)?,
-    })
-}
-
-fn ballot(round: u32, site: u8) -> Result<Ballot, Fail> {
-    Ok(Ballot::new(round, SiteNo::new(site)?)?)
-}
-
 fn round(number: u32) -> Result<Round, Fail> {
     Ok(Round::new(number).ok_or("a round")?)
-}
-
-fn slot(alloc: Global, object: &str, version: u32) -> Result<Slot, Fail> {
-    Ok(Slot::new(String::from_str(alloc, object)?, version)?)
 }
 
 // What a record of each kind says.
@@ -70,11 +56,6 @@ static KINDS: [Kind; 5] = [
     Kind(4, ["004c", "0113"], [78, 277], "0000000902", Some(0xbb)),
     Kind(5, ["0047", "010e"], [73, 272], "", Some(0xbb)),
 ];
-
-fn push_hex(alloc: Global, out: &mut Vec<u8>, text: &str) -> Result<(), Fail> {
-    out.extend_from_slice(&hex::decode(alloc, text)?)?;
-    Ok(())
-}
 
 // Appends the byte 64 times, if there is one.
 fn push_repeated(out: &mut Vec<u8>, byte: Option<u8>) -> Result<(), Fail> {

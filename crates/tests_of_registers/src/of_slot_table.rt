@@ -1,15 +1,12 @@
 ghost use Rattle.std.specs.Prelude.{◌≡◌, Some, IsSome};
 ghost use Rattle.slot_table.specs.Rows.{row_at, IsWith};
 
-use super::*;
+use crate::values::slot;
 use fed_types::Slot;
+use slot_table::SlotTable;
 use std::alloc::Global;
 use std::process::Abort;
 use std::test::Fail;
-
-fn slot(alloc: Global, object: &str, version: u32) -> Result<Slot, Fail> {
-    Ok(Slot::new(String::from_str(alloc, object)?, version)?)
-}
 
 // What a caller knows of a row that it wrote in place.
 fn write(table: &mut SlotTable<u32>, slot: &Slot, row: u32)

@@ -1,7 +1,7 @@
 use Rattle.std.proofs.Common.{sym, subst, List, ℕ, ◌∙◌}
 use Rattle.fed_types.specs.Lists.{Has}
 use Rattle.fed_types.specs.Laws.Voters.{has_with_voter}
-use Rattle.fed_types.proofs.tests.two_quorum_systems.with_one_more.Goals as goal
+use Rattle.tests_of_registers.proofs.of_fed_types.two_quorum_systems.with_one_more.Goals as goal
 
 -- the law of the bound, at the voters before and after
 pub returns : goal.returns

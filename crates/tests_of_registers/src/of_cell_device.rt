@@ -2,7 +2,7 @@ ghost use Rattle.std.specs.Prelude.{◌≡◌, ◌≤◌, length, IfOk};
 ghost use Rattle.cell_device.specs.Images.{at_rest};
 ghost use Rattle.cell_device.specs.Memory.{image_of};
 
-use super::*;
+use cell_device::{Cell, CellFault, FileCell, Fuse, FuseState, How, MemoryCell};
 use std::alloc::{AllocError, Global};
 use std::os::unix::fs::symlink;
 use std::path::PathBuf;

@@ -1,10 +1,7 @@
-ghost use Rattle.std.specs.Prelude.{◌∷◌, [], ◌&&◌, refl};
-ghost use Rattle.std.proofs.lemmas.Bool.{and_parts, and_from};
-ghost use Rattle.fed_types.specs.Lists.{is_in, here, there};
-ghost use Rattle.fed_types.specs.Laws.Lists.{is_in_decides};
-
-use super::*;
-use fed_types::{BagId, Ballot, Members, Quorums, SiteNo, Slot, Voters};
+use crate::memberships::Pair;
+use crate::values::{ballot, slot};
+use fed_types::{BagId, Members, Quorums, SiteNo, Slot};
+use learner::Learner;
 use records::{Entry, Record};
 use std::alloc::Global;
 use std::test::Fail;
@@ -12,38 +9,6 @@ use std::test::Fail;
 const V: BagId = BagId([1; 64]);
 
 const W: BagId = BagId([2; 64]);
-
-// Two members, whose only quorum is both.
-#[derive(Drop)]
-struct Pair {
-    first: SiteNo,
-    second: SiteNo,
-}
-
-impl Quorums for Pair {
-    ghost quorum_system = { λ p. record { members = p.first ∷ p.second ∷ []; is_quorum = λ voters. is_in voters p.first && is_in voters p.second } };
-
-    ghost quorums_meet = { λ p xs ys a b. (p.first, here refl, (is_in_decides xs p.first).0 (and_parts (is_in xs p.first) (is_in xs p.second) a).0, (is_in_decides ys p.first).0 (and_parts (is_in ys p.first) (is_in ys p.second) b).0) };
-
-    ghost quorum_grows = { λ p xs ys a more. and_from (is_in ys p.first) (is_in ys p.second) ((is_in_decides ys p.first).1 (more p.first (here refl) ((is_in_decides xs p.first).0 (and_parts (is_in xs p.first) (is_in xs p.second) a).0))) ((is_in_decides ys p.second).1 (more p.second (there (here refl)) ((is_in_decides xs p.second).0 (and_parts (is_in xs p.first) (is_in xs p.second) a).1))) };
-
-    #[tactic(auto, unfolding(fed_types::specs::Lists::is_in))]
-    fn has(&self, site: SiteNo) -> bool {
-        self.first == site || self.second == site
-    }
-
-    fn is_quorum(&self, voters: &Voters) -> bool {
-        voters.has(self.first) && voters.has(self.second)
-    }
-}
-
-fn slot(alloc: Global, version: u32) -> Result<Slot, Fail> {
-    Ok(Slot::new(String::from_str(alloc, "a")?, version)?)
-}
-
-fn ballot(round: u32, site: u8) -> Result<Ballot, Fail> {
-    Ok(Ballot::new(round, SiteNo::new(site)?)?)
-}
 
 // A call of the learner for a slot, and what it gives.
 #[derive(Clone, Copy)]
@@ -93,7 +58,7 @@ fn all_right<Q: Quorums + Drop>(
     steps: &[(u32, Step)],
 ) -> Result<(), Fail> {
     for (number, (version, step)) in steps.iter().enumerate() {
-        if !is_right(alloc, learner, &slot(alloc, *version)?, *step)? {
+        if !is_right(alloc, learner, &slot(alloc, "a", *version)?, *step)? {
             return Err(Fail::new(format_args!("step {number}")));
         }
     }

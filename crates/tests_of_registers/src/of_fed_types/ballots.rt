@@ -13,7 +13,7 @@ fn is_below(a: Ballot, b: Ballot) -> bool
     a < b
 }
 
-#[tactic(auto, using(crate::specs::Laws::Ballots::above_below))]
+#[tactic(auto, using(fed_types::specs::Laws::Ballots::above_below))]
 fn is_above(a: Ballot, b: Ballot) -> bool
     ensures { result ≡ below b a }
 {

@@ -1,6 +1,9 @@
 //! Sites, members, ballots, slots, bags and quorums: ranges, orders, and what callers are told.
 
-use super::*;
+use fed_types::{
+    BAG_BYTES, BagId, Ballot, Members, Quorums, SiteNo, Slot, TypeFault, Voters,
+    bags_are_well_formed, limits_law, members_are_well_formed,
+};
 use std::alloc::Global;
 use std::collections::HashMap;
 use std::process::Abort;
