@@ -1,4 +1,6 @@
-use super::*;
+use bag_explain::{
+    all_found_law, explain, findings_law, named_findings_law, numbers_law, places_law,
+};
 use bag_tree::{Facts, Tree, facts_of};
 use std::alloc::Global;
 use std::process::Abort;

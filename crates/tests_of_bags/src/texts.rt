@@ -5,10 +5,13 @@ ghost use Rattle.bag_text.specs.Declarations.{IsDeclaration, IsDeclarationFault}
 ghost use Rattle.bag_text.specs.ListedFile.{ListedFile};
 ghost use Rattle.bag_text.specs.Manifests.{IsManifest, IsFirstMalformed};
 ghost use Rattle.bag_text.specs.Paths.{escaped, unescaped};
-ghost use Rattle.bag_text.specs.inner.Examples.{digest_of_abc, manifest_of_abc, malformed_manifest};
-ghost use Rattle.bag_text.specs.inner.Examples.{declaration_1_0, declaration_of_one_line};
+ghost use Rattle.tests_of_bags.specs.Examples.{digest_of_abc, manifest_of_abc, malformed_manifest};
+ghost use Rattle.tests_of_bags.specs.Examples.{declaration_1_0, declaration_of_one_line};
 
-use super::*;
+use bag_text::{
+    Algorithm, Entry, TextFault, declaration, declaration_law, escape_law, lines, listed_law,
+    manifest, manifest_law,
+};
 use std::alloc::Global;
 use std::test::Fail;
 

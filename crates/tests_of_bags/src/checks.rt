@@ -1,7 +1,7 @@
 ghost use Rattle.std.specs.Prelude.{◌↔◌, IfOk, IsTrue};
 ghost use Rattle.bag_check.specs.Valid.{IsValid};
 
-use super::*;
+use bag_check::{BagFault, check, named_by, named_law, valid_law};
 use bag_digest::{Algorithms, Digester};
 use bag_tree::{Facts, FileFacts, Tree, TreeFile, facts_of, is_read_text};
 use bags::*;

@@ -1,4 +1,7 @@
-use super::*;
+use outcomes::{
+    ProgramFault, ReadFault, WriteFault, read_all, read_within, write_all, write_answer,
+    write_bytes,
+};
 use std::io;
 use std::io::{ErrorKind, Read, Write};
 use std::test::Fail;

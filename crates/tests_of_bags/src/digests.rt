@@ -1,4 +1,4 @@
-use super::*;
+use bag_digest::{Algorithms, Digester, Digests, is_digest_of};
 use bag_text::Algorithm;
 
 /// The digests of `abc`, as the standards give them.

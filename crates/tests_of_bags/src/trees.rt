@@ -1,6 +1,9 @@
-use super::*;
 use bag_digest::{Algorithms, Digests};
 use bag_text::Algorithm;
+use bag_tree::{
+    DEEPEST_PATH, Facts, FileFacts, LONGEST_TEXT, MOST_FILES, Tree, TreeFault, facts_of,
+    has_unsafe_part, is_payload, is_read_text, limits_hold,
+};
 use std::alloc::Global;
 use std::process::Abort;
 use std::test::Fail;

@@ -1,6 +1,9 @@
-use super::*;
 use bag_folders::{MemoryFolders, Watcher};
 use bag_tree::Tree;
+use folder_checks::{
+    Progress, Report, Saying, check_all_on, check_command, check_each_on, check_on, check_task,
+    explain_on,
+};
 use outcomes::ProgramFault;
 use std::alloc::Global;
 use std::io;

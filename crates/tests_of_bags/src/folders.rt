@@ -1,5 +1,8 @@
-use super::*;
 use bag_digest::{Algorithms, Digests};
+use bag_folders::{
+    DiskFolders, Folders, Hashing, MOST_READS, MemoryFolders, Silent, Watcher, hash_reader,
+    hash_watched, read_folder,
+};
 use bag_text::Algorithm;
 use bag_tree::{FileFacts, LONGEST_TEXT, Tree, TreeFault};
 use std::alloc::Global;
