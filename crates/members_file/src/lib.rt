@@ -11,6 +11,3 @@ pub use law::members_files_law;
 pub use member_ports::MemberPorts;
 pub use members_fault::MembersFault;
 pub use read::read_members;
-
-#[cfg(test)]
-mod tests;

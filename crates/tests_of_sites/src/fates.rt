@@ -1,9 +1,9 @@
-use super::*;
 use bag_tree::{Facts, Tree, facts_of};
 use fed_types::{Members, SiteNo, Slot};
 use records::Owner;
 use schedule::{DeviceCall, Fate};
 use site::{Line, SiteFault};
+use stations::{Call, Said, Station, Told};
 use std::alloc::Global;
 use std::process::Abort;
 use std::test::Fail;

@@ -1,8 +1,7 @@
-use super::*;
-use lines::Options;
+use lines::{Line, Options};
+use simulator::{RunFault, Trace, text};
 use std::process::Abort;
 use std::test::Fail;
-use world_law::Line;
 
 /// Each line of a run has its own line of the text, in order.
 #[test]

@@ -1,11 +1,10 @@
-use super::*;
 use bag_check::BagFault;
 use fed_types::{BagId, Slot};
+use lines::{Line, NamedBag, NamedReply, Options, Reason, SentBytes, push_printed};
 use site::SiteFault;
 use std::alloc::{AllocError, Global};
 use std::process::Abort;
 use std::test::Fail;
-use world_law::{Line, NamedBag, NamedReply, Reason, SentBytes};
 
 const SHORT: Options = Options {
     sent: false,

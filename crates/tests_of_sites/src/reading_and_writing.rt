@@ -1,12 +1,13 @@
-use crate::run_on::run_on;
-use lines::Options;
-use outcomes::ProgramFault;
+//! Readers that give little or fail, and writers without room: how the program reads a schedule and
+//! writes its answer.
+
+use outcomes::{ProgramFault, ReadFault, read_all, write_answer};
 use std::alloc::Global;
 use std::io;
 use std::io::{ErrorKind, Read, Write};
 use std::test::Fail;
 
-/// The empty bag is deposited at site 1 and asked for there.
+// The empty bag is deposited at site 1 and asked for there.
 const EMPTY_BAG: &str = "federation 7 3
 tree 1
 folder 1
@@ -16,12 +17,8 @@ deposit 1 1 a 1
 query 1 a 1
 ";
 
+// What is printed then.
 const SAID: &str = "registered 1 a 1 #1\nreply 1 a 1 pending #1\n";
-
-const BY_TREE: Options = Options {
-    sent: false,
-    identities: false,
-};
 
 /// A reader that gives a few bytes at a time, is interrupted before each piece, and may fail.
 #[derive(Drop)]
@@ -103,83 +100,60 @@ fn with_room(alloc: Global, room: usize) -> Narrow {
     }
 }
 
-#[test]
-fn the_empty_bag(rt: HostRuntime) -> Result<(), Fail> {
-    let mut input = EMPTY_BAG.as_bytes();
-    let mut output = Vec::new(rt.alloc());
-    assert_eq!(rt; run_on(rt.alloc(), &mut input, &mut output, BY_TREE), Ok(0));
-    assert_eq!(rt; output.as_slice(), SAID.as_bytes());
-    Ok(())
-}
-
 // What a writer takes and then can't flush isn't written.
 #[test]
-fn a_flush_that_fails(rt: HostRuntime) -> Result<(), Fail> {
-    let alloc = rt.alloc();
-    let mut input = EMPTY_BAG.as_bytes();
-    let mut output = with_room(alloc, 1000);
+fn a_flush_that_fails(rt: HostRuntime) {
+    let mut output = with_room(rt.alloc(), 1000);
     output.flush_fails = true;
     assert_eq!(rt;
-        run_on(alloc, &mut input, &mut output, BY_TREE),
+        write_answer(&mut output, 0, SAID),
         Err(ProgramFault::Output)
     );
     assert_eq!(rt; output.taken.as_slice(), SAID.as_bytes());
-    Ok(())
 }
 
-#[test]
-fn faults_of_schedules(rt: HostRuntime) -> Result<(), Fail> {
-    for (text, said) in [
-        ("", "schedule line 1\n"),
-        ("federation 7 3\ndeposit 1 1 a 0\n", "schedule line 2\n"),
-        ("# nothing\n\nquery 1 a 1", "schedule line 3\n"),
-    ] {
-        let mut input = text.as_bytes();
-        let mut output = Vec::new(rt.alloc());
-        assert_eq!(rt; run_on(rt.alloc(), &mut input, &mut output, BY_TREE), Ok(1));
-        assert_eq!(rt; output.as_slice(), said.as_bytes());
+// Whether all is read in pieces of this size.
+fn is_read(alloc: Global, size: usize) -> bool {
+    let mut input = in_pieces(EMPTY_BAG, size, usize::MAX);
+    match read_all(alloc, &mut input) {
+        Ok(bytes) => bytes.as_slice() == EMPTY_BAG.as_bytes(),
+        Err(_) => false,
     }
-    Ok(())
+}
+
+// Whether all is written where there is room.
+fn is_written(alloc: Global) -> bool {
+    let mut output = with_room(alloc, usize::MAX);
+    write_answer(&mut output, 0, SAID) == Ok(0) && output.taken.as_slice() == SAID.as_bytes()
 }
 
 #[test]
-fn pieces_of_every_size(rt: HostRuntime) -> Result<(), Fail> {
+fn pieces_of_every_size(rt: HostRuntime) {
     for size in [1, 7, 100, 10_000] {
-        let mut input = in_pieces(EMPTY_BAG, size, usize::MAX);
-        let mut output = with_room(rt.alloc(), usize::MAX);
-        assert_eq!(rt; run_on(rt.alloc(), &mut input, &mut output, BY_TREE), Ok(0));
-        assert_eq!(rt; output.taken.as_slice(), SAID.as_bytes());
+        assert!(rt; is_read(rt.alloc(), size), "{size}");
     }
-    Ok(())
+    assert!(rt; is_written(rt.alloc()));
 }
 
 #[test]
-fn a_read_that_fails(rt: HostRuntime) -> Result<(), Fail> {
+fn a_read_that_fails(rt: HostRuntime) {
     for before in 0..4 {
         let mut input = in_pieces(EMPTY_BAG, 100, before);
-        let mut output = Vec::new(rt.alloc());
-        assert_eq!(rt;
-            run_on(rt.alloc(), &mut input, &mut output, BY_TREE),
-            Err(ProgramFault::Input)
-        );
-        assert_eq!(rt; output.len(), 0);
+        let fault = read_all(rt.alloc(), &mut input).err();
+        assert_eq!(rt; fault, Some(ReadFault::Input), "{before}");
     }
-    Ok(())
+}
+
+// Whether what there is room for is written, and no more.
+fn is_cut(alloc: Global, room: usize) -> bool {
+    let mut output = with_room(alloc, room);
+    let is_fault = write_answer(&mut output, 0, SAID) == Err(ProgramFault::Output);
+    is_fault && output.taken.as_slice() == SAID.as_bytes().get(..room).unwrap_or(b"")
 }
 
 #[test]
-fn a_write_that_fails(rt: HostRuntime) -> Result<(), Fail> {
+fn a_write_that_fails(rt: HostRuntime) {
     for room in 0..SAID.len() {
-        let mut input = EMPTY_BAG.as_bytes();
-        let mut output = with_room(rt.alloc(), room);
-        assert_eq!(rt;
-            run_on(rt.alloc(), &mut input, &mut output, BY_TREE),
-            Err(ProgramFault::Output)
-        );
-        assert_eq!(rt;
-            output.taken.as_slice(),
-            SAID.as_bytes().get(..room).unwrap_or(b"")
-        );
+        assert!(rt; is_cut(rt.alloc(), room), "{room}");
     }
-    Ok(())
 }

@@ -1,6 +1,5 @@
 //! Sites that serve over ports, cells and folders in memory.
 
-use super::*;
 use bag_folders::MemoryFolders;
 use bag_tree::Tree;
 use cell_device::MemoryCell;
@@ -9,6 +8,7 @@ use records::Owner;
 use site::Site;
 use std::alloc::Global;
 use std::test::Fail;
+use udp_site::{MemoryPort, Port, PortFault, PortMove, ServeFault, Turn, UdpPort, serve};
 
 mod bag_agreed;
 mod failures;

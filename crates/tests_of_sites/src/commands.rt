@@ -1,10 +1,12 @@
 //! A site that serves and a client that asks, over ports in memory.
 
-use super::*;
 use bag_folders::MemoryFolders;
 use cell_device::MemoryCell;
 use dgram::FolderPath;
 use fed_types::{Members, SiteNo, Slot};
+use site_commands::{
+    Request, SendTask, send_command, send_on, send_task, site_command, site_on, site_task,
+};
 use std::alloc::Global;
 use std::test::Fail;
 use udp_site::{MemoryPort, PortMove};

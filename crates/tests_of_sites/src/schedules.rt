@@ -1,7 +1,11 @@
-use super::*;
+use schedule::{
+    Call, Command, DeviceCall, Fate, FilePath, HexBytes, ParseFault, Schedule, TreeNo,
+    commands_law, parse, print, round_trip_law, schedules_law, texts_law,
+};
 use std::alloc::{AllocError, Global};
 use std::process::Abort;
 use std::test::Fail;
+use words::{first_line, numbers_law, parse_number, push_escaped, split_words, words_law};
 
 // Texts, and what is printed of their schedules.
 static PRINTED: [(&[u8], &str); 16] = [

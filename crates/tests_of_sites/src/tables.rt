@@ -1,8 +1,8 @@
-use super::*;
 use fed_types::BagId;
 use schedule::TreeNo;
 use std::process::Abort;
 use std::test::Fail;
+use world_tables::{Added, Datagrams, SeenBags, Trees};
 
 fn no(number: u32) -> Result<TreeNo, Fail> {
     Ok(TreeNo::new(number).ok_or("0")?)

@@ -1,4 +1,4 @@
-use super::*;
+use members_file::{MembersFault, members_files_law, read_members};
 use std::alloc::Global;
 use std::test::Fail;
 

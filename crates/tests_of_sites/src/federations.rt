@@ -1,8 +1,8 @@
-use super::*;
+use federation::Federation;
+use lines::{Line, Reason};
 use schedule::parse;
 use std::process::Abort;
 use std::test::Fail;
-use world_law::{Line, Reason};
 
 fn says_so(rt: &impl Abort, lines: &[Line]) {
     assert!(rt;

@@ -1,6 +1,11 @@
-use super::*;
+use lines::SentBytes;
 use std::process::Abort;
 use std::test::Fail;
+use world_law::{
+    bags_were_deposited, chosen_stays, known_was_chosen, lines_agree, one_bag_a_ballot,
+    one_bag_a_slot, priors_stay, proposals_are_backed, reports_agree, reports_were_deposited,
+    senders_are_named, sent_messages_are_well_formed, votes_were_asked_for,
+};
 
 #[test]
 fn bytes_of_a_datagram(rt: HostRuntime) -> Result<(), Fail> {
