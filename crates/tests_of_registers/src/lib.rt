@@ -11,7 +11,11 @@ mod of_book;
 #[cfg(test)]
 mod of_cell_device;
 #[cfg(test)]
+mod of_dgram;
+#[cfg(test)]
 mod of_fed_types;
+#[cfg(test)]
+mod of_fields;
 #[cfg(test)]
 mod of_learner;
 #[cfg(test)]
