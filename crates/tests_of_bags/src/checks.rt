@@ -1,9 +1,10 @@
 ghost use Rattle.std.specs.Prelude.{◌↔◌, IfOk, IsTrue};
 ghost use Rattle.bag_check.specs.Valid.{IsValid};
 
+use crate::files::{File, fill};
 use bag_check::{BagFault, check, named_by, named_law, valid_law};
 use bag_digest::{Algorithms, Digester};
-use bag_tree::{Facts, FileFacts, Tree, TreeFile, facts_of, is_read_text};
+use bag_tree::{Facts, FileFacts, Tree, TreeFault, TreeFile, facts_of, is_read_text};
 use bags::*;
 use fed_types::BagId;
 use std::alloc::{AllocError, Global};
@@ -20,42 +21,12 @@ const NOTHING: [u8; 64] = [
     0x63, 0xb9, 0x31, 0xbd, 0x47, 0x41, 0x7a, 0x81, 0xa5, 0x38, 0x32, 0x7a, 0xf9, 0x27, 0xda, 0x3e,
 ];
 
-/// Adds a file with these parts, or the payload's folder.
-fn add(alloc: Global, tree: &mut Tree, path: &str, parts: &[&str]) -> Result<(), Fail> {
-    if path == "data" {
-        tree.add_folder();
-    } else {
-        let text = parts.concat(alloc)?;
-        tree.add(path, text.as_bytes())?;
-    }
-    Ok(())
-}
-
-fn tree_of(alloc: Global, files: &[File], more: &[File]) -> Result<Tree, Fail> {
-    let mut tree = Tree::new(alloc);
-    for (path, parts) in files.iter().chain(more) {
-        add(alloc, &mut tree, path, parts)?;
-    }
-    Ok(tree)
-}
-
-fn facts_of_files(alloc: Global, files: &[File], more: &[File]) -> Result<Facts, Fail> {
-    let tree = tree_of(alloc, files, more)?;
-    Ok(facts_of(alloc, &tree)?)
-}
-
 /// The number of the fault that a check of these facts answers, or 0 where they are of a valid bag.
 fn number_of(alloc: Global, facts: &Facts) -> u8 {
     match check(alloc, facts) {
         Ok(_) => 0,
         Err(fault) => fault.number(),
     }
-}
-
-/// The same of these files.
-fn number(alloc: Global, files: &[File], more: &[File]) -> Result<u8, Fail> {
-    let facts = facts_of_files(alloc, files, more)?;
-    Ok(number_of(alloc, &facts))
 }
 
 /// The facts of a file, of which these digests alone are known.
@@ -87,61 +58,77 @@ fn named_in(tree: &Tree) -> Algorithms {
     named
 }
 
-/// The number, where only those digests are known that the tree's manifests ask for.
-fn number_by_named(alloc: Global, files: &[File], more: &[File]) -> Result<u8, Fail> {
-    named_law();
-    let tree = tree_of(alloc, files, more)?;
-    let facts = facts_by(alloc, named_in(&tree), &tree)?;
+/// The number, where only these digests are known.
+fn number_by(alloc: Global, wanted: Algorithms, tree: &Tree) -> Result<u8, AllocError> {
+    let facts = facts_by(alloc, wanted, tree)?;
     Ok(number_of(alloc, &facts))
 }
 
+/// The number, where all digests are known.
+fn number(alloc: Global, tree: &Tree) -> Result<u8, AllocError> {
+    let facts = facts_of(alloc, tree)?;
+    Ok(number_of(alloc, &facts))
+}
+
+/// A check of these files answers this number, and the same where only those digests are known that
+/// their manifests ask for.
 fn are_answered(
+    rt: &impl Abort,
+    alloc: Global,
+    tree: &mut Tree,
+    files: &[File],
+    case: Case,
+) -> Result<(), TreeFault> {
+    named_law();
+    let (path, parts, want) = case;
+    fill(alloc, tree, files)?;
+    fill(alloc, tree, &[(path, parts)])?;
+    let all = number(alloc, tree)?;
+    let by_named = number_by(alloc, named_in(tree), tree)?;
+    assert_eq!(rt; (all, by_named), (want, want), "with {path} of {parts:?}");
+    Ok(())
+}
+
+fn each_is_answered(
     rt: &impl Abort,
     alloc: Global,
     files: &[File],
     cases: &[Case],
-) -> Result<(), Fail> {
-    for &(path, parts, want) in cases {
-        let file = [(path, parts)];
-        let found = (
-            number(alloc, files, &file)?,
-            number_by_named(alloc, files, &file)?,
-        );
-        assert_eq!(rt; found, (want, want), "with {path} of {parts:?}");
+) -> Result<(), TreeFault> {
+    for &case in cases {
+        let mut tree = Tree::new(alloc);
+        are_answered(rt, alloc, &mut tree, files, case)?;
     }
     Ok(())
 }
 
 #[test]
 fn a_file_more(rt: HostRuntime) -> Result<(), Fail> {
-    let alloc = rt.alloc();
-    are_answered(&rt, alloc, &WITHOUT_DECLARATION, &DECLARATIONS)?;
-    are_answered(&rt, alloc, &OF_A, &TAG_FILES)?;
-    are_answered(&rt, alloc, &WITHOUT_MANIFEST, &MANIFESTS)?;
-    are_answered(&rt, alloc, &WITH_THREE_MANIFESTS, &FOURTH_MANIFESTS)?;
-    are_answered(&rt, alloc, &EMPTY, &TAG_MANIFESTS)
+    for &(files, cases) in &BAGS {
+        each_is_answered(&rt, rt.alloc(), files, cases)?;
+    }
+    Ok(())
+}
+
+fn is_at_fault(
+    rt: &impl Abort,
+    alloc: Global,
+    tree: &mut Tree,
+    files: &[File],
+    want: u8,
+) -> Result<(), TreeFault> {
+    fill(alloc, tree, files)?;
+    let found = number(alloc, tree)?;
+    assert_eq!(rt; found, want, "of {files:?}");
+    Ok(())
 }
 
 #[test]
 fn faults_with_others(rt: HostRuntime) -> Result<(), Fail> {
-    let alloc = rt.alloc();
-    let found = [
-        number(alloc, &[], &[])?,
-        number(alloc, &[], &[DECLARED])?,
-        number(alloc, &WITHOUT_DECLARATION, &[])?,
-        number(alloc, &WITHOUT_ANY_MANIFEST, &[])?,
-        // Of two faults the one with the lower number is answered.
-        number(alloc, &WITHOUT_ANY_MANIFEST, &[("fetch.txt", &[])])?,
-        // A file that isn't listed comes before a wrong digest.
-        number(alloc, &WITH_A_WRONG_DIGEST, &[("data/b.txt", &[])])?,
-        // A malformed line of any manifest comes before an unsafe path of any other.
-        number(
-            alloc,
-            &WITH_AN_UNSAFE_PATH,
-            &[("tagmanifest-sha1.txt", &["x"])],
-        )?,
-    ];
-    assert_eq!(rt; found, [1, 6, 1, 7, 5, 13, 9]);
+    for &(files, want) in &FAULTS {
+        let mut tree = Tree::new(rt.alloc());
+        is_at_fault(&rt, rt.alloc(), &mut tree, files, want)?;
+    }
     Ok(())
 }
 
@@ -157,19 +144,40 @@ fn is_valid(alloc: Global, facts: &Facts) -> Result<bool, AllocError>
     }
 }
 
-fn are_told(rt: &impl Abort, alloc: Global, empty: &Facts, undeclared: &Facts) -> Result<(), Fail> {
-    assert_eq!(rt; check(alloc, empty), Ok(BagId(NOTHING)));
-    assert!(rt; is_valid(alloc, empty)?);
-    assert!(rt; !is_valid(alloc, undeclared)?);
-    assert_eq!(rt; BagFault::Memory.number(), 15);
+fn is_valid_tree(alloc: Global, tree: &mut Tree, files: &[File]) -> Result<bool, TreeFault> {
+    fill(alloc, tree, files)?;
+    let facts = facts_of(alloc, tree)?;
+    Ok(is_valid(alloc, &facts)?)
+}
+
+fn has_identity(rt: &impl Abort, alloc: Global, tree: &Tree, id: BagId) -> Result<(), AllocError> {
+    let facts = facts_of(alloc, tree)?;
+    assert_eq!(rt; check(alloc, &facts), Ok(id));
+    Ok(())
+}
+
+fn are_told_apart(
+    rt: &impl Abort,
+    alloc: Global,
+    empty: &mut Tree,
+    undeclared: &mut Tree,
+) -> Result<(), TreeFault> {
+    let validity = (
+        is_valid_tree(alloc, empty, &EMPTY)?,
+        is_valid_tree(alloc, undeclared, &WITHOUT_DECLARATION)?,
+    );
+    assert_eq!(rt; validity, (true, false));
+    has_identity(rt, alloc, empty, BagId(NOTHING))?;
     Ok(())
 }
 
 #[test]
 fn valid_bags_are_told_from_others(rt: HostRuntime) -> Result<(), Fail> {
-    let empty = facts_of_files(rt.alloc(), &EMPTY, &[])?;
-    let undeclared = facts_of_files(rt.alloc(), &WITHOUT_DECLARATION, &[])?;
-    are_told(&rt, rt.alloc(), &empty, &undeclared)
+    let mut empty = Tree::new(rt.alloc());
+    let mut undeclared = Tree::new(rt.alloc());
+    are_told_apart(&rt, rt.alloc(), &mut empty, &mut undeclared)?;
+    assert_eq!(rt; BagFault::Memory.number(), 15);
+    Ok(())
 }
 
 const NONE: Algorithms = Algorithms {
@@ -177,6 +185,13 @@ const NONE: Algorithms = Algorithms {
     sha1: false,
     sha256: false,
     sha512: false,
+};
+
+const ALL: Algorithms = Algorithms {
+    md5: true,
+    sha1: true,
+    sha256: true,
+    sha512: true,
 };
 
 const BY_MD5: Algorithms = Algorithms { md5: true, ..NONE };
@@ -219,21 +234,21 @@ fn algorithms_of_names(rt: HostRuntime) {
     }
 }
 
-/// The fault where only these digests are known of the valid bag of one file.
-fn number_with(alloc: Global, wanted: Algorithms) -> Result<u8, Fail> {
-    let tree = tree_of(alloc, &OF_A, &[])?;
-    let facts = facts_by(alloc, wanted, &tree)?;
-    Ok(number_of(alloc, &facts))
+/// Digests that are known of the valid bag of one file, and the number that its check answers.
+static KNOWN: [(Algorithms, u8); 4] = [(NONE, 14), (BY_MD5, 14), (BY_SHA512, 0), (ALL, 0)];
+
+fn are_known(rt: &impl Abort, alloc: Global, tree: &mut Tree) -> Result<(), TreeFault> {
+    fill(alloc, tree, &OF_A)?;
+    for &(known, want) in &KNOWN {
+        let found = number_by(alloc, known, tree)?;
+        assert_eq!(rt; found, want, "where {known:?} are known");
+    }
+    Ok(())
 }
 
 #[test]
 fn a_digest_that_is_not_known_is_no_other(rt: HostRuntime) -> Result<(), Fail> {
-    let found = [
-        number_with(rt.alloc(), NONE)?,
-        number_with(rt.alloc(), BY_MD5)?,
-        number_with(rt.alloc(), BY_SHA512)?,
-        number_with(rt.alloc(), Algorithms::all())?,
-    ];
-    assert_eq!(rt; found, [14, 14, 0, 0]);
+    let mut tree = Tree::new(rt.alloc());
+    are_known(&rt, rt.alloc(), &mut tree)?;
     Ok(())
 }

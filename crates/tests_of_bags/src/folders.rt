@@ -1,10 +1,10 @@
+use crate::files::{ABC, ALGORITHMS, add_folder};
 use bag_digest::{Algorithms, Digests};
 use bag_folders::{
     DiskFolders, Folders, Hashing, MOST_READS, MemoryFolders, Silent, Watcher, hash_reader,
     hash_watched, read_folder,
 };
-use bag_text::Algorithm;
-use bag_tree::{FileFacts, LONGEST_TEXT, Tree, TreeFault};
+use bag_tree::{FileFacts, LONGEST_TEXT, TreeFault};
 use std::alloc::Global;
 use std::io;
 use std::io::{ErrorKind, Read};
@@ -66,13 +66,6 @@ impl Read for OneByOne<'_> {
         }
     }
 }
-
-static ALGORITHMS: [Algorithm; 4] = [
-    Algorithm::Md5,
-    Algorithm::Sha1,
-    Algorithm::Sha256,
-    Algorithm::Sha512,
-];
 
 /// Whether the file has all digests of these bytes.
 fn has_digests_of(file: &FileFacts, bytes: &[u8]) -> bool {
@@ -187,28 +180,14 @@ fn read_of<F: Folders>(folders: &mut F, path: &str) -> Result<usize, TreeFault> 
     Ok(facts.files().len())
 }
 
-fn add(
-    folders: &mut MemoryFolders,
-    alloc: Global,
-    name: &str,
-    files: &[&str],
-) -> Result<(), TreeFault> {
-    let mut tree = Tree::new(alloc);
-    for file in files {
-        tree.add(file, b"abc")?;
-    }
-    folders.add(name, tree)?;
-    Ok(())
-}
-
 fn has_two_folders(
     rt: &impl Abort,
     alloc: Global,
     folders: &mut MemoryFolders,
 ) -> Result<(), TreeFault> {
-    add(folders, alloc, "x", &["data/a"])?;
-    add(folders, alloc, "x", &[])?;
-    add(folders, alloc, "y", &[])?;
+    add_folder(alloc, folders, "x", &[("data/a", ABC)])?;
+    add_folder(alloc, folders, "x", &[])?;
+    add_folder(alloc, folders, "y", &[])?;
     let read = [
         read_of(folders, "x"),
         read_of(folders, "y"),

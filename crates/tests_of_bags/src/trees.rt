@@ -1,28 +1,13 @@
+use crate::files::{ABC, ALGORITHMS, File, fill};
 use bag_digest::{Algorithms, Digests};
 use bag_text::Algorithm;
 use bag_tree::{
     DEEPEST_PATH, Facts, FileFacts, LONGEST_TEXT, MOST_FILES, Tree, TreeFault, facts_of,
     has_unsafe_part, is_payload, is_read_text, limits_hold,
 };
-use std::alloc::Global;
+use std::alloc::{AllocError, Global};
 use std::process::Abort;
 use std::test::Fail;
-
-/// The tree of files at these paths, each of `abc`.
-fn tree_of(alloc: Global, paths: &[&str]) -> Result<Tree, TreeFault> {
-    let mut tree = Tree::new(alloc);
-    for path in paths {
-        tree.add(path, b"abc")?;
-    }
-    Ok(tree)
-}
-
-static ALGORITHMS: [Algorithm; 4] = [
-    Algorithm::Md5,
-    Algorithm::Sha1,
-    Algorithm::Sha256,
-    Algorithm::Sha512,
-];
 
 /// The file has the digests of `abc` and no others.
 fn has_digests_of_abc(rt: &impl Abort, file: &FileFacts) {
@@ -35,6 +20,8 @@ fn has_digests_of_abc(rt: &impl Abort, file: &FileFacts) {
         assert_eq!(rt; (has(&abc), has(&abd)), (true, false), "of {}", file.path());
     }
 }
+
+static SMALL: [File; 2] = [("bagit.txt", ABC), ("data/a.txt", ABC)];
 
 fn has_both_files(rt: &impl Abort, tree: &Tree, facts: &Facts) {
     assert_eq!(rt; (tree.files().len(), facts.files().len()), (2, 2));
@@ -55,7 +42,8 @@ fn has_both_files(rt: &impl Abort, tree: &Tree, facts: &Facts) {
 
 #[test]
 fn facts_of_a_small_tree(rt: HostRuntime) -> Result<(), Fail> {
-    let tree = tree_of(rt.alloc(), &["bagit.txt", "data/a.txt"])?;
+    let mut tree = Tree::new(rt.alloc());
+    fill(rt.alloc(), &mut tree, &SMALL)?;
     let facts = facts_of(rt.alloc(), &tree)?;
     has_both_files(&rt, &tree, &facts);
     Ok(())
@@ -72,36 +60,54 @@ fn has_one_digest(rt: &impl Abort, file: &FileFacts) {
     assert_eq!(rt; file.sha512_of_text(), abc.sha512);
 }
 
-#[test]
-fn digests_before_and_after_they_are_computed(rt: HostRuntime) -> Result<(), Fail> {
+/// A text of `abc`, of which the SHA-1 alone is computed at once.
+fn text_of_abc(alloc: Global) -> Result<FileFacts, AllocError> {
     let wanted = Algorithms {
         sha1: true,
         ..Algorithms::none()
     };
-    let path = String::from_str(rt.alloc(), "bagit.txt")?;
-    let bytes = Vec::from_slice(rt.alloc(), b"abc")?;
-    let mut files = Vec::new(rt.alloc());
-    files.push(FileFacts::kept(path, wanted, bytes))?;
-    let mut facts = Facts::new(files, false);
+    let path = String::from_str(alloc, "bagit.txt")?;
+    let bytes = Vec::from_slice(alloc, b"abc")?;
+    Ok(FileFacts::kept(path, wanted, bytes))
+}
+
+fn keep_one_digest(rt: &impl Abort, facts: &mut Facts) {
     for file in facts.files() {
-        has_one_digest(&rt, file);
+        has_one_digest(rt, file);
     }
     facts.compute_digests(Algorithms::all());
     for file in facts.files() {
-        has_one_digest(&rt, file);
+        has_one_digest(rt, file);
         assert_eq!(rt; file.text(), Some(b"abc".as_slice()));
     }
     assert_eq!(rt; facts.files().len(), 1);
+}
+
+#[test]
+fn digests_before_and_after_they_are_computed(rt: HostRuntime) -> Result<(), Fail> {
+    let mut files = Vec::new(rt.alloc());
+    files.push(text_of_abc(rt.alloc())?)?;
+    let mut facts = Facts::new(files, false);
+    keep_one_digest(&rt, &mut facts);
+    Ok(())
+}
+
+fn gets_a_folder(rt: &impl Abort, alloc: Global, tree: &mut Tree) -> Result<(), TreeFault> {
+    let when_empty = tree.payload_exists();
+    fill(alloc, tree, &[("bagit.txt", ABC)])?;
+    let before = tree.payload_exists();
+    tree.add_folder();
+    assert_eq!(rt;
+        (when_empty, before, tree.payload_exists()),
+        (false, false, true)
+    );
     Ok(())
 }
 
 #[test]
 fn an_added_folder_exists(rt: HostRuntime) -> Result<(), Fail> {
-    let mut tree = tree_of(rt.alloc(), &["bagit.txt"])?;
-    let before = tree.payload_exists();
-    tree.add_folder();
-    assert_eq!(rt; (before, tree.payload_exists()), (false, true));
-    assert!(rt; !Tree::new(rt.alloc()).payload_exists());
+    let mut tree = Tree::new(rt.alloc());
+    gets_a_folder(&rt, rt.alloc(), &mut tree)?;
     Ok(())
 }
 
@@ -152,7 +158,12 @@ static PATHS: [(&str, Result<(), TreeFault>); 26] = [
 ];
 
 fn added(alloc: Global, path: &str) -> Result<(), TreeFault> {
-    let mut tree = tree_of(alloc, &["a", "b/c", "data/x"])?;
+    let mut tree = Tree::new(alloc);
+    fill(
+        alloc,
+        &mut tree,
+        &[("a", ABC), ("b/c", ABC), ("data/x", ABC)],
+    )?;
     tree.add(path, b"")
 }
 

@@ -1,11 +1,7 @@
 //! Bags as files that many have and one more each, with the number of the fault that a check
 //! answers, or 0 where it is valid.
 
-/// A file's path and the parts of its text, or the payload's folder.
-pub(super) type File = (&'static str, &'static [&'static str]);
-
-/// A declaration as RFC 8493, 2.1.1, has it.
-const DECLARATION: &str = "BagIt-Version: 1.0\nTag-File-Character-Encoding: UTF-8\n";
+use crate::files::{ABC, DECLARATION, DECLARED, FOLDER, File};
 
 /// Digests of `abc` (RFC 1321; FIPS 180-4), in hex of either case.
 const MD5: &str = "900150983cd24fb0d6963f7d28e17f72";
@@ -24,18 +20,13 @@ const ALL_BUT_F: &str = "DDAF35A193617ABACC417349AE20413112E6FA4E89A97EA20A9EEEE
 /// The MD5 of no bytes (RFC 1321).
 const MD5_OF_NOTHING: &str = "d41d8cd98f00b204e9800998ecf8427e";
 
-/// The payload's folder, which a bag without payload files needs.
-pub(super) const FOLDER: File = ("data", &[]);
-
-pub(super) const DECLARED: File = ("bagit.txt", &[DECLARATION]);
-
-pub(super) const LISTS_NOTHING: File = (MANIFEST, &[]);
+const LISTS_NOTHING: File = (MANIFEST, &[]);
 
 const MANIFEST: &str = "manifest-sha512.txt";
 
 const TAGS: &str = "tagmanifest-md5.txt";
 
-const A: File = ("data/a.txt", &["abc"]);
+const A: File = ("data/a.txt", ABC);
 
 const LISTS_A: File = (MANIFEST, &[SHA512, "  data/a.txt"]);
 
@@ -48,7 +39,7 @@ pub(super) type Case = (&'static str, &'static [&'static str], u8);
 
 pub(super) const WITHOUT_DECLARATION: [File; 2] = [FOLDER, LISTS_NOTHING];
 
-pub(super) static DECLARATIONS: [Case; 8] = [
+const DECLARATIONS: [Case; 8] = [
     ("bagit.txt", &[DECLARATION], 0),
     (
         "bagit.txt",
@@ -85,7 +76,7 @@ pub(super) static DECLARATIONS: [Case; 8] = [
 
 pub(super) const OF_A: [File; 3] = [DECLARED, A, LISTS_A];
 
-pub(super) static TAG_FILES: [Case; 8] = [
+const TAG_FILES: [Case; 8] = [
     ("bag-info.txt", &[], 0),
     ("tags/manifest-md4.txt", &[], 0),
     ("manifest-md4.txt.old", &[], 0),
@@ -96,9 +87,9 @@ pub(super) static TAG_FILES: [Case; 8] = [
     ("tagmanifest-md4.txt", &[], 8),
 ];
 
-pub(super) const WITHOUT_MANIFEST: [File; 2] = [DECLARED, A];
+const WITHOUT_MANIFEST: [File; 2] = [DECLARED, A];
 
-pub(super) static MANIFESTS: [Case; 16] = [
+const MANIFESTS: [Case; 16] = [
     // Paths.
     (MANIFEST, &[SHA512, "  data/a.txt"], 0),
     (MANIFEST, &[SHA512, " *./data/a.txt\r\n"], 0),
@@ -123,9 +114,9 @@ pub(super) static MANIFESTS: [Case; 16] = [
     (MANIFEST, &[ALL_BUT_F, "E  data/a.txt"], 14),
 ];
 
-pub(super) const WITH_THREE_MANIFESTS: [File; 5] = [DECLARED, A, LISTS_A, BY_SHA1, BY_SHA256];
+const WITH_THREE_MANIFESTS: [File; 5] = [DECLARED, A, LISTS_A, BY_SHA1, BY_SHA256];
 
-pub(super) static FOURTH_MANIFESTS: [Case; 5] = [
+const FOURTH_MANIFESTS: [Case; 5] = [
     ("manifest-md5.txt", &[MD5, " data/a.txt"], 0),
     ("manifest-md5.txt", &[], 13),
     (
@@ -139,7 +130,7 @@ pub(super) static FOURTH_MANIFESTS: [Case; 5] = [
 
 pub(super) const EMPTY: [File; 3] = [FOLDER, DECLARED, LISTS_NOTHING];
 
-pub(super) static TAG_MANIFESTS: [Case; 6] = [
+const TAG_MANIFESTS: [Case; 6] = [
     (TAGS, &[MD5_OF_NOTHING, "  manifest-sha512.txt\n"], 0),
     (TAGS, &[MD5_OF_NOTHING, "  data/x\n"], 10),
     (TAGS, &[MD5_OF_NOTHING, "  gone.txt\n"], 12),
@@ -158,18 +149,41 @@ pub(super) static TAG_MANIFESTS: [Case; 6] = [
     ),
 ];
 
-/// Bags at fault, each with a file more of another fault: the lower of the two is answered.
-pub(super) const WITHOUT_ANY_MANIFEST: [File; 2] = [FOLDER, DECLARED];
-
-pub(super) const WITH_A_WRONG_DIGEST: [File; 3] = [
-    DECLARED,
-    A,
-    (MANIFEST, &[ALL_BUT_F, "E  data/a.txt"]),
+/// The files that bags have, and one file more.
+pub(super) static BAGS: [(&[File], &[Case]); 5] = [
+    (&WITHOUT_DECLARATION, &DECLARATIONS),
+    (&OF_A, &TAG_FILES),
+    (&WITHOUT_MANIFEST, &MANIFESTS),
+    (&WITH_THREE_MANIFESTS, &FOURTH_MANIFESTS),
+    (&EMPTY, &TAG_MANIFESTS),
 ];
 
-pub(super) const WITH_AN_UNSAFE_PATH: [File; 4] = [
-    DECLARED,
-    A,
-    LISTS_A,
-    ("manifest-md5.txt", &[MD5, "  data/../x"]),
+/// Bags at fault: of two faults the one with the lower number is answered.
+pub(super) static FAULTS: [(&[File], u8); 7] = [
+    (&[], 1),
+    (&[DECLARED], 6),
+    (&WITHOUT_DECLARATION, 1),
+    (&[FOLDER, DECLARED], 7),
+    (&[FOLDER, DECLARED, ("fetch.txt", &[])], 5),
+    // A file that isn't listed comes before a wrong digest.
+    (
+        &[
+            DECLARED,
+            A,
+            (MANIFEST, &[ALL_BUT_F, "E  data/a.txt"]),
+            ("data/b.txt", &[]),
+        ],
+        13,
+    ),
+    // A malformed line of any manifest comes before an unsafe path of any other.
+    (
+        &[
+            DECLARED,
+            A,
+            LISTS_A,
+            ("manifest-md5.txt", &[MD5, "  data/../x"]),
+            ("tagmanifest-sha1.txt", &["x"]),
+        ],
+        9,
+    ),
 ];
