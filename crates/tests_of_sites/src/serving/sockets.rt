@@ -1,9 +1,11 @@
 //! Ports at sockets.
 
-use super::*;
+use std::alloc::Global;
 use std::io;
 use std::net::{IpAddr, Ipv4Addr, Net, SocketAddr, TcpListener, TcpStream, UdpSocket};
+use std::test::Fail;
 use std::time::{Clock, Duration};
+use udp_site::{Port, PortFault, Turn, UdpPort};
 
 // A port of its own number, and one that waits for a fiftieth of a second.
 fn free_port(rt: &HostRuntime) -> Result<UdpPort, Fail> {
