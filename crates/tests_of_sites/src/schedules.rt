@@ -23,7 +23,11 @@ static PRINTED: [(&[u8], &str); 2] = [
 
 fn printed(alloc: Global, text: &[u8]) -> Result<String, Fail> {
     let schedule = parse(alloc, text)?;
-    Ok(print(alloc, &schedule)?)
+    print_text(alloc, &schedule)
+}
+
+fn print_text(alloc: Global, schedule: &Schedule) -> Result<String, Fail> {
+    Ok(print(alloc, schedule)?)
 }
 
 #[test]
