@@ -3,12 +3,6 @@
 #![tactic(auto)]
 
 #[cfg(test)]
-mod commands;
-#[cfg(test)]
-mod fates;
-#[cfg(test)]
-mod federations;
-#[cfg(test)]
 mod laws;
 #[cfg(test)]
 mod members;

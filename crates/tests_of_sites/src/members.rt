@@ -1,3 +1,5 @@
+//! Members files: what they say. Those at fault are in tests/lines.
+
 use members_file::{MembersFault, members_files_law, read_members};
 use std::alloc::Global;
 use std::test::Fail;
@@ -70,95 +72,6 @@ fn reads_files(rt: HostRuntime) {
     for &(text, federation, ports) in &FILES {
         let said = says(rt.alloc(), text, federation, ports);
         assert_eq!(rt; said, Ok(true), "in {text:?}");
-    }
-}
-
-// Texts, and the numbers of their first lines at fault.
-static FAULTS: [(&[u8], usize); 59] = [
-    // No federation, or another first line.
-    (b"", 1),
-    (b"\n", 1),
-    (b"\n\n", 1),
-    (b"\nfederation 7\nsite 1 9001\n", 1),
-    (b"# members\nfederation 7\nsite 1 9001\n", 1),
-    (b"site 1 9001\n", 1),
-    (b"federation\nsite 1 9001\n", 1),
-    (b"federation 7 1\nsite 1 9001\n", 1),
-    (b"Federation 7\nsite 1 9001\n", 1),
-    (b"federation7\nsite 1 9001\n", 1),
-    (b"federation\t7\nsite 1 9001\n", 1),
-    (b"federation -7\nsite 1 9001\n", 1),
-    (b"federation +7\nsite 1 9001\n", 1),
-    (b"federation 0x7\nsite 1 9001\n", 1),
-    (b"federation 18446744073709551616\nsite 1 9001\n", 1),
-    (b"\xef\xbb\xbffederation 7\nsite 1 9001\n", 1),
-    (b"federation 7\xff\nsite 1 9001\n", 1),
-    // A CR that no LF follows is a byte of its word, and so is the first of two.
-    (b"federation 7\r", 1),
-    (b"federation 7\r\r\nsite 1 9001\n", 1),
-    (b"federation 7\rsite 1 9001\n", 1),
-    // No site.
-    (b"federation 7", 2),
-    (b"federation 7\n", 2),
-    (b"federation 7\r\n", 2),
-    (b"federation 7\n\n \n\n", 2),
-    // Lines that are no site's.
-    (b"federation 7\nfederation 7\nsite 1 9001\n", 2),
-    (b"federation 7\nsite\n", 2),
-    (b"federation 7\nsite 1\n", 2),
-    (b"federation 7\nsite 1 9001 1\n", 2),
-    (b"federation 7\nsites 1 9001\n", 2),
-    (b"federation 7\nSITE 1 9001\n", 2),
-    (b"federation 7\nsite\t1 9001\n", 2),
-    (b"federation 7\n# site 1\nsite 1 9001\n", 2),
-    (b"federation 7\nsite 1 9001\nsite 2 9002\nelse\n", 4),
-    (b"federation 7\nsite 1 9001\nsite 2 9002\r", 3),
-    (b"federation 7\nsite 1 9001\n\r", 3),
-    (b"federation 7\nsite 1 9001\n\t\n", 3),
-    (b"federation 7\nsite 1 9001\n# the end\n", 3),
-    // A blank line that isn't at the end.
-    (b"federation 7\n\nsite 1 9001\n", 2),
-    (b"federation 7\nsite 1 9001\n\nsite 2 9002\n", 3),
-    (b"federation 7\nsite 1 9001\n \n\nelse\n", 3),
-    // Numbers of sites.
-    (b"federation 7\nsite 0 9001\n", 2),
-    (b"federation 7\nsite 2 9001\n", 2),
-    (b"federation 7\nsite 1 9001\nsite 1 9002\n", 3),
-    (b"federation 7\nsite 1 9001\nsite 3 9003\n", 3),
-    (b"federation 7\nsite 1 9001\nsite 257 9003\n", 3),
-    (b"federation 7\nsite one 9001\n", 2),
-    (b"federation 7\nsite 18446744073709551617 9001\n", 2),
-    // Ports.
-    (b"federation 7\nsite 1 0\n", 2),
-    (b"federation 7\nsite 1 65536\n", 2),
-    (b"federation 7\nsite 1 65537\n", 2),
-    (b"federation 7\nsite 1 18446744073709551617\n", 2),
-    (b"federation 7\nsite 1 -1\n", 2),
-    (b"federation 7\nsite 1 90%30\n", 2),
-    (b"federation 7\nsite 1 9001\nsite 2 \xef\xbc\x91\n", 3),
-    // A port twice: the later line is at fault.
-    (b"federation 7\nsite 1 9001\nsite 2 9001\n", 3),
-    (
-        b"federation 7\nsite 1 9001\nsite 2 9002\nsite 3 09001\nelse\n",
-        4,
-    ),
-    // The first of several lines at fault.
-    (b"else\nelse\n", 1),
-    (b"federation 7\nsite 1 9001\nsite 3 9003\nsite 2 9001\n", 3),
-    // A sixteenth site.
-    (
-        b"federation 1\nsite 1 11\nsite 2 12\nsite 3 13\nsite 4 14\nsite 5 15\nsite 6 16\n\
-          site 7 17\nsite 8 18\nsite 9 19\nsite 10 20\nsite 11 21\nsite 12 22\nsite 13 23\n\
-          site 14 24\nsite 15 25\nsite 16 26\n",
-        17,
-    ),
-];
-
-#[test]
-fn finds_faults(rt: HostRuntime) {
-    for &(text, line) in &FAULTS {
-        let fault = read_members(rt.alloc(), text).err();
-        assert_eq!(rt; fault, Some(MembersFault::Line(line)), "in {text:?}");
     }
 }
 

@@ -8,40 +8,68 @@ fn no(number: u32) -> Result<TreeNo, Fail> {
     Ok(TreeNo::new(number).ok_or("0")?)
 }
 
+fn see_all(seen: &mut SeenBags) -> Result<(), Fail> {
+    for (bag, tree) in [(1, 5), (1, 6), (2, 6)] {
+        seen.see(BagId([bag; 64]), no(tree)?)?;
+    }
+    Ok(())
+}
+
+fn has_seen(rt: &impl Abort, seen: &mut SeenBags) -> Result<(), Fail> {
+    see_all(seen)?;
+    for (bag, tree) in [(1, 5), (2, 6), (3, 0)] {
+        assert_eq!(rt; seen.first_tree(BagId([bag; 64])), tree);
+    }
+    Ok(())
+}
+
 #[test]
 fn the_first_tree_of_a_bag_is_kept(rt: HostRuntime) -> Result<(), Fail> {
     let mut seen = SeenBags::new(rt.alloc());
-    seen.see(BagId([1; 64]), no(5)?)?;
-    seen.see(BagId([1; 64]), no(6)?)?;
-    seen.see(BagId([2; 64]), no(6)?)?;
-    assert_eq!(rt; seen.first_tree(BagId([1; 64])), 5);
-    assert_eq!(rt; seen.first_tree(BagId([2; 64])), 6);
-    assert_eq!(rt; seen.first_tree(BagId([3; 64])), 0);
+    has_seen(&rt, &mut seen)
+}
+
+// Names these numbers; then this is the next one that isn't named.
+fn names(
+    rt: &impl Abort,
+    sent: &mut Datagrams<u32>,
+    numbers: &[usize],
+    next: Option<usize>,
+) -> Result<(), Fail> {
+    for number in numbers {
+        sent.name(*number)?;
+    }
+    assert_eq!(rt; sent.next_unnamed(), next);
     Ok(())
+}
+
+fn send_all(sent: &mut Datagrams<u32>) -> Result<(), Fail> {
+    for datagram in [70, 80, 90, 100] {
+        sent.push(datagram)?;
+    }
+    Ok(())
+}
+
+fn has_named(rt: &impl Abort, sent: &mut Datagrams<u32>) -> Result<(), Fail> {
+    names(rt, sent, &[0, 3, 4_294_967_295], None)?;
+    send_all(sent)?;
+    assert_eq!(rt; sent.len(), 4);
+    names(rt, sent, &[], Some(1))?;
+    names(rt, sent, &[2, 1], Some(4))?;
+    names(rt, sent, &[4], None)
+}
+
+fn gets(rt: &impl Abort, sent: &Datagrams<u32>) {
+    for (number, datagram) in [(0, None), (1, Some(70)), (4, Some(100)), (5, None)] {
+        assert_eq!(rt; sent.get(number).copied(), datagram);
+    }
 }
 
 #[test]
 fn the_least_unnamed_comes_next(rt: HostRuntime) -> Result<(), Fail> {
     let mut sent: Datagrams<u32> = Datagrams::new(rt.alloc());
-    sent.name(0)?;
-    sent.name(3)?;
-    sent.name(4_294_967_295)?;
-    assert_eq!(rt; sent.next_unnamed(), None);
-    sent.push(70)?;
-    sent.push(80)?;
-    sent.push(90)?;
-    sent.push(100)?;
-    assert_eq!(rt; sent.len(), 4);
-    assert_eq!(rt; sent.next_unnamed(), Some(1));
-    sent.name(2)?;
-    sent.name(1)?;
-    assert_eq!(rt; sent.next_unnamed(), Some(4));
-    sent.name(4)?;
-    assert_eq!(rt; sent.next_unnamed(), None);
-    assert_eq!(rt; sent.get(0).copied(), None);
-    assert_eq!(rt; sent.get(1).copied(), Some(70));
-    assert_eq!(rt; sent.get(4).copied(), Some(100));
-    assert_eq!(rt; sent.get(5).copied(), None);
+    has_named(&rt, &mut sent)?;
+    gets(&rt, &sent);
     Ok(())
 }
 
@@ -62,11 +90,16 @@ fn has_one_file(rt: &impl Abort, trees: &mut Trees) -> Result<(), Fail> {
     Ok(())
 }
 
+fn has_both(rt: &impl Abort, trees: &mut Trees) -> Result<(), Fail> {
+    has_one_file(rt, trees)?;
+    has_no_tree(rt, trees)
+}
+
 #[test]
 #[tactic(auto, unfolding(world_law::specs::Trees::tree_at))]
 fn trees_are_found_by_their_numbers(rt: HostRuntime) -> Result<(), Fail> {
+    let seven = no(7)?;
     let mut trees = Trees::new(rt.alloc());
-    trees.declare(no(7)?)?;
-    has_one_file(&rt, &mut trees)?;
-    has_no_tree(&rt, &mut trees)
+    trees.declare(seven)?;
+    has_both(&rt, &mut trees)
 }

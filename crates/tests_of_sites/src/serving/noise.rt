@@ -1,6 +1,11 @@
 //! Bytes that are no message for a site are dropped.
 
-use super::*;
+use super::bench::NO_LIMITS;
+use super::script::{Script, Step, plays};
+use super::{CLIENT, DEPOSIT, bytes_of};
+use std::alloc::Global;
+use std::test::Fail;
+use udp_site::MemoryPort;
 
 const PREPARE: &str = "425001010000000000000007010161000000010000000101";
 
@@ -13,7 +18,7 @@ const NOT_FOR_A_SITE: [&str; 3] = [
 
 // All beginnings of these bytes.
 fn bring_beginnings(alloc: Global, port: &mut MemoryPort, digits: &str) -> Result<(), Fail> {
-    let bytes = hex::decode(alloc, digits)?;
+    let bytes = bytes_of(alloc, digits)?;
     for count in 0..bytes.len() {
         port.bring(CLIENT, bytes.get(..count).unwrap_or(b""))?;
     }
@@ -22,7 +27,7 @@ fn bring_beginnings(alloc: Global, port: &mut MemoryPort, digits: &str) -> Resul
 
 // These bytes with one and more after them.
 fn bring_longer(alloc: Global, port: &mut MemoryPort, digits: &str) -> Result<(), Fail> {
-    let mut bytes = hex::decode(alloc, digits)?;
+    let mut bytes = bytes_of(alloc, digits)?;
     for _ in 0..30 {
         bytes.push(1)?;
         port.bring(CLIENT, bytes.as_slice())?;
@@ -32,22 +37,22 @@ fn bring_longer(alloc: Global, port: &mut MemoryPort, digits: &str) -> Result<()
 
 fn bring_not_for_a_site(alloc: Global, port: &mut MemoryPort) -> Result<(), Fail> {
     for digits in &NOT_FOR_A_SITE {
-        let digits = with_bag(alloc, digits)?;
-        bring(alloc, port, CLIENT, digits.as_str().trim())?;
+        let bytes = bytes_of(alloc, digits)?;
+        port.bring(CLIENT, bytes.as_slice())?;
     }
     Ok(())
 }
 
-// Messages that are cut, longer than they say, or for no site of the federation: 79 of them.
-fn bring_near_misses(alloc: Global, port: &mut MemoryPort) -> Result<(), Fail> {
+/// Messages that are cut, longer than they say, or for no site of the federation: 79 of them.
+pub(super) fn bring_near_misses(alloc: Global, port: &mut MemoryPort) -> Result<(), Fail> {
     bring_beginnings(alloc, port, PREPARE)?;
     bring_beginnings(alloc, port, DEPOSIT)?;
     bring_longer(alloc, port, PREPARE)?;
     bring_not_for_a_site(alloc, port)
 }
 
-// A hundred pieces of 40 bytes by a linear congruence, each of which begins with 0.
-fn bring_hundred(alloc: Global, port: &mut MemoryPort) -> Result<(), Fail> {
+/// A hundred pieces of 40 bytes by a linear congruence, each of which begins with 0.
+pub(super) fn bring_hundred(alloc: Global, port: &mut MemoryPort) -> Result<(), Fail> {
     let mut x = 1u32;
     for _ in 0..100 {
         let mut bytes = Vec::new(alloc);
@@ -61,40 +66,39 @@ fn bring_hundred(alloc: Global, port: &mut MemoryPort) -> Result<(), Fail> {
     Ok(())
 }
 
-fn are_all_dropped(output: &[u8], count: u32) -> bool {
-    output.len() / 10 == count as usize
-        && output
-            .chunks(10)
-            .all(|line| line == b"dropped 1\n".as_slice())
-}
-
-// There is a line for each of so many pieces of noise, and nothing is sent or recorded.
-fn drops_noise(bench: &mut Bench, count: u32) -> Result<bool, Fail> {
-    serve_turns(bench, count)?;
-    let is_quiet = sent(bench.alloc, &bench.port)?.is_empty();
-    Ok(is_quiet && are_all_dropped(&bench.output, count) && bench.site.records().is_empty())
-}
-
-fn drops_near_misses(bench: &mut Bench) -> Result<bool, Fail> {
-    bring_near_misses(bench.alloc, &mut bench.port)?;
-    drops_noise(bench, 79)
-}
+// There is a line for each piece of noise, and nothing is sent or recorded.
+static NEAR_MISSES: Script = Script {
+    journal: "",
+    steps: &[
+        Step::NearMissesCome,
+        Step::Serves(79, None),
+        Step::HasDropped(79),
+        Step::HasRecords(0),
+    ],
+    sent: "",
+    said: "",
+};
 
 #[test]
 fn near_misses_are_dropped(rt: HostRuntime) -> Result<(), Fail> {
-    let mut bench = new_bench(rt.alloc())?;
-    assert!(rt; drops_near_misses(&mut bench)?);
+    assert!(rt; plays(rt.alloc(), NO_LIMITS, &NEAR_MISSES)?);
     Ok(())
 }
 
-fn drops_a_hundred(bench: &mut Bench) -> Result<bool, Fail> {
-    bring_hundred(bench.alloc, &mut bench.port)?;
-    drops_noise(bench, 100)
-}
+static NOISE: Script = Script {
+    journal: "",
+    steps: &[
+        Step::NoiseComes,
+        Step::Serves(100, None),
+        Step::HasDropped(100),
+        Step::HasRecords(0),
+    ],
+    sent: "",
+    said: "",
+};
 
 #[test]
 fn noise_is_dropped(rt: HostRuntime) -> Result<(), Fail> {
-    let mut bench = new_bench(rt.alloc())?;
-    assert!(rt; drops_a_hundred(&mut bench)?);
+    assert!(rt; plays(rt.alloc(), NO_LIMITS, &NOISE)?);
     Ok(())
 }

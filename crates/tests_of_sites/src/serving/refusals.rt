@@ -1,162 +1,101 @@
 //! What is refused, each for a reason of its own: another deposit, a proposal without a round left,
 //! and folders that can't be read.
 
-use super::failures::{DEPOSIT_REPLY, QUERY_REPLY, replied};
-use super::*;
-use bag_folders::Folders;
-use bag_tree::{Facts, TreeFault};
+use super::bench::NO_LIMITS;
+use super::script::{Script, Step, plays};
+use super::{CLIENT, DEPOSIT, QUERY};
+use std::test::Fail;
 
-// Whether this was said and sent, with the bag's identity in the place of each `I`.
-fn came(bench: &Bench, said: &str, replies: &str) -> Result<bool, Fail> {
-    let said = with_bag(bench.alloc, said)?;
-    let want = with_bag(bench.alloc, replies)?;
-    let sent = sent(bench.alloc, &bench.port)?;
-    Ok(bench.output.as_slice() == said.as_bytes() && sent.as_str() == want.as_str())
-}
-
-// A client deposits the folder `y` as the same version.
-const OTHER_DEPOSIT: &str = "42500110000000000000000700016100000001000179";
-
-// Both name the first bag, which the second reply has with code 11.
-const REPLIES: &str = "9000: 4250012000000000000000070101610000000100I
+// A client deposits the folder `y` as the same version. Both replies name the first bag, which the
+// second has with code 11.
+static OTHER_DEPOSIT: Script = Script {
+    journal: "",
+    steps: &[
+        Step::Comes(CLIENT, DEPOSIT),
+        Step::Comes(CLIENT, "42500110000000000000000700016100000001000179"),
+        Step::Serves(2, None),
+    ],
+    sent: "9000: 4250012000000000000000070101610000000100I
 9000: 425001200000000000000007010161000000010bI
-";
-
-const SAID: &str = "registered 1 a 1 I
-refused 1 11
-";
-
-// The folder `y` holds another bag: an empty line lists nothing, and counts for the identity.
-fn refuses_another_deposit(bench: &mut Bench) -> Result<bool, Fail> {
-    bench.folders.add("y", bag_with(bench.alloc, b"\n")?)?;
-    for digits in [DEPOSIT, OTHER_DEPOSIT] {
-        bring(bench.alloc, &mut bench.port, CLIENT, digits)?;
-    }
-    serve_turns(bench, 2)?;
-    came(bench, SAID, REPLIES)
-}
+",
+    said: "registered 1 a 1 I\nrefused 1 11\n",
+};
 
 #[test]
 fn another_deposit_is_refused(rt: HostRuntime) -> Result<(), Fail> {
-    let mut bench = new_bench(rt.alloc())?;
-    assert!(rt; refuses_another_deposit(&mut bench)?);
+    assert!(rt; plays(rt.alloc(), NO_LIMITS, &OTHER_DEPOSIT)?);
     Ok(())
 }
 
-// The journal of site 1 of federation 7, up to the round: for version 1 of `a` a Deposit, whose bag
-// is between the two, and a Round.
-const HEADER: &str = "42504a31000000000000000701";
+// The journal of site 1 of federation 7: for version 1 of `a` a Deposit of the bag, and a Round.
+// Then nothing comes in one turn, and nothing is said.
 
-const DEPOSITED: &str = "004701016100000001";
+// One round is left: a Prepare of it is sent to site 1.
+static LAST_ROUND: Script = Script {
+    journal: "42504a31000000000000000701004701016100000001cf83e1357eefb8bdf1542850d66d8007d620e4050b\
+5715dc83f4a921d36ce9ce47d0d13c5d85f2b0ff8318d2877eec2f63b931bd47417a81a538327af927da3e\
+000b02016100000001fffffffe",
+    steps: &[
+        Step::HasRecords(2),
+        Step::NothingComes,
+        Step::Serves(1, None),
+    ],
+    sent: "5001: 42500101000000000000000701016100000001ffffffff01\n",
+    said: "",
+};
 
-const ROUND: &str = "000b02016100000001";
-
-// A Prepare of the greatest round, to site 1.
-const LAST_ROUND: &str = "5001: 42500101000000000000000701016100000001ffffffff01\n";
-
-// A site that has used this round.
-fn bench_after(alloc: Global, round: &str) -> Result<Bench, Fail> {
-    let digits = format!(in alloc; "{HEADER}{DEPOSITED}{BAG}{ROUND}{round}")?;
-    let bytes = hex::decode(alloc, digits.as_str())?;
-    let site = opened(alloc, MemoryCell::new(alloc, bytes))?;
-    Ok(Bench {
-        alloc,
-        site,
-        folders: MemoryFolders::new(alloc),
-        port: MemoryPort::new(alloc),
-        output: Vec::new(alloc),
-    })
-}
-
-// In a turn that is idle this is sent, and nothing is said.
-fn sends_idly(bench: &mut Bench, want: &str) -> Result<bool, Fail> {
-    bench.port.idle()?;
-    serve_turns(bench, 1)?;
-    came(bench, "", want)
-}
-
-fn sends_after(alloc: Global, round: &str, want: &str) -> Result<bool, Fail> {
-    let mut bench = bench_after(alloc, round)?;
-    let is_read = bench.site.records().len() == 2;
-    Ok(sends_idly(&mut bench, want)? && is_read)
-}
+// None is left, and nothing is sent.
+static NO_ROUND: Script = Script {
+    journal: "42504a31000000000000000701004701016100000001cf83e1357eefb8bdf1542850d66d8007d620e4050b\
+5715dc83f4a921d36ce9ce47d0d13c5d85f2b0ff8318d2877eec2f63b931bd47417a81a538327af927da3e\
+000b02016100000001ffffffff",
+    steps: &[
+        Step::HasRecords(2),
+        Step::NothingComes,
+        Step::Serves(1, None),
+    ],
+    sent: "",
+    said: "",
+};
 
 #[test]
 fn no_round_is_left(rt: HostRuntime) -> Result<(), Fail> {
-    for (round, want) in [("fffffffe", LAST_ROUND), ("ffffffff", "")] {
-        assert!(rt; sends_after(rt.alloc(), round, want)?, "{round}");
+    for script in [&LAST_ROUND, &NO_ROUND] {
+        assert!(rt; plays(rt.alloc(), NO_LIMITS, script)?);
     }
     Ok(())
 }
 
-/// Folders none of which can be read: each read has the next fault, and out of memory after all.
-#[derive(Drop)]
-struct Unreadable {
-    reads: u32,
-}
-
-impl Folders for Unreadable {
-    fn read(&mut self, _path: &str) -> Result<Facts, TreeFault> {
-        self.reads = self.reads.saturating_add(1);
-        Err(match self.reads {
-            1 => TreeFault::Listing,
-            2 => TreeFault::NotAFile,
-            3 => TreeFault::TooDeep,
-            4 => TreeFault::TooMany,
-            5 => TreeFault::TextTooLong,
-            6 => TreeFault::Device,
-            _ => TreeFault::Memory,
-        })
-    }
-
-    fn failed_at(&self) -> Option<&str> {
-        None
-    }
-}
-
-// 20 and the number of the fault, or 14; and a query after them.
-const UNREAD_REPLIES: [(&str, &str); 8] = [
-    (DEPOSIT_REPLY, "15"),
-    (DEPOSIT_REPLY, "16"),
-    (DEPOSIT_REPLY, "17"),
-    (DEPOSIT_REPLY, "18"),
-    (DEPOSIT_REPLY, "19"),
-    (DEPOSIT_REPLY, "1a"),
-    (DEPOSIT_REPLY, "0e"),
-    (QUERY_REPLY, "02"),
-];
-
-// Seven deposits and a query.
-fn bring_to_read(alloc: Global, port: &mut MemoryPort) -> Result<(), Fail> {
-    for _ in 0..7 {
-        bring(alloc, port, CLIENT, DEPOSIT)?;
-    }
-    bring(alloc, port, CLIENT, QUERY)
-}
-
-fn serve_unreadable(bench: &mut Bench) -> Result<(), ServeFault> {
-    serve(
-        bench.alloc,
-        &mut bench.site,
-        &mut bench.port,
-        &mut Unreadable { reads: 0 },
-        &[SITE],
-        8,
-        &mut bench.output,
-    )
-}
-
-// Only the query has a line.
-fn goes_on_unread(bench: &mut Bench) -> Result<bool, Fail> {
-    bring_to_read(bench.alloc, &mut bench.port)?;
-    serve_unreadable(bench)?;
-    let is_said = bench.output.as_slice() == b"reply 1 a 1 nothing\n".as_slice();
-    Ok(is_said && replied(bench.alloc, &bench.port, &UNREAD_REPLIES)?)
-}
+// Seven deposits, and a query, which alone has a line. The replies have 20 and the number of the
+// fault, or 14.
+static FOLDERS: Script = Script {
+    journal: "",
+    steps: &[
+        Step::FoldersFail,
+        Step::Comes(CLIENT, DEPOSIT),
+        Step::Comes(CLIENT, DEPOSIT),
+        Step::Comes(CLIENT, DEPOSIT),
+        Step::Comes(CLIENT, DEPOSIT),
+        Step::Comes(CLIENT, DEPOSIT),
+        Step::Comes(CLIENT, DEPOSIT),
+        Step::Comes(CLIENT, DEPOSIT),
+        Step::Comes(CLIENT, QUERY),
+        Step::Serves(8, None),
+    ],
+    sent: "9000: 4250012000000000000000070101610000000115-
+9000: 4250012000000000000000070101610000000116-
+9000: 4250012000000000000000070101610000000117-
+9000: 4250012000000000000000070101610000000118-
+9000: 4250012000000000000000070101610000000119-
+9000: 425001200000000000000007010161000000011a-
+9000: 425001200000000000000007010161000000010e-
+9000: 4250012100000000000000070101610000000102-
+",
+    said: "reply 1 a 1 nothing\n",
+};
 
 #[test]
 fn folders_are_not_read(rt: HostRuntime) -> Result<(), Fail> {
-    let mut bench = new_bench(rt.alloc())?;
-    assert!(rt; goes_on_unread(&mut bench)?);
+    assert!(rt; plays(rt.alloc(), NO_LIMITS, &FOLDERS)?);
     Ok(())
 }

@@ -1,9 +1,11 @@
 //! Ports at sockets.
 
-use super::*;
+use std::alloc::Global;
 use std::io;
 use std::net::{IpAddr, Ipv4Addr, Net, SocketAddr, TcpListener, TcpStream, UdpSocket};
+use std::test::Fail;
 use std::time::{Clock, Duration};
+use udp_site::{Port, PortFault, Turn, UdpPort};
 
 // A port of its own number, and one that waits for a fiftieth of a second.
 fn free_port(rt: &HostRuntime) -> Result<UdpPort, Fail> {
@@ -36,10 +38,7 @@ fn come_over(
 }
 
 // A datagram comes whole, or its first 1,024 bytes do; and then nothing.
-#[test]
-fn datagrams_come_over(rt: HostRuntime) -> Result<(), Fail> {
-    let mut one = free_port(&rt)?;
-    let mut other = free_port(&rt)?;
+fn all_come_over(rt: &HostRuntime, one: &mut UdpPort, other: &mut UdpPort) -> Result<(), Fail> {
     for (count, want) in [
         (0, 0),
         (1, 1),
@@ -48,30 +47,45 @@ fn datagrams_come_over(rt: HostRuntime) -> Result<(), Fail> {
         (1025, 1024),
         (9000, 1024),
     ] {
-        assert_eq!(rt;
-            come_over(rt.alloc(), &mut one, &mut other, count)?,
-            Some((one.port(), want))
-        );
+        let came = come_over(rt.alloc(), one, other, count)?;
+        assert_eq!(*rt; came, Some((one.port(), want)));
     }
-    assert!(rt; matches!(other.receive(), Ok(Turn::Idle)));
+    assert!(*rt; matches!(other.receive(), Ok(Turn::Idle)));
     Ok(())
 }
 
+#[test]
+fn datagrams_come_over(rt: HostRuntime) -> Result<(), Fail> {
+    let mut one = free_port(&rt)?;
+    let mut other = free_port(&rt)?;
+    all_come_over(&rt, &mut one, &mut other)
+}
+
+// A port that no socket has now.
+fn gone_port(rt: &HostRuntime) -> Result<u16, Fail> {
+    let port = free_port(rt)?;
+    Ok(port.port())
+}
+
+// Whether a port of this number, or with this wait, is refused.
+fn is_refused(rt: &HostRuntime, number: u16, wait: u32) -> bool {
+    UdpPort::bind(rt, number, wait).err() == Some(PortFault::Device)
+}
+
 // A port that is taken is refused, and so is a wait of nothing. What is sent to no one is lost.
+fn others_are_refused(rt: &HostRuntime, one: &mut UdpPort) -> Result<(), Fail> {
+    assert!(*rt; is_refused(rt, one.port(), 20));
+    assert!(*rt; is_refused(rt, 0, 0));
+    assert_eq!(*rt; one.send(gone_port(rt)?, b"lost"), Ok(()));
+    assert!(*rt; matches!(one.receive(), Ok(Turn::Idle)));
+    assert_eq!(*rt; one.send(0, b"to no port"), Err(PortFault::Device));
+    Ok(())
+}
+
 #[test]
 fn ports_are_refused(rt: HostRuntime) -> Result<(), Fail> {
     let mut one = free_port(&rt)?;
-    let number = one.port();
-    assert_eq!(rt;
-        UdpPort::bind(&rt, number, 20).err(),
-        Some(PortFault::Device)
-    );
-    assert_eq!(rt; UdpPort::bind(&rt, 0, 0).err(), Some(PortFault::Device));
-    let gone = free_port(&rt)?.port();
-    assert_eq!(rt; one.send(gone, b"lost"), Ok(()));
-    assert!(rt; matches!(one.receive(), Ok(Turn::Idle)));
-    assert_eq!(rt; one.send(0, b"to no port"), Err(PortFault::Device));
-    Ok(())
+    others_are_refused(&rt, &mut one)
 }
 
 /// The system, but with a clock that runs a million times as fast.
@@ -134,15 +148,24 @@ fn gets_yes<P: Port>(port: &mut P) -> Result<bool, Fail> {
 
 // What comes from another address is passed over; after it a turn waits only for what is left of
 // its time.
+fn pass_over<P: Port>(rt: &HostRuntime, slow: &mut UdpPort, fast: &mut P) -> Result<(), Fail> {
+    assert!(*rt; gets_yes(slow)?);
+    assert!(*rt; matches!(fast.receive(), Ok(Turn::Idle)));
+    assert!(*rt; gets_yes(fast)?);
+    Ok(())
+}
+
+// Both come to both ports.
+fn come_to_both(rt: &HostRuntime, slow: u16, fast: u16) -> Result<(), Fail> {
+    let mut one = free_port(rt)?;
+    come_both(rt, &mut one, slow)?;
+    come_both(rt, &mut one, fast)
+}
+
 #[test]
 fn other_addresses_are_passed_over(rt: HostRuntime) -> Result<(), Fail> {
-    let mut one = free_port(&rt)?;
     let mut slow = free_port(&rt)?;
     let mut fast = UdpPort::bind(&Fast { rt }, 0, 20)?;
-    come_both(&rt, &mut one, slow.port())?;
-    come_both(&rt, &mut one, fast.port())?;
-    assert!(rt; gets_yes(&mut slow)?);
-    assert!(rt; matches!(fast.receive(), Ok(Turn::Idle)));
-    assert!(rt; gets_yes(&mut fast)?);
-    Ok(())
+    come_to_both(&rt, slow.port(), fast.port())?;
+    pass_over(&rt, &mut slow, &mut fast)
 }

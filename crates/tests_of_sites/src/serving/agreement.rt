@@ -1,6 +1,9 @@
 //! One site decides the bag that a client deposits, and tells it.
 
-use super::*;
+use super::bench::{Bench, NO_LIMITS};
+use super::script::{Script, Step, plays};
+use super::{CLIENT, DEPOSIT, QUERY, SITE};
+use std::test::Fail;
 
 // What comes after the deposit and an idle turn: the site's own four datagrams, and a query.
 const COMES: [(u16, &str); 5] = [
@@ -10,6 +13,16 @@ const COMES: [(u16, &str); 5] = [
     (SITE, "425001040000000000000007010161000000010000000101I"),
     (CLIENT, QUERY),
 ];
+
+/// The seven turns are to come.
+pub(super) fn bring_agreement(bench: &mut Bench) -> Result<(), Fail> {
+    bench.bring(CLIENT, DEPOSIT)?;
+    bench.port.port.idle()?;
+    for (from, digits) in &COMES {
+        bench.bring(*from, digits)?;
+    }
+    Ok(())
+}
 
 pub(super) const SENT: &str = "9000: 4250012000000000000000070101610000000100I
 5001: 425001010000000000000007010161000000010000000101
@@ -24,33 +37,15 @@ known 1 a 1 I
 reply 1 a 1 known I
 ";
 
-// The seven turns that are to come.
-pub(super) fn bring_turns(alloc: Global, port: &mut MemoryPort) -> Result<(), Fail> {
-    bring(alloc, port, CLIENT, DEPOSIT)?;
-    port.idle()?;
-    for (from, digits) in &COMES {
-        let digits = with_bag(alloc, digits)?;
-        bring(alloc, port, *from, digits.as_str().trim())?;
-    }
-    Ok(())
-}
-
-fn has_agreed(alloc: Global, port: &MemoryPort, output: &[u8]) -> Result<bool, Fail> {
-    let said = with_bag(alloc, SAID)?;
-    let want = with_bag(alloc, SENT)?;
-    let sent = sent(alloc, port)?;
-    Ok(output == said.as_bytes() && sent.as_str() == want.as_str())
-}
-
-fn agrees(bench: &mut Bench) -> Result<bool, Fail> {
-    bring_turns(bench.alloc, &mut bench.port)?;
-    serve_turns(bench, 7)?;
-    has_agreed(bench.alloc, &bench.port, &bench.output)
-}
+static AGREEMENT: Script = Script {
+    journal: "",
+    steps: &[Step::AgreementComes, Step::Serves(7, None)],
+    sent: SENT,
+    said: SAID,
+};
 
 #[test]
 fn a_bag_is_agreed(rt: HostRuntime) -> Result<(), Fail> {
-    let mut bench = new_bench(rt.alloc())?;
-    assert!(rt; agrees(&mut bench)?);
+    assert!(rt; plays(rt.alloc(), NO_LIMITS, &AGREEMENT)?);
     Ok(())
 }
