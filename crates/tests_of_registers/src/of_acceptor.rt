@@ -1,8 +1,9 @@
-use crate::values::{ballot, promises, slot, slot_a, votes};
+use crate::values::{Voted, ballot, promises, slot, slot_a, vote, votes};
 use acceptor::{Acceptor, Answer, Decision};
 use fed_types::{BagId, Ballot, Slot, Vote};
 use records::{Entry, Record};
 use std::alloc::Global;
+use std::process::Abort;
 use std::test::Fail;
 
 const V: BagId = BagId([1; 64]);
@@ -44,58 +45,111 @@ fn refuses(asked: Ballot, standing: Ballot) -> Decision {
     }
 }
 
-#[test]
-fn one_slot_from_promise_to_promise(rt: HostRuntime) -> Result<(), Fail> {
-    let alloc = rt.alloc();
-    let slot = slot_a(alloc)?;
-    let mut acceptor = Acceptor::new(alloc);
-    let (b11, b12, b13, b21) = (ballot(1, 1)?, ballot(1, 2)?, ballot(1, 3)?, ballot(2, 1)?);
-    let prior = Some(Vote {
-        ballot: b12,
-        bag: V,
-    });
-    let rows = [
-        (b11, Asked::Prepare, promises(b11, None)),
-        (b12, Asked::Accept(V), votes(b12, V)),
-        (b12, Asked::Accept(V), votes_again(b12, V)),
-        (b12, Asked::Prepare, refuses(b12, b12)),
-        (b12, Asked::Accept(W), refuses(b12, b12)),
-        (b21, Asked::Prepare, promises(b21, prior)),
-        (b13, Asked::Accept(V), refuses(b13, b21)),
-        (b12, Asked::Accept(V), votes_again(b12, V)),
-    ];
-    for (ballot, asked, want) in rows {
-        let decision = decide(&acceptor, &slot, ballot, asked);
-        assert_eq!(rt; decision, want, "{asked:?} {ballot:?}");
-        if let Some(body) = want.entry {
-            note(&mut acceptor, alloc, &slot, body)?;
-        }
+// What the acceptor decides of the ballot that it is asked for.
+#[derive(Clone, Copy)]
+enum Decided {
+    // It promises the ballot, and names a vote.
+    Promises(Option<Voted>),
+    Votes(BagId),
+    VotesAgain(BagId),
+    // The ballot of this round and site stands in the way.
+    Refuses(u32, u8),
+}
+
+fn decision(asked: Ballot, decided: Decided) -> Result<Decision, Fail> {
+    Ok(match decided {
+        Decided::Promises(voted) => promises(asked, vote(voted)?),
+        Decided::Votes(bag) => votes(asked, bag),
+        Decided::VotesAgain(bag) => votes_again(asked, bag),
+        Decided::Refuses(round, site) => refuses(asked, ballot(round, site)?),
+    })
+}
+
+// The round and the site of a ballot, what the acceptor is asked for it, and what it decides.
+struct Step(u32, u8, Asked, Decided);
+
+// Whether the acceptor decides what it should. It takes note of the record.
+fn is_right(
+    acceptor: &mut Acceptor,
+    alloc: Global,
+    slot: &Slot,
+    step: &Step,
+) -> Result<bool, Fail> {
+    let Step(round, site, asked, decided) = step;
+    let ballot = ballot(*round, *site)?;
+    let want = decision(ballot, *decided)?;
+    let is_right = decide(acceptor, slot, ballot, *asked) == want;
+    if let Some(body) = want.entry {
+        note(acceptor, alloc, slot, body)?;
+    }
+    Ok(is_right)
+}
+
+static ONE_SLOT: [Step; 8] = [
+    Step(1, 1, Asked::Prepare, Decided::Promises(None)),
+    Step(1, 2, Asked::Accept(V), Decided::Votes(V)),
+    Step(1, 2, Asked::Accept(V), Decided::VotesAgain(V)),
+    Step(1, 2, Asked::Prepare, Decided::Refuses(1, 2)),
+    Step(1, 2, Asked::Accept(W), Decided::Refuses(1, 2)),
+    Step(2, 1, Asked::Prepare, Decided::Promises(Some((1, 2, V)))),
+    Step(1, 3, Asked::Accept(V), Decided::Refuses(2, 1)),
+    Step(1, 2, Asked::Accept(V), Decided::VotesAgain(V)),
+];
+
+fn all_right(
+    rt: &impl Abort,
+    alloc: Global,
+    acceptor: &mut Acceptor,
+    slot: &Slot,
+) -> Result<(), Fail> {
+    for step in &ONE_SLOT {
+        assert!(rt;
+            is_right(acceptor, alloc, slot, step)?,
+            "{:?} ({}, {})",
+            step.2,
+            step.0,
+            step.1
+        );
     }
     Ok(())
+}
+
+#[test]
+fn one_slot_from_promise_to_promise(rt: HostRuntime) -> Result<(), Fail> {
+    let slot = slot_a(rt.alloc())?;
+    let mut acceptor = Acceptor::new(rt.alloc());
+    all_right(&rt, rt.alloc(), &mut acceptor, &slot)
+}
+
+// Whether a promise for slot `a` leaves slot `b` as it is.
+fn are_apart(acceptor: &mut Acceptor, alloc: Global, a: &Slot, b: &Slot) -> Result<bool, Fail> {
+    let (low, high) = (ballot(1, 1)?, ballot(9, 1)?);
+    acceptor.reserve(b)?;
+    note(acceptor, alloc, a, Entry::Promise(high))?;
+    let is_refused = acceptor.prepare(a, low) == refuses(low, high);
+    Ok(is_refused && acceptor.prepare(b, low) == promises(low, None))
 }
 
 #[test]
 fn slots_are_apart(rt: HostRuntime) -> Result<(), Fail> {
-    let alloc = rt.alloc();
-    let (a, b) = (slot_a(alloc)?, slot(alloc, "b", 1)?);
-    let mut acceptor = Acceptor::new(alloc);
-    acceptor.reserve(&b)?;
-    let (low, high) = (ballot(1, 1)?, ballot(9, 1)?);
-    note(&mut acceptor, alloc, &a, Entry::Promise(high))?;
-    assert_eq!(rt; acceptor.prepare(&a, low), refuses(low, high));
-    assert_eq!(rt; acceptor.prepare(&b, low), promises(low, None));
+    let (a, b) = (slot_a(rt.alloc())?, slot(rt.alloc(), "b", 1)?);
+    let mut acceptor = Acceptor::new(rt.alloc());
+    assert!(rt; are_apart(&mut acceptor, rt.alloc(), &a, &b)?);
     Ok(())
+}
+
+// Whether it promises a ballot after records that are none of its own.
+fn promises_still(acceptor: &mut Acceptor, alloc: Global, slot: &Slot) -> Result<bool, Fail> {
+    note(acceptor, alloc, slot, Entry::Deposit(V))?;
+    note(acceptor, alloc, slot, Entry::Known(W))?;
+    let low = ballot(1, 1)?;
+    Ok(acceptor.prepare(slot, low) == promises(low, None))
 }
 
 #[test]
 fn other_records_change_nothing(rt: HostRuntime) -> Result<(), Fail> {
-    let alloc = rt.alloc();
-    let slot = slot_a(alloc)?;
-    let mut acceptor = Acceptor::new(alloc);
-    for body in [Entry::Deposit(V), Entry::Known(W)] {
-        note(&mut acceptor, alloc, &slot, body)?;
-    }
-    let low = ballot(1, 1)?;
-    assert_eq!(rt; acceptor.prepare(&slot, low), promises(low, None));
+    let slot = slot_a(rt.alloc())?;
+    let mut acceptor = Acceptor::new(rt.alloc());
+    assert!(rt; promises_still(&mut acceptor, rt.alloc(), &slot)?);
     Ok(())
 }

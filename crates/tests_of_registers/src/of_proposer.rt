@@ -1,6 +1,6 @@
 use crate::memberships::Unanimous;
-use crate::values::{ballot, slot_a};
-use fed_types::{BagId, Members, Quorums, SiteNo, Vote};
+use crate::values::{Voted, ballot, slot_a, vote};
+use fed_types::{BagId, Members, Quorums, SiteNo, Slot};
 use proposer::{ProposeFault, Proposer};
 use records::{Entry, Record, Round};
 use std::alloc::Global;
@@ -16,9 +16,6 @@ fn site_1(alloc: Global, weights: &[u8]) -> Result<Proposer<Members>, Fail> {
     let members = Members::weighted(7, weights)?;
     Ok(Proposer::new(alloc, members, SiteNo::new(1)?))
 }
-
-// A vote: the round and the site of its ballot, and its bag.
-type Voted = (u32, u8, BagId);
 
 // A call of the proposer of site 1, and what it gives. Where no site is named a ballot is site 1's.
 #[derive(Clone, Copy)]
@@ -37,43 +34,46 @@ enum Step {
     Issued,
 }
 
+// Takes note of the record of the ballot of this round.
+fn note<Q: Quorums + Drop>(
+    alloc: Global,
+    proposer: &mut Proposer<Q>,
+    slot: &Slot,
+    round: u32,
+) -> Result<(), Fail> {
+    let body = Entry::Round(Round::of(ballot(round, 1)?));
+    let slot = slot.copy(alloc)?;
+    proposer.note(&Record { slot, body })?;
+    Ok(())
+}
+
 // Calls the proposer, and says whether it gives what it should.
 fn is_right<Q: Quorums + Drop>(
     alloc: Global,
     proposer: &mut Proposer<Q>,
+    slot: &Slot,
     step: Step,
 ) -> Result<bool, Fail> {
-    let slot = slot_a(alloc)?;
     match step {
-        Step::Begin(round) => Ok(proposer.begin(&slot, OWN)? == ballot(round, 1)?),
-        Step::Spent => Ok(proposer.begin(&slot, OWN) == Err(ProposeFault::RoundsSpent)),
+        Step::Begin(round) => Ok(proposer.begin(slot, OWN)? == ballot(round, 1)?),
+        Step::Spent => Ok(proposer.begin(slot, OWN) == Err(ProposeFault::RoundsSpent)),
         Step::Note(round) => {
-            let body = Entry::Round(Round::of(ballot(round, 1)?));
-            proposer.note(&Record { slot, body })?;
+            note(alloc, proposer, slot, round)?;
             Ok(true)
         }
         Step::Refused(round, site) => {
-            proposer.refused(&slot, ballot(round, site)?)?;
+            proposer.refused(slot, ballot(round, site)?)?;
             Ok(true)
         }
         Step::Promise(site, round, voted, want) => {
-            let prior = vote(voted)?;
-            let from = SiteNo::new(site)?;
-            Ok(proposer.promise(from, &slot, ballot(round, 1)?, prior) == want)
+            let (from, prior) = (SiteNo::new(site)?, vote(voted)?);
+            Ok(proposer.promise(from, slot, ballot(round, 1)?, prior) == want)
         }
         Step::Issued => {
-            proposer.issued(&slot);
+            proposer.issued(slot);
             Ok(true)
         }
     }
-}
-
-fn vote(voted: Option<Voted>) -> Result<Option<Vote>, Fail> {
-    let Some((round, site, bag)) = voted else {
-        return Ok(None);
-    };
-    let ballot = ballot(round, site)?;
-    Ok(Some(Vote { ballot, bag }))
 }
 
 // Takes the steps: each gives what it should.
@@ -82,8 +82,9 @@ fn all_right<Q: Quorums + Drop>(
     proposer: &mut Proposer<Q>,
     steps: &[Step],
 ) -> Result<(), Fail> {
+    let slot = slot_a(alloc)?;
     for (number, step) in steps.iter().enumerate() {
-        if !is_right(alloc, proposer, *step)? {
+        if !is_right(alloc, proposer, &slot, *step)? {
             return Err(Fail::new(format_args!("step {number}")));
         }
     }

@@ -114,24 +114,23 @@ fn opened(alloc: Global) -> Result<Tables, Fail> {
     Ok(Tables::of(alloc, owner(7, 1)?, &[deposit, known])?)
 }
 
-// The site commits them.
-fn commit_both(tables: &mut Tables, alloc: Global, slot: &Slot) -> Result<(), Fail> {
-    commit(tables, alloc, slot, Entry::Deposit(V))?;
-    commit(tables, alloc, slot, Entry::Known(W))
-}
-
 // Whether the tables say what they say.
 fn says_both(tables: &Tables, slot: &Slot) -> bool {
     tables.deposit(slot) == Some(V) && tables.known(slot) == Some(W)
 }
 
+// Whether they do once the site has committed them.
+fn commits_both(tables: &mut Tables, alloc: Global, slot: &Slot) -> Result<bool, Fail> {
+    commit(tables, alloc, slot, Entry::Deposit(V))?;
+    commit(tables, alloc, slot, Entry::Known(W))?;
+    Ok(says_both(tables, slot))
+}
+
 #[test]
 fn an_opened_site_says_what_it_said_before(rt: HostRuntime) -> Result<(), Fail> {
-    let alloc = rt.alloc();
-    let slot = slot_a(alloc)?;
-    let mut tables = Tables::new(alloc, owner(7, 1)?);
-    commit_both(&mut tables, alloc, &slot)?;
-    let opened = opened(alloc)?;
-    assert!(rt; says_both(&tables, &slot) && says_both(&opened, &slot));
+    let slot = slot_a(rt.alloc())?;
+    let mut tables = Tables::new(rt.alloc(), owner(7, 1)?);
+    assert!(rt; commits_both(&mut tables, rt.alloc(), &slot)?);
+    assert!(rt; says_both(&opened(rt.alloc())?, &slot));
     Ok(())
 }

@@ -27,6 +27,17 @@ pub(crate) fn owner(federation: u64, site: u8) -> Result<Owner, Fail> {
     })
 }
 
+// A vote: the round and the site of its ballot, and its bag.
+pub(crate) type Voted = (u32, u8, BagId);
+
+pub(crate) fn vote(voted: Option<Voted>) -> Result<Option<Vote>, Fail> {
+    let Some((round, site, bag)) = voted else {
+        return Ok(None);
+    };
+    let ballot = ballot(round, site)?;
+    Ok(Some(Vote { ballot, bag }))
+}
+
 // An acceptor promises the ballot, and names its vote.
 pub(crate) fn promises(ballot: Ballot, vote: Option<Vote>) -> Decision {
     Decision {
