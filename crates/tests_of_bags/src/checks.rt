@@ -41,10 +41,21 @@ fn fact_by(alloc: Global, wanted: Algorithms, file: &TreeFile) -> Result<FileFac
     Ok(FileFacts::hashed(path, digester.finish()))
 }
 
+fn push_fact(
+    alloc: Global,
+    wanted: Algorithms,
+    file: &TreeFile,
+    facts: &mut Vec<FileFacts>,
+) -> Result<(), AllocError> {
+    let fact = fact_by(alloc, wanted, file)?;
+    facts.push(fact)?;
+    Ok(())
+}
+
 fn facts_by(alloc: Global, wanted: Algorithms, tree: &Tree) -> Result<Facts, AllocError> {
     let mut files = Vec::new(alloc);
     for file in tree.files() {
-        files.push(fact_by(alloc, wanted, file)?)?;
+        push_fact(alloc, wanted, file, &mut files)?;
     }
     Ok(Facts::new(files, tree.payload_exists()))
 }

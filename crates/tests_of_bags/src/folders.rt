@@ -205,14 +205,18 @@ fn folders_in_memory(rt: HostRuntime) -> Result<(), Fail> {
     Ok(())
 }
 
+fn finds_no_folder<F: Folders>(rt: &impl Abort, folders: &mut F) {
+    assert_eq!(rt; folders.failed_at(), None);
+    let read = read_of(folders, "no such folder");
+    assert_eq!(rt; read, Err(TreeFault::Listing));
+    assert_eq!(rt; folders.failed_at(), Some("."));
+}
+
 // What real folders hold is shown by the cases on the built program.
 #[test]
 fn a_folder_that_is_not_there(rt: HostRuntime) -> Result<(), Fail> {
     let mut folders = DiskFolders::new(rt.clone()?);
-    assert_eq!(rt; folders.failed_at(), None);
-    let read = read_of(&mut folders, "no such folder");
-    assert_eq!(rt; read, Err(TreeFault::Listing));
-    assert_eq!(rt; folders.failed_at(), Some("."));
+    finds_no_folder(&rt, &mut folders);
     assert!(rt; read_folder(&rt, "").is_err());
     Ok(())
 }
@@ -252,8 +256,7 @@ impl Watcher for Counts {
 #[test]
 fn a_watched_folder(rt: HostRuntime) -> Result<(), Fail> {
     let mut folders = DiskFolders::watched(rt.clone()?, NOTHING);
-    let read = read_of(&mut folders, "no such folder");
-    assert_eq!(rt; read, Err(TreeFault::Listing));
+    finds_no_folder(&rt, &mut folders);
     assert_eq!(rt; folders.watcher(), &NOTHING);
     Ok(())
 }
