@@ -1,10 +1,10 @@
-use crate::files::{ABC, ALGORITHMS, add_folder};
+use crate::files::{ABC, ALGORITHMS, File, fill};
 use bag_digest::{Algorithms, Digests};
 use bag_folders::{
     DiskFolders, Folders, Hashing, MOST_READS, MemoryFolders, Silent, Watcher, hash_reader,
     hash_watched, read_folder,
 };
-use bag_tree::{FileFacts, LONGEST_TEXT, TreeFault};
+use bag_tree::{FileFacts, LONGEST_TEXT, Tree, TreeFault};
 use std::alloc::Global;
 use std::io;
 use std::io::{ErrorKind, Read};
@@ -178,6 +178,19 @@ fn a_piece_beyond_the_limit_of_a_text(rt: HostRuntime) -> Result<(), Fail> {
 fn read_of<F: Folders>(folders: &mut F, path: &str) -> Result<usize, TreeFault> {
     let facts = folders.read(path)?;
     Ok(facts.files().len())
+}
+
+/// Adds a folder in memory that holds these files.
+pub(crate) fn add_folder(
+    alloc: Global,
+    folders: &mut MemoryFolders,
+    name: &str,
+    files: &[File],
+) -> Result<(), TreeFault> {
+    let mut tree = Tree::new(alloc);
+    fill(alloc, &mut tree, files)?;
+    folders.add(name, tree)?;
+    Ok(())
 }
 
 fn has_two_folders(
