@@ -41,10 +41,21 @@ fn fact_by(alloc: Global, wanted: Algorithms, file: &TreeFile) -> Result<FileFac
     Ok(FileFacts::hashed(path, digester.finish()))
 }
 
+fn push_fact(
+    alloc: Global,
+    wanted: Algorithms,
+    file: &TreeFile,
+    facts: &mut Vec<FileFacts>,
+) -> Result<(), AllocError> {
+    let fact = fact_by(alloc, wanted, file)?;
+    facts.push(fact)?;
+    Ok(())
+}
+
 fn facts_by(alloc: Global, wanted: Algorithms, tree: &Tree) -> Result<Facts, AllocError> {
     let mut files = Vec::new(alloc);
     for file in tree.files() {
-        files.push(fact_by(alloc, wanted, file)?)?;
+        push_fact(alloc, wanted, file, &mut files)?;
     }
     Ok(Facts::new(files, tree.payload_exists()))
 }
@@ -72,7 +83,7 @@ fn number(alloc: Global, tree: &Tree) -> Result<u8, AllocError> {
 
 /// A check of these files answers this number, and the same where only those digests are known that
 /// their manifests ask for.
-fn are_answered(
+fn has_numbers(
     rt: &impl Abort,
     alloc: Global,
     tree: &mut Tree,
@@ -89,15 +100,24 @@ fn are_answered(
     Ok(())
 }
 
-fn each_is_answered(
+fn is_answered(
+    rt: &impl Abort,
+    alloc: Global,
+    files: &[File],
+    case: Case,
+) -> Result<(), TreeFault> {
+    let mut tree = Tree::new(alloc);
+    has_numbers(rt, alloc, &mut tree, files, case)
+}
+
+fn are_answered(
     rt: &impl Abort,
     alloc: Global,
     files: &[File],
     cases: &[Case],
 ) -> Result<(), TreeFault> {
     for &case in cases {
-        let mut tree = Tree::new(alloc);
-        are_answered(rt, alloc, &mut tree, files, case)?;
+        is_answered(rt, alloc, files, case)?;
     }
     Ok(())
 }
@@ -105,29 +125,22 @@ fn each_is_answered(
 #[test]
 fn a_file_more(rt: HostRuntime) -> Result<(), Fail> {
     for &(files, cases) in &BAGS {
-        each_is_answered(&rt, rt.alloc(), files, cases)?;
+        are_answered(&rt, rt.alloc(), files, cases)?;
     }
     Ok(())
 }
 
-fn is_at_fault(
-    rt: &impl Abort,
-    alloc: Global,
-    tree: &mut Tree,
-    files: &[File],
-    want: u8,
-) -> Result<(), TreeFault> {
-    fill(alloc, tree, files)?;
-    let found = number(alloc, tree)?;
-    assert_eq!(rt; found, want, "of {files:?}");
-    Ok(())
+fn number_of_files(alloc: Global, files: &[File]) -> Result<u8, TreeFault> {
+    let mut tree = Tree::new(alloc);
+    fill(alloc, &mut tree, files)?;
+    Ok(number(alloc, &tree)?)
 }
 
 #[test]
 fn faults_with_others(rt: HostRuntime) -> Result<(), Fail> {
     for &(files, want) in &FAULTS {
-        let mut tree = Tree::new(rt.alloc());
-        is_at_fault(&rt, rt.alloc(), &mut tree, files, want)?;
+        let found = number_of_files(rt.alloc(), files)?;
+        assert_eq!(rt; found, want, "of {files:?}");
     }
     Ok(())
 }

@@ -1,4 +1,5 @@
-use crate::files::{DECLARED, File, add_folder};
+use crate::files::{DECLARED, File};
+use crate::folders::add_folder;
 use bag_folders::{MemoryFolders, Watcher};
 use folder_checks::{Progress, Saying, check_on};
 use outcomes::ProgramFault;

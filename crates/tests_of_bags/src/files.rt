@@ -1,6 +1,5 @@
 //! Trees of files, as tests write them.
 
-use bag_folders::MemoryFolders;
 use bag_text::Algorithm;
 use bag_tree::{Tree, TreeFault};
 use std::alloc::Global;
@@ -40,18 +39,5 @@ pub(crate) fn fill(alloc: Global, tree: &mut Tree, files: &[File]) -> Result<(),
             add(alloc, tree, path, parts)?;
         }
     }
-    Ok(())
-}
-
-/// Adds a folder in memory that holds these files.
-pub(crate) fn add_folder(
-    alloc: Global,
-    folders: &mut MemoryFolders,
-    name: &str,
-    files: &[File],
-) -> Result<(), TreeFault> {
-    let mut tree = Tree::new(alloc);
-    fill(alloc, &mut tree, files)?;
-    folders.add(name, tree)?;
     Ok(())
 }

@@ -1,10 +1,10 @@
-use crate::files::{ABC, ALGORITHMS, add_folder};
+use crate::files::{ABC, ALGORITHMS, File, fill};
 use bag_digest::{Algorithms, Digests};
 use bag_folders::{
     DiskFolders, Folders, Hashing, MOST_READS, MemoryFolders, Silent, Watcher, hash_reader,
     hash_watched, read_folder,
 };
-use bag_tree::{FileFacts, LONGEST_TEXT, TreeFault};
+use bag_tree::{FileFacts, LONGEST_TEXT, Tree, TreeFault};
 use std::alloc::Global;
 use std::io;
 use std::io::{ErrorKind, Read};
@@ -180,6 +180,19 @@ fn read_of<F: Folders>(folders: &mut F, path: &str) -> Result<usize, TreeFault> 
     Ok(facts.files().len())
 }
 
+/// Adds a folder in memory that holds these files.
+pub(crate) fn add_folder(
+    alloc: Global,
+    folders: &mut MemoryFolders,
+    name: &str,
+    files: &[File],
+) -> Result<(), TreeFault> {
+    let mut tree = Tree::new(alloc);
+    fill(alloc, &mut tree, files)?;
+    folders.add(name, tree)?;
+    Ok(())
+}
+
 fn has_two_folders(
     rt: &impl Abort,
     alloc: Global,
@@ -205,14 +218,18 @@ fn folders_in_memory(rt: HostRuntime) -> Result<(), Fail> {
     Ok(())
 }
 
+fn finds_no_folder<F: Folders>(rt: &impl Abort, folders: &mut F) {
+    assert_eq!(rt; folders.failed_at(), None);
+    let read = read_of(folders, "no such folder");
+    assert_eq!(rt; read, Err(TreeFault::Listing));
+    assert_eq!(rt; folders.failed_at(), Some("."));
+}
+
 // What real folders hold is shown by the cases on the built program.
 #[test]
 fn a_folder_that_is_not_there(rt: HostRuntime) -> Result<(), Fail> {
     let mut folders = DiskFolders::new(rt.clone()?);
-    assert_eq!(rt; folders.failed_at(), None);
-    let read = read_of(&mut folders, "no such folder");
-    assert_eq!(rt; read, Err(TreeFault::Listing));
-    assert_eq!(rt; folders.failed_at(), Some("."));
+    finds_no_folder(&rt, &mut folders);
     assert!(rt; read_folder(&rt, "").is_err());
     Ok(())
 }
@@ -252,8 +269,7 @@ impl Watcher for Counts {
 #[test]
 fn a_watched_folder(rt: HostRuntime) -> Result<(), Fail> {
     let mut folders = DiskFolders::watched(rt.clone()?, NOTHING);
-    let read = read_of(&mut folders, "no such folder");
-    assert_eq!(rt; read, Err(TreeFault::Listing));
+    finds_no_folder(&rt, &mut folders);
     assert_eq!(rt; folders.watcher(), &NOTHING);
     Ok(())
 }

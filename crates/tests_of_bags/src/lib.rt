@@ -10,11 +10,13 @@ mod digests;
 #[cfg(test)]
 mod endings;
 #[cfg(test)]
-mod explanations;
-#[cfg(test)]
 mod files;
 #[cfg(test)]
 mod folders;
+#[cfg(test)]
+mod laws;
+#[cfg(test)]
+mod manifests;
 #[cfg(test)]
 mod texts;
 #[cfg(test)]

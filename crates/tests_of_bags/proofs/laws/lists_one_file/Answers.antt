@@ -7,7 +7,7 @@ use Rattle.hex.specs.Hex.{decode_pairs}
 use Rattle.bag_text.specs.Lines.{lines_of}
 use Rattle.bag_text.specs.Paths.{unescaped}
 use Rattle.bag_text.specs.Reading.{skip_blanks, file_in, files_from}
-use Rattle.tests_of_bags.proofs.texts.lists_one_file.Goals as goal
+use Rattle.tests_of_bags.proofs.laws.lists_one_file.Goals as goal
 
 pub returns : goal.returns
 unfolding files_from file_in lines_of unescaped skip_blanks decode_pairs is_utf8 chars

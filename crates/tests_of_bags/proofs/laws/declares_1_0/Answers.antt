@@ -3,7 +3,7 @@ use Rattle.std.specs.Prelude.{codes}
 use Rattle.tests_of_bags.specs.Examples.{declaration_1_0}
 use Rattle.bag_text.specs.Lines.{lines_of}
 use Rattle.bag_text.specs.Reading.{skip_blanks, trim_blanks, field_value, version_in, encoding_in}
-use Rattle.tests_of_bags.proofs.texts.declares_1_0.Goals as goal
+use Rattle.tests_of_bags.proofs.laws.declares_1_0.Goals as goal
 
 pub returns : goal.returns
 unfolding lines_of version_in encoding_in field_value skip_blanks trim_blanks

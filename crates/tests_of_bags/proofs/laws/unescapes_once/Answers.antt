@@ -1,6 +1,6 @@
 use Rattle.std.specs.Prelude.{codes}
 use Rattle.bag_text.specs.Paths.{unescaped}
-use Rattle.tests_of_bags.proofs.texts.unescapes_once.Goals as goal
+use Rattle.tests_of_bags.proofs.laws.unescapes_once.Goals as goal
 
 pub returns : goal.returns
 unfolding unescaped
