@@ -50,12 +50,16 @@ fn is_printed(
     Ok(said.as_str() == want)
 }
 
+/// Whether the line is printed as this text, with bags by their trees.
+fn is_short(alloc: Global, line: Line, want: &str) -> bool {
+    is_printed(alloc, &line, SHORT, want) == Ok(true)
+}
+
 #[test]
 fn deposits(rt: HostRuntime) -> Result<(), Fail> {
     let (site, slot, bag) = (1, slot(rt.alloc())?, NAMED);
     let line = Line::Registered { site, slot, bag };
-    let want = "registered 1 a%20b%C3%A9 2 #3\n";
-    assert_eq!(rt; is_printed(rt.alloc(), &line, SHORT, want), Ok(true));
+    assert!(rt; is_short(rt.alloc(), line, "registered 1 a%20b%C3%A9 2 #3\n"));
     Ok(())
 }
 
@@ -122,11 +126,7 @@ static FAULTS: [(SiteFault, &str); 9] = [
 fn refusals(rt: HostRuntime) {
     for &(fault, want) in &FAULTS {
         let line = Line::Refused { site: 7, fault };
-        assert_eq!(rt;
-            is_printed(rt.alloc(), &line, SHORT, want),
-            Ok(true),
-            "{want}"
-        );
+        assert!(rt; is_short(rt.alloc(), line, want), "{want}");
     }
 }
 
@@ -145,28 +145,16 @@ static REASONS: [(Reason, &str); 7] = [
 fn skips(rt: HostRuntime) {
     for &(reason, want) in &REASONS {
         let line = Line::Skip { line: 10, reason };
-        assert_eq!(rt;
-            is_printed(rt.alloc(), &line, SHORT, want),
-            Ok(true),
-            "{want}"
-        );
+        assert!(rt; is_short(rt.alloc(), line, want), "{want}");
     }
 }
 
 #[test]
 fn drops_stops_and_starts(rt: HostRuntime) {
-    let (site, records) = (3, 12);
-    for (line, want) in [
-        (&Line::Dropped { site }, "dropped 3\n"),
-        (&Line::Down { site }, "down 3\n"),
-        (&Line::Up { site, records }, "up 3 12\n"),
-    ] {
-        assert_eq!(rt;
-            is_printed(rt.alloc(), line, SHORT, want),
-            Ok(true),
-            "{want}"
-        );
-    }
+    let (alloc, site, records) = (rt.alloc(), 3, 12);
+    assert!(rt; is_short(alloc, Line::Dropped { site }, "dropped 3\n"));
+    assert!(rt; is_short(alloc, Line::Down { site }, "down 3\n"));
+    assert!(rt; is_short(alloc, Line::Up { site, records }, "up 3 12\n"));
 }
 
 /// The first bytes of a datagram, its fifth, from site 2 to site 1.
