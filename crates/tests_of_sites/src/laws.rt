@@ -1,3 +1,5 @@
+//! The laws of a federation are called, which does nothing.
+
 use lines::SentBytes;
 use std::process::Abort;
 use std::test::Fail;

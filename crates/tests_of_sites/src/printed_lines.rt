@@ -1,3 +1,5 @@
+//! Lines of a run, and their texts.
+
 use bag_check::BagFault;
 use fed_types::{BagId, Slot};
 use lines::{Line, NamedBag, NamedReply, Options, Reason, SentBytes, push_printed};
@@ -21,55 +23,86 @@ const IDENTITY: &str =
     "abababababababababababababababababababababababababababababababababababababab\
     abababababababababababababababababababababababababab";
 
-fn named() -> NamedBag {
-    NamedBag {
-        bag: BagId([0xab; 64]),
-        tree: 3,
-    }
-}
+const NAMED: NamedBag = NamedBag {
+    bag: BagId([0xab; 64]),
+    tree: 3,
+};
 
 fn slot(alloc: Global) -> Result<Slot, Fail> {
     Ok(Slot::new(String::from_str(alloc, "a b\u{e9}")?, 2)?)
 }
 
 /// The text of the line, if these options print it.
-fn printed(alloc: Global, line: Line, options: Options) -> Result<String, AllocError> {
+fn printed(alloc: Global, line: &Line, options: Options) -> Result<String, AllocError> {
     let mut text = String::new(alloc);
-    push_printed(alloc, &mut text, options, &line)?;
+    push_printed(alloc, &mut text, options, line)?;
     Ok(text)
 }
 
-fn reply(alloc: Global, reply: NamedReply, options: Options) -> Result<String, Fail> {
-    let slot = slot(alloc)?;
-    let site = 2;
-    Ok(printed(alloc, Line::Replied { site, slot, reply }, options)?)
+/// Whether these options print the line as this text.
+fn is_printed(
+    alloc: Global,
+    line: &Line,
+    options: Options,
+    want: &str,
+) -> Result<bool, AllocError> {
+    let said = printed(alloc, line, options)?;
+    Ok(said.as_str() == want)
+}
+
+/// Whether the line is printed as this text, with bags by their trees.
+fn is_short(alloc: Global, line: Line, want: &str) -> bool {
+    is_printed(alloc, &line, SHORT, want) == Ok(true)
 }
 
 #[test]
 fn deposits(rt: HostRuntime) -> Result<(), Fail> {
-    let (site, slot, bag) = (1, slot(rt.alloc())?, named());
-    let said = printed(rt.alloc(), Line::Registered { site, slot, bag }, SHORT)?;
-    assert_eq!(rt; said.as_str(), "registered 1 a%20b%C3%A9 2 #3\n");
+    let (site, slot, bag) = (1, slot(rt.alloc())?, NAMED);
+    let line = Line::Registered { site, slot, bag };
+    assert!(rt; is_short(rt.alloc(), line, "registered 1 a%20b%C3%A9 2 #3\n"));
     Ok(())
 }
 
 #[test]
 fn bags_that_are_known(rt: HostRuntime) -> Result<(), Fail> {
-    let (site, slot, bag) = (1, slot(rt.alloc())?, named());
-    let said = printed(rt.alloc(), Line::Known { site, slot, bag }, ALL)?;
-    let known = format!(in rt.alloc(); "known 1 a%20b%C3%A9 2 {IDENTITY}\n")?;
-    assert_eq!(rt; said.as_str(), known.as_str());
+    let want = format!(in rt.alloc(); "known 1 a%20b%C3%A9 2 {IDENTITY}\n")?;
+    let (site, slot, bag) = (1, slot(rt.alloc())?, NAMED);
+    let line = Line::Known { site, slot, bag };
+    assert_eq!(rt; is_printed(rt.alloc(), &line, ALL, want.as_str()), Ok(true));
     Ok(())
+}
+
+/// The replies of a site, and their words.
+static REPLIES: [(NamedReply, Options, &str); 3] = [
+    (
+        NamedReply::Known(NAMED),
+        SHORT,
+        "reply 2 a%20b%C3%A9 2 known #3\n",
+    ),
+    (
+        NamedReply::Pending(NAMED),
+        SHORT,
+        "reply 2 a%20b%C3%A9 2 pending #3\n",
+    ),
+    (NamedReply::Nothing, ALL, "reply 2 a%20b%C3%A9 2 nothing\n"),
+];
+
+fn is_replied(
+    alloc: Global,
+    reply: NamedReply,
+    options: Options,
+    want: &str,
+) -> Result<bool, Fail> {
+    let (site, slot) = (2, slot(alloc)?);
+    let line = Line::Replied { site, slot, reply };
+    Ok(is_printed(alloc, &line, options, want) == Ok(true))
 }
 
 #[test]
 fn replies(rt: HostRuntime) -> Result<(), Fail> {
-    let said = reply(rt.alloc(), NamedReply::Known(named()), SHORT)?;
-    assert_eq!(rt; said.as_str(), "reply 2 a%20b%C3%A9 2 known #3\n");
-    let said = reply(rt.alloc(), NamedReply::Pending(named()), SHORT)?;
-    assert_eq!(rt; said.as_str(), "reply 2 a%20b%C3%A9 2 pending #3\n");
-    let said = reply(rt.alloc(), NamedReply::Nothing, ALL)?;
-    assert_eq!(rt; said.as_str(), "reply 2 a%20b%C3%A9 2 nothing\n");
+    for &(reply, options, want) in &REPLIES {
+        assert!(rt; is_replied(rt.alloc(), reply, options, want)?, "{want}");
+    }
     Ok(())
 }
 
@@ -90,12 +123,11 @@ static FAULTS: [(SiteFault, &str); 9] = [
 ];
 
 #[test]
-fn refusals(rt: HostRuntime) -> Result<(), Fail> {
+fn refusals(rt: HostRuntime) {
     for &(fault, want) in &FAULTS {
-        let said = printed(rt.alloc(), Line::Refused { site: 7, fault }, SHORT)?;
-        assert_eq!(rt; said.as_str(), want);
+        let line = Line::Refused { site: 7, fault };
+        assert!(rt; is_short(rt.alloc(), line, want), "{want}");
     }
-    Ok(())
 }
 
 /// The reasons for which an event is skipped, and their words.
@@ -110,24 +142,19 @@ static REASONS: [(Reason, &str); 7] = [
 ];
 
 #[test]
-fn skips(rt: HostRuntime) -> Result<(), Fail> {
+fn skips(rt: HostRuntime) {
     for &(reason, want) in &REASONS {
-        let said = printed(rt.alloc(), Line::Skip { line: 10, reason }, SHORT)?;
-        assert_eq!(rt; said.as_str(), want);
+        let line = Line::Skip { line: 10, reason };
+        assert!(rt; is_short(rt.alloc(), line, want), "{want}");
     }
-    Ok(())
 }
 
 #[test]
-fn drops_stops_and_starts(rt: HostRuntime) -> Result<(), Fail> {
-    let said = printed(rt.alloc(), Line::Dropped { site: 3 }, SHORT)?;
-    assert_eq!(rt; said.as_str(), "dropped 3\n");
-    let said = printed(rt.alloc(), Line::Down { site: 3 }, SHORT)?;
-    assert_eq!(rt; said.as_str(), "down 3\n");
-    let (site, records) = (3, 12);
-    let said = printed(rt.alloc(), Line::Up { site, records }, SHORT)?;
-    assert_eq!(rt; said.as_str(), "up 3 12\n");
-    Ok(())
+fn drops_stops_and_starts(rt: HostRuntime) {
+    let (alloc, site, records) = (rt.alloc(), 3, 12);
+    assert!(rt; is_short(alloc, Line::Dropped { site }, "dropped 3\n"));
+    assert!(rt; is_short(alloc, Line::Down { site }, "down 3\n"));
+    assert!(rt; is_short(alloc, Line::Up { site, records }, "up 3 12\n"));
 }
 
 /// The first bytes of a datagram, its fifth, from site 2 to site 1.
@@ -144,9 +171,13 @@ fn sent(alloc: Global) -> Result<Line, AllocError> {
 
 #[test]
 fn datagrams_where_they_are_asked_for(rt: HostRuntime) -> Result<(), Fail> {
-    let said = printed(rt.alloc(), sent(rt.alloc())?, ALL)?;
-    assert_eq!(rt; said.as_str(), "sent 5 2 1 425001ff\n");
-    let said = printed(rt.alloc(), sent(rt.alloc())?, SHORT)?;
-    assert_eq!(rt; said.as_str(), "");
+    let line = sent(rt.alloc())?;
+    for (options, want) in [(ALL, "sent 5 2 1 425001ff\n"), (SHORT, "")] {
+        assert_eq!(rt;
+            is_printed(rt.alloc(), &line, options, want),
+            Ok(true),
+            "{want}"
+        );
+    }
     Ok(())
 }

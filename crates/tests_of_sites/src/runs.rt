@@ -1,3 +1,5 @@
+//! The texts of runs.
+
 use lines::{Line, Options};
 use simulator::{RunFault, Trace, text};
 use std::process::Abort;

@@ -1,3 +1,5 @@
+//! Tables of a run.
+
 use fed_types::BagId;
 use schedule::TreeNo;
 use std::process::Abort;

@@ -37,28 +37,36 @@ fn come_over(
     }
 }
 
-// A datagram comes whole, or its first 1,024 bytes do; and then nothing.
-fn all_come_over(rt: &HostRuntime, one: &mut UdpPort, other: &mut UdpPort) -> Result<(), Fail> {
-    for (count, want) in [
-        (0, 0),
-        (1, 1),
-        (620, 620),
-        (1024, 1024),
-        (1025, 1024),
-        (9000, 1024),
-    ] {
-        let came = come_over(rt.alloc(), one, other, count)?;
-        assert_eq!(*rt; came, Some((one.port(), want)));
+// Counts of bytes, and how many of them come: a datagram comes whole, or its first 1,024 bytes do.
+static COUNTS: [(usize, usize); 6] = [
+    (0, 0),
+    (1, 1),
+    (620, 620),
+    (1024, 1024),
+    (1025, 1024),
+    (9000, 1024),
+];
+
+fn all_come_over(alloc: Global, one: &mut UdpPort, other: &mut UdpPort) -> Result<bool, Fail> {
+    for &(count, want) in &COUNTS {
+        if come_over(alloc, one, other, count)? != Some((one.port(), want)) {
+            return Ok(false);
+        }
     }
-    assert!(*rt; matches!(other.receive(), Ok(Turn::Idle)));
-    Ok(())
+    // And then nothing.
+    Ok(is_idle(other))
+}
+
+fn is_idle<P: Port>(port: &mut P) -> bool {
+    matches!(port.receive(), Ok(Turn::Idle))
 }
 
 #[test]
 fn datagrams_come_over(rt: HostRuntime) -> Result<(), Fail> {
     let mut one = free_port(&rt)?;
     let mut other = free_port(&rt)?;
-    all_come_over(&rt, &mut one, &mut other)
+    assert!(rt; all_come_over(rt.alloc(), &mut one, &mut other)?);
+    Ok(())
 }
 
 // A port that no socket has now.
@@ -73,19 +81,16 @@ fn is_refused(rt: &HostRuntime, number: u16, wait: u32) -> bool {
 }
 
 // A port that is taken is refused, and so is a wait of nothing. What is sent to no one is lost.
-fn others_are_refused(rt: &HostRuntime, one: &mut UdpPort) -> Result<(), Fail> {
-    assert!(*rt; is_refused(rt, one.port(), 20));
-    assert!(*rt; is_refused(rt, 0, 0));
-    assert_eq!(*rt; one.send(gone_port(rt)?, b"lost"), Ok(()));
-    assert!(*rt; matches!(one.receive(), Ok(Turn::Idle)));
-    assert_eq!(*rt; one.send(0, b"to no port"), Err(PortFault::Device));
-    Ok(())
-}
-
 #[test]
 fn ports_are_refused(rt: HostRuntime) -> Result<(), Fail> {
+    let gone = gone_port(&rt)?;
     let mut one = free_port(&rt)?;
-    others_are_refused(&rt, &mut one)
+    assert!(rt; is_refused(&rt, one.port(), 20));
+    assert!(rt; is_refused(&rt, 0, 0));
+    assert_eq!(rt; one.send(gone, b"lost"), Ok(()));
+    assert!(rt; is_idle(&mut one));
+    assert_eq!(rt; one.send(0, b"to no port"), Err(PortFault::Device));
+    Ok(())
 }
 
 /// The system, but with a clock that runs a million times as fast.
@@ -139,20 +144,11 @@ fn come_both(rt: &HostRuntime, one: &mut UdpPort, to: u16) -> Result<(), Fail> {
     Ok(())
 }
 
-fn gets_yes<P: Port>(port: &mut P) -> Result<bool, Fail> {
-    match port.receive()? {
-        Turn::Idle => Ok(false),
-        Turn::Got(_, bytes) => Ok(bytes.as_slice() == b"yes".as_slice()),
+fn gets_yes<P: Port>(port: &mut P) -> bool {
+    match port.receive() {
+        Ok(Turn::Got(_, bytes)) => bytes.as_slice() == b"yes".as_slice(),
+        Ok(Turn::Idle) | Err(_) => false,
     }
-}
-
-// What comes from another address is passed over; after it a turn waits only for what is left of
-// its time.
-fn pass_over<P: Port>(rt: &HostRuntime, slow: &mut UdpPort, fast: &mut P) -> Result<(), Fail> {
-    assert!(*rt; gets_yes(slow)?);
-    assert!(*rt; matches!(fast.receive(), Ok(Turn::Idle)));
-    assert!(*rt; gets_yes(fast)?);
-    Ok(())
 }
 
 // Both come to both ports.
@@ -162,10 +158,15 @@ fn come_to_both(rt: &HostRuntime, slow: u16, fast: u16) -> Result<(), Fail> {
     come_both(rt, &mut one, fast)
 }
 
+// What comes from another address is passed over; after it a turn waits only for what is left of
+// its time.
 #[test]
 fn other_addresses_are_passed_over(rt: HostRuntime) -> Result<(), Fail> {
     let mut slow = free_port(&rt)?;
     let mut fast = UdpPort::bind(&Fast { rt }, 0, 20)?;
     come_to_both(&rt, slow.port(), fast.port())?;
-    pass_over(&rt, &mut slow, &mut fast)
+    assert!(rt; gets_yes(&mut slow));
+    assert!(rt; is_idle(&mut fast));
+    assert!(rt; gets_yes(&mut fast));
+    Ok(())
 }
