@@ -13,7 +13,7 @@ NOTES = pathlib.Path(os.environ["NOTES"])
 HERE = pathlib.Path.cwd()
 NAME = HERE.name
 # Seconds after which a proof gives up that waits for something.
-PATIENCE = 20
+PATIENCE = 60
 
 
 def note(text):
