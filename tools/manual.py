@@ -11,7 +11,8 @@ class Help:
     """What `--help` prints, in its parts."""
 
     def __init__(self, program, *words):
-        ran = subprocess.run([program, *words, "--help"], capture_output=True, text=True, check=True)
+        how = {"stdout": subprocess.PIPE, "text": True, "check": True}
+        ran = subprocess.run([program, *words, "--help"], **how)
         self.about, _, rest = ran.stdout.partition("\n\nUsage: ")
         self.usage, _, rest = rest.partition("\n\n")
         self.sections = {}
@@ -82,7 +83,8 @@ def completion(program):
         words.append(f"    {name}:-*) _bagpaxos_by -W '{options}' ;;")
         arguments = [it.rstrip(".") for it, _ in command.entries("Arguments")]
         words += [f"    {name}:*) _bagpaxos_by -d ;;"] if {*arguments} & {*FOLDERS} else []
-    return COMPLETION.format(first=" ".join(first), values="\n".join(values), words="\n".join(words))
+    lines = {"values": "\n".join(values), "words": "\n".join(words)}
+    return COMPLETION.format(first=" ".join(first), **lines)
 
 
 def files_for(value):
