@@ -2,30 +2,47 @@
 //! where one did, the same call is made again, and has to succeed.
 
 use crate::fault::Fault;
-use crate::message_text::message_text;
+use crate::message_text::push_message;
 use dgram::{DgramFault, Message, decode, encode};
 use std::alloc::Global;
 
 /// What a vector has before a datagram is appended to it.
 const BEFORE: [u8; 3] = [7, 0, 255];
 
-/// What these bytes say in this federation, in a line.
-pub fn datagram_answer(alloc: Global, federation: u64, bytes: &[u8]) -> Result<String, Fault> {
-    let mut text = match decode(alloc, federation, bytes) {
-        Ok(message) => {
-            encode_again(alloc, federation, &message, bytes)?;
-            message_text(alloc, &message)?
-        }
-        Err(DgramFault::NotOurs) => String::from_str(alloc, "not ours")?,
-        Err(DgramFault::Malformed) => String::from_str(alloc, "malformed")?,
-        Err(DgramFault::Memory) => {
-            let message = decode(alloc, federation, bytes)?;
-            encode_again(alloc, federation, &message, bytes)?;
-            return Err(Fault::Memory);
-        }
-    };
-    text.push_str("\n")?;
-    Ok(text)
+/// Appends what these bytes say in this federation, in a line.
+pub fn push_datagram(
+    alloc: Global,
+    text: &mut String,
+    federation: u64,
+    bytes: &[u8],
+) -> Result<(), Fault> {
+    match decode(alloc, federation, bytes) {
+        Ok(message) => push_decoded(alloc, text, federation, &message, bytes),
+        Err(DgramFault::NotOurs) => Ok(text.push_str("not ours\n")?),
+        Err(DgramFault::Malformed) => Ok(text.push_str("malformed\n")?),
+        Err(DgramFault::Memory) => decode_again(alloc, federation, bytes),
+    }
+}
+
+fn push_decoded(
+    alloc: Global,
+    text: &mut String,
+    federation: u64,
+    message: &Message,
+    bytes: &[u8],
+) -> Result<(), Fault> {
+    encode_again(alloc, federation, message, bytes)?;
+    push_message(alloc, text, message)?;
+    Ok(text.push_str("\n")?)
+}
+
+/// Decodes what found no memory.
+fn decode_again(alloc: Global, federation: u64, bytes: &[u8]) -> Result<(), Fault> {
+    let message = decode(alloc, federation, bytes)?;
+    match encode_again(alloc, federation, &message, bytes) {
+        Ok(()) => Err(Fault::Memory),
+        Err(fault) => Err(fault),
+    }
 }
 
 /// Encodes the message after some bytes: they stay, and these follow them, or nothing does.
@@ -36,12 +53,23 @@ fn encode_again(
     bytes: &[u8],
 ) -> Result<(), Fault> {
     let mut out = Vec::new(alloc);
+    let encoded = encode_into(&mut out, federation, message, bytes);
+    drop(out);
+    encoded
+}
+
+fn encode_into(
+    out: &mut Vec<u8>,
+    federation: u64,
+    message: &Message,
+    bytes: &[u8],
+) -> Result<(), Fault> {
     out.extend_from_slice(&BEFORE)?;
-    if encode(federation, message, &mut out).is_ok() {
+    if encode(federation, message, out).is_ok() {
         return check(out.as_slice(), bytes);
     }
     check(out.as_slice(), &[])?;
-    encode(federation, message, &mut out)?;
+    encode(federation, message, out)?;
     check(out.as_slice(), bytes)?;
     Err(Fault::Memory)
 }

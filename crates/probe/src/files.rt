@@ -2,8 +2,8 @@
 
 use crate::example::vote;
 use crate::fault::Fault;
-use crate::opening::{opening_line, owner};
-use crate::records_text::records_text;
+use crate::opening::{owner, push_opening};
+use crate::records_text::push_records;
 use book::{Book, CommitFault};
 use cell_device::FileCell;
 use fed_types::SiteNo;
@@ -11,14 +11,27 @@ use std::alloc::Global;
 
 /// The records of the site's journal in this file, or the fault, and the file's bytes afterwards.
 pub fn opened_line(rt: &HostRuntime, path: &str, site: SiteNo) -> Result<String, Fault> {
-    opening_line(rt.alloc(), FileCell::open(rt, path)?, site)
+    let mut text = String::new(rt.alloc());
+    match push_opened(rt, &mut text, path, site) {
+        Ok(()) => Ok(text),
+        Err(fault) => Err(fault),
+    }
+}
+
+fn push_opened(rt: &HostRuntime, text: &mut String, path: &str, site: SiteNo) -> Result<(), Fault> {
+    let owner = owner(site)?;
+    push_opening(rt.alloc(), text, FileCell::open(rt, path)?, owner)
 }
 
 /// The book of the site's journal in this file.
 pub fn open_book(rt: &HostRuntime, path: &str, site: SiteNo) -> Result<Book<FileCell>, Fault> {
-    match Book::open(rt.alloc(), FileCell::open(rt, path)?, owner(site)?) {
+    let owner = owner(site)?;
+    match Book::open(rt.alloc(), FileCell::open(rt, path)?, owner) {
         Ok(book) => Ok(book),
-        Err((_cell, fault)) => Err(fault.into()),
+        Err((cell, fault)) => {
+            drop(cell);
+            Err(fault.into())
+        }
     }
 }
 
@@ -34,9 +47,19 @@ pub fn commit_word(alloc: Global, book: &mut Book<FileCell>) -> Result<&'static 
 
 /// Commits the Vote to the site's journal in this file. `ok` or the fault, and the records.
 pub fn commit_line(rt: &HostRuntime, path: &str, site: SiteNo) -> Result<String, Fault> {
-    let alloc = rt.alloc();
     let mut book = open_book(rt, path, site)?;
-    let said = commit_word(alloc, &mut book)?;
-    let records = records_text(alloc, book.records())?;
-    Ok(format!(in alloc; "{said} | {records}\n")?)
+    let mut text = String::new(rt.alloc());
+    let committed = push_commit(rt.alloc(), &mut text, &mut book);
+    drop(book);
+    match committed {
+        Ok(()) => Ok(text),
+        Err(fault) => Err(fault),
+    }
+}
+
+fn push_commit(alloc: Global, text: &mut String, book: &mut Book<FileCell>) -> Result<(), Fault> {
+    let said = commit_word(alloc, book)?;
+    write!(text, "{said} | ")?;
+    push_records(text, book.records())?;
+    Ok(text.push_str("\n")?)
 }

@@ -4,8 +4,8 @@ use crate::example::{site, slot, vote};
 use crate::fault::Fault;
 use crate::files::open_book;
 use crate::opening::owner;
-use book::{Entry, Record, Round};
-use cell_device::{Cell, FileCell};
+use book::{Book, Entry, Record, Round};
+use cell_device::{Cell, CellFault, FileCell};
 use records::header;
 use std::alloc::Global;
 use std::time::Instant;
@@ -15,47 +15,84 @@ const ROUND_BYTES: usize = 13;
 
 /// Commits the Vote so often, in a new file. How many commits a second that were.
 pub fn commits_line(rt: &HostRuntime, path: &str, count: u32) -> Result<String, Fault> {
-    let alloc = rt.alloc();
     let mut book = open_book(rt, path, site()?)?;
+    let seconds = time_commits(rt, &mut book, count);
+    drop(book);
+    let rate = f64::from(count) / seconds?;
+    Ok(format!(in rt.alloc(); "{rate:.0}\n")?)
+}
+
+/// The seconds in which the Vote is committed so often.
+fn time_commits(rt: &HostRuntime, book: &mut Book<FileCell>, count: u32) -> Result<f64, Fault> {
     let start = Instant::now(rt)?;
     for _ in 0..count {
-        book.commit(vote(alloc)?)?;
+        book.commit(vote(rt.alloc())?)?;
     }
-    let rate = f64::from(count) / start.elapsed(rt)?.as_secs_f64();
-    Ok(format!(in alloc; "{rate:.0}\n")?)
+    Ok(start.elapsed(rt)?.as_secs_f64())
 }
 
 /// Writes the header and Rounds 1 to `count` to a new file. How many bytes those records are.
 pub fn filled_line(rt: &HostRuntime, path: &str, count: u32) -> Result<String, Fault> {
-    let alloc = rt.alloc();
-    let bytes = rounds(alloc, count)?;
-    let mut cell = FileCell::open(rt, path)?;
-    cell.append(&header(owner(site()?)?))?;
-    cell.append(bytes.as_slice())?;
-    cell.sync()?;
+    let bytes = rounds(rt.alloc(), count)?;
+    let written = write_journal(rt, path, bytes.as_slice());
     let total = bytes.len();
-    Ok(format!(in alloc; "{total}\n")?)
+    drop(bytes);
+    written?;
+    Ok(format!(in rt.alloc(); "{total}\n")?)
+}
+
+fn write_journal(rt: &HostRuntime, path: &str, records: &[u8]) -> Result<(), Fault> {
+    let owner = owner(site()?)?;
+    let mut cell = FileCell::open(rt, path)?;
+    let written = append_all(&mut cell, &header(owner), records);
+    drop(cell);
+    Ok(written?)
+}
+
+fn append_all(cell: &mut FileCell, header: &[u8], records: &[u8]) -> Result<(), CellFault> {
+    cell.append(header)?;
+    cell.append(records)?;
+    cell.sync()
 }
 
 /// The bytes of Rounds 1 to `count`.
 fn rounds(alloc: Global, count: u32) -> Result<Vec<u8>, Fault> {
     let mut bytes = Vec::with_capacity(alloc, (count as usize).saturating_mul(ROUND_BYTES))?;
-    for number in 1..=count {
-        let round = Round::new(number).ok_or(Fault::Wrong)?;
-        let record = Record {
-            slot: slot(alloc)?,
-            body: Entry::Round(round),
-        };
-        bytes.extend_from_slice(record.to_bytes(alloc)?.as_slice())?;
+    match push_rounds(alloc, count, &mut bytes) {
+        Ok(()) => Ok(bytes),
+        Err(fault) => Err(fault),
     }
-    Ok(bytes)
+}
+
+fn push_rounds(alloc: Global, count: u32, bytes: &mut Vec<u8>) -> Result<(), Fault> {
+    for number in 1..=count {
+        push_round(alloc, number, bytes)?;
+    }
+    Ok(())
+}
+
+fn push_round(alloc: Global, number: u32, bytes: &mut Vec<u8>) -> Result<(), Fault> {
+    let round = Round::new(number).ok_or(Fault::Wrong)?;
+    let record = Record {
+        slot: slot(alloc)?,
+        body: Entry::Round(round),
+    };
+    push_record(alloc, &record, bytes)
+}
+
+fn push_record(alloc: Global, record: &Record, bytes: &mut Vec<u8>) -> Result<(), Fault> {
+    let record = record.to_bytes(alloc)?;
+    Ok(bytes.extend_from_slice(record.as_slice())?)
 }
 
 /// Opens the journal. How many records it has, and how many seconds that took.
 pub fn opening_time_line(rt: &HostRuntime, path: &str) -> Result<String, Fault> {
+    let site = site()?;
     let start = Instant::now(rt)?;
-    let book = open_book(rt, path, site()?)?;
-    let seconds = start.elapsed(rt)?.as_secs_f64();
+    let book = open_book(rt, path, site)?;
+    let elapsed = start.elapsed(rt);
     let count = book.records().len();
+    drop(book);
+    let seconds = elapsed?.as_secs_f64();
     Ok(format!(in rt.alloc(); "{count} {seconds:.3}\n")?)
 }

@@ -5,6 +5,8 @@
 //! allocations fail.
 #![tactic(auto)]
 
+mod accepting_memory;
+mod accepting_times;
 mod cases;
 mod datagram_case;
 mod datagram_times;
@@ -14,27 +16,26 @@ mod example;
 mod fault;
 mod files;
 mod journal_times;
+mod learning_memory;
+mod learning_times;
+mod lookup_times;
 mod message_text;
 mod opening;
 mod out_of_memory;
+mod proposing_memory;
+mod proposing_times;
 mod records_text;
 mod schedule_text;
 mod task;
+mod tasks;
 mod turns;
 
-use cases::answers;
-use datagram_times::{decoding_line, encoding_line};
-use deciding_memory::decided_line;
-use deciding_times::decisions_text;
 use fault::Fault;
-use files::{commit_line, opened_line};
-use journal_times::{commits_line, filled_line, opening_time_line};
-use out_of_memory::voted_line;
-use schedule_text::printed_again;
+use std::env;
+use std::env::Args;
 use std::process::ExitCode;
-use std::{env, io};
-use task::{Task, task_of};
-use turns::answer_turns;
+use task::task_of;
+use tasks::{cases, perform};
 
 fn main(rt: HostRuntime) -> ExitCode {
     match text(&rt) {
@@ -51,28 +52,18 @@ fn main(rt: HostRuntime) -> ExitCode {
 
 /// What the program prints.
 fn text(rt: &HostRuntime) -> Result<String, Fault> {
-    let alloc = rt.alloc();
-    match task_of(&mut env::args(rt)?)? {
-        Task::Cases => answers(alloc, io::read_to_string(alloc, rt.reader())?.as_str()),
-        Task::Encode { count } => encoding_line(alloc, count),
-        Task::Decode { count } => decoding_line(alloc, count),
-        Task::File { path, site } => opened_line(rt, path.as_str(), site),
-        Task::Commit { path, site } => commit_line(rt, path.as_str(), site),
-        Task::Turns { path, site } => {
-            answer_turns(rt, path.as_str(), site)?;
-            Ok(String::new(alloc))
-        }
-        Task::Bench { path, count } => commits_line(rt, path.as_str(), count),
-        Task::Fill { path, count } => filled_line(rt, path.as_str(), count),
-        Task::Open { path } => opening_time_line(rt, path.as_str()),
-        Task::Memory => voted_line(alloc),
-        Task::Deciding => decided_line(alloc),
-        Task::Decide { count } => decisions_text(rt, count),
-        Task::Arrive { count } => Ok(site_tools::arrivals_text(rt, count)?),
-        Task::Sites => Ok(site_tools::answers(
-            alloc,
-            io::read_to_string(alloc, rt.reader())?.as_str(),
-        )?),
-        Task::Schedule => printed_again(alloc, io::read_to_string(alloc, rt.reader())?.as_str()),
+    let mut words = env::args(rt)?;
+    drop(words.next());
+    match words.next() {
+        None => cases(rt),
+        Some(name) => text_of(rt, name.as_str(), &mut words),
+    }
+}
+
+/// What the task of this name prints.
+fn text_of(rt: &HostRuntime, name: &str, words: &mut Args) -> Result<String, Fault> {
+    match task_of(name) {
+        Some(task) => perform(rt, task, words),
+        None => Err(Fault::Arguments),
     }
 }

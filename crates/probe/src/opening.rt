@@ -2,7 +2,7 @@
 
 use crate::example::FEDERATION;
 use crate::fault::Fault;
-use crate::records_text::records_text;
+use crate::records_text::push_records;
 use book::{Book, OpenFault, Owner};
 use cell_device::Cell;
 use fed_types::{MOST_MEMBERS, Members, SiteNo};
@@ -16,26 +16,69 @@ pub fn owner(site: SiteNo) -> Result<Owner, Fault> {
     })
 }
 
-/// The records of this site's cell, or the fault, and its bytes after it was opened.
-pub fn opening_line<C: Cell + Drop>(alloc: Global, cell: C, site: SiteNo) -> Result<String, Fault> {
-    match Book::open(alloc, cell, owner(site)?) {
-        Ok(book) => book_line(alloc, book),
-        Err((_cell, OpenFault::Memory)) => Err(Fault::Memory),
-        Err((cell, fault)) => {
-            let name = format!(in alloc; "{fault:?}")?;
-            line(alloc, name.as_str(), cell)
-        }
+/// Appends the records of this owner's cell, or the fault, and its bytes after it was opened.
+pub fn push_opening<C: Cell + Drop>(
+    alloc: Global,
+    text: &mut String,
+    cell: C,
+    owner: Owner,
+) -> Result<(), Fault> {
+    match Book::open(alloc, cell, owner) {
+        Ok(book) => push_book(alloc, text, book),
+        Err((cell, fault)) => push_refused(alloc, text, cell, fault),
     }
 }
 
-/// The book's records and its cell's bytes.
-pub fn book_line<C: Cell + Drop>(alloc: Global, book: Book<C>) -> Result<String, Fault> {
-    let records = records_text(alloc, book.records())?;
-    line(alloc, records.as_str(), book.close())
+/// Appends the book's records and its cell's bytes.
+pub fn push_book<C: Cell + Drop>(
+    alloc: Global,
+    text: &mut String,
+    book: Book<C>,
+) -> Result<(), Fault> {
+    let said = push_records(text, book.records());
+    let cell = book.close();
+    match said {
+        Ok(()) => push_cell(alloc, text, cell),
+        Err(_) => without_memory(cell),
+    }
 }
 
-fn line<C: Cell + Drop>(alloc: Global, said: &str, cell: C) -> Result<String, Fault> {
+fn push_refused<C: Cell + Drop>(
+    alloc: Global,
+    text: &mut String,
+    cell: C,
+    fault: OpenFault,
+) -> Result<(), Fault> {
+    match push_fault(text, fault) {
+        Ok(()) => push_cell(alloc, text, cell),
+        Err(_) => without_memory(cell),
+    }
+}
+
+fn push_fault(text: &mut String, fault: OpenFault) -> Result<(), Fault> {
+    match fault {
+        OpenFault::Memory => Err(Fault::Memory),
+        fault => Ok(write!(text, "{fault:?}")?),
+    }
+}
+
+fn without_memory<C: Cell + Drop>(cell: C) -> Result<(), Fault> {
+    drop(cell);
+    Err(Fault::Memory)
+}
+
+/// Appends the cell's bytes, and ends the line.
+fn push_cell<C: Cell + Drop>(alloc: Global, text: &mut String, cell: C) -> Result<(), Fault> {
     let mut cell = cell;
-    let digits = hex::encode(alloc, cell.load(alloc)?.as_slice())?;
-    Ok(format!(in alloc; "{said} | {digits}\n")?)
+    let loaded = cell.load(alloc);
+    drop(cell);
+    match loaded {
+        Ok(bytes) => push_bytes(alloc, text, bytes.as_slice()),
+        Err(fault) => Err(fault.into()),
+    }
+}
+
+fn push_bytes(alloc: Global, text: &mut String, bytes: &[u8]) -> Result<(), Fault> {
+    let digits = hex::encode(alloc, bytes)?;
+    Ok(write!(text, " | {digits}\n")?)
 }

@@ -2,21 +2,25 @@
 
 use book::{Entry, Record};
 use fed_types::Ballot;
-use std::alloc::{AllocError, Global};
+use std::alloc::AllocError;
 
-/// What the records say, in order, their slots and bags left out; `none` where there are none.
-pub fn records_text(alloc: Global, records: &[Record]) -> Result<String, AllocError> {
+/// Appends what the records say, in order, their slots and bags left out; `none` where there are
+/// none.
+pub fn push_records(text: &mut String, records: &[Record]) -> Result<(), AllocError> {
     if records.is_empty() {
-        return String::from_str(alloc, "none");
+        return text.push_str("none");
     }
-    let mut text = String::new(alloc);
-    for record in records {
-        if !text.is_empty() {
-            text.push_str(" ")?;
-        }
-        push_entry(&mut text, &record.body)?;
+    for (place, record) in records.iter().enumerate() {
+        push_record(text, place, record)?;
     }
-    Ok(text)
+    Ok(())
+}
+
+fn push_record(text: &mut String, place: usize, record: &Record) -> Result<(), AllocError> {
+    if place > 0 {
+        text.push_str(" ")?;
+    }
+    push_entry(text, &record.body)
 }
 
 fn push_entry(text: &mut String, entry: &Entry) -> Result<(), AllocError> {

@@ -4,89 +4,116 @@ use crate::fault::Fault;
 use fed_types::SiteNo;
 use std::env::Args;
 
-/// What the program is to do.
-#[derive(Debug, Drop)]
+/// What the program is to do, where its arguments name a task.
+#[derive(Clone, Copy, Debug)]
 pub enum Task {
-    /// Answer the cases on standard input.
-    Cases,
     /// Encode a datagram so often, to be timed.
-    Encode { count: u32 },
+    Encode,
     /// Decode a datagram so often, to be timed.
-    Decode { count: u32 },
+    Decode,
     /// Open the cell in a file.
-    File { path: String, site: SiteNo },
+    File,
     /// Open the cell in a file, and commit a record.
-    Commit { path: String, site: SiteNo },
+    Commit,
     /// Open the cell in a file, and do what the lines of standard input ask for.
-    Turns { path: String, site: SiteNo },
+    Turns,
     /// Commit so many records, and take the time.
-    Bench { path: String, count: u32 },
+    Bench,
     /// Write a journal of so many records.
-    Fill { path: String, count: u32 },
+    Fill,
     /// Open the cell in a file, and take the time.
-    Open { path: String },
+    Open,
     /// Open a cell in memory and commit a record, to have allocations fail.
     Memory,
     /// Call acceptor, proposer and learner, to have allocations fail.
     Deciding,
     /// Call them on so many slots, and take the time.
-    Decide { count: u32 },
+    Decide,
     /// Call a site on so many slots, and take the time.
-    Arrive { count: u32 },
+    Arrive,
     /// Call sites as the script on standard input says.
     Sites,
     /// Read the schedule on standard input, and print it.
     Schedule,
 }
 
-/// The task that the program's arguments name.
-pub fn task_of(words: &mut Args) -> Result<Task, Fault> {
-    let _program = words.next();
-    let Some(name) = words.next() else {
-        return Ok(Task::Cases);
-    };
-    let task = match name.as_str() {
-        "encode" => Task::Encode {
-            count: count(words)?,
-        },
-        "decode" => Task::Decode {
-            count: count(words)?,
-        },
-        "file" => Task::File {
-            path: word(words)?,
-            site: site(words)?,
-        },
-        "commit" => Task::Commit {
-            path: word(words)?,
-            site: site(words)?,
-        },
-        "turns" => Task::Turns {
-            path: word(words)?,
-            site: site(words)?,
-        },
-        "bench" => Task::Bench {
-            path: word(words)?,
-            count: count(words)?,
-        },
-        "fill" => Task::Fill {
-            path: word(words)?,
-            count: count(words)?,
-        },
-        "open" => Task::Open { path: word(words)? },
-        "memory" => Task::Memory,
-        "deciding" => Task::Deciding,
-        "decide" => Task::Decide {
-            count: count(words)?,
-        },
-        "sites" => Task::Sites,
-        "schedule" => Task::Schedule,
-        "arrive" => Task::Arrive {
-            count: count(words)?,
-        },
-        _ => return Err(Fault::Arguments),
-    };
+/// The task of this name.
+pub fn task_of(name: &str) -> Option<Task> {
+    match name {
+        "encode" => Some(Task::Encode),
+        "decode" => Some(Task::Decode),
+        "file" => Some(Task::File),
+        "commit" => Some(Task::Commit),
+        "turns" => Some(Task::Turns),
+        "bench" => Some(Task::Bench),
+        "fill" => Some(Task::Fill),
+        "open" => Some(Task::Open),
+        "memory" => Some(Task::Memory),
+        "deciding" => Some(Task::Deciding),
+        "decide" => Some(Task::Decide),
+        "sites" => Some(Task::Sites),
+        "schedule" => Some(Task::Schedule),
+        "arrive" => Some(Task::Arrive),
+        _ => None,
+    }
+}
+
+/// A journal of a site, in a file.
+#[derive(Drop)]
+pub struct SiteFile {
+    pub path: String,
+    pub site: SiteNo,
+}
+
+/// A file, and how many records are asked for.
+#[derive(Drop)]
+pub struct CountedFile {
+    pub path: String,
+    pub count: u32,
+}
+
+/// The journal that the last two arguments name.
+pub fn last_site_file(words: &mut Args) -> Result<SiteFile, Fault> {
+    let path = word(words)?;
+    match last_site(words) {
+        Ok(site) => Ok(SiteFile { path, site }),
+        Err(fault) => Err(fault),
+    }
+}
+
+/// The file and the number that are the last two arguments.
+pub fn last_counted_file(words: &mut Args) -> Result<CountedFile, Fault> {
+    let path = word(words)?;
+    match last_count(words) {
+        Ok(count) => Ok(CountedFile { path, count }),
+        Err(fault) => Err(fault),
+    }
+}
+
+/// The last argument.
+pub fn last_word(words: &mut Args) -> Result<String, Fault> {
+    let word = word(words)?;
+    match no_more(words) {
+        Ok(()) => Ok(word),
+        Err(fault) => Err(fault),
+    }
+}
+
+/// The number that is the last argument.
+pub fn last_count(words: &mut Args) -> Result<u32, Fault> {
+    let word = last_word(words)?;
+    word.parse::<u32>().or(Err(Fault::Arguments))
+}
+
+fn last_site(words: &mut Args) -> Result<SiteNo, Fault> {
+    let word = last_word(words)?;
+    site_of(word.as_str()).ok_or(Fault::Arguments)
+}
+
+/// There are no further arguments.
+pub fn no_more(words: &mut Args) -> Result<(), Fault> {
     match words.next() {
-        None => Ok(task),
+        None => Ok(()),
         Some(_) => Err(Fault::Arguments),
     }
 }
@@ -97,13 +124,8 @@ pub fn site_of(digits: &str) -> Option<SiteNo> {
 }
 
 fn word(words: &mut Args) -> Result<String, Fault> {
-    words.next().ok_or(Fault::Arguments)
-}
-
-fn site(words: &mut Args) -> Result<SiteNo, Fault> {
-    site_of(word(words)?.as_str()).ok_or(Fault::Arguments)
-}
-
-fn count(words: &mut Args) -> Result<u32, Fault> {
-    word(words)?.parse::<u32>().or(Err(Fault::Arguments))
+    match words.next() {
+        Some(word) => Ok(word),
+        None => Err(Fault::Arguments),
+    }
 }

@@ -4,80 +4,140 @@
 use crate::fault::Fault;
 use crate::files::commit_word;
 use crate::opening::owner;
-use crate::records_text::records_text;
-use book::Book;
+use crate::records_text::push_records;
+use book::{Book, OpenFault, Owner};
 use cell_device::FileCell;
 use fed_types::SiteNo;
 use std::alloc::Global;
+use std::io;
 
-/// A site's book, or the cell in which it was refused.
+/// A site's book, or else the cell in which it was refused.
 #[derive(Drop)]
-enum Journal {
-    Opened(Book<FileCell>),
-    Refused(FileCell),
+struct Journal {
+    book: Option<Book<FileCell>>,
+    cell: Option<FileCell>,
 }
 
 /// Opens the site's journal in this file, and says its records; then it does what the lines ask.
 /// `open` opens the journal again over the same cell.
 pub fn answer_turns(rt: &HostRuntime, path: &str, site: SiteNo) -> Result<(), Fault> {
-    let alloc = rt.alloc();
-    let (opened, said) = open(alloc, FileCell::open(rt, path)?, site)?;
-    rt.println(said)?;
-    let mut journal = opened;
-    for line in rt.lines(alloc) {
-        let (after, said) = turn(alloc, journal, line?.as_str(), site)?;
-        rt.println(said)?;
-        journal = after;
+    let owner = owner(site)?;
+    let cell = FileCell::open(rt, path)?;
+    let mut journal = Journal {
+        book: None,
+        cell: Some(cell),
+    };
+    let answered = answer_lines(rt, &mut journal, owner);
+    drop(journal);
+    answered
+}
+
+fn answer_lines(rt: &HostRuntime, journal: &mut Journal, owner: Owner) -> Result<(), Fault> {
+    answer(rt, journal, "open", owner)?;
+    for line in rt.lines(rt.alloc()) {
+        answer_line(rt, journal, line, owner)?;
     }
     Ok(())
 }
 
-/// What a line asks for.
+fn answer_line(
+    rt: &HostRuntime,
+    journal: &mut Journal,
+    line: io::Result<String>,
+    owner: Owner,
+) -> Result<(), Fault> {
+    let line = line?;
+    answer(rt, journal, line.as_str(), owner)
+}
+
+/// Does what a line asks for, and prints what that gives.
+fn answer(rt: &HostRuntime, journal: &mut Journal, line: &str, owner: Owner) -> Result<(), Fault> {
+    let mut said = String::new(rt.alloc());
+    match turn(rt.alloc(), &mut said, journal, line, owner) {
+        Ok(()) => Ok(rt.println(said)?),
+        Err(fault) => Err(fault),
+    }
+}
+
+/// Appends what is said to the line.
 fn turn(
     alloc: Global,
-    journal: Journal,
+    said: &mut String,
+    journal: &mut Journal,
     line: &str,
-    site: SiteNo,
-) -> Result<(Journal, String), Fault> {
+    owner: Owner,
+) -> Result<(), Fault> {
     match line {
-        "open" => open(alloc, cell_of(journal), site),
-        "commit" => commit(alloc, journal),
+        "open" => push_opened(said, journal, alloc, owner),
+        "commit" => push_commit(said, journal, alloc),
         _ => Err(Fault::Turn),
     }
 }
 
-fn cell_of(journal: Journal) -> FileCell {
-    match journal {
-        Journal::Opened(book) => book.close(),
-        Journal::Refused(cell) => cell,
+/// Appends the records of the journal in the cell, or the fault.
+fn push_opened(
+    said: &mut String,
+    journal: &mut Journal,
+    alloc: Global,
+    owner: Owner,
+) -> Result<(), Fault> {
+    match journal.open(alloc, owner) {
+        Some(fault) => Ok(write!(said, "{fault:?}")?),
+        None => journal.push_records(said),
     }
 }
 
-/// The journal in the cell, and its records or the fault.
-fn open(alloc: Global, cell: FileCell, site: SiteNo) -> Result<(Journal, String), Fault> {
-    match Book::open(alloc, cell, owner(site)?) {
-        Ok(book) => {
-            let said = records_text(alloc, book.records())?;
-            Ok((Journal::Opened(book), said))
-        }
-        Err((cell, fault)) => {
-            let said = format!(in alloc; "{fault:?}")?;
-            Ok((Journal::Refused(cell), said))
-        }
+/// Appends `ok` or the fault of a commit of the Vote.
+fn push_commit(said: &mut String, journal: &mut Journal, alloc: Global) -> Result<(), Fault> {
+    match &mut journal.book {
+        Some(book) => Ok(said.push_str(commit_word(alloc, book)?)?),
+        None => Ok(said.push_str("refused")?),
     }
 }
 
-/// The journal after the Vote, and `ok` or the fault.
-fn commit(alloc: Global, journal: Journal) -> Result<(Journal, String), Fault> {
-    match journal {
-        Journal::Opened(book) => {
-            let mut book = book;
-            let said = String::from_str(alloc, commit_word(alloc, &mut book)?)?;
-            Ok((Journal::Opened(book), said))
+impl Journal {
+    /// Opens the journal in the cell: the fault, if it is refused.
+    fn open(&mut self, alloc: Global, owner: Owner) -> Option<OpenFault> {
+        self.close();
+        match self.cell.take() {
+            Some(cell) => self.open_over(alloc, cell, owner),
+            None => None,
         }
-        Journal::Refused(cell) => {
-            let said = String::from_str(alloc, "refused")?;
-            Ok((Journal::Refused(cell), said))
+    }
+
+    fn open_over(&mut self, alloc: Global, cell: FileCell, owner: Owner) -> Option<OpenFault> {
+        match Book::open(alloc, cell, owner) {
+            Ok(book) => self.keep_book(book),
+            Err((cell, fault)) => self.refuse(cell, fault),
+        }
+    }
+
+    fn close(&mut self) {
+        match self.book.take() {
+            Some(book) => self.keep_cell(book.close()),
+            None => {}
+        }
+    }
+
+    fn keep_book(&mut self, book: Book<FileCell>) -> Option<OpenFault> {
+        drop(self.book.replace(book));
+        None
+    }
+
+    fn refuse(&mut self, cell: FileCell, fault: OpenFault) -> Option<OpenFault> {
+        self.keep_cell(cell);
+        Some(fault)
+    }
+
+    fn keep_cell(&mut self, cell: FileCell) {
+        drop(self.cell.replace(cell));
+    }
+
+    /// Appends the open book's records.
+    fn push_records(&self, said: &mut String) -> Result<(), Fault> {
+        match &self.book {
+            Some(book) => Ok(push_records(said, book.records())?),
+            None => Err(Fault::Wrong),
         }
     }
 }
