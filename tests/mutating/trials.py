@@ -132,7 +132,8 @@ def try_crate(crate, names, bases, rank, tell):
     folder = bases.root / "crates" / crate
     mutants = [Mutant(folder / "mutants" / f"{it}.edit", folder) for it in names]
     alone = [it for it in mutants if trial.name(it) is None]
-    with concurrent.futures.ThreadPoolExecutor(bases.lanes.count) as pool:
+    # One more than there are places: so the next copy is ready where a place becomes free.
+    with concurrent.futures.ThreadPoolExecutor(bases.lanes.count + 1) as pool:
         try_alone = lambda it: tell(it.name, trial.tried_alone(it))
         early = [pool.submit(try_alone, it) for it in alone]
         late = in_batches(trial, pool, [it for it in mutants if it not in alone], tell)
