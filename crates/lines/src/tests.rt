@@ -134,7 +134,7 @@ fn drops_stops_and_starts(rt: HostRuntime) -> Result<(), Fail> {
 /// The first bytes of a datagram, its fifth, from site 2 to site 1.
 fn sent(alloc: Global) -> Result<Line, AllocError> {
     let (number, from, to) = (5, 2, 1);
-    let bytes = SentBytes::new(b"\x42\x50\x01\xff".to_vec(alloc)?);
+    let bytes = SentBytes::new(b"\x42\x50\x02\xff".to_vec(alloc)?);
     Ok(Line::Sent {
         number,
         from,
@@ -146,7 +146,7 @@ fn sent(alloc: Global) -> Result<Line, AllocError> {
 #[test]
 fn datagrams_where_they_are_asked_for(rt: HostRuntime) -> Result<(), Fail> {
     let said = printed(rt.alloc(), sent(rt.alloc())?, ALL)?;
-    assert_eq!(rt; said.as_str(), "sent 5 2 1 425001ff\n");
+    assert_eq!(rt; said.as_str(), "sent 5 2 1 425002ff\n");
     let said = printed(rt.alloc(), sent(rt.alloc())?, SHORT)?;
     assert_eq!(rt; said.as_str(), "");
     Ok(())

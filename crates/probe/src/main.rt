@@ -23,7 +23,7 @@ mod task;
 mod turns;
 
 use cases::answers;
-use datagram_times::{decoding_line, encoding_line};
+use datagram_times::{decoding_line, digesting_line, encoding_line};
 use deciding_memory::decided_line;
 use deciding_times::decisions_text;
 use fault::Fault;
@@ -56,6 +56,7 @@ fn text(rt: &HostRuntime) -> Result<String, Fault> {
         Task::Cases => answers(alloc, io::read_to_string(alloc, rt.reader())?.as_str()),
         Task::Encode { count } => encoding_line(alloc, count),
         Task::Decode { count } => decoding_line(alloc, count),
+        Task::Digest { count } => digesting_line(alloc, count),
         Task::File { path, site } => opened_line(rt, path.as_str(), site),
         Task::Commit { path, site } => commit_line(rt, path.as_str(), site),
         Task::Turns { path, site } => {

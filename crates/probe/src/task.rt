@@ -13,6 +13,8 @@ pub enum Task {
     Encode { count: u32 },
     /// Decode a datagram so often, to be timed.
     Decode { count: u32 },
+    /// Take a SHA-256 so often, to be timed beside these.
+    Digest { count: u32 },
     /// Open the cell in a file.
     File { path: String, site: SiteNo },
     /// Open the cell in a file, and commit a record.
@@ -50,6 +52,9 @@ pub fn task_of(words: &mut Args) -> Result<Task, Fault> {
             count: count(words)?,
         },
         "decode" => Task::Decode {
+            count: count(words)?,
+        },
+        "digest" => Task::Digest {
             count: count(words)?,
         },
         "file" => Task::File {

@@ -14,14 +14,14 @@ const SITE: u16 = 5001;
 const CLIENT: u16 = 9000;
 
 // A deposit of the folder `x` as version 1 of the object `a`, and a query.
-const DEPOSIT: &str = "42500110000000000000000700016100000001000178";
+const DEPOSIT: &str = "4250021000000000000000070001610000000100017851c96259d5fef935";
 
-const QUERY: &str = "42500111000000000000000700016100000001";
+const QUERY: &str = "425002110000000000000007000161000000019a94461badd1ee50";
 
 // The replies of site 1 for it, up to their codes.
-const DEPOSIT_REPLY: &str = "42500120000000000000000701016100000001";
+const DEPOSIT_REPLY: &str = "42500220000000000000000701016100000001";
 
-const QUERY_REPLY: &str = "42500121000000000000000701016100000001";
+const QUERY_REPLY: &str = "42500221000000000000000701016100000001";
 
 // The SHA-512 of no bytes, and the place of a bag where none is named.
 const BAG: &str = "cf83e1357eefb8bdf1542850d66d8007d620e4050b5715dc83f4a921d36ce9ce\
@@ -139,10 +139,11 @@ fn answered(
     reply: &str,
     code: &str,
     bag: &str,
+    checksum: &str,
     output: &mut Vec<u8>,
 ) -> Result<Option<u8>, Fail> {
     let mut port = MemoryPort::new(alloc);
-    let digits = format!(in alloc; "{reply}{code}{bag}")?;
+    let digits = format!(in alloc; "{reply}{code}{bag}{checksum}")?;
     let bytes = hex::decode(alloc, digits.as_str())?;
     port.bring(SITE, bytes.as_slice())?;
     let status = asks(alloc, &mut port, path, output)?;
@@ -164,32 +165,35 @@ fn says(alloc: Global, output: &[u8], line: &str) -> Result<bool, Fail> {
 #[test]
 fn answers_to_clients(rt: HostRuntime) -> Result<(), Fail> {
     let alloc = rt.alloc();
-    for (path, reply, code, bag, status, line) in [
+    for (path, reply, code, bag, checksum, status, line) in [
         (
             Some("x"),
             DEPOSIT_REPLY,
             "00",
             BAG,
+            "8d66b847da3f75c7",
             0u8,
             "registered 1 a 1 I",
         ),
-        (Some("x"), DEPOSIT_REPLY, "0b", BAG, 1, "refused 1 11"),
-        (Some("x"), DEPOSIT_REPLY, "0c", BAG, 1, "refused 1 12"),
-        (Some("x"), DEPOSIT_REPLY, "0d", NO_BAG, 1, "refused 1 13"),
-        (Some("x"), DEPOSIT_REPLY, "0e", NO_BAG, 1, "refused 1 14"),
-        (Some("x"), DEPOSIT_REPLY, "0f", NO_BAG, 1, "refused 1 15"),
-        (Some("x"), DEPOSIT_REPLY, "15", NO_BAG, 1, "refused 1 21"),
-        (Some("x"), DEPOSIT_REPLY, "36", NO_BAG, 1, "refused 1 54"),
-        (None, QUERY_REPLY, "00", BAG, 0, "reply 1 a 1 known I"),
-        (None, QUERY_REPLY, "01", BAG, 0, "reply 1 a 1 pending I"),
-        (None, QUERY_REPLY, "02", NO_BAG, 0, "reply 1 a 1 nothing"),
-        (None, QUERY_REPLY, "0f", NO_BAG, 1, "refused 1 15"),
+        (Some("x"), DEPOSIT_REPLY, "0b", BAG, "1532440989388e3a", 1, "refused 1 11"),
+        (Some("x"), DEPOSIT_REPLY, "0c", BAG, "dafe3a7571c1be98", 1, "refused 1 12"),
+        (Some("x"), DEPOSIT_REPLY, "0d", NO_BAG, "43a4c8d941b50ff5", 1, "refused 1 13"),
+        (Some("x"), DEPOSIT_REPLY, "0e", NO_BAG, "fc3aba2f6ff1f4be", 1, "refused 1 14"),
+        (Some("x"), DEPOSIT_REPLY, "0f", NO_BAG, "5eabab0a3608e956", 1, "refused 1 15"),
+        (Some("x"), DEPOSIT_REPLY, "15", NO_BAG, "83c857bc43844b41", 1, "refused 1 21"),
+        (Some("x"), DEPOSIT_REPLY, "36", NO_BAG, "00cd39a2f2e4123e", 1, "refused 1 54"),
+        (None, QUERY_REPLY, "00", BAG, "4402394f487f027d", 0, "reply 1 a 1 known I"),
+        (None, QUERY_REPLY, "01", BAG, "77a90773d8018c5f", 0, "reply 1 a 1 pending I"),
+        (None, QUERY_REPLY, "02", NO_BAG, "96bf509878f5dc89", 0, "reply 1 a 1 nothing"),
+        (None, QUERY_REPLY, "0f", NO_BAG, "fcb44333a7673de1", 1, "refused 1 15"),
         // Not what was asked.
-        (None, DEPOSIT_REPLY, "00", BAG, 1, "no answer"),
-        (Some("x"), QUERY_REPLY, "00", BAG, 1, "no answer"),
+        (None, DEPOSIT_REPLY, "00", BAG, "8d66b847da3f75c7", 1, "no answer"),
+        (Some("x"), QUERY_REPLY, "00", BAG, "4402394f487f027d", 1, "no answer"),
+        // Another checksum.
+        (None, QUERY_REPLY, "02", NO_BAG, "96bf509878f5dc88", 1, "no answer"),
     ] {
         let mut output = Vec::new(alloc);
-        let answer = answered(alloc, path, reply, code, bag, &mut output)?;
+        let answer = answered(alloc, path, reply, code, bag, checksum, &mut output)?;
         assert_eq!(rt; answer, Some(status), "{line}");
         assert!(rt; says(alloc, &output, line)?, "{line}");
     }
@@ -199,12 +203,12 @@ fn answers_to_clients(rt: HostRuntime) -> Result<(), Fail> {
 // So many datagrams of another site come, and then the answer.
 fn after_others(alloc: Global, others: usize, output: &mut Vec<u8>) -> Result<Option<u8>, Fail> {
     let mut port = MemoryPort::new(alloc);
-    let other = format!(in alloc; "42500121000000000000000702016100000001{}{BAG}", "00")?;
+    let other = format!(in alloc; "42500221000000000000000702016100000001{}{BAG}{}", "00", "2f1c15c84569ebbb")?;
     let other = hex::decode(alloc, other.as_str())?;
     for _ in 0..others {
         port.bring(SITE, other.as_slice())?;
     }
-    let answer = format!(in alloc; "{QUERY_REPLY}02{NO_BAG}")?;
+    let answer = format!(in alloc; "{QUERY_REPLY}02{NO_BAG}{}", "96bf509878f5dc89")?;
     port.bring(SITE, hex::decode(alloc, answer.as_str())?.as_slice())?;
     asks(alloc, &mut port, None, output)
 }

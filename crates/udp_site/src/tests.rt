@@ -24,9 +24,9 @@ const SITE: u16 = 5001;
 const CLIENT: u16 = 9000;
 
 // A client deposits the folder `x` as version 1 of the object `a`, or asks for its bag.
-const DEPOSIT: &str = "42500110000000000000000700016100000001000178";
+const DEPOSIT: &str = "4250021000000000000000070001610000000100017851c96259d5fef935";
 
-const QUERY: &str = "42500111000000000000000700016100000001";
+const QUERY: &str = "425002110000000000000007000161000000019a94461badd1ee50";
 
 // The SHA-512 of no bytes: the identity of the bag in the folder `x`.
 const BAG: &str = "cf83e1357eefb8bdf1542850d66d8007d620e4050b5715dc83f4a921d36ce9ce\
@@ -136,9 +136,10 @@ fn with_bag(alloc: Global, text: &str) -> Result<String, Fail> {
 }
 
 fn push_with_bag(whole: &mut String, line: &str) -> Result<(), Fail> {
-    if let Some(start) = line.strip_suffix("I") {
+    if let Some((start, rest)) = line.split_once("I") {
         whole.push_str(start)?;
         whole.push_str(BAG)?;
+        whole.push_str(rest)?;
     } else {
         whole.push_str(line)?;
     }

@@ -6,19 +6,23 @@ use std::io;
 use std::io::{ErrorKind, Write};
 
 // The replies without a bag, up to their codes.
-pub(super) const DEPOSIT_REPLY: &str = "42500120000000000000000701016100000001";
+pub(super) const DEPOSIT_REPLY: &str = "42500220000000000000000701016100000001";
 
-pub(super) const QUERY_REPLY: &str = "42500121000000000000000701016100000001";
+pub(super) const QUERY_REPLY: &str = "42500221000000000000000701016100000001";
 
-// The port was handed these replies for the client, one a line, none of which names a bag.
+// The reply to a query that nothing is known or deposited.
+pub(super) const NOTHING: (&str, &str, &str) = (QUERY_REPLY, "02", "96bf509878f5dc89");
+
+// The port was handed these replies for the client, none of which names a bag: each up to its code,
+// the code, and the checksum.
 pub(super) fn replied(
     alloc: Global,
     port: &MemoryPort,
-    replies: &[(&str, &str)],
+    replies: &[(&str, &str, &str)],
 ) -> Result<bool, Fail> {
     let mut want = String::new(alloc);
-    for (reply, code) in replies {
-        let line = format!(in alloc; "{CLIENT}: {reply}{code}{:0128}\n", 0)?;
+    for (reply, code, checksum) in replies {
+        let line = format!(in alloc; "{CLIENT}: {reply}{code}{:0128}{checksum}\n", 0)?;
         want.push_str(line.as_str())?;
     }
     Ok(sent(alloc, port)?.as_str() == want.as_str())
@@ -46,9 +50,9 @@ fn ends_by_the_cell(bench: &mut Bench) -> Result<bool, Fail> {
         }
     }
     let replies = [
-        (DEPOSIT_REPLY, "0d"),
-        (DEPOSIT_REPLY, "0f"),
-        (QUERY_REPLY, "0f"),
+        (DEPOSIT_REPLY, "0d", "43a4c8d941b50ff5"),
+        (DEPOSIT_REPLY, "0f", "5eabab0a3608e956"),
+        (QUERY_REPLY, "0f", "fcb44333a7673de1"),
     ];
     let is_said = bench.output.as_slice()
         == b"refused 1 13\nrefused 1 15\nrefused 1 15\n".as_slice();
@@ -69,7 +73,7 @@ fn ends_by_the_port(bench: &mut Bench) -> Result<bool, Fail> {
     bring(bench.alloc, &mut bench.port, CLIENT, QUERY)?;
     let ended = serve_turns(bench, 9);
     let is_said = bench.output.as_slice() == b"reply 1 a 1 nothing\n".as_slice();
-    let is_replied = replied(bench.alloc, &bench.port, &[(QUERY_REPLY, "02")])?;
+    let is_replied = replied(bench.alloc, &bench.port, &[NOTHING])?;
     Ok(ended == Err(ServeFault::Port) && is_said && is_replied && bench.port.failures() == 1)
 }
 
@@ -87,7 +91,7 @@ fn goes_on(bench: &mut Bench) -> Result<bool, Fail> {
         bring(bench.alloc, &mut bench.port, CLIENT, QUERY)?;
     }
     serve_turns(bench, 2)?;
-    let wanted = [(QUERY_REPLY, "02"), (QUERY_REPLY, "02")];
+    let wanted = [NOTHING, NOTHING];
     let is_said = bench.output.as_slice()
         == b"reply 1 a 1 nothing\nreply 1 a 1 nothing\n".as_slice();
     let is_replied = replied(bench.alloc, &bench.port, &wanted)?;
@@ -134,7 +138,7 @@ fn ends_by_the_writer(bench: &mut Bench, room: usize) -> Result<bool, Fail> {
         2,
         &mut Narrow { room },
     );
-    let is_replied = replied(bench.alloc, &bench.port, &[(QUERY_REPLY, "02")])?;
+    let is_replied = replied(bench.alloc, &bench.port, &[NOTHING])?;
     Ok(ended == Err(ServeFault::Output) && is_replied)
 }
 

@@ -6,6 +6,11 @@ const SITES: u8 = 3;
 
 const MOST_ROUNDS: u32 = 40;
 
+// The checksums of the replies: that of the first site to the deposit, and each site's to the query.
+const DEPOSITED: &str = "8d66b847da3f75c7";
+
+const KNOWN: [&str; 3] = ["4402394f487f027d", "2f1c15c84569ebbb", "3dc9a034e238b072"];
+
 /// A site that serves at a socket.
 #[derive(Drop)]
 struct Station {
@@ -112,7 +117,7 @@ fn deposit_at_first(
     stations: &mut [Station],
     ports: &[u16],
 ) -> Result<bool, Fail> {
-    let want = format!(in alloc; "4250012000000000000000070101610000000100{BAG}")?;
+    let want = format!(in alloc; "4250022000000000000000070101610000000100{BAG}{DEPOSITED}")?;
     let [first, ..] = stations else {
         return Ok(false);
     };
@@ -128,9 +133,10 @@ fn all_reply(
     stations: &mut [Station],
     ports: &[u16],
 ) -> Result<bool, Fail> {
-    for station in stations {
+    for (station, checksum) in stations.iter_mut().zip(&KNOWN) {
         let number = station.site.number().number();
-        let want = format!(in alloc; "425001210000000000000007{number:02x}01610000000100{BAG}")?;
+        let start = format!(in alloc; "425002210000000000000007{number:02x}01610000000100")?;
+        let want = format!(in alloc; "{start}{BAG}{checksum}")?;
         let reply = answer(alloc, client, station, ports, QUERY)?;
         if reply.as_str() != want.as_str() {
             return Ok(false);

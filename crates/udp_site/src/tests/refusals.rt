@@ -1,7 +1,7 @@
 //! What is refused, each for a reason of its own: another deposit, a proposal without a round left,
 //! and folders that can't be read.
 
-use super::failures::{DEPOSIT_REPLY, QUERY_REPLY, replied};
+use super::failures::{DEPOSIT_REPLY, NOTHING, replied};
 use super::*;
 use bag_folders::Folders;
 use bag_tree::{Facts, TreeFault};
@@ -15,11 +15,11 @@ fn came(bench: &Bench, said: &str, replies: &str) -> Result<bool, Fail> {
 }
 
 // A client deposits the folder `y` as the same version.
-const OTHER_DEPOSIT: &str = "42500110000000000000000700016100000001000179";
+const OTHER_DEPOSIT: &str = "425002100000000000000007000161000000010001793c9469b35e58114f";
 
 // Both name the first bag, which the second reply has with code 11.
-const REPLIES: &str = "9000: 4250012000000000000000070101610000000100I
-9000: 425001200000000000000007010161000000010bI
+const REPLIES: &str = "9000: 4250022000000000000000070101610000000100I8d66b847da3f75c7
+9000: 425002200000000000000007010161000000010bI1532440989388e3a
 ";
 
 const SAID: &str = "registered 1 a 1 I
@@ -52,7 +52,7 @@ const DEPOSITED: &str = "004701016100000001";
 const ROUND: &str = "000b02016100000001";
 
 // A Prepare of the greatest round, to site 1.
-const LAST_ROUND: &str = "5001: 42500101000000000000000701016100000001ffffffff01\n";
+const LAST_ROUND: &str = "5001: 42500201000000000000000701016100000001ffffffff01f1b667d79214104a\n";
 
 // A site that has used this round.
 fn bench_after(alloc: Global, round: &str) -> Result<Bench, Fail> {
@@ -114,16 +114,16 @@ impl Folders for Unreadable {
     }
 }
 
-// 20 and the number of the fault, or 14; and a query after them.
-const UNREAD_REPLIES: [(&str, &str); 8] = [
-    (DEPOSIT_REPLY, "15"),
-    (DEPOSIT_REPLY, "16"),
-    (DEPOSIT_REPLY, "17"),
-    (DEPOSIT_REPLY, "18"),
-    (DEPOSIT_REPLY, "19"),
-    (DEPOSIT_REPLY, "1a"),
-    (DEPOSIT_REPLY, "0e"),
-    (QUERY_REPLY, "02"),
+// 20 and the number of the fault, or 14; and a query after them. Each with its checksum.
+const UNREAD_REPLIES: [(&str, &str, &str); 8] = [
+    (DEPOSIT_REPLY, "15", "83c857bc43844b41"),
+    (DEPOSIT_REPLY, "16", "7ca9e71ea1d03160"),
+    (DEPOSIT_REPLY, "17", "ac06d1132664eeb3"),
+    (DEPOSIT_REPLY, "18", "caf3fe613e559d2d"),
+    (DEPOSIT_REPLY, "19", "fa9772b9c2317e50"),
+    (DEPOSIT_REPLY, "1a", "54ad966908b96f2a"),
+    (DEPOSIT_REPLY, "0e", "fc3aba2f6ff1f4be"),
+    NOTHING,
 ];
 
 // Seven deposits and a query.

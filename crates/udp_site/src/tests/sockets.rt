@@ -43,7 +43,7 @@ fn datagrams_come_over(rt: HostRuntime) -> Result<(), Fail> {
     for (count, want) in [
         (0, 0),
         (1, 1),
-        (620, 620),
+        (628, 628),
         (1024, 1024),
         (1025, 1024),
         (9000, 1024),
