@@ -66,10 +66,10 @@ impl<C: Cell> Site<C> {
             ↔ (self.old.book.needs_opening ≡ true) }
         ensures untouched { self.old.book.needs_opening ≡ true → self.new ≡ self.old }
     {
-        if self.book.needs_opening() {
-            return Err(SiteFault::NeedsOpen);
+        if !self.book.needs_opening() {
+            return self.take_in(message);
         }
-        self.take_in(message)
+        Err(SiteFault::NeedsOpen)
     }
 
     // The message that the bytes are, if they are one of the federation.
