@@ -1,4 +1,4 @@
-"""Datagrams of layout 2 and journals of layout 1, as docs/FORMATS.md has them. No test of itself."""
+"""Datagrams, layout 2, and journals, layout 1, as docs/FORMATS.md has them. No test of itself."""
 import hashlib
 from typing import NamedTuple
 

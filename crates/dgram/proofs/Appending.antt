@@ -1,20 +1,23 @@
 -- Bytes are appended, and then more.
-use Rattle.std.proofs.Common.{◌≡◌, ℕ, zero, suc, ◌+◌, ◌≤◌, ◌<◌, List, [], ◌∷◌, ◌++◌, length, take, drop, Result, Ok, Err}
+use Rattle.std.proofs.Common.{◌≡◌, ℕ, zero, suc, ◌+◌, ◌≤◌, ◌<◌, List, [], ◌∷◌, ◌++◌, length}
+use Rattle.std.proofs.Common.{take, drop, Result, Ok, Err}
 use Rattle.std.proofs.Common.{refl, sym, ap, ◌∙◌, arith, append_assoc, length-append}
 use Rattle.std.specs.Prelude.{Vec, vec_len, vec_capacity, OnOk, OnErr, IsOk}
 use Rattle.std.proofs.lemmas.List.{take_at, drop_at}
 use Rattle.fields.specs.Puts.{Puts}
 
+-- the first of the first
 prefix : (m n : ℕ) (xs : List ℕ) → m ≤ n → take m (take n xs) ≡ take m xs
 prefix zero n xs le = refl
 prefix (suc m) zero xs le = absurd (omega (arith, le))
 prefix (suc m) (suc n) [] le = refl
-prefix (suc m) (suc n) (x ∷ xs) le = ap (λ (l : List ℕ). x ∷ l) (prefix m n xs (omega (arith, le)))
+prefix (suc m) (suc n) (x ∷ xs) le =
+    ap (λ (l : List ℕ). x ∷ l) (prefix m n xs (omega (arith, le)))
 
 -- the items that were appended
-pub they_are : (items old a : List ℕ) (from : ℕ) → items ≡ old ++ a → from ≡ length old
+pub appended_items : (items old a : List ℕ) (from : ℕ) → items ≡ old ++ a → from ≡ length old
     → drop from items ≡ a
-they_are items old a from first is = ap (drop from) first ∙ drop_at old a from (sym is)
+appended_items items old a from first is = ap (drop from) first ∙ drop_at old a from (sym is)
 
 module _ {X E Z : Type 0} (old mid new : Vec ℕ Z) (a : List ℕ)
     (first : mid.items ≡ old.items ++ a) (room : vec_capacity old ≤ vec_capacity mid)

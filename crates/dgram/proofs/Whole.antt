@@ -139,7 +139,8 @@ is_found federation bytes m fits long ours given =
     let enough : FRONT ≤ length front = ltb-false (length front) 12 t.0 in
     let bytes' : IsBytes front = IsBytes-prefix front (checksum front) (subst IsBytes parts fits) in
     let ours' : IsOurs federation front =
-    prefix_is_ours federation front (checksum front) enough (subst (IsOurs federation) parts ours) in
+    prefix_is_ours federation front (checksum front) enough
+    (subst (IsOurs federation) parts ours) in
     let found = whole_found federation front m bytes' enough ours' t.1 in
     (found.0, parts ∙ ap with_checksum found.1)
 
@@ -246,4 +247,5 @@ err_malformed federation bytes field_faults.Memory r fits long ours h =
 pub same_message : (federation : ℕ) (a b : Message) → IsMessage a → IsMessage b
     → datagram_of federation a ≡ datagram_of federation b → a ≡ b
 same_message federation a b h h' e =
-    some_is a b (sym (datagram_read federation a h) ∙ ap datagram_at e ∙ datagram_read federation b h')
+    some_is a b
+    (sym (datagram_read federation a h) ∙ ap datagram_at e ∙ datagram_read federation b h')

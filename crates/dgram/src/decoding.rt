@@ -72,8 +72,8 @@ fn read_datagram(alloc: Global, bytes: &[u8]) -> Result<Message, FieldFault>
 
 /// The message whose datagram the bytes are, in the federation. Fewer than 12 bytes are
 /// `Malformed`. Else `NotOurs` where they don't begin with magic and layout or name another
-/// federation. Else `Malformed` where they are no message's datagram: another checksum, or bytes that
-/// aren't of the layout. `Memory` only where they are one.
+/// federation. Else `Malformed` where they are no message's datagram: the checksum is another, or
+/// the bytes aren't of the layout. `Memory` only where they are one.
 pub fn decode(alloc: Global, federation: u64, bytes: &[u8]) -> Result<Message, DgramFault>
     // The definitions' message of the bytes, unless memory runs out.
     ensures message { Decodes result (message_of federation bytes.now) }

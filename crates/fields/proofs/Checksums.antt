@@ -1,5 +1,5 @@
 -- Bytes with their checksum are read again, and only they.
-use Rattle.std.proofs.Common.{◌≡◌, ◌↔◌, ℕ, ◌-◌, true, false, cond, ltb, List, ◌++◌, length}
+use Rattle.std.proofs.Common.{◌≡◌, ℕ, true, false, cond, ltb, List, ◌++◌, length}
 use Rattle.std.proofs.Common.{take, drop, Some, None, refl, sym, ap, ◌∙◌, arith}
 use Rattle.std.proofs.Common.{length-append}
 use Rattle.std.specs.Prelude.{bytes_eq}

@@ -1,5 +1,5 @@
--- The checksum that follows a message's fields: the first 8 bytes of the SHA-256 (FIPS 180-4) of all
--- bytes before it.
+-- The checksum that follows a message's fields: the first 8 bytes of the SHA-256 (FIPS 180-4) of
+-- all bytes before it.
 use Rattle.std.specs.Prelude.{◌≡◌, ◌↔◌, ℕ, ◌-◌, List, ◌++◌, length, take, drop}
 use Rattle.std.specs.Prelude.{Option, Some, None, nat_lt, bytes_eq, if◌then◌else◌}
 use Rattle.sha2.specs.Sha256.{sha256}

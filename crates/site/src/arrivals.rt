@@ -53,8 +53,8 @@ impl<C: Cell> Site<C> {
         }
     }
 
-    /// A message arrives that a datagram of the federation was decoded to: `arrive` without decoding
-    /// it again.
+    /// A message arrives that a datagram of the federation was decoded to: as `arrive`, which would
+    /// decode it again.
     pub fn arrive_message(&mut self, message: Message) -> Result<Answer, SiteFault>
         ensures answer { self.old.book.needs_opening ≡ false → (session : Session)
             → StandsFor self.old session

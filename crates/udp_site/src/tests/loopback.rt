@@ -6,7 +6,7 @@ const SITES: u8 = 3;
 
 const MOST_ROUNDS: u32 = 40;
 
-// The checksums of the replies: that of the first site to the deposit, and each site's to the query.
+// The checksums of the first site's reply to the deposit, and of each site's to the query.
 const DEPOSITED: &str = "8d66b847da3f75c7";
 
 const KNOWN: [&str; 3] = ["4402394f487f027d", "2f1c15c84569ebbb", "3dc9a034e238b072"];

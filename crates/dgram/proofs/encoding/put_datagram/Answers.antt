@@ -3,7 +3,7 @@ use Rattle.std.specs.Prelude.{vec_len}
 use Rattle.fields.specs.Checksums.{checksum}
 use Rattle.fields.specs.Puts.{Puts}
 use Rattle.dgram.specs.Encoding.{message_bytes}
-use Rattle.dgram.proofs.Appending.{they_are, puts_both}
+use Rattle.dgram.proofs.Appending.{appended_items, puts_both}
 use Rattle.dgram.proofs.encoding.put_datagram.Goals as goal
 
 pub returns : goal.returns
@@ -18,4 +18,4 @@ returns c =
     let from : c.len-from.result ≡ length old.items = omega (arith, c.len-from.ensures, old.ok) in
     puts_both old mid new a first c.put_message.ensures.room lens c.put_checksum.result (checksum a)
     (subst (λ (b : List ℕ). Puts c.put_checksum.result mid new (checksum b))
-    (they_are mid.items old.items a c.len-from.result first from) c.put_checksum.ensures)
+    (appended_items mid.items old.items a c.len-from.result first from) c.put_checksum.ensures)
