@@ -1,8 +1,10 @@
-"""Datagrams and journals of layout 1, as docs/FORMATS.md has them. No test of itself."""
+"""Datagrams, layout 2, and journals, layout 1, as docs/FORMATS.md has them. No test of itself."""
+import hashlib
 from typing import NamedTuple
 
 FEDERATION = 7
 BALLOT_BYTES = 5
+CHECKSUM_BYTES = 8
 # The kinds of datagrams, and of records.
 PREPARE, PROMISE, ACCEPT, ACCEPTED, REFUSED, ASK, KNOWN = range(1, 8)
 DEPOSIT, QUERY, DEPOSIT_REPLY, QUERY_REPLY = 16, 17, 32, 33
@@ -20,9 +22,9 @@ class Message(NamedTuple):
 
     def bytes(self):
         name = self.object.encode()
-        head = b"BP\x01" + bytes([self.kind]) + FEDERATION.to_bytes(8, "big")
+        head = b"BP\x02" + bytes([self.kind]) + FEDERATION.to_bytes(8, "big")
         head += bytes([self.sender, len(name)]) + name
-        return head + self.version.to_bytes(4, "big") + self.body
+        return sealed(head + self.version.to_bytes(4, "big") + self.body)
 
 
 class Record(NamedTuple):
@@ -34,10 +36,16 @@ class Record(NamedTuple):
     body: bytes
 
 
+def sealed(bytes):
+    """The bytes, and their checksum."""
+    return bytes + hashlib.sha256(bytes).digest()[:CHECKSUM_BYTES]
+
+
 def message(datagram):
     """The message of a datagram of this federation."""
-    assert datagram[:3] == b"BP\x01" and datagram[4:12] == FEDERATION.to_bytes(8, "big")
-    name, version, body = named(datagram[13:])
+    assert datagram[:3] == b"BP\x02" and datagram[4:12] == FEDERATION.to_bytes(8, "big")
+    assert sealed(datagram[:-CHECKSUM_BYTES]) == datagram
+    name, version, body = named(datagram[13:-CHECKSUM_BYTES])
     return Message(datagram[3], datagram[12], name, version, body)
 
 

@@ -1,5 +1,5 @@
 -- What the words give of a few messages about three slots, and the bytes of one of them.
-use Rattle.std.proofs.Common.{◌≡◌, ℕ, List, [], ◌∷◌, length, Some, None, refl}
+use Rattle.std.proofs.Common.{◌≡◌, ℕ, List, [], ◌∷◌, ◌++◌, length, Some, None, refl}
 use Rattle.std.proofs.Common.{take, drop}
 use Rattle.fed_types.specs.declared.bag_id.BagId.{BagId}
 use Rattle.fed_types.specs.declared.vote.Vote.{Vote}
@@ -9,7 +9,10 @@ use Rattle.dgram.specs.declared.body.Body.{Body}
 use Rattle.dgram.specs.declared.body.Body.TheVariants.{Prepare, Promise, Accept, Accepted, Refused}
 use Rattle.dgram.specs.declared.body.Body.TheVariants.{Ask, Known, Query}
 use Rattle.dgram.specs.declared.message.Message.{Message}
-use Rattle.dgram.specs.Encoding.{datagram_of}
+use Rattle.fields.specs.Checksums.{checksum}
+use Rattle.sha2.specs.Sha256.{sha256, digest_bytes, hash_after, compress, rounds, schedule}
+use Rattle.sha2.specs.Sha256.{first_words}
+use Rattle.dgram.specs.Encoding.{message_bytes}
 use Rattle.dgram.specs.Decoded.{message_of}
 use Rattle.dgram.specs.Heard.{bodies_of, PromiseFrom, promises_for, promisers, priors, voters_for}
 use Rattle.dgram.specs.Heard.{floor_of, known_bags}
@@ -95,15 +98,23 @@ unfolding bodies_of known_bags same_slot
 known = (refl, refl)
 
 -- ---- a datagram: a Query about a1, of federation 7
-abbrev query : List ℕ
-query =
-    0x42 ∷ 0x50 ∷ 1 ∷ 17 ∷ 0 ∷ 0 ∷ 0 ∷ 0 ∷ 0 ∷ 0 ∷ 0 ∷ 7 ∷ 0 ∷ 1 ∷ 97 ∷ 0 ∷ 0 ∷ 0 ∷ 1 ∷ []
+abbrev before : List ℕ
+before =
+    0x42 ∷ 0x50 ∷ 2 ∷ 17 ∷ 0 ∷ 0 ∷ 0 ∷ 0 ∷ 0 ∷ 0 ∷ 0 ∷ 7 ∷ 0 ∷ 1 ∷ 97 ∷ 0 ∷ 0 ∷ 0 ∷ 1 ∷ []
 
-encoded : datagram_of 7 (at a1 Query) ≡ query
+abbrev sum : List ℕ
+sum = 0x9a ∷ 0x94 ∷ 0x46 ∷ 0x1b ∷ 0xad ∷ 0xd1 ∷ 0xee ∷ 0x50 ∷ []
+
+encoded : message_bytes 7 (at a1 Query) ≡ before
 encoded = refl
 
+summed : checksum before ≡ sum
+unfolding checksum sha256 digest_bytes hash_after compress rounds schedule first_words
+summed = refl
+
 -- bytes of another federation, of another layout, or too short have no message
-others : (message_of 8 query ≡ None) × (message_of 7 (66 ∷ 80 ∷ 2 ∷ drop 3 query) ≡ None)
-    × (message_of 7 (take 11 query) ≡ None)
+others : (message_of 8 (before ++ sum) ≡ None)
+    × (message_of 7 (66 ∷ 80 ∷ 1 ∷ drop 3 (before ++ sum)) ≡ None)
+    × (message_of 7 (take 11 (before ++ sum)) ≡ None)
 unfolding message_of
 others = (refl, refl, refl)

@@ -16,6 +16,8 @@ use Rattle.dgram.specs.declared.message.Message.{Message}
 use Rattle.dgram.specs.Messages.{IsPrior, IsBody, IsMessage}
 use Rattle.dgram.specs.Encoding.{kind_of, body_from, from_byte, prior_bytes, body_bytes}
 use Rattle.dgram.specs.Encoding.{front_bytes, datagram_of}
+use Rattle.fields.specs.Checksums.{checksum}
+use Rattle.fields.proofs.Checksums.{checksum_size}
 use Rattle.dgram.proofs.Codes.{deposit_again, query_again}
 
 ballot_length : (b : BallotNumber) → length (ballot_bytes b) ≡ 5
@@ -53,6 +55,8 @@ no_longer federation m h =
     let rest : List ℕ = from_byte (body_from m.body) ∷ (slot_bytes m.slot ++ body_bytes m.body) in
     omega (
       arith,
+      checksum_size (front ++ rest),
+      length-append (front ++ rest) (checksum (front ++ rest)),
       length-append front rest,
       length-append (slot_bytes m.slot) (body_bytes m.body),
       slot_length m.slot h.0,

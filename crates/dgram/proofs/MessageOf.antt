@@ -6,19 +6,19 @@ use Rattle.std.proofs.Common.{◌∙◌, arith}
 use Rattle.std.proofs.Common.{length-append}
 use Rattle.std.specs.Str.{bytes_eq}
 use Rattle.std.proofs.lemmas.Slice.Eq.{bytes_eq-Decides}
-use Rattle.std.proofs.lemmas.List.{take-append-drop}
+use Rattle.std.proofs.lemmas.List.{take-append-drop, length-take}
 use Rattle.fields.specs.declared.fault.FieldFault.{FieldFault}
 use Rattle.fields.specs.declared.fault.FieldFault.TheVariants as field_faults
-use Rattle.fields.proofs.Bytes.{IsBytes, IsBytes-rest, not_some}
+use Rattle.fields.specs.Checksums.{checksum}
+use Rattle.fields.proofs.Bytes.{IsBytes, not_some}
 use Rattle.dgram.specs.Numbers.{FRONT}
 use Rattle.dgram.specs.declared.fault.DgramFault.{DgramFault}
 use Rattle.dgram.specs.declared.message.Message.{Message}
 use Rattle.dgram.specs.Messages.{IsMessage}
 use Rattle.dgram.specs.Encoding.{kind_of, front_bytes, datagram_of}
-use Rattle.dgram.specs.Decoding.{message_at}
+use Rattle.dgram.specs.Decoding.{datagram_at}
 use Rattle.dgram.specs.Decoded.{IsOurs, IsDatagramOf, message_of, Decodes}
-use Rattle.dgram.proofs.Whole.{rest_of, message_taken, message_again, Faulted, read_of, is_read}
-use Rattle.dgram.proofs.Whole.{some_found}
+use Rattle.dgram.proofs.Whole.{rest_of, Faulted, is_read, is_found, datagram_read, some_found}
 
 -- the message of a message's datagram
 pub message_of-again : (federation : ℕ) (m : Message) → IsMessage m
@@ -29,7 +29,18 @@ message_of-again federation m h =
     let front : List ℕ = front_bytes federation (get_or bytes 3 0) in
     let same : bytes_eq (take 12 bytes) front ≡ true =
     (bytes_eq-Decides (take 12 bytes) front).1 refl in
-    rw same (message_again m h)
+    rw same (datagram_read federation m h)
+
+-- what begins with a front is long enough, and ours
+long_by : (federation kind : ℕ) (bytes : List ℕ) → take 12 bytes ≡ front_bytes federation kind
+    → FRONT ≤ length bytes
+long_by federation kind bytes e = omega (arith, ap length e, length-take 12 bytes)
+
+ours_by : (federation kind : ℕ) (bytes : List ℕ) → take 12 bytes ≡ front_bytes federation kind
+    → IsOurs federation bytes
+ours_by federation kind bytes e =
+    subst (IsOurs federation) (sym (sym (take-append-drop 12 bytes)
+    ∙ ap (λ (b : List ℕ). b ++ drop 12 bytes) e)) (refl, refl)
 
 -- bytes that have a message are its datagram
 pub message_of-found : (federation : ℕ) (bytes : List ℕ) (m : Message) → IsBytes bytes
@@ -39,22 +50,13 @@ message_of-found federation bytes m fits e =
     go (bytes_eq (take 12 bytes) (front_bytes federation (get_or bytes 3 0))) refl e
   where
     go : (t : Bool) → bytes_eq (take 12 bytes) (front_bytes federation (get_or bytes 3 0)) ≡ t
-        → cond t (message_at (get_or bytes 3 0) (drop 12 bytes)) None ≡ Some m
+        → cond t (datagram_at bytes) None ≡ Some m
         → IsDatagramOf federation bytes m
     go true f g =
-        let kind : ℕ = get_or bytes 3 0 in
-        let rest : List ℕ = drop 12 bytes in
-        let parts : take 12 bytes ++ rest ≡ bytes = take-append-drop 12 bytes in
-        let front : take 12 bytes ≡ front_bytes federation kind =
-        (bytes_eq-Decides (take 12 bytes) (front_bytes federation kind)).0 f in
-        let back : IsBytes rest =
-        IsBytes-rest (take 12 bytes) rest (subst IsBytes (sym parts) fits) in
-        let t = message_taken kind rest m back g in (
-          t.2,
-          sym parts ∙ ap (λ (xs : List ℕ). xs ++ rest) front
-              ∙ ap (λ (k : ℕ). front_bytes federation k ++ rest) t.0
-              ∙ ap (λ (xs : List ℕ). front_bytes federation (kind_of m.body) ++ xs) t.1,
-        )
+        let front : take 12 bytes ≡ front_bytes federation (get_or bytes 3 0) =
+        (bytes_eq-Decides (take 12 bytes) (front_bytes federation (get_or bytes 3 0))).0 f in
+        is_found federation bytes m fits (long_by federation (get_or bytes 3 0) bytes front)
+        (ours_by federation (get_or bytes 3 0) bytes front) g
     go false f g = absurd (cc g)
 
 pub message_of-is : (federation : ℕ) (bytes : List ℕ) → IsBytes bytes → (m : Message)
@@ -78,8 +80,15 @@ short_message : (federation : ℕ) (bytes : List ℕ) (m : Message) → length b
 short_message federation bytes m short d =
     let front : List ℕ = front_bytes federation (kind_of m.body) in
     let rest : List ℕ = rest_of m in
-    let e : length bytes ≡ length (front ++ rest) = ap (λ (xs : List ℕ). length xs) d.1 in
-    omega (arith, short, e, length-append front rest)
+    let e : length bytes ≡ length ((front ++ rest) ++ checksum (front ++ rest)) =
+    ap (λ (xs : List ℕ). length xs) d.1 in
+    omega (
+      arith,
+      short,
+      e,
+      length-append front rest,
+      length-append (front ++ rest) (checksum (front ++ rest)),
+    )
 
 -- bytes that are too short have no message
 pub short_none : (federation : ℕ) (bytes : List ℕ) → IsBytes bytes → length bytes < FRONT
@@ -103,7 +112,7 @@ pub err_message : (federation : ℕ) (bytes : List ℕ) (f : FieldFault) (r : Re
     → Decodes r (message_of federation bytes)
 err_message federation bytes field_faults.Malformed r fits long ours h =
     let none = no_message federation bytes fits
-    (λ m d. not_some (read_of bytes) m h.gives (is_read federation bytes m d)) in
+    (λ m d. not_some (datagram_at bytes) m h.gives (is_read federation bytes m d)) in
     rw h.answer none
 err_message federation bytes field_faults.Memory r fits long ours h =
     let found = some_found federation bytes fits long ours (h.memory refl) in

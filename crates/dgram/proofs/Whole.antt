@@ -1,18 +1,21 @@
 -- A datagram is decoded as it is encoded.
-use Rattle.std.proofs.Common.{◌≡◌, ℕ, ◌-◌, ◌≤◌, inl, inr, eqb, ◌↔◌, List, [], ◌∷◌, ◌++◌, length}
+use Rattle.std.proofs.Common.{◌≡◌, ℕ, ◌≤◌, inl, inr, eqb, ◌↔◌, List, [], ◌∷◌, ◌++◌, length}
 use Rattle.std.proofs.Common.{get_or, take, drop, Option, Some, None, Result, Ok, Err, refl, sym}
-use Rattle.std.proofs.Common.{ap, subst, ◌∙◌, arith}
+use Rattle.std.proofs.Common.{ap, subst, ◌∙◌, arith, false, ltb, length-append}
 use Rattle.std.specs.Prelude.{IsErrOf, IsSome}
 use Rattle.std.specs.Result.{IsErrAnd}
 use Rattle.std.specs.Int.{w64, to_be_bytes}
-use Rattle.std.proofs.lemmas.Bool.{eqb-true}
+use Rattle.std.proofs.lemmas.Bool.{eqb-true, le-ltb, ltb-false}
 use Rattle.std.proofs.lemmas.List.{append-nil, nil_from_length, take-append-drop, length-drop}
-use Rattle.std.proofs.Math.Seq.{take-length}
+use Rattle.std.proofs.lemmas.List.{take-append-le, drop-append-le}
 use Rattle.fields.specs.declared.fault.FieldFault.{FieldFault}
 use Rattle.fields.specs.declared.fault.FieldFault.TheVariants as field_faults
 use Rattle.fields.specs.Encoding.{slot_bytes}
 use Rattle.fields.specs.Decoding.{◌>>=◌, Fails, byte_at, slot_at}
-use Rattle.fields.proofs.Bytes.{IsBytes, IsBytes-rest, bind_some, some_is, in_test, not_some}
+use Rattle.fields.specs.Checksums.{checksum, with_checksum, without_checksum}
+use Rattle.fields.proofs.Checksums.{without_again, without_taken}
+use Rattle.fields.proofs.Bytes.{IsBytes, IsBytes-rest, IsBytes-prefix, past_test, bind_some}
+use Rattle.fields.proofs.Bytes.{some_is, in_test, not_some}
 use Rattle.fields.proofs.Fields.{byte_read, slot_read}
 use Rattle.dgram.specs.Numbers.{MAGIC, LAYOUT, FRONT}
 use Rattle.dgram.specs.declared.fault.DgramFault.{DgramFault}
@@ -23,8 +26,8 @@ use Rattle.dgram.specs.declared.message.Message.{Message}
 use Rattle.dgram.specs.Faults.{fault_of_field, IsOrMemory}
 use Rattle.dgram.specs.Messages.{IsMessage}
 use Rattle.dgram.specs.Encoding.{kind_of, body_from, from_byte, body_bytes, front_bytes}
-use Rattle.dgram.specs.Encoding.{datagram_of}
-use Rattle.dgram.specs.Decoding.{body_at, ended, last_body_at, message_at}
+use Rattle.dgram.specs.Encoding.{message_bytes, datagram_of}
+use Rattle.dgram.specs.Decoding.{body_at, ended, last_body_at, message_at, whole_at, datagram_at}
 use Rattle.dgram.specs.Decoded.{IsOurs, IsDatagramOf, IsDatagram, IsMalformed}
 use Rattle.dgram.proofs.Bodies.{body_taken, body_again}
 
@@ -95,31 +98,51 @@ front_parts federation (a ∷ b ∷ c ∷ k ∷ rest) long ours =
     ap (λ (xs : List ℕ). xs ++ (k ∷ rest)) ours.0
     ∙ ap (λ (xs : List ℕ). MAGIC ++ (LAYOUT ∷ (k ∷ xs))) after
 
--- what reading gives of the bytes after the front
-abbrev pub read_of : List ℕ → Option Message
-read_of bytes = message_at (get_or bytes 3 0) (take (length bytes - 12) (drop 12 bytes))
-
-read_is : (bytes : List ℕ) → read_of bytes ≡ message_at (get_or bytes 3 0) (drop 12 bytes)
-read_is bytes =
-    let len : length bytes - 12 ≡ length (drop 12 bytes) = sym (length-drop 12 bytes) in
-    let same : take (length bytes - 12) (drop 12 bytes) ≡ drop 12 bytes =
-    ap (λ (n : ℕ). take n (drop 12 bytes)) len ∙ take-length (drop 12 bytes) in
-    ap (message_at (get_or bytes 3 0)) same
-
-pub is_found : (federation : ℕ) (bytes : List ℕ) (m : Message) → IsBytes bytes
-    → FRONT ≤ length bytes → IsOurs federation bytes → read_of bytes ≡ Some m
-    → IsDatagramOf federation bytes m
-is_found federation bytes m fits long ours given =
+-- the bytes before the checksum, and the message that was read of them
+whole_found : (federation : ℕ) (bytes : List ℕ) (m : Message) → IsBytes bytes
+    → FRONT ≤ length bytes → IsOurs federation bytes
+    → message_at (get_or bytes 3 0) (drop 12 bytes) ≡ Some m
+    → IsMessage m × (bytes ≡ message_bytes federation m)
+whole_found federation bytes m fits long ours given =
     let parts = front_parts federation bytes long ours in
     let front = front_bytes federation (get_or bytes 3 0) in
     let back : IsBytes (drop 12 bytes) =
     IsBytes-rest front (drop 12 bytes) (subst IsBytes parts fits) in
-    let t = message_taken (get_or bytes 3 0) (drop 12 bytes) m back (sym (read_is bytes) ∙ given) in
+    let t = message_taken (get_or bytes 3 0) (drop 12 bytes) m back given in
     let kind = kind_of m.body in
-    let e : bytes ≡ datagram_of federation m =
+    let e : bytes ≡ message_bytes federation m =
     parts ∙ ap (λ (k : ℕ). front_bytes federation k ++ drop 12 bytes) t.0
     ∙ ap (λ (xs : List ℕ). front_bytes federation kind ++ xs) t.1 in
     (t.2, e)
+
+-- where bytes are ours, a long enough prefix of them is
+prefix_is_ours : (federation : ℕ) (bytes more : List ℕ) → FRONT ≤ length bytes
+    → IsOurs federation (bytes ++ more) → IsOurs federation bytes
+prefix_is_ours federation bytes more long ours =
+    let eight : take 8 (drop 4 (bytes ++ more)) ≡ take 8 (drop 4 bytes) =
+    ap (take 8) (drop-append-le 4 bytes more (omega (arith, long)))
+    ∙ take-append-le 8 (drop 4 bytes) more (omega (arith, long, length-drop 4 bytes)) in (
+      sym (take-append-le 3 bytes more (omega (arith, long))) ∙ ours.0,
+      sym eight ∙ ours.1,
+    )
+
+pub is_found : (federation : ℕ) (bytes : List ℕ) (m : Message) → IsBytes bytes
+    → FRONT ≤ length bytes → IsOurs federation bytes → datagram_at bytes ≡ Some m
+    → IsDatagramOf federation bytes m
+unfolding datagram_at
+is_found federation bytes m fits long ours given =
+    let f = bind_some (without_checksum bytes) whole_at m given in
+    let front = f.0 in
+    let parts : bytes ≡ with_checksum front = without_taken front bytes f.1 in
+    let read = message_at (get_or front 3 0) (drop 12 front) in
+    let t = past_test (ltb (length front) 12) read m f.2 in
+    let enough : FRONT ≤ length front = ltb-false (length front) 12 t.0 in
+    let bytes' : IsBytes front = IsBytes-prefix front (checksum front) (subst IsBytes parts fits) in
+    let ours' : IsOurs federation front =
+    prefix_is_ours federation front (checksum front) enough
+    (subst (IsOurs federation) parts ours) in
+    let found = whole_found federation front m bytes' enough ours' t.1 in
+    (found.0, parts ∙ ap with_checksum found.1)
 
 -- something was read
 of_some : (read : Option Message) → IsSome read → (m : Message) × (read ≡ Some m)
@@ -127,20 +150,28 @@ of_some (Some m) h = (m, refl)
 of_some None h = absurd cc
 
 pub some_found : (federation : ℕ) (bytes : List ℕ) → IsBytes bytes → FRONT ≤ length bytes
-    → IsOurs federation bytes → IsSome (read_of bytes) → IsDatagram federation bytes
+    → IsOurs federation bytes → IsSome (datagram_at bytes) → IsDatagram federation bytes
 some_found federation bytes fits long ours some =
-    let m = of_some (read_of bytes) some in
+    let m = of_some (datagram_at bytes) some in
     (m.0, is_found federation bytes m.0 fits long ours m.1)
 
 -- what reading a message's datagram gives
+pub datagram_read : (federation : ℕ) (m : Message) → IsMessage m
+    → datagram_at (datagram_of federation m) ≡ Some m
+unfolding datagram_at
+datagram_read federation m h =
+    let bytes = message_bytes federation m in
+    let front = front_bytes federation (kind_of m.body) in
+    let long : ltb (length bytes) 12 ≡ false =
+    le-ltb (length bytes) 12 (omega (arith, length-append front (rest_of m))) in
+    rw (without_again bytes, long) (message_again m h)
+
 pub is_read : (federation : ℕ) (bytes : List ℕ) (m : Message) → IsDatagramOf federation bytes m
-    → read_of bytes ≡ Some m
-is_read federation bytes m h =
-    read_is bytes ∙ ap (λ (xs : List ℕ). message_at (get_or xs 3 0) (drop 12 xs)) h.1
-    ∙ message_again m h.0
+    → datagram_at bytes ≡ Some m
+is_read federation bytes m h = ap datagram_at h.1 ∙ datagram_read federation m h.0
 
 -- where a message was read
-pub ok_only : (federation : ℕ) (bytes : List ℕ) (x : Message) → read_of bytes ≡ Some x
+pub ok_only : (federation : ℕ) (bytes : List ℕ) (x : Message) → datagram_at bytes ≡ Some x
     → (m : Message) → IsDatagramOf federation bytes m → IsOrMemory (Ok x) (Ok m)
 ok_only federation bytes x given m h =
     let P : Message → Result Message DgramFault = λ y. Ok y in
@@ -159,8 +190,8 @@ ok_malformed federation bytes x long found = (
 
 -- what is known where reading ended in a fault of a field, which gave the answer r
 pub record Faulted (bytes : List ℕ) (f : FieldFault) (r : Result Message DgramFault) : Type 0 where
-  pub gives : Fails f (read_of bytes)
-  pub memory : f ≡ field_faults.Memory → IsSome (read_of bytes)
+  pub gives : Fails f (datagram_at bytes)
+  pub memory : f ≡ field_faults.Memory → IsSome (datagram_at bytes)
   pub answer : r ≡ Err (fault_of_field f)
 
 answer_of : (f : FieldFault) (r : Result Message DgramFault)
@@ -169,8 +200,8 @@ answer_of f (Ok x) h = absurd h
 answer_of f (Err d) h = let P : DgramFault → Result Message DgramFault = λ y. Err y in ap P h
 
 pub faulted : (bytes : List ℕ) (f : FieldFault) (r : Result Message DgramFault)
-    → Fails f (read_of bytes)
-    → (IsErrOf {T = Message} (Err f) field_faults.Memory → IsSome (read_of bytes))
+    → Fails f (datagram_at bytes)
+    → (IsErrOf {T = Message} (Err f) field_faults.Memory → IsSome (datagram_at bytes))
     → IsErrAnd r (λ d. d ≡ fault_of_field f) → Faulted bytes f r
 faulted bytes f r gives memory given =
     let P : FieldFault → Result Message FieldFault = λ y. Err y in
@@ -179,7 +210,7 @@ faulted bytes f r gives memory given =
 pub err_only : (federation : ℕ) (bytes : List ℕ) (f : FieldFault) (r : Result Message DgramFault)
     → Faulted bytes f r → (m : Message) → IsDatagramOf federation bytes m → IsOrMemory r (Ok m)
 err_only federation bytes field_faults.Malformed r h m d =
-    absurd (not_some (read_of bytes) m h.gives (is_read federation bytes m d))
+    absurd (not_some (datagram_at bytes) m h.gives (is_read federation bytes m d))
 err_only federation bytes field_faults.Memory r h m d = inr h.answer
 
 pub err_memory : (federation : ℕ) (bytes : List ℕ) (f : FieldFault) (r : Result Message DgramFault)
@@ -198,7 +229,7 @@ err_malformed federation bytes field_faults.Malformed r fits long ours h = (
   λ e. inr (
     ours,
     λ m is e'.
-        not_some (read_of bytes) m h.gives (is_read federation bytes m (is, e')),
+        not_some (datagram_at bytes) m h.gives (is_read federation bytes m (is, e')),
   ),
   λ bad. h.answer,
 )
@@ -216,6 +247,5 @@ err_malformed federation bytes field_faults.Memory r fits long ours h =
 pub same_message : (federation : ℕ) (a b : Message) → IsMessage a → IsMessage b
     → datagram_of federation a ≡ datagram_of federation b → a ≡ b
 same_message federation a b h h' e =
-    let read : message_at (kind_of a.body) (rest_of a) ≡ message_at (kind_of b.body) (rest_of b) =
-    ap (λ (xs : List ℕ). message_at (get_or xs 3 0) (drop 12 xs)) e in
-    some_is a b (sym (message_again a h) ∙ read ∙ message_again b h')
+    some_is a b
+    (sym (datagram_read federation a h) ∙ ap datagram_at e ∙ datagram_read federation b h')

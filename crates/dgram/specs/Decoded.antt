@@ -9,7 +9,7 @@ use Rattle.dgram.specs.declared.fault.DgramFault.TheVariants as faults
 use Rattle.dgram.specs.declared.message.Message.{Message}
 use Rattle.dgram.specs.Messages.{IsMessage}
 use Rattle.dgram.specs.Encoding.{front_bytes, datagram_of}
-use Rattle.dgram.specs.Decoding.{message_at}
+use Rattle.dgram.specs.Decoding.{datagram_at}
 
 -- the bytes begin with magic and layout, and name this federation after the kind
 abbrev pub IsOurs : ℕ → List ℕ → Type 0
@@ -42,7 +42,7 @@ IsMalformed federation bytes =
 unfoldable pub message_of : ℕ → List ℕ → Option Message
 message_of federation bytes =
     if bytes_eq (take FRONT bytes) (front_bytes federation (get_or bytes 3 0))
-    then message_at (get_or bytes 3 0) (drop FRONT bytes) else None
+    then datagram_at bytes else None
 
 -- decoding answers the message, if there is one; a fault where there is none; or, where there is
 -- one, that memory ran out

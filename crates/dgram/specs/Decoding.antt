@@ -1,6 +1,6 @@
 -- Reading a message from left to right.
-use Rattle.std.specs.Prelude.{ℕ, ◌-◌, ◌+◌, List, [], ◌∷◌, length, Option, Some, None, nat_lt}
-use Rattle.std.specs.Prelude.{nat_le}
+use Rattle.std.specs.Prelude.{ℕ, ◌-◌, ◌+◌, List, [], ◌∷◌, length, drop, get_or}
+use Rattle.std.specs.Prelude.{Option, Some, None, nat_lt, nat_le}
 use Rattle.std.specs.Prelude.{Bool, ◌==◌, ◌&&◌, bytes_eq, if◌then◌else◌}
 use Rattle.std.specs.Int.{w16}
 use Rattle.fed_types.specs.declared.bag_id.BagId.{BagId}
@@ -8,7 +8,8 @@ use Rattle.fed_types.specs.declared.vote.Vote.{Vote}
 use Rattle.fed_types.specs.Ballots.{BallotNumber}
 use Rattle.fields.specs.Decoding.{◌>>=◌, Decoder, both, meant, nothing_at, byte_at, number_at}
 use Rattle.fields.specs.Decoding.{site_of, ballot_at, bag_at, vote_at, text_at, slot_at}
-use Rattle.dgram.specs.Numbers.{NO_SITE, NO_PRIOR, PRIOR, LONGEST_PATH, NO_BAG}
+use Rattle.fields.specs.Checksums.{without_checksum}
+use Rattle.dgram.specs.Numbers.{FRONT, NO_SITE, NO_PRIOR, PRIOR, LONGEST_PATH, NO_BAG}
 use Rattle.dgram.specs.Numbers.{PREPARE, PROMISE, ACCEPT, ACCEPTED, REFUSED, ASK, KNOWN, DEPOSIT}
 use Rattle.dgram.specs.Numbers.{QUERY, DEPOSIT_REPLY, QUERY_REPLY}
 use Rattle.dgram.specs.Numbers.{REGISTERED, OTHER_DEPOSIT, OTHER_KNOWN, DEVICE, MEMORY, NEEDS_OPEN}
@@ -179,3 +180,12 @@ message_at kind bytes = do
   slot ← slot_at from.1
   body ← last_body_at kind from.0 slot.1
   Some (record { slot = slot.0; body = body })
+
+-- the message of the bytes before a datagram's checksum; the fourth is the kind's
+abbrev pub whole_at : List ℕ → Option Message
+whole_at bytes =
+    if nat_lt (length bytes) FRONT then None else message_at (get_or bytes 3 0) (drop FRONT bytes)
+
+-- the message of a datagram, if its checksum is right
+unfoldable pub datagram_at : List ℕ → Option Message
+datagram_at bytes = without_checksum bytes >>= whole_at

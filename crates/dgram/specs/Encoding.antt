@@ -3,6 +3,7 @@ use Rattle.std.specs.Prelude.{ℕ, ◌+◌, List, [], ◌∷◌, ◌++◌, lengt
 use Rattle.std.specs.Int.{w16, w64, to_be_bytes}
 use Rattle.fed_types.specs.declared.bag_id.BagId.{BagId}
 use Rattle.fed_types.specs.declared.vote.Vote.{Vote}
+use Rattle.fields.specs.Checksums.{with_checksum}
 use Rattle.fields.specs.Encoding.{ballot_bytes, bag_bytes, vote_bytes, slot_bytes}
 use Rattle.dgram.specs.Numbers.{MAGIC, LAYOUT, NO_SITE, NO_BAG, NO_PRIOR, PRIOR, PREPARE, PROMISE}
 use Rattle.dgram.specs.Numbers.{ACCEPT, ACCEPTED, REFUSED, ASK, KNOWN, DEPOSIT, QUERY}
@@ -123,7 +124,11 @@ front_bytes federation kind = (MAGIC ++ LAYOUT ∷ kind ∷ []) ++ to_be_bytes w
 abbrev pub start_bytes : ℕ → Body → List ℕ
 start_bytes federation b = front_bytes federation (kind_of b) ++ from_byte (body_from b) ∷ []
 
--- the datagram of a message of a federation: start, slot, body
-abbrev pub datagram_of : ℕ → Message → List ℕ
-datagram_of federation m =
+-- what precedes the checksum of a message of a federation: start, slot, body
+abbrev pub message_bytes : ℕ → Message → List ℕ
+message_bytes federation m =
     start_bytes federation m.body ++ (slot_bytes m.slot ++ body_bytes m.body)
+
+-- its datagram: these bytes, and their checksum
+abbrev pub datagram_of : ℕ → Message → List ℕ
+datagram_of federation m = with_checksum (message_bytes federation m)

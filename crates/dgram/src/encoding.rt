@@ -3,7 +3,8 @@ ghost use Rattle.fields.specs.Puts.{Puts, PutsAtomically};
 ghost use Rattle.dgram.specs.Numbers.{LONGEST_DATAGRAM};
 ghost use Rattle.dgram.specs.Messages.{IsMessage};
 ghost use Rattle.dgram.specs.Encoding.{prior_bytes, path_bytes, reply_bytes, body_bytes};
-ghost use Rattle.dgram.specs.Encoding.{front_bytes, from_byte, start_bytes, datagram_of};
+ghost use Rattle.dgram.specs.Encoding.{front_bytes, from_byte, start_bytes, message_bytes};
+ghost use Rattle.dgram.specs.Encoding.{datagram_of};
 
 use crate::body::Body;
 use crate::layout::{LAYOUT, MAGIC, NO_PRIOR, NO_SITE, PRIOR};
@@ -11,7 +12,7 @@ use crate::message::Message;
 use crate::path::FolderPath;
 use crate::values::messages_are_well_formed;
 use fed_types::{BagId, SiteNo, Vote};
-use fields::{put_bag, put_ballot, put_slot, put_vote};
+use fields::{put_bag, put_ballot, put_checksum, put_slot, put_vote};
 use std::alloc::AllocError;
 
 fn put_prior(out: &mut Vec<u8>, prior: Option<Vote>) -> Result<(), AllocError>
@@ -96,12 +97,22 @@ fn put_start(out: &mut Vec<u8>, federation: u64, body: &Body) -> Result<(), Allo
     Ok(())
 }
 
+// All before the checksum.
 fn put_message(federation: u64, message: &Message, out: &mut Vec<u8>) -> Result<(), AllocError>
-    ensures { Puts result out.old out.new (datagram_of federation message.now) }
+    ensures { Puts result out.old out.new (message_bytes federation message.now) }
 {
     put_start(out, federation, &message.body)?;
     put_slot(out, &message.slot)?;
     put_body(out, &message.body)
+}
+
+// The checksum is of what is appended here alone.
+fn put_datagram(federation: u64, message: &Message, out: &mut Vec<u8>) -> Result<(), AllocError>
+    ensures { Puts result out.old out.new (datagram_of federation message.now) }
+{
+    let from = out.len();
+    put_message(federation, message, out)?;
+    put_checksum(out, from)
 }
 
 /// Appends the message's datagram in the federation, atomically: where it doesn't fit the capacity
@@ -114,7 +125,7 @@ pub fn encode(federation: u64, message: &Message, out: &mut Vec<u8>) -> Result<(
 {
     messages_are_well_formed(message);
     let before = out.len();
-    let put = put_message(federation, message, out);
+    let put = put_datagram(federation, message, out);
     if put.is_err() {
         out.truncate(before);
     }

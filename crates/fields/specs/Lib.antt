@@ -1,3 +1,4 @@
 pub mod Encoding
 pub mod Decoding
 pub mod Puts
+pub mod Checksums

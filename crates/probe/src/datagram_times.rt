@@ -5,6 +5,8 @@ use crate::example::{FEDERATION, site, slot};
 use crate::fault::Fault;
 use dgram::{Body, DgramFault, LONGEST_DATAGRAM, Message, decode, encode};
 use fed_types::Ballot;
+use fields::CHECKSUM_BYTES;
+use sha2::{Digest, Sha256};
 use std::alloc::{AllocError, Global};
 
 fn prepare(alloc: Global) -> Result<Message, Fault> {
@@ -69,4 +71,32 @@ fn decoded_version(alloc: Global, bytes: &[u8]) -> Result<u64, DgramFault> {
 
 fn total_line(alloc: Global, total: u64) -> Result<String, Fault> {
     Ok(format!(in alloc; "{total}\n")?)
+}
+
+/// Takes the SHA-256 of as many bytes as a Prepare's datagram has before its checksum, so often. A
+/// byte of each is the first of the next, so that no call can be left out.
+pub fn digesting_line(alloc: Global, count: u32) -> Result<String, Fault> {
+    let message = prepare(alloc)?;
+    let total = digest_encoded(alloc, &message, count);
+    drop(message);
+    total_line(alloc, total?)
+}
+
+fn digest_encoded(alloc: Global, message: &Message, count: u32) -> Result<u64, AllocError> {
+    let mut bytes = Vec::with_capacity(alloc, LONGEST_DATAGRAM)?;
+    encode(FEDERATION, message, &mut bytes)?;
+    bytes.truncate(bytes.len().saturating_sub(CHECKSUM_BYTES));
+    Ok(digest_often(&mut bytes, count))
+}
+
+fn digest_often(bytes: &mut Vec<u8>, count: u32) -> u64 {
+    let mut total = 0u64;
+    for _ in 0..count {
+        let [byte, ..] = Sha256::digest(bytes.as_slice());
+        if let Some(first) = bytes.first_mut() {
+            *first = byte;
+        }
+        total = total.wrapping_add(u64::from(byte));
+    }
+    total
 }

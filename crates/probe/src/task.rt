@@ -11,6 +11,8 @@ pub enum Task {
     Encode,
     /// Decode a datagram so often, to be timed.
     Decode,
+    /// Take a SHA-256 so often, to be timed beside these.
+    Digest,
     /// Open the cell in a file.
     File,
     /// Open the cell in a file, and commit a record.
@@ -42,6 +44,7 @@ pub fn task_of(name: &str) -> Option<Task> {
     match name {
         "encode" => Some(Task::Encode),
         "decode" => Some(Task::Decode),
+        "digest" => Some(Task::Digest),
         "file" => Some(Task::File),
         "commit" => Some(Task::Commit),
         "turns" => Some(Task::Turns),

@@ -1,7 +1,7 @@
 //! Each task, with what is left of the arguments: what it prints.
 
 use crate::cases::answers;
-use crate::datagram_times::{decoding_line, encoding_line};
+use crate::datagram_times::{decoding_line, digesting_line, encoding_line};
 use crate::deciding_memory::decided_line;
 use crate::deciding_times::decisions_text;
 use crate::fault::Fault;
@@ -20,6 +20,7 @@ pub fn perform(rt: &HostRuntime, task: Task, words: &mut Args) -> Result<String,
     match task {
         Task::Encode => encode(rt, words),
         Task::Decode => decode(rt, words),
+        Task::Digest => digest(rt, words),
         Task::File => file(rt, words),
         Task::Commit => commit(rt, words),
         Task::Turns => turns(rt, words),
@@ -51,6 +52,10 @@ fn encode(rt: &HostRuntime, words: &mut Args) -> Result<String, Fault> {
 
 fn decode(rt: &HostRuntime, words: &mut Args) -> Result<String, Fault> {
     decoding_line(rt.alloc(), last_count(words)?)
+}
+
+fn digest(rt: &HostRuntime, words: &mut Args) -> Result<String, Fault> {
+    digesting_line(rt.alloc(), last_count(words)?)
 }
 
 fn file(rt: &HostRuntime, words: &mut Args) -> Result<String, Fault> {

@@ -53,6 +53,25 @@ impl<C: Cell> Site<C> {
         }
     }
 
+    /// A message arrives that a datagram of the federation was decoded to: as `arrive`, which would
+    /// decode it again.
+    pub fn arrive_message(&mut self, message: Message) -> Result<Answer, SiteFault>
+        ensures answer { self.old.book.needs_opening ≡ false → (session : Session)
+            → StandsFor self.old session
+            → IsAnswered C.device self.old self.new session
+            (effect self.old session (Arrives (Some message))) result }
+        ensures reported { self.old.book.needs_opening ≡ false → IfOk result
+            (λ a. SaysWhatIsKnown a.line self.new.book.records) }
+        ensures needs_open { IsErrOf result SiteFault.NeedsOpen
+            ↔ (self.old.book.needs_opening ≡ true) }
+        ensures untouched { self.old.book.needs_opening ≡ true → self.new ≡ self.old }
+    {
+        if !self.book.needs_opening() {
+            return self.take_in(message);
+        }
+        Err(SiteFault::NeedsOpen)
+    }
+
     // The message that the bytes are, if they are one of the federation.
     fn read(&self, bytes: &[u8]) -> Result<Option<Message>, SiteFault>
         ensures message { IfOk result (λ m. m

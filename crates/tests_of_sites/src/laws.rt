@@ -11,8 +11,8 @@ use world_law::{
 
 #[test]
 fn bytes_of_a_datagram(rt: HostRuntime) -> Result<(), Fail> {
-    let bytes = SentBytes::new(b"\x42\x50\x01".to_vec(rt.alloc())?);
-    assert!(rt; bytes.as_slice() == b"\x42\x50\x01".as_slice());
+    let bytes = SentBytes::new(b"\x42\x50\x02".to_vec(rt.alloc())?);
+    assert!(rt; bytes.as_slice() == b"\x42\x50\x02".as_slice());
     Ok(())
 }
 

@@ -160,7 +160,7 @@ fn drops_stops_and_starts(rt: HostRuntime) {
 /// The first bytes of a datagram, its fifth, from site 2 to site 1.
 fn sent(alloc: Global) -> Result<Line, AllocError> {
     let (number, from, to) = (5, 2, 1);
-    let bytes = SentBytes::new(b"\x42\x50\x01\xff".to_vec(alloc)?);
+    let bytes = SentBytes::new(b"\x42\x50\x02\xff".to_vec(alloc)?);
     Ok(Line::Sent {
         number,
         from,
@@ -172,7 +172,7 @@ fn sent(alloc: Global) -> Result<Line, AllocError> {
 #[test]
 fn datagrams_where_they_are_asked_for(rt: HostRuntime) -> Result<(), Fail> {
     let line = sent(rt.alloc())?;
-    for (options, want) in [(ALL, "sent 5 2 1 425001ff\n"), (SHORT, "")] {
+    for (options, want) in [(ALL, "sent 5 2 1 425002ff\n"), (SHORT, "")] {
         assert_eq!(rt;
             is_printed(rt.alloc(), &line, options, want),
             Ok(true),

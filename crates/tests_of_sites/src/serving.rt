@@ -22,9 +22,9 @@ const SITE: u16 = 5001;
 const CLIENT: u16 = 9000;
 
 // A client deposits the folder `x` as version 1 of the object `a`, or asks for its bag.
-const DEPOSIT: &str = "42500110000000000000000700016100000001000178";
+const DEPOSIT: &str = "4250021000000000000000070001610000000100017851c96259d5fef935";
 
-const QUERY: &str = "42500111000000000000000700016100000001";
+const QUERY: &str = "425002110000000000000007000161000000019a94461badd1ee50";
 
 // The SHA-512 of no bytes: the identity of the bag in the folder `x`. And what is in its place where
 // no bag is named.
@@ -45,20 +45,23 @@ fn with_bag(alloc: Global, text: &str) -> Result<String, Fail> {
 }
 
 fn push_with_bag(whole: &mut String, line: &str) -> Result<(), Fail> {
-    let (start, end) = if let Some(start) = line.strip_suffix("I") {
-        (start, BAG)
-    } else if let Some(start) = line.strip_suffix("-") {
-        (start, NO_BAG)
+    if let Some((start, end)) = line.split_once("I") {
+        push_around(whole, start, BAG, end)
+    } else if let Some((start, end)) = line.split_once("-") {
+        push_around(whole, start, NO_BAG, end)
     } else {
-        (line, "")
-    };
-    whole.push_str(start)?;
-    whole.push_str(end)?;
-    whole.push_str("\n")?;
+        push_around(whole, line, "", "")
+    }
+}
+
+fn push_around(whole: &mut String, start: &str, bag: &str, end: &str) -> Result<(), Fail> {
+    for part in [start, bag, end, "\n"] {
+        whole.push_str(part)?;
+    }
     Ok(())
 }
 
-// The bytes of these hex digits, which may end in `I` or `-`.
+// The bytes of these hex digits, which may have an `I` or a `-` among them.
 fn bytes_of(alloc: Global, digits: &str) -> Result<Vec<u8>, Fail> {
     let digits = with_bag(alloc, digits)?;
     Ok(hex::decode(alloc, digits.as_str().trim())?)

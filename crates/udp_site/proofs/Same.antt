@@ -1,10 +1,8 @@
 -- What the code's variables are of the site between turns.
-use Rattle.std.proofs.Common.{◌≡◌, ℕ, List, ◌∙◌, Option, Some, sym, ap, subst}
+use Rattle.std.proofs.Common.{◌≡◌, ℕ, ◌∙◌, Option, sym, ap}
 use Rattle.fed_types.specs.Sites.{Membership}
 use Rattle.fed_types.specs.Slots.{SlotName}
 use Rattle.dgram.specs.declared.answers.DepositAnswer.{DepositAnswer}
-use Rattle.dgram.specs.declared.message.Message.{Message}
-use Rattle.dgram.specs.Decoded.{message_of}
 use Rattle.site.specs.Sites.{OpenSite}
 use Rattle.udp_site.specs.Turns.{Serving, members, number, deposit_replies}
 
@@ -20,12 +18,6 @@ module _ {C : Type 0} (old : Serving C) (start : OpenSite C) (there : old.site �
   same_federation m f p q =
       p ∙ (ap (λ (x : Membership). x.federation) q
       ∙ ap (λ (s : OpenSite C). s.book.owner.members.federation) (sym there))
-
-  pub same_message : (bytes : List ℕ) (m : Message)
-      → message_of (members old).federation bytes ≡ Some m
-      → message_of start.book.owner.members.federation bytes ≡ Some m
-  same_message bytes m is =
-      subst (λ (s : OpenSite C). message_of s.book.owner.members.federation bytes ≡ Some m) there is
 
 pub same_replies : (f g s t port : ℕ) (slot : SlotName) (said told : Option DepositAnswer)
     → f ≡ g → s ≡ t → said ≡ told

@@ -10,8 +10,8 @@ use std::alloc::{AllocError, Global};
 /// What a datagram asks.
 #[derive(Drop)]
 pub(crate) enum Asked {
-    /// To hear a message of a site.
-    Hear,
+    /// To hear this message of a site.
+    Hear(Message),
     /// To deposit the folder of this path.
     Deposit(Slot, FolderPath),
     /// To say which bag the slot has.
@@ -35,7 +35,7 @@ pub(crate) fn asked_by(alloc: Global, federation: u64, bytes: &[u8]) -> Result<A
             | Body::Accepted { .. }
             | Body::Refused { .. }
             | Body::Ask { .. }
-            | Body::Known { .. } => Ok(Asked::Hear),
+            | Body::Known { .. } => Ok(Asked::Hear(Message { slot, body })),
         },
         Err(DgramFault::Memory) => Err(AllocError),
         Err(DgramFault::NotOurs) => Ok(Asked::Nothing),

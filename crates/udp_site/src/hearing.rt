@@ -1,10 +1,8 @@
 //! Messages of sites.
 
-ghost use Rattle.std.specs.Prelude.{◌≤◌, ◌≡◌, List, Option, Some};
-ghost use Rattle.dgram.specs.Decoded.{message_of};
-ghost use Rattle.dgram.specs.declared.message.Message as messages;
+ghost use Rattle.std.specs.Prelude.{◌≤◌, ◌≡◌, List, Option};
 ghost use Rattle.udp_site.specs.Traffic.{Move};
-ghost use Rattle.udp_site.specs.Turns.{Serving, IsServing, hears, drops, members};
+ghost use Rattle.udp_site.specs.Turns.{Serving, IsServing, hears, drops};
 ghost use Rattle.udp_site.specs.inner.Coming.{ComesTo};
 
 use crate::fault::ServeFault;
@@ -12,6 +10,7 @@ use crate::handing::hand_answer;
 use crate::port::Port;
 use crate::saying::{say_arrival, say_dropped};
 use cell_device::Cell;
+use dgram::Message;
 use lines::Line;
 use site::Site;
 
@@ -21,16 +20,15 @@ pub(crate) fn hear<C: Cell, P: Port>(
     port: &mut P,
     ports: &[u16],
     lines: &mut Vec<Line>,
-    bytes: &[u8],
+    message: Message,
 ) -> Result<(), ServeFault>
-    ensures comes { (old : Serving C) (m : messages.Message) → old.site ≡ site.old → IsServing old
-        → message_of (members old).federation bytes.now ≡ Some m
-        → ComesTo (hears C.device ports.now old m) (P.traffic port.old) (P.traffic port.new)
+    ensures comes { (old : Serving C) → old.site ≡ site.old → IsServing old
+        → ComesTo (hears C.device ports.now old message) (P.traffic port.old) (P.traffic port.new)
         lines.old.items lines.new.items site.new result }
     ensures later { P.failures port.old ≤ P.failures port.new }
 {
     let number = site.number().number();
-    let answer = site.arrive(bytes);
+    let answer = site.arrive_message(message);
     hand_answer(port, ports, &answer)?;
     say_arrival(lines, number, answer)?;
     Ok(())

@@ -69,7 +69,7 @@ fn take_in<C: Cell, P: Port, F: Folders>(
     ensures later { P.failures port.old ≤ P.failures port.new }
 {
     match asked_by(alloc, site.members().federation(), bytes)? {
-        Asked::Hear => hear(site, port, ports, lines, bytes),
+        Asked::Hear(message) => hear(site, port, ports, lines, message),
         Asked::Deposit(slot, path) => {
             take_folder(alloc, site, port, folders, lines, from, slot, &path)
         }

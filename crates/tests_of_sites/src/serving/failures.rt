@@ -19,9 +19,9 @@ static CELL: Script = Script {
         Step::Serves(9, Some(ServeFault::Cell)),
         Step::Serves(9, Some(ServeFault::Cell)),
     ],
-    sent: "9000: 425001200000000000000007010161000000010d-
-9000: 425001200000000000000007010161000000010f-
-9000: 425001210000000000000007010161000000010f-
+    sent: "9000: 425002200000000000000007010161000000010d-43a4c8d941b50ff5
+9000: 425002200000000000000007010161000000010f-5eabab0a3608e956
+9000: 425002210000000000000007010161000000010f-fcb44333a7673de1
 ",
     said: "refused 1 13\nrefused 1 15\nrefused 1 15\n",
 };
@@ -42,7 +42,7 @@ static RECEIVE: Script = Script {
         Step::Serves(9, Some(ServeFault::Port)),
         Step::HasFailed(1),
     ],
-    sent: "9000: 4250012100000000000000070101610000000102-\n",
+    sent: "9000: 4250022100000000000000070101610000000102-96bf509878f5dc89\n",
     said: "reply 1 a 1 nothing\n",
 };
 
@@ -62,8 +62,8 @@ static SENDS: Script = Script {
         Step::Serves(2, None),
         Step::HasFailed(2),
     ],
-    sent: "9000: 4250012100000000000000070101610000000102-
-9000: 4250012100000000000000070101610000000102-
+    sent: "9000: 4250022100000000000000070101610000000102-96bf509878f5dc89
+9000: 4250022100000000000000070101610000000102-96bf509878f5dc89
 ",
     said: "reply 1 a 1 nothing\nreply 1 a 1 nothing\n",
 };
@@ -82,7 +82,7 @@ static WRITE: Script = Script {
         Step::Serves(2, Some(ServeFault::Output)),
         Step::HasWrittenPart("reply 1 a 1 nothing\n"),
     ],
-    sent: "9000: 4250012100000000000000070101610000000102-\n",
+    sent: "9000: 4250022100000000000000070101610000000102-96bf509878f5dc89\n",
     said: "",
 };
 

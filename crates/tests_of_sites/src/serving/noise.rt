@@ -7,13 +7,15 @@ use std::alloc::Global;
 use std::test::Fail;
 use udp_site::MemoryPort;
 
-const PREPARE: &str = "425001010000000000000007010161000000010000000101";
+const PREPARE: &str = "425002010000000000000007010161000000010000000101f7f00a3f35c3efe0";
 
-// Replies, and a message of another federation.
-const NOT_FOR_A_SITE: [&str; 3] = [
-    "4250012000000000000000070101610000000100I",
-    "4250012100000000000000070101610000000100I",
-    "425001010000000000000008010161000000010000000101",
+// Replies, messages of another federation and of layout 1, and one with another checksum.
+const NOT_FOR_A_SITE: [&str; 5] = [
+    "4250022000000000000000070101610000000100I8d66b847da3f75c7",
+    "4250022100000000000000070101610000000100I4402394f487f027d",
+    "425002010000000000000008010161000000010000000101fb3f263d45d4f9d4",
+    "425001010000000000000007010161000000010000000101",
+    "425002010000000000000007010161000000010000000101f7f00a3f35c3efe1",
 ];
 
 // All beginnings of these bytes.
@@ -43,7 +45,7 @@ fn bring_not_for_a_site(alloc: Global, port: &mut MemoryPort) -> Result<(), Fail
     Ok(())
 }
 
-/// Messages that are cut, longer than they say, or for no site of the federation: 79 of them.
+/// Messages that are cut, longer than they say, or for no site of the federation: 97 of them.
 pub(super) fn bring_near_misses(alloc: Global, port: &mut MemoryPort) -> Result<(), Fail> {
     bring_beginnings(alloc, port, PREPARE)?;
     bring_beginnings(alloc, port, DEPOSIT)?;
@@ -71,8 +73,8 @@ static NEAR_MISSES: Script = Script {
     journal: "",
     steps: &[
         Step::NearMissesCome,
-        Step::Serves(79, None),
-        Step::HasDropped(79),
+        Step::Serves(97, None),
+        Step::HasDropped(97),
         Step::HasRecords(0),
     ],
     sent: "",

@@ -22,14 +22,14 @@ asked_of old federation bytes asked said same is p =
 
 pub returns-in-Hear-clause-comes : goal.returns-in-Hear-clause-comes
 returns-in-Hear-clause-comes g c old there serves =
-    let asked = asked_of old c.federation.result c.args.bytes.now c.in_ok-asked_by.field-0 asks.Hear
-    (same_federation old c.args.site.now there c.members.result c.federation.result
+    let asked = asked_of old c.federation.result c.args.bytes.now c.in_ok-asked_by.field-0
+    (asks.Hear c.in-Hear.message) (same_federation old c.args.site.now there c.members.result c.federation.result
     c.federation.ensures c.members.ensures) c.in-Hear.is c.in_ok-asked_by.ensures in
     by_request g.C.Cell.device c.args.ports.now (g.F.Folders.gives c.args.folders.now) old c.args.from
-    (message_of (members old).federation c.args.bytes.now) (Says asked.0) (asked.2 c.args.from)
+    (message_of (members old).federation c.args.bytes.now) (Says c.in-Hear.message) (asked c.args.from)
     (g.P.Port.traffic c.args.port.now) (g.P.Port.traffic c.hear.new.port) c.args.lines.now.items
     c.hear.new.lines.items c.hear.new.site c.hear.result
-    (c.hear.ensures.comes old asked.0 there serves asked.1)
+    (c.hear.ensures.comes old there serves)
 
 pub returns-in-Deposit-clause-comes : goal.returns-in-Deposit-clause-comes
 returns-in-Deposit-clause-comes g c old there serves =
