@@ -41,6 +41,11 @@ def sealed(bytes):
     return bytes + hashlib.sha256(bytes).digest()[:CHECKSUM_BYTES]
 
 
+def sealed_digits(digits):
+    """The same, in hex."""
+    return sealed(bytes.fromhex(digits)).hex()
+
+
 def message(datagram):
     """The message of a datagram of this federation."""
     assert datagram[:3] == b"BP\x02" and datagram[4:12] == FEDERATION.to_bytes(8, "big")
