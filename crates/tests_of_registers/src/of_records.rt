@@ -3,7 +3,7 @@
 
 use crate::values::{ballot, owner, push_hex, slot};
 use fed_types::{BagId, Vote};
-use records::{Entry, Journal, JournalFault, Owner, Record, Round, header, read_journal};
+use records::{Entry, Journal, JournalFault, Record, Round, header, read_journal};
 use std::alloc::{AllocError, Global};
 use std::process::Abort;
 use std::test::Fail;
