@@ -28,7 +28,9 @@ def stop(why):
 
 def wait_for(name):
     """Says that this crate's proof is here, and waits for a file."""
-    (NOTES / f"{NAME}.here").touch()
+    new = NOTES / f"{NAME}.new"
+    new.write_text(str(os.getpid()))
+    new.replace(NOTES / f"{NAME}.here")
     end = time.monotonic() + PATIENCE
     while not (NOTES / name).exists():
         if time.monotonic() > end:
