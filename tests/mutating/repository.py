@@ -45,7 +45,7 @@ def files_of(part):
 
 def text_of(file):
     """The file's text without lines of comment, and without the line that names its tests."""
-    text = file.read_text().replace("#[cfg(test)]\nmod tests;\n", "")
+    text = re.sub(r"(?:(?<=\n)\n)?#\[cfg\(test\)\]\nmod tests;\n", "", file.read_text())
     lines = text.splitlines(keepends=True)
     return "".join(it for it in lines if not it.lstrip().startswith(("//", "-- ")))
 
