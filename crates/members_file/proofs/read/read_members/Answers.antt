@@ -8,7 +8,7 @@ use Rattle.members_file.specs.declared.members_fault.MembersFault.TheVariants.{L
 use Rattle.members_file.specs.Files.{HasFault, are_blank}
 use Rattle.members_file.specs.Lines.{federation_in}
 use Rattle.members_file.proofs.ReadLemmas.{fault_from_ok_or, fault_of_none, fault_of_first}
-use Rattle.members_file.proofs.ReadLemmas.{fault_after, HasSites-most, ArePorts-read}
+use Rattle.members_file.proofs.ReadLemmas.{fault_after, HasSites-most, AreListed-read}
 use Rattle.members_file.proofs.read.read_members.Goals as goal
 
 pub returns-in_err-first : goal.returns-in_err-first
@@ -40,8 +40,8 @@ returns-in_err-federation c =
 pub overflow_cast-len : goal.overflow_cast-len
 overflow_cast-len c =
     let most =
-    HasSites-most (lines c.in_ok-first.after.now) c.in_ok-ports.ports.items
-    (lines c.in_ok-ports.rest.now) c.in_ok-ports.ensures in
+    HasSites-most (lines c.in_ok-first.after.now) c.in_ok-sites.sites.items
+    (lines c.in_ok-sites.rest.now) c.in_ok-sites.ensures in
     omega (arith, c.len.ensures, most)
 
 pub returns-in_default : goal.returns-in_default
@@ -54,12 +54,12 @@ returns-in_default c =
     ≡ Some c.in_ok-federation.federation =
     sym (ap federation_in words) ∙ sym c.parse_federation.ensures
     ∙ c.in_ok-federation.ensures.ok_part in
-    let ports = c.in_ok-ports.ports.items in
+    let sites = c.in_ok-sites.sites.items in
     let most =
-    HasSites-most (lines c.in_ok-first.after.now) ports (lines c.in_ok-ports.rest.now)
-    c.in_ok-ports.ensures in
-    let none : length ports ≡ 0 =
-    elim (cases_lt 0 (length ports)) [
+    HasSites-most (lines c.in_ok-first.after.now) sites (lines c.in_ok-sites.rest.now)
+    c.in_ok-sites.ensures in
+    let none : length sites ≡ 0 =
+    elim (cases_lt 0 (length sites)) [
       | inl some ↦ absurd
           (false≢true (c.in_default.ensures.ok.1
           (omega (arith, c.len.ensures), omega (arith, c.len.ensures, most))))
@@ -67,8 +67,8 @@ returns-in_default c =
     ] in
     subst (λ (n : ℕ). HasFault c.args.text.now n) (omega (arith, none))
     (fault_after c.args.text.now c.in_ok-first.first.now (lines c.in_ok-first.after.now)
-    (lines c.in_ok-ports.rest.now) c.in_ok-federation.federation ports is says
-    c.in_ok-ports.ensures (λ ends. omega (arith, none, ends.0)))
+    (lines c.in_ok-sites.rest.now) c.in_ok-federation.federation sites is says
+    c.in_ok-sites.ensures (λ ends. omega (arith, none, ends.0)))
 
 pub returns-then-not-branch : goal.returns-then-not-branch
 returns-then-not-branch c =
@@ -80,16 +80,16 @@ returns-then-not-branch c =
     ≡ Some c.in_ok-federation.federation =
     sym (ap federation_in words) ∙ sym c.parse_federation.ensures
     ∙ c.in_ok-federation.ensures.ok_part in
-    let ports = c.in_ok-ports.ports.items in
-    let isnt : are_blank (lines c.in_ok-ports.rest.now) ≡ false =
+    let sites = c.in_ok-sites.sites.items in
+    let isnt : are_blank (lines c.in_ok-sites.rest.now) ≡ false =
     sym c.in_ok-is_blank.ensures ∙ c.if-not-branch.true in
     subst (λ (n : ℕ). HasFault c.args.text.now n) (omega (arith, c.len-then-not-branch.ensures))
     (fault_after c.args.text.now c.in_ok-first.first.now (lines c.in_ok-first.after.now)
-    (lines c.in_ok-ports.rest.now) c.in_ok-federation.federation ports is says
-    c.in_ok-ports.ensures (λ ends. false≢true (sym isnt ∙ ends.1)))
+    (lines c.in_ok-sites.rest.now) c.in_ok-federation.federation sites is says
+    c.in_ok-sites.ensures (λ ends. false≢true (sym isnt ∙ ends.1)))
 
-pub new-requires-2-clause-ports : goal.new-requires-2-clause-ports
-new-requires-2-clause-ports c =
-    ArePorts-read (lines c.in_ok-first.after.now) c.in_ok-ports.ports.items
-    (lines c.in_ok-ports.rest.now) c.in_ok-ports.ensures
+pub new-requires-2-clause-sites : goal.new-requires-2-clause-sites
+new-requires-2-clause-sites c =
+    AreListed-read (lines c.in_ok-first.after.now) c.in_ok-sites.sites.items
+    (lines c.in_ok-sites.rest.now) c.in_ok-sites.ensures
     (omega (arith, c.len.ensures, (c.in-Ok.ensures.ok.0 refl).0))
