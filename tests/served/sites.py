@@ -69,6 +69,14 @@ def make_bag(folder, content):
     return hashlib.sha512(manifest).hexdigest()
 
 
+def make_empty_bag(folder):
+    """Makes the bag without a file."""
+    (folder / "data").mkdir(parents=True)
+    declaration = b"BagIt-Version: 1.0\nTag-File-Character-Encoding: UTF-8\n"
+    (folder / "bagit.txt").write_bytes(declaration)
+    (folder / "manifest-sha512.txt").write_bytes(b"")
+
+
 def write_members(file, ports, weights=()):
     """Writes a members file of federation 7, in which only the sites of these weights name one."""
     words = [f"site {site} {port}" for site, port in enumerate(ports, 1)]
@@ -88,7 +96,7 @@ class Served:
     """A site in a process of its own, on a cell that outlives it."""
 
     def __init__(self, room, members, number, turns=TURNS, wait=20):
-        self.cell, self.number = room / f"cell-{number}", number
+        self.room, self.cell, self.number = room, room / f"cell-{number}", number
         self.words = [PROGRAM, "site", "--members", members, "--number", str(number)]
         self.words += ["--cell", self.cell, "--turns", turns, "--wait", str(wait)]
         self.log = room / f"lines-{number}"
@@ -96,7 +104,8 @@ class Served:
 
     def start(self):
         with open(self.log, "a") as log:
-            self.process = subprocess.Popen(self.words, stdout=log, stdin=subprocess.DEVNULL)
+            how = {"stdout": log, "stdin": subprocess.DEVNULL, "cwd": self.room}
+            self.process = subprocess.Popen(self.words, **how)
 
     def kill(self):
         self.process.send_signal(signal.SIGKILL)

@@ -8,6 +8,3 @@ mod row;
 
 pub use acceptor::Acceptor;
 pub use decision::{Answer, Decision};
-
-#[cfg(test)]
-mod tests;

@@ -21,6 +21,3 @@ pub use law::{named_law, valid_law};
 pub use manifests::Kind;
 pub use named::named_by;
 pub use tag_files::{is_supported_encoding, is_supported_version, is_unknown};
-
-#[cfg(test)]
-mod tests;

@@ -10,6 +10,3 @@ mod fed;
 pub use algorithms::Algorithms;
 pub use digester::Digester;
 pub use digests::{Digests, is_digest_of};
-
-#[cfg(test)]
-mod tests;

@@ -12,6 +12,3 @@ mod tag_files;
 
 pub use explain_bag::explain;
 pub use law::{all_found_law, findings_law, named_findings_law, numbers_law, places_law};
-
-#[cfg(test)]
-mod tests;

@@ -20,6 +20,3 @@ pub use memory_folders::MemoryFolders;
 pub use read_file::{MOST_READS, hash_reader, hash_watched};
 pub use walk::read_folder;
 pub use watcher::{Silent, Watcher};
-
-#[cfg(test)]
-mod tests;

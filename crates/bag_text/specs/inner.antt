@@ -1,3 +1,2 @@
--- What only private clauses, proofs and tests need.
+-- What only private clauses and proofs need.
 pub mod Starts
-pub mod Examples

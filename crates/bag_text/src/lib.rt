@@ -22,6 +22,3 @@ pub use law::{declaration_law, escape_law, listed_law, manifest_law};
 pub use line::lines;
 pub use parse_declaration::declaration;
 pub use parse_manifest::manifest;
-
-#[cfg(test)]
-mod tests;

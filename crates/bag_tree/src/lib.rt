@@ -19,6 +19,3 @@ pub use path::{
     part_count,
 };
 pub use tree::{LONGEST_TEXT, MOST_FILES, Tree, TreeFile};
-
-#[cfg(test)]
-mod tests;

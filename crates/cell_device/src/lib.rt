@@ -10,8 +10,6 @@ mod fuse;
 mod medium;
 mod memory_cell;
 mod place;
-#[cfg(test)]
-mod tests;
 
 pub use cell::Cell;
 pub use fault::CellFault;

@@ -28,6 +28,3 @@ pub use slot::Slot;
 pub use type_fault::TypeFault;
 pub use vote::Vote;
 pub use voters::Voters;
-
-#[cfg(test)]
-mod tests;

@@ -13,6 +13,3 @@ mod sending;
 mod stopping;
 
 pub use federation::Federation;
-
-#[cfg(test)]
-mod tests;

@@ -11,6 +11,3 @@ pub use encode::{put_bag, put_ballot, put_slot, put_vote};
 pub use fault::FieldFault;
 pub use reader::Reader;
 pub use slot_ref::SlotRef;
-
-#[cfg(test)]
-mod tests;

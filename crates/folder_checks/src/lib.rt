@@ -20,6 +20,3 @@ pub use command::check_folders;
 pub use explaining::explain_on;
 pub use progress::{Progress, Saying};
 pub use report::Report;
-
-#[cfg(test)]
-mod tests;

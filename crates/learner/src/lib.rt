@@ -9,6 +9,3 @@ mod table;
 mod votes;
 
 pub use learner::Learner;
-
-#[cfg(test)]
-mod tests;

@@ -9,6 +9,3 @@ mod sent_bytes;
 pub use line::{Line, NamedBag, NamedReply, Reason};
 pub use print_line::{Options, push_line, push_printed};
 pub use sent_bytes::SentBytes;
-
-#[cfg(test)]
-mod tests;

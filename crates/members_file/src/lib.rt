@@ -13,6 +13,3 @@ pub use listed_site::ListedSite;
 pub use member_sites::MemberSites;
 pub use members_fault::MembersFault;
 pub use read::read_members;
-
-#[cfg(test)]
-mod tests;

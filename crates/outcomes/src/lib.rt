@@ -11,6 +11,3 @@ pub use answer::{Answer, write_answer, write_bytes};
 pub use fault::ProgramFault;
 pub use reading::{MOST_READS, ReadFault, read_all, read_within};
 pub use writing::{WriteFault, write_all};
-
-#[cfg(test)]
-mod tests;

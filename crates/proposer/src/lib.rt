@@ -9,6 +9,3 @@ mod row;
 
 pub use fault::ProposeFault;
 pub use proposer::Proposer;
-
-#[cfg(test)]
-mod tests;

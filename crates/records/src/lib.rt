@@ -25,6 +25,3 @@ pub use layout::{HEADER, LONGEST, MAGIC, SHORTEST};
 pub use owner::Owner;
 pub use record::Record;
 pub use round::Round;
-
-#[cfg(test)]
-mod tests;

@@ -33,6 +33,3 @@ pub use parse_schedule::parse;
 pub use plan::Schedule;
 pub use print_schedule::print;
 pub use tree_no::TreeNo;
-
-#[cfg(test)]
-mod tests;

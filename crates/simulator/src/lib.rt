@@ -10,6 +10,3 @@ pub use fault::RunFault;
 pub use print_run::text;
 pub use run_schedule::run;
 pub use trace::Trace;
-
-#[cfg(test)]
-mod tests;

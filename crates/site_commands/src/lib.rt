@@ -17,6 +17,3 @@ pub use send_arguments::{SendTask, send_command, send_task};
 pub use serving::site_on;
 pub use serving_command::serve_site;
 pub use site_arguments::{SiteTask, site_command, site_task};
-
-#[cfg(test)]
-mod tests;

@@ -7,6 +7,3 @@ mod deposits;
 mod tables;
 
 pub use tables::Tables;
-
-#[cfg(test)]
-mod tests;

@@ -1,75 +1,108 @@
-use crate::fault::ToolFault;
+//! What a site answers, in words, a line for each thing.
+
 use fed_types::{BagId, Slot};
 use site::{Answer, Line, Reply, Sealed, SiteFault};
-use std::alloc::Global;
+use std::alloc::{AllocError, Global};
 
-/// What a call answers: the line, if any, and then each datagram, with its number among all that
-/// were sent, of which there were so many before.
-pub(crate) fn answer_text(
+/// Appends what a call answers: the line, if any, and then each datagram, with its number among all
+/// that were sent, of which there were so many before.
+pub(crate) fn push_answer(
     alloc: Global,
+    text: &mut String,
     answer: &Answer,
     sent: usize,
-) -> Result<String, ToolFault> {
-    let mut text = line_text(alloc, &answer.line)?;
-    for (place, datagram) in answer.sends.iter().enumerate() {
-        let number = sent.saturating_add(place).saturating_add(1);
-        text.push_str(sent_text(alloc, number, datagram)?.as_str())?;
+) -> Result<(), AllocError> {
+    if answer.line.is_none() && answer.sends.is_empty() {
+        return text.push_str("nothing\n");
     }
-    if text.is_empty() {
-        text.push_str("nothing\n")?;
-    }
-    Ok(text)
+    push_line(alloc, text, &answer.line)?;
+    push_sends(alloc, text, answer.sends.as_slice(), sent)
 }
 
-fn line_text(alloc: Global, line: &Option<Line>) -> Result<String, ToolFault> {
+fn push_line(alloc: Global, text: &mut String, line: &Option<Line>) -> Result<(), AllocError> {
     match line {
-        None => Ok(String::new(alloc)),
-        Some(Line::Registered(bag)) => bag_line(alloc, "registered", *bag),
-        Some(Line::Known(slot, bag)) => known_line(alloc, slot, *bag),
-        Some(Line::Dropped) => Ok(String::from_str(alloc, "dropped\n")?),
+        None => Ok(()),
+        Some(Line::Registered(bag)) => push_bag(alloc, text, "registered", bag),
+        Some(Line::Known(slot, bag)) => push_known(alloc, text, slot, bag),
+        Some(Line::Dropped) => text.push_str("dropped\n"),
     }
 }
 
-fn known_line(alloc: Global, slot: &Slot, bag: BagId) -> Result<String, ToolFault> {
-    let (object, version) = (slot.object(), slot.version());
-    let identity = hex::encode(alloc, &bag.0)?;
-    Ok(format!(in alloc; "known {object} {version} {identity}\n")?)
-}
-
-fn sent_text(alloc: Global, number: usize, datagram: &Sealed) -> Result<String, ToolFault> {
-    let to = datagram.to.number();
-    let bytes = hex::encode(alloc, datagram.bytes.as_slice())?;
-    Ok(format!(in alloc; "{number} to {to} {bytes}\n")?)
-}
-
-/// What a site replies to a query.
-pub(crate) fn reply_text(
+fn push_known(
     alloc: Global,
+    text: &mut String,
+    slot: &Slot,
+    bag: &BagId,
+) -> Result<(), AllocError> {
+    let object = slot.object();
+    let version = slot.version();
+    write!(text, "known {object} {version} ")?;
+    push_hex(alloc, text, &bag.0)
+}
+
+fn push_sends(
+    alloc: Global,
+    text: &mut String,
+    sends: &[Sealed],
+    sent: usize,
+) -> Result<(), AllocError> {
+    for (place, datagram) in sends.iter().enumerate() {
+        let number = sent.saturating_add(place).saturating_add(1);
+        push_sent(alloc, text, number, datagram)?;
+    }
+    Ok(())
+}
+
+fn push_sent(
+    alloc: Global,
+    text: &mut String,
+    number: usize,
+    datagram: &Sealed,
+) -> Result<(), AllocError> {
+    let to = datagram.to.number();
+    write!(text, "{number} to {to} ")?;
+    push_hex(alloc, text, datagram.bytes.as_slice())
+}
+
+/// Appends what a site replies to a query.
+pub(crate) fn push_reply(
+    alloc: Global,
+    text: &mut String,
     reply: Result<Reply, SiteFault>,
-) -> Result<String, ToolFault> {
+) -> Result<(), AllocError> {
     match reply {
-        Ok(Reply::Known(bag)) => bag_line(alloc, "reply known", bag),
-        Ok(Reply::Pending(bag)) => bag_line(alloc, "reply pending", bag),
-        Ok(Reply::Nothing) => Ok(String::from_str(alloc, "reply nothing\n")?),
-        Err(fault) => refusal(alloc, fault),
+        Ok(Reply::Known(bag)) => push_bag(alloc, text, "reply known", &bag),
+        Ok(Reply::Pending(bag)) => push_bag(alloc, text, "reply pending", &bag),
+        Ok(Reply::Nothing) => text.push_str("reply nothing\n"),
+        Err(fault) => push_refusal(alloc, text, fault),
     }
 }
 
-/// A refusal by its number, and by the bag's fault or the bag that is in the way.
-pub(crate) fn refusal(alloc: Global, fault: SiteFault) -> Result<String, ToolFault> {
+/// Appends a refusal by its number, and by the bag's fault or the bag that is in the way.
+pub(crate) fn push_refusal(
+    alloc: Global,
+    text: &mut String,
+    fault: SiteFault,
+) -> Result<(), AllocError> {
     let number = fault.number();
     match fault {
         SiteFault::InvalidBag(fault) => {
             let fault = fault.number();
-            Ok(format!(in alloc; "refused {number} {fault}\n")?)
+            write!(text, "refused {number} {fault}\n")
         }
-        SiteFault::OtherDeposit(bag) => bag_line(alloc, "refused 11", bag),
-        SiteFault::OtherKnown(bag) => bag_line(alloc, "refused 12", bag),
-        _ => Ok(format!(in alloc; "refused {number}\n")?),
+        SiteFault::OtherDeposit(bag) => push_bag(alloc, text, "refused 11", &bag),
+        SiteFault::OtherKnown(bag) => push_bag(alloc, text, "refused 12", &bag),
+        _ => write!(text, "refused {number}\n"),
     }
 }
 
-fn bag_line(alloc: Global, words: &str, bag: BagId) -> Result<String, ToolFault> {
-    let identity = hex::encode(alloc, &bag.0)?;
-    Ok(format!(in alloc; "{words} {identity}\n")?)
+fn push_bag(alloc: Global, text: &mut String, words: &str, bag: &BagId) -> Result<(), AllocError> {
+    write!(text, "{words} ")?;
+    push_hex(alloc, text, &bag.0)
+}
+
+/// Appends bytes in hex, and ends the line.
+pub(crate) fn push_hex(alloc: Global, text: &mut String, bytes: &[u8]) -> Result<(), AllocError> {
+    let digits = hex::encode(alloc, bytes)?;
+    write!(text, "{digits}\n")
 }

@@ -1,226 +1,236 @@
-use crate::answer_text::{answer_text, refusal, reply_text};
-use crate::call::{Call, make};
+use crate::call::{Call, Failure};
 use crate::fault::ToolFault;
-use crate::place::{Place, open};
-use crate::words::{bytes_of, fuse_of, number_of, site_of, slot_of};
-use bag_tree::{Facts, Tree, facts_of};
-use cell_device::MemoryCell;
-use fed_types::{Members, SiteNo};
-use site::Sealed;
+use crate::output::Output;
+use crate::place::Place;
+use crate::push::push;
+use crate::tree::tree;
+use crate::words::{bytes_of, fuse_of, members_of, place_of_number, site_of, slot_of};
+use bag_tree::Facts;
+use fed_types::{Members, SiteNo, Slot};
+use records::Owner;
+use site::{Answer, Reply, Sealed, SiteFault};
 use std::alloc::Global;
 
-const DECLARATION: &str = "BagIt-Version: 1.0\nTag-File-Character-Encoding: UTF-8\n";
-
-/// The sites of a federation, the trees that were made, and all datagrams that were sent.
+/// The sites of a federation, and the trees that were made. Each command has its words in a slice.
 #[derive(Drop)]
 pub(crate) struct Federation {
     alloc: Global,
-    members: Members,
+    members: Option<Members>,
     places: Vec<Place>,
     trees: Vec<Facts>,
-    sent: Vec<Sealed>,
 }
 
 impl Federation {
-    /// Each site is open, over a cell without bytes.
-    pub(crate) fn new(alloc: Global, members: Members) -> Result<Federation, ToolFault> {
-        let mut places = Vec::new(alloc);
-        for number in 1..=members.count() {
-            let cell = MemoryCell::new(alloc, Vec::new(alloc));
-            let (place, _) = open(alloc, cell, members, SiteNo::new(number)?)?;
-            places.push(place)?;
-        }
-        Ok(Federation {
+    /// One that has yet to begin.
+    pub(crate) fn new(alloc: Global) -> Federation {
+        Federation {
             alloc,
-            members,
-            places,
+            members: None,
+            places: Vec::new(alloc),
             trees: Vec::new(alloc),
-            sent: Vec::new(alloc),
-        })
-    }
-
-    /// Makes the next tree: a bag without payload, whose SHA-512 manifest has these bytes; without
-    /// its folder it is none.
-    pub(crate) fn add_tree(&mut self, folder: bool, manifest: &str) -> Result<String, ToolFault> {
-        let mut tree = Tree::new(self.alloc);
-        tree.add("bagit.txt", DECLARATION.as_bytes())?;
-        let manifest = bytes_of(self.alloc, manifest)?;
-        tree.add("manifest-sha512.txt", manifest.as_slice())?;
-        if folder {
-            tree.add_folder();
         }
-        self.trees.push(facts_of(self.alloc, &tree)?)?;
-        Ok(String::new(self.alloc))
     }
 
-    pub(crate) fn deposit(
-        &mut self,
-        site: &str,
-        tree: &str,
-        object: &str,
-        version: &str,
-    ) -> Result<String, ToolFault> {
-        let slot = slot_of(self.alloc, object, version)?;
-        let place = number_of(tree)?.checked_sub(1).ok_or(ToolFault::Line)?;
-        let facts = self.trees.get(place).ok_or(ToolFault::Line)?;
-        let called = site_at(&mut self.places, site)?;
-        let answer = make(self.alloc, called, &Call::Deposit(&slot, facts))?;
-        hand_out(self.alloc, &mut self.sent, answer)
+    /// Whether it has members.
+    pub(crate) fn has_begun(&self) -> bool {
+        self.members.is_some()
     }
 
-    pub(crate) fn propose(
-        &mut self,
-        site: &str,
-        object: &str,
-        version: &str,
-    ) -> Result<String, ToolFault> {
-        let slot = slot_of(self.alloc, object, version)?;
-        let called = site_at(&mut self.places, site)?;
-        let answer = make(self.alloc, called, &Call::Propose(&slot))?;
-        hand_out(self.alloc, &mut self.sent, answer)
+    /// Begins anew: each site is open, over a cell without bytes, and there are no trees.
+    pub(crate) fn begin(&mut self, words: &[&str]) -> Result<(), ToolFault> {
+        let members = members_of(words)?;
+        self.members = Some(members);
+        self.places.clear();
+        self.trees.clear();
+        for number in 1..=members.count() {
+            self.add_site(members, SiteNo::new(number)?)?;
+        }
+        Ok(())
     }
 
-    pub(crate) fn ask(
-        &mut self,
-        site: &str,
-        to: &str,
-        object: &str,
-        version: &str,
-    ) -> Result<String, ToolFault> {
-        let slot = slot_of(self.alloc, object, version)?;
-        let called = site_at(&mut self.places, site)?;
-        let answer = make(self.alloc, called, &Call::Ask(&slot, site_of(to)?))?;
-        hand_out(self.alloc, &mut self.sent, answer)
+    fn add_site(&mut self, members: Members, site: SiteNo) -> Result<(), ToolFault> {
+        push(&mut self.places, Place::new(self.alloc))?;
+        match self.places.get_mut(place_of(site)) {
+            Some(place) => open_new(self.alloc, place, Owner { members, site }),
+            None => Err(ToolFault::Wrong),
+        }
     }
 
-    pub(crate) fn query(
-        &mut self,
-        site: &str,
-        object: &str,
-        version: &str,
-    ) -> Result<String, ToolFault> {
-        let slot = slot_of(self.alloc, object, version)?;
-        let called = site_at(&mut self.places, site)?;
-        reply_text(self.alloc, called.query(&slot))
+    /// Makes the next tree, whose manifest has these bytes.
+    pub(crate) fn add_tree(&mut self, folder: bool, words: &[&str]) -> Result<(), ToolFault> {
+        match words {
+            [manifest] => self.add_tree_of(folder, bytes_of(self.alloc, manifest)?.as_slice()),
+            _ => Err(ToolFault::Line),
+        }
     }
 
-    /// A datagram that was sent arrives at the site that it was sent to.
-    pub(crate) fn deliver(&mut self, number: &str) -> Result<String, ToolFault> {
-        let place = number_of(number)?.checked_sub(1).ok_or(ToolFault::Line)?;
-        let datagram = self.sent.get(place).ok_or(ToolFault::Line)?;
-        let called = self
-            .places
-            .get_mut(place_of(datagram.to))
-            .ok_or(ToolFault::Line)?
-            .site()?;
-        let answer = make(self.alloc, called, &Call::Arrive(datagram.bytes.as_slice()))?;
-        hand_out(self.alloc, &mut self.sent, answer)
+    fn add_tree_of(&mut self, folder: bool, manifest: &[u8]) -> Result<(), ToolFault> {
+        match tree(self.alloc, folder, manifest) {
+            Ok(facts) => push(&mut self.trees, facts),
+            Err(fault) => Err(fault),
+        }
+    }
+
+    pub(crate) fn deposit(&mut self, words: &[&str]) -> Result<Answer, Failure> {
+        match words {
+            [site, tree, object, version] => {
+                let (site, tree) = (site_of(site)?, place_of_number(tree)?);
+                let slot = slot_of(self.alloc, object, version)?;
+                self.deposit_at(site, tree, &slot)
+            }
+            _ => Err(Failure::Faulty(ToolFault::Line)),
+        }
+    }
+
+    fn deposit_at(&mut self, site: SiteNo, tree: usize, slot: &Slot) -> Result<Answer, Failure> {
+        match self.trees.get(tree) {
+            Some(facts) => {
+                let call = Call::Deposit(slot, facts);
+                call_at(self.alloc, &mut self.places, site, &call)
+            }
+            None => Err(Failure::Faulty(ToolFault::Line)),
+        }
+    }
+
+    pub(crate) fn propose(&mut self, words: &[&str]) -> Result<Answer, Failure> {
+        match words {
+            [site, object, version] => {
+                let site = site_of(site)?;
+                let slot = slot_of(self.alloc, object, version)?;
+                call_at(self.alloc, &mut self.places, site, &Call::Propose(&slot))
+            }
+            _ => Err(Failure::Faulty(ToolFault::Line)),
+        }
+    }
+
+    pub(crate) fn ask(&mut self, words: &[&str]) -> Result<Answer, Failure> {
+        match words {
+            [site, to, object, version] => {
+                let (site, to) = (site_of(site)?, site_of(to)?);
+                let slot = slot_of(self.alloc, object, version)?;
+                call_at(self.alloc, &mut self.places, site, &Call::Ask(&slot, to))
+            }
+            _ => Err(Failure::Faulty(ToolFault::Line)),
+        }
     }
 
     /// Bytes arrive at a site.
-    pub(crate) fn arrive(&mut self, site: &str, bytes: &str) -> Result<String, ToolFault> {
-        let bytes = bytes_of(self.alloc, bytes)?;
-        let called = site_at(&mut self.places, site)?;
-        let answer = make(self.alloc, called, &Call::Arrive(bytes.as_slice()))?;
-        hand_out(self.alloc, &mut self.sent, answer)
+    pub(crate) fn arrive(&mut self, words: &[&str]) -> Result<Answer, Failure> {
+        match words {
+            [site, digits] => {
+                let site = site_of(site)?;
+                let bytes = bytes_of(self.alloc, digits)?;
+                let call = Call::Arrive(bytes.as_slice());
+                call_at(self.alloc, &mut self.places, site, &call)
+            }
+            _ => Err(Failure::Faulty(ToolFault::Line)),
+        }
+    }
+
+    /// A datagram that was sent arrives at the site that it was sent to.
+    pub(crate) fn deliver(&mut self, words: &[&str], sent: &[Sealed]) -> Result<Answer, Failure> {
+        match words {
+            [number] => self.deliver_one(sent.get(place_of_number(number)?)),
+            _ => Err(Failure::Faulty(ToolFault::Line)),
+        }
+    }
+
+    fn deliver_one(&mut self, datagram: Option<&Sealed>) -> Result<Answer, Failure> {
+        match datagram {
+            Some(datagram) => {
+                let call = Call::Arrive(datagram.bytes.as_slice());
+                call_at(self.alloc, &mut self.places, datagram.to, &call)
+            }
+            None => Err(Failure::Faulty(ToolFault::Line)),
+        }
+    }
+
+    pub(crate) fn query(&self, words: &[&str]) -> Result<Result<Reply, SiteFault>, ToolFault> {
+        match words {
+            [site, object, version] => {
+                let site = site_of(site)?;
+                let slot = slot_of(self.alloc, object, version)?;
+                self.query_at(site, &slot)
+            }
+            _ => Err(ToolFault::Line),
+        }
+    }
+
+    fn query_at(&self, site: SiteNo, slot: &Slot) -> Result<Result<Reply, SiteFault>, ToolFault> {
+        match self.places.get(place_of(site)) {
+            Some(place) => place.query(slot),
+            None => Err(ToolFault::Line),
+        }
     }
 
     /// Sets the fuse of a site's cell.
-    pub(crate) fn set_fuse(
-        &mut self,
-        site: &str,
-        how: &str,
-        call: &str,
-        kept: &str,
-    ) -> Result<String, ToolFault> {
-        let place = place_of(site_of(site)?);
-        let place = self.places.get_mut(place).ok_or(ToolFault::Line)?;
-        place.set_fuse(fuse_of(how, call, kept)?);
-        Ok(String::new(self.alloc))
+    pub(crate) fn set_fuse(&mut self, words: &[&str]) -> Result<(), ToolFault> {
+        match words {
+            [site, fuse @ ..] => {
+                let (site, fuse) = (site_of(site)?, fuse_of(fuse)?);
+                let place = self.places.get_mut(place_of(site)).ok_or(ToolFault::Line)?;
+                place.set_fuse(fuse);
+                Ok(())
+            }
+            _ => Err(ToolFault::Line),
+        }
     }
 
     /// Closes a site, and says what a read of its cell gives.
-    pub(crate) fn close(&mut self, site: &str) -> Result<String, ToolFault> {
-        let cell = self.taken(site)?.closed();
-        let bytes = hex::encode(self.alloc, cell.bytes())?;
-        self.put(site, Place::Closed(cell))?;
-        Ok(format!(in self.alloc; "cell {bytes}\n")?)
+    pub(crate) fn close(&mut self, words: &[&str], output: &mut Output) -> Result<(), ToolFault> {
+        let site = only_site_of(words)?;
+        let place = self.places.get_mut(place_of(site)).ok_or(ToolFault::Line)?;
+        place.close();
+        output.cell(place.bytes())
     }
 
     /// A site stops, and its device starts again.
-    pub(crate) fn crash(&mut self, site: &str) -> Result<String, ToolFault> {
-        let mut cell = self.taken(site)?.closed();
-        cell.restart();
-        self.put(site, Place::Closed(cell))?;
-        Ok(String::new(self.alloc))
+    pub(crate) fn crash(&mut self, words: &[&str]) -> Result<(), ToolFault> {
+        let site = only_site_of(words)?;
+        let place = self.places.get_mut(place_of(site)).ok_or(ToolFault::Line)?;
+        place.crash();
+        Ok(())
     }
 
     /// Opens a site over its cell.
-    pub(crate) fn open(&mut self, site: &str) -> Result<String, ToolFault> {
-        let number = site_of(site)?;
-        let cell = self.taken(site)?.closed();
-        let (place, said) = open(self.alloc, cell, self.members, number)?;
-        self.put(site, place)?;
-        Ok(said)
-    }
-
-    /// Takes a site out of its place, where a cell without bytes is put.
-    fn taken(&mut self, site: &str) -> Result<Place, ToolFault> {
-        let place = place_of(site_of(site)?);
-        if place < self.places.len() {
-            Ok(self.places.remove(place))
-        } else {
-            Err(ToolFault::Line)
-        }
-    }
-
-    fn put(&mut self, site: &str, place: Place) -> Result<(), ToolFault> {
-        let at = place_of(site_of(site)?);
-        if at <= self.places.len() {
-            self.places.insert(at, place)?;
-            Ok(())
-        } else {
-            Err(ToolFault::Line)
-        }
+    pub(crate) fn open(&mut self, words: &[&str], output: &mut Output) -> Result<(), ToolFault> {
+        let site = only_site_of(words)?;
+        let members = self.members.ok_or(ToolFault::Line)?;
+        let place = self.places.get_mut(place_of(site)).ok_or(ToolFault::Line)?;
+        let opened = place.open(self.alloc, Owner { members, site });
+        output.opened(opened, place.count())
     }
 }
 
-/// The site of this number, if it is open.
-fn site_at<'a>(
-    places: &'a mut Vec<Place>,
-    site: &str,
-) -> Result<&'a mut site::Site<MemoryCell>, ToolFault> {
-    places
-        .get_mut(place_of(site_of(site)?))
-        .ok_or(ToolFault::Line)?
-        .site()
+/// Opens a site of the new federation.
+fn open_new(alloc: Global, place: &mut Place, owner: Owner) -> Result<(), ToolFault> {
+    match place.open(alloc, owner) {
+        Ok(()) => Ok(()),
+        Err(_) => Err(ToolFault::Wrong),
+    }
+}
+
+/// Calls the site of this number, if it is open.
+fn call_at(
+    alloc: Global,
+    places: &mut Vec<Place>,
+    site: SiteNo,
+    call: &Call,
+) -> Result<Answer, Failure> {
+    match places.get_mut(place_of(site)) {
+        Some(place) => place.call(alloc, call),
+        None => Err(Failure::Faulty(ToolFault::Line)),
+    }
 }
 
 fn place_of(site: SiteNo) -> usize {
     usize::from(site.number()).saturating_sub(1)
 }
 
-/// Keeps the datagrams of an answer, and says what it is.
-fn hand_out(
-    alloc: Global,
-    sent: &mut Vec<Sealed>,
-    answer: Result<site::Answer, site::SiteFault>,
-) -> Result<String, ToolFault> {
-    match answer {
-        Err(fault) => refusal(alloc, fault),
-        Ok(answer) => {
-            let text = answer_text(alloc, &answer, sent.len());
-            keep(sent, answer)?;
-            text
-        }
+/// The site that is the only word.
+fn only_site_of(words: &[&str]) -> Result<SiteNo, ToolFault> {
+    match words {
+        [site] => site_of(site),
+        _ => Err(ToolFault::Line),
     }
-}
-
-fn keep(sent: &mut Vec<Sealed>, answer: site::Answer) -> Result<(), ToolFault> {
-    for datagram in answer.sends {
-        if sent.push(datagram).is_err() {
-            return Err(ToolFault::Memory);
-        }
-    }
-    Ok(())
 }

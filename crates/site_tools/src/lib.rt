@@ -5,11 +5,16 @@
 
 mod answer_text;
 mod call;
+mod calls;
 mod fault;
 mod federation;
+mod kind;
+mod output;
 mod place;
+mod push;
 mod script;
 mod times;
+mod tree;
 mod words;
 
 pub use fault::ToolFault;

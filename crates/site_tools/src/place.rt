@@ -1,75 +1,114 @@
+use crate::call::{Call, Failure, make};
 use crate::fault::ToolFault;
 use book::OpenFault;
 use cell_device::{Fuse, MemoryCell};
-use fed_types::{Members, SiteNo};
+use fed_types::Slot;
 use records::Owner;
-use site::Site;
+use site::{Answer, Reply, Site, SiteFault};
 use std::alloc::Global;
+use std::mem;
 
 /// A site that is open, or the cell of one that isn't.
 #[derive(Drop)]
-pub(crate) enum Place {
-    Open(Site<MemoryCell>),
-    Closed(MemoryCell),
+pub(crate) struct Place {
+    site: Option<Site<MemoryCell>>,
+    /// One without bytes while the site is open.
+    cell: MemoryCell,
 }
 
 impl Place {
-    /// The site, if it is open.
-    pub(crate) fn site(&mut self) -> Result<&mut Site<MemoryCell>, ToolFault> {
-        match self {
-            Place::Open(site) => Ok(site),
-            Place::Closed(_) => Err(ToolFault::Line),
+    /// A cell without bytes.
+    pub(crate) fn new(alloc: Global) -> Place {
+        Place {
+            site: None,
+            cell: empty_cell(alloc),
+        }
+    }
+
+    /// Calls the site.
+    pub(crate) fn call(&mut self, alloc: Global, call: &Call) -> Result<Answer, Failure> {
+        match &mut self.site {
+            Some(site) => make(alloc, site, call),
+            None => Err(Failure::Faulty(ToolFault::Line)),
+        }
+    }
+
+    /// What the site knows of the slot.
+    pub(crate) fn query(&self, slot: &Slot) -> Result<Result<Reply, SiteFault>, ToolFault> {
+        match &self.site {
+            Some(site) => Ok(site.query(slot)),
+            None => Err(ToolFault::Line),
         }
     }
 
     pub(crate) fn set_fuse(&mut self, fuse: Fuse) {
-        match self {
-            Place::Open(site) => site.set_fuse(Some(fuse)),
-            Place::Closed(cell) => cell.set_fuse(Some(fuse)),
+        match &mut self.site {
+            Some(site) => site.set_fuse(Some(fuse)),
+            None => self.cell.set_fuse(Some(fuse)),
         }
+    }
+
+    /// How many records the open site has.
+    pub(crate) fn count(&self) -> usize {
+        match &self.site {
+            Some(site) => site.records().len(),
+            None => 0,
+        }
+    }
+
+    /// What a read of the closed cell gives.
+    pub(crate) fn bytes(&self) -> &[u8] {
+        self.cell.bytes()
     }
 
     /// Closes the site, if it is open.
-    pub(crate) fn closed(self) -> MemoryCell {
-        match self {
-            Place::Open(site) => site.close(),
-            Place::Closed(cell) => cell,
+    pub(crate) fn close(&mut self) {
+        match self.site.take() {
+            Some(site) => self.keep_cell(site.close()),
+            None => {}
         }
+    }
+
+    /// The site stops, and its device starts again.
+    pub(crate) fn crash(&mut self) {
+        self.close();
+        self.cell.restart();
+    }
+
+    /// Opens the site over its cell. Where that finds no memory it is opened again, and has to find
+    /// some.
+    pub(crate) fn open(&mut self, alloc: Global, owner: Owner) -> Result<(), OpenFault> {
+        self.close();
+        match self.open_once(alloc, owner) {
+            Err(OpenFault::Memory) => self.open_once(alloc, owner),
+            opened => opened,
+        }
+    }
+
+    fn open_once(&mut self, alloc: Global, owner: Owner) -> Result<(), OpenFault> {
+        let cell = mem::replace(&mut self.cell, empty_cell(alloc));
+        match Site::open(alloc, cell, owner) {
+            Ok(site) => self.keep_site(site),
+            Err((cell, fault)) => self.refuse(cell, fault),
+        }
+    }
+
+    fn keep_site(&mut self, site: Site<MemoryCell>) -> Result<(), OpenFault> {
+        drop(self.site.replace(site));
+        Ok(())
+    }
+
+    fn refuse(&mut self, cell: MemoryCell, fault: OpenFault) -> Result<(), OpenFault> {
+        self.keep_cell(cell);
+        Err(fault)
+    }
+
+    fn keep_cell(&mut self, cell: MemoryCell) {
+        drop(mem::replace(&mut self.cell, cell));
     }
 }
 
-/// Opens the cell of this site, and says how many records it has, or why it is refused. Where that
-/// finds no memory it is opened again.
-pub(crate) fn open(
-    alloc: Global,
-    cell: MemoryCell,
-    members: Members,
-    site: SiteNo,
-) -> Result<(Place, String), ToolFault> {
-    match Site::open(alloc, cell, Owner { members, site }) {
-        Err((cell, OpenFault::Memory)) => {
-            opened(alloc, Site::open(alloc, cell, Owner { members, site }))
-        }
-        answer => opened(alloc, answer),
-    }
-}
-
-fn opened(
-    alloc: Global,
-    answer: Result<Site<MemoryCell>, (MemoryCell, OpenFault)>,
-) -> Result<(Place, String), ToolFault> {
-    match answer {
-        Ok(site) => {
-            let count = site.records().len();
-            Ok((Place::Open(site), format!(in alloc; "opened {count}\n")?))
-        }
-        Err((_cell, OpenFault::Memory)) => Err(ToolFault::Wrong),
-        Err((cell, fault)) => {
-            let number = fault.number();
-            Ok((
-                Place::Closed(cell),
-                format!(in alloc; "unopened {number}\n")?,
-            ))
-        }
-    }
+/// A cell without bytes.
+pub(crate) fn empty_cell(alloc: Global) -> MemoryCell {
+    MemoryCell::new(alloc, Vec::new(alloc))
 }

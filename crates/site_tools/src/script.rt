@@ -19,63 +19,153 @@
 
 use crate::fault::ToolFault;
 use crate::federation::Federation;
-use crate::words::members_of;
-use std::alloc::Global;
+use crate::output::Output;
+use std::alloc::{AllocError, Global};
 
 /// What a script prints.
 pub fn answers(alloc: Global, script: &str) -> Result<String, ToolFault> {
-    let mut text = String::new(alloc);
-    let mut federation: Option<Federation> = None;
-    for line in script.lines() {
-        run_line(alloc, line, &mut federation, &mut text)?;
+    let mut federation = Federation::new(alloc);
+    let mut output = Output::new(alloc);
+    let ran = run_lines(alloc, script, &mut federation, &mut output);
+    drop(federation);
+    let text = output.into_text();
+    match ran {
+        Ok(()) => Ok(text),
+        Err(fault) => Err(fault),
     }
-    Ok(text)
+}
+
+fn run_lines(
+    alloc: Global,
+    script: &str,
+    federation: &mut Federation,
+    output: &mut Output,
+) -> Result<(), ToolFault> {
+    for line in script.lines() {
+        run_line(alloc, line, federation, output)?;
+    }
+    Ok(())
 }
 
 /// Runs a line, and appends what it prints.
 fn run_line(
     alloc: Global,
     line: &str,
-    federation: &mut Option<Federation>,
-    text: &mut String,
+    federation: &mut Federation,
+    output: &mut Output,
 ) -> Result<(), ToolFault> {
     if line.is_empty() || line.starts_with("#") {
         return Ok(());
     }
-    let mut words = Vec::new(alloc);
-    for word in line.split_whitespace() {
-        words.push(word)?;
-    }
-    if let ["sites", number, count] = words.as_slice() {
-        *federation = Some(Federation::new(alloc, members_of(number, count)?)?);
-        return Ok(());
-    }
-    match federation {
-        Some(federation) => {
-            text.push_str(answer(federation, words.as_slice())?.as_str())?;
-            Ok(())
-        }
-        None => Err(ToolFault::Line),
+    run_words(words_of(alloc, line)?.as_slice(), federation, output)
+}
+
+fn words_of<'a>(alloc: Global, line: &'a str) -> Result<Vec<&'a str>, AllocError> {
+    line.split_whitespace().collect(alloc)
+}
+
+fn run_words(
+    words: &[&str],
+    federation: &mut Federation,
+    output: &mut Output,
+) -> Result<(), ToolFault> {
+    match words {
+        [name, arguments @ ..] => match command_of(name) {
+            Some(command) => run(command, arguments, federation, output),
+            None => Err(ToolFault::Line),
+        },
+        _ => Err(ToolFault::Line),
     }
 }
 
-/// What a command prints.
-fn answer(federation: &mut Federation, words: &[&str]) -> Result<String, ToolFault> {
-    match words {
-        ["bag", manifest] => federation.add_tree(true, manifest),
-        ["tree", manifest] => federation.add_tree(false, manifest),
-        ["deposit", site, tree, object, version] => {
-            federation.deposit(site, tree, object, version)
-        }
-        ["propose", site, object, version] => federation.propose(site, object, version),
-        ["ask", site, to, object, version] => federation.ask(site, to, object, version),
-        ["query", site, object, version] => federation.query(site, object, version),
-        ["arrive", site, bytes] => federation.arrive(site, bytes),
-        ["deliver", number] => federation.deliver(number),
-        ["fuse", site, how, call, kept] => federation.set_fuse(site, how, call, kept),
-        ["close", site] => federation.close(site),
-        ["crash", site] => federation.crash(site),
-        ["open", site] => federation.open(site),
+/// What a line asks for.
+#[derive(Clone, Copy)]
+enum Command {
+    Sites,
+    Bag,
+    Tree,
+    Deposit,
+    Propose,
+    Ask,
+    Query,
+    Arrive,
+    Deliver,
+    Fuse,
+    Close,
+    Crash,
+    Open,
+}
+
+fn command_of(word: &str) -> Option<Command> {
+    match word {
+        "sites" => Some(Command::Sites),
+        "bag" => Some(Command::Bag),
+        "tree" => Some(Command::Tree),
+        "deposit" => Some(Command::Deposit),
+        "propose" => Some(Command::Propose),
+        "ask" => Some(Command::Ask),
+        "query" => Some(Command::Query),
+        "arrive" => Some(Command::Arrive),
+        "deliver" => Some(Command::Deliver),
+        "fuse" => Some(Command::Fuse),
+        "close" => Some(Command::Close),
+        "crash" => Some(Command::Crash),
+        "open" => Some(Command::Open),
+        _ => None,
+    }
+}
+
+/// Runs a command: the first has to begin a federation.
+fn run(
+    command: Command,
+    words: &[&str],
+    federation: &mut Federation,
+    output: &mut Output,
+) -> Result<(), ToolFault> {
+    match command {
+        Command::Sites => begin(words, federation, output),
+        _ if federation.has_begun() => go_on(command, words, federation, output),
         _ => Err(ToolFault::Line),
     }
+}
+
+fn begin(
+    words: &[&str],
+    federation: &mut Federation,
+    output: &mut Output,
+) -> Result<(), ToolFault> {
+    output.begin();
+    federation.begin(words)
+}
+
+fn go_on(
+    command: Command,
+    words: &[&str],
+    federation: &mut Federation,
+    output: &mut Output,
+) -> Result<(), ToolFault> {
+    match command {
+        Command::Sites => Err(ToolFault::Line),
+        Command::Bag => federation.add_tree(true, words),
+        Command::Tree => federation.add_tree(false, words),
+        Command::Deposit => output.answer(federation.deposit(words)),
+        Command::Propose => output.answer(federation.propose(words)),
+        Command::Ask => output.answer(federation.ask(words)),
+        Command::Query => output.reply(federation.query(words)),
+        Command::Arrive => output.answer(federation.arrive(words)),
+        Command::Deliver => deliver(words, federation, output),
+        Command::Fuse => federation.set_fuse(words),
+        Command::Close => federation.close(words, output),
+        Command::Crash => federation.crash(words),
+        Command::Open => federation.open(words, output),
+    }
+}
+
+fn deliver(
+    words: &[&str],
+    federation: &mut Federation,
+    output: &mut Output,
+) -> Result<(), ToolFault> {
+    let answer = federation.deliver(words, output.sent());
+    output.answer(answer)
 }

@@ -3,18 +3,26 @@ use cell_device::{Fuse, How};
 use fed_types::{Members, SiteNo, Slot};
 use std::alloc::Global;
 
-pub(crate) fn members_of(federation: &str, count: &str) -> Result<Members, ToolFault> {
-    let federation = federation.parse::<u64>().or(Err(ToolFault::Line))?;
-    let count = count.parse::<u8>().or(Err(ToolFault::Line))?;
-    Ok(Members::new(federation, count)?)
+/// The members of federation F, sites 1 to N.
+pub(crate) fn members_of(words: &[&str]) -> Result<Members, ToolFault> {
+    match words {
+        [federation, count] => {
+            let federation = federation.parse::<u64>().or(Err(ToolFault::Line))?;
+            let count = count.parse::<u8>().or(Err(ToolFault::Line))?;
+            Ok(Members::new(federation, count)?)
+        }
+        _ => Err(ToolFault::Line),
+    }
 }
 
 pub(crate) fn site_of(word: &str) -> Result<SiteNo, ToolFault> {
     Ok(SiteNo::new(word.parse::<u8>().or(Err(ToolFault::Line))?)?)
 }
 
-pub(crate) fn number_of(word: &str) -> Result<usize, ToolFault> {
-    word.parse::<usize>().or(Err(ToolFault::Line))
+/// The place of what has this number, counted from 1.
+pub(crate) fn place_of_number(word: &str) -> Result<usize, ToolFault> {
+    let number = word.parse::<usize>().or(Err(ToolFault::Line))?;
+    number.checked_sub(1).ok_or(ToolFault::Line)
 }
 
 pub(crate) fn slot_of(alloc: Global, object: &str, version: &str) -> Result<Slot, ToolFault> {
@@ -31,15 +39,24 @@ pub(crate) fn bytes_of(alloc: Global, digits: &str) -> Result<Vec<u8>, ToolFault
     }
 }
 
-/// The fuse that makes the device call of this number fail, or stop the device, and leaves so many
+/// The fuse that makes the device call of a number fail, or stop the device, and leaves so many
 /// bytes of what is pending.
-pub(crate) fn fuse_of(how: &str, call: &str, kept: &str) -> Result<Fuse, ToolFault> {
-    let how = match how {
-        "fail" => How::Fail,
-        "stop" => How::Stop,
-        _ => return Err(ToolFault::Line),
-    };
-    let call = call.parse::<usize>().or(Err(ToolFault::Line))?;
-    let kept = kept.parse::<usize>().or(Err(ToolFault::Line))?;
-    Ok(Fuse { call, how, kept })
+pub(crate) fn fuse_of(words: &[&str]) -> Result<Fuse, ToolFault> {
+    match words {
+        [how, call, kept] => {
+            let how = how_of(how)?;
+            let call = call.parse::<usize>().or(Err(ToolFault::Line))?;
+            let kept = kept.parse::<usize>().or(Err(ToolFault::Line))?;
+            Ok(Fuse { call, how, kept })
+        }
+        _ => Err(ToolFault::Line),
+    }
+}
+
+fn how_of(word: &str) -> Result<How, ToolFault> {
+    match word {
+        "fail" => Ok(How::Fail),
+        "stop" => Ok(How::Stop),
+        _ => Err(ToolFault::Line),
+    }
 }

@@ -4,6 +4,3 @@
 mod slot_table;
 
 pub use slot_table::SlotTable;
-
-#[cfg(test)]
-mod tests;

@@ -13,6 +13,3 @@ pub use call::Call;
 pub use place::Place;
 pub use station::Station;
 pub use told::{Said, Told};
-
-#[cfg(test)]
-mod tests;

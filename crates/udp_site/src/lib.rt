@@ -28,6 +28,3 @@ pub use port_move::PortMove;
 pub use serving::serve;
 pub use turn::Turn;
 pub use udp_port::UdpPort;
-
-#[cfg(test)]
-mod tests;

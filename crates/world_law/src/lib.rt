@@ -9,6 +9,3 @@ pub use law::{
     one_bag_a_slot, priors_stay, proposals_are_backed, reports_agree, reports_were_deposited,
     senders_are_named, sent_messages_are_well_formed, votes_were_asked_for,
 };
-
-#[cfg(test)]
-mod tests;

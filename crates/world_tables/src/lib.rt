@@ -10,6 +10,3 @@ mod trees;
 pub use datagrams::Datagrams;
 pub use seen_bags::SeenBags;
 pub use trees::{Added, Trees};
-
-#[cfg(test)]
-mod tests;

@@ -1,0 +1,113 @@
+"""The manual page and the completion for bash, made from what the program says of itself."""
+import re
+import subprocess
+
+SECTION = re.compile(r"(Commands|Arguments|Options):\n((?:  .*\n)+)\n?")
+# The values of these options and arguments are files, or folders; of others nothing is known.
+FILES, FOLDERS = ("<FILE>",), ("<FOLDER>", "[PATH]")
+
+
+class Help:
+    """What `--help` prints, in its parts."""
+
+    def __init__(self, program, *words):
+        ran = subprocess.run([program, *words, "--help"], capture_output=True, text=True, check=True)
+        self.about, _, rest = ran.stdout.partition("\n\nUsage: ")
+        self.usage, _, rest = rest.partition("\n\n")
+        self.sections = {}
+        while found := SECTION.match(rest):
+            entries = (re.split(r" {2,}", it.strip(), maxsplit=1) for it in found[2].splitlines())
+            self.sections[found[1]] = [(it[0], it[1] if it[1:] else "") for it in entries]
+            rest = rest[found.end() :]
+        self.rest = rest.rstrip("\n")
+
+    def entries(self, section):
+        return self.sections.get(section, [])
+
+
+def helps(program):
+    """The program's own help, and that of each of its commands."""
+    whole = Help(program)
+    names = [name for name, _ in whole.entries("Commands") if name != "help"]
+    return whole, {name: Help(program, name) for name in names}
+
+
+def escaped(text):
+    """The text as troff prints it, line for line."""
+    text = text.replace("\\", "\\e").replace("-", "\\-").replace("'", "\\(aq").replace("`", "\\(ga")
+    return re.sub(r"(?m)^\.", r"\\&.", text)
+
+
+def listed(entries):
+    """Entries of a section of the help, each with what it says."""
+    return [line for name, about in entries for line in (".TP", escaped(name), escaped(about))]
+
+
+def as_it_stands(text):
+    return [".PP", ".nf", escaped(text), ".fi"] if text else []
+
+
+def manual(program, version):
+    """The page bagpaxos(1)."""
+    whole, commands = helps(program)
+    usages = "\n".join(it.usage for it in [whole, *commands.values()])
+    lines = [f'.TH BAGPAXOS 1 "" "{escaped(version)}"']
+    lines += [".SH NAME", f"bagpaxos \\- {escaped(whole.about)}"]
+    lines += [".SH SYNOPSIS", *as_it_stands(usages)]
+    lines += [".SH COMMANDS", *listed(whole.entries("Commands"))]
+    lines += [".SH OPTIONS", *listed(whole.entries("Options")), *as_it_stands(whole.rest)]
+    for name, command in commands.items():
+        lines += [f".SH BAGPAXOS {name.upper()}", escaped(command.about)]
+        lines += [*as_it_stands(command.usage)]
+        lines += listed(command.entries("Arguments") + command.entries("Options"))
+        lines += as_it_stands(command.rest)
+    return "\n".join(lines) + "\n"
+
+
+def options_of(help_text):
+    """Each long option, and what its value is called, if it has one."""
+    found = (re.search(r"(--[\w-]+)(?: (\S+))?$", name) for name, _ in help_text.entries("Options"))
+    return [(it[1], it[2]) for it in found if it]
+
+
+def completion(program):
+    """What bash completes after `bagpaxos`."""
+    whole, commands = helps(program)
+    first = [name for name, _ in whole.entries("Commands")] + [it for it, _ in options_of(whole)]
+    values, words = [], []
+    for name, command in commands.items():
+        for option, value in options_of(command):
+            values += [f"    {name}:{option}) {files_for(value)}return ;;"] if value else []
+        options = " ".join(option for option, _ in options_of(command))
+        words.append(f"    {name}:-*) _bagpaxos_by -W '{options}' ;;")
+        arguments = [it.rstrip(".") for it, _ in command.entries("Arguments")]
+        words += [f"    {name}:*) _bagpaxos_by -d ;;"] if {*arguments} & {*FOLDERS} else []
+    return COMPLETION.format(first=" ".join(first), values="\n".join(values), words="\n".join(words))
+
+
+def files_for(value):
+    return "_bagpaxos_by -f; " if value in FILES else ""
+
+
+COMPLETION = """\
+# What bash completes after `bagpaxos`.
+_bagpaxos() {{
+  local word=${{COMP_WORDS[COMP_CWORD]}} before=${{COMP_WORDS[COMP_CWORD - 1]}}
+  _bagpaxos_by() {{
+    mapfile -t COMPREPLY < <(compgen "$@" -- "$word")
+    case $1 in -[df]) compopt -o filenames 2> /dev/null ;; esac
+  }}
+  COMPREPLY=()
+  if [ "$COMP_CWORD" = 1 ]; then
+    _bagpaxos_by -W '{first}'
+    return
+  fi
+  case ${{COMP_WORDS[1]}}:$before in
+{values}
+  esac
+  case ${{COMP_WORDS[1]}}:$word in
+{words}
+  esac
+}}
+complete -F _bagpaxos bagpaxos
+"""
