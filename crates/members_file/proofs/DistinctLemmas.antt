@@ -42,7 +42,7 @@ AreDistinct-more sites s are new = λ i j d below within same.
           let is : port_at sites i d ≡ s.port =
           sym (port_at-left sites (s ∷ []) d i (omega (arith, place))) ∙ same ∙ at_end in
           absurd (false≢true (sym new
-          ∙ list_any_at (λ x. x.port == s.port) sites i d (omega (arith, place))
+          ∙ list_any_at (λ (x : ListedSite). x.port == s.port) sites i d (omega (arith, place))
           (eq-eqb (port_at sites i d) s.port is)))
     ]
 
@@ -50,7 +50,7 @@ AreDistinct-more sites s are new = λ i j d below within same.
 pub AreDistinct-last : (sites : List ListedSite) (s : ListedSite)
     → AreDistinct (sites ++ s ∷ []) → is_taken sites s.port ≡ true → ⊥
 AreDistinct-last sites s are some =
-    let at = Any-from_list_any (λ x. x.port == s.port) sites some in
+    let at = Any-from_list_any (λ (x : ListedSite). x.port == s.port) sites some in
     let is : at.1.port ≡ s.port = eqb-true at.1.port s.port at.4 in
     are at.0 (length sites) at.1 at.2 (omega (arith, length-append sites (s ∷ [])))
     (port_at-left sites (s ∷ []) at.1 at.0 at.2

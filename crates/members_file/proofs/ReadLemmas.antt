@@ -2,13 +2,17 @@
 use Rattle.std.proofs.Common.{◌≡◌, ℕ, ◌+◌, ◌≤◌, true, List, [], ◌∷◌, ◌++◌}
 use Rattle.std.proofs.Common.{length, Option, Some, None, Err, refl, sym, ap, ◌∙◌, subst, arith}
 use Rattle.std.proofs.Common.{append_assoc}
+use Rattle.std.specs.List.{Contains}
 use Rattle.std.specs.Option.{ok_or}
 use Rattle.std.specs.Str.Lines.{lines}
+use Rattle.std.proofs.lemmas.List.{length-map}
+use Rattle.std.proofs.lemmas.List.Elements.{All-contains, All-map}
+use Rattle.fed_types.specs.Sites.{CountFits, IsWeight}
 use Rattle.words.specs.Words.{words_of}
 use Rattle.members_file.specs.declared.listed_site.ListedSite.{ListedSite}
 use Rattle.members_file.specs.declared.members_fault.MembersFault.{MembersFault}
 use Rattle.members_file.specs.Files.{AreListed, HasFault}
-use Rattle.members_file.specs.Files.{are_blank, no_federation, no_site}
+use Rattle.members_file.specs.Files.{are_blank, no_federation, no_site, weights_of}
 use Rattle.members_file.specs.Limits.{most_sites}
 use Rattle.members_file.specs.Lines.{federation_in}
 use Rattle.members_file.specs.inner.Sites.{BeginsSites, HasSites, next_site}
@@ -82,6 +86,27 @@ AreListed-read all sites rest has some = record {
   weights = AreSitesFrom-weights 1 has.named sites has.sites.0;
   distinct = has.sites.1;
 }
+
+-- members can have the weights of one site or more
+pub weights-fit : (all : List (List ℕ)) (sites : List ListedSite) (rest : List (List ℕ))
+    → HasSites all sites rest → 1 ≤ length sites
+    → CountFits (weights_of sites) × ¬ Contains {X = ℕ} (weights_of sites) 0
+weights-fit all sites rest has some =
+    let many = length-map sites (λ (s : ListedSite). s.weight) in
+    let most = HasSites-most all sites rest has in
+    let each =
+    All-map IsWeight (λ (s : ListedSite). s.weight) sites
+    (AreSitesFrom-weights 1 has.named sites has.sites.0) in (
+      (omega (arith, many, some), omega (arith, many, most)),
+      λ zero.
+          let least = (All-contains IsWeight (weights_of sites) 0 each zero).0 in
+          absurd (omega (arith, least)),
+    )
+
+-- there are none without a site
+pub weights-some : (sites : List ListedSite) → CountFits (weights_of sites) → 1 ≤ length sites
+weights-some sites fit =
+    omega (arith, length-map sites (λ (s : ListedSite). s.weight), fit.0)
 
 -- the first line names no federation, or there is none
 pub fault_of_none : (text : List ℕ) → lines text ≡ [] → HasFault text 1
