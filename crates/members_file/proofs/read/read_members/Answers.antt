@@ -1,14 +1,16 @@
 use Rattle.std.proofs.Common.{◌≡◌, ℕ, false, List, [], ◌∷◌, length, map, Some, None, Bor, refl, sym}
 use Rattle.std.proofs.Common.{ap, ◌∙◌, subst, inl, inr, arith}
+use Rattle.std.specs.List.{Contains}
 use Rattle.std.specs.Str.Lines.{lines}
 use Rattle.std.proofs.lemmas.Bool.{cases_lt, false≢true}
 use Rattle.std.proofs.lemmas.Result.{err_from_is_err_and}
+use Rattle.fed_types.specs.Sites.{CountFits}
 use Rattle.words.specs.Words.{words_of}
 use Rattle.members_file.specs.declared.members_fault.MembersFault.TheVariants.{Line}
-use Rattle.members_file.specs.Files.{HasFault, are_blank}
+use Rattle.members_file.specs.Files.{HasFault, are_blank, weights_of}
 use Rattle.members_file.specs.Lines.{federation_in}
 use Rattle.members_file.proofs.ReadLemmas.{fault_from_ok_or, fault_of_none, fault_of_first}
-use Rattle.members_file.proofs.ReadLemmas.{fault_after, HasSites-most, AreListed-read}
+use Rattle.members_file.proofs.ReadLemmas.{fault_after, AreListed-read, weights-fit, weights-some}
 use Rattle.members_file.proofs.read.read_members.Goals as goal
 
 pub returns-in_err-first : goal.returns-in_err-first
@@ -37,13 +39,6 @@ returns-in_err-federation c =
     rw (p.1, p.2, f.1)
     (fault_of_first c.args.text.now c.in_ok-first.first.now (lines c.in_ok-first.after.now) is none)
 
-pub overflow_cast-len : goal.overflow_cast-len
-overflow_cast-len c =
-    let most =
-    HasSites-most (lines c.in_ok-first.after.now) c.in_ok-sites.sites.items
-    (lines c.in_ok-sites.rest.now) c.in_ok-sites.ensures in
-    omega (arith, c.len.ensures, most)
-
 pub returns-in_default : goal.returns-in_default
 returns-in_default c =
     let is : lines c.args.text.now ≡ c.in_ok-first.first.now ∷ lines c.in_ok-first.after.now =
@@ -55,14 +50,15 @@ returns-in_default c =
     sym (ap federation_in words) ∙ sym c.parse_federation.ensures
     ∙ c.in_ok-federation.ensures.ok_part in
     let sites = c.in_ok-sites.sites.items in
-    let most =
-    HasSites-most (lines c.in_ok-first.after.now) sites (lines c.in_ok-sites.rest.now)
-    c.in_ok-sites.ensures in
+    let weights : c.deref-3.result.now ≡ weights_of sites =
+    c.deref-3.ensures.value ∙ c.in_ok-weights.ensures ∙ ap weights_of c.deref-2.ensures.value in
     let none : length sites ≡ 0 =
     elim (cases_lt 0 (length sites)) [
       | inl some ↦ absurd
           (false≢true (c.in_default.ensures.ok.1
-          (omega (arith, c.len.ensures), omega (arith, c.len.ensures, most))))
+          (subst (λ (ws : List ℕ). CountFits ws × ¬ Contains {X = ℕ} ws 0) (sym weights)
+          (weights-fit (lines c.in_ok-first.after.now) sites (lines c.in_ok-sites.rest.now)
+          c.in_ok-sites.ensures some))))
       | inr zero ↦ omega arith
     ] in
     subst (λ (n : ℕ). HasFault c.args.text.now n) (omega (arith, none))
@@ -90,6 +86,9 @@ returns-then-not-branch c =
 
 pub new-requires-2-clause-sites : goal.new-requires-2-clause-sites
 new-requires-2-clause-sites c =
-    AreListed-read (lines c.in_ok-first.after.now) c.in_ok-sites.sites.items
-    (lines c.in_ok-sites.rest.now) c.in_ok-sites.ensures
-    (omega (arith, c.len.ensures, (c.in-Ok.ensures.ok.0 refl).0))
+    let sites = c.in_ok-sites.sites.items in
+    let weights : c.deref-3.result.now ≡ weights_of sites =
+    c.deref-3.ensures.value ∙ c.in_ok-weights.ensures ∙ ap weights_of c.deref-2.ensures.value in
+    AreListed-read (lines c.in_ok-first.after.now) sites (lines c.in_ok-sites.rest.now)
+    c.in_ok-sites.ensures
+    (weights-some sites (subst CountFits weights (c.in-Ok.ensures.ok.0 refl).0))
