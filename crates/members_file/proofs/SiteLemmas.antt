@@ -22,7 +22,8 @@ use Rattle.members_file.proofs.DistinctLemmas.{AreDistinct-more, AreDistinct-las
 -- the range of a weight
 weight_in-range : (words : List (List ℕ)) (w : ℕ) → weight_in words ≡ Some w → IsWeight w
 unfolding weight_in
-weight_in-range [] w is = let one : 1 ≡ w = same_Some 1 w is in (omega (arith, one), omega (arith, one))
+weight_in-range [] w is =
+    let one : 1 ≡ w = same_Some 1 w is in (omega (arith, one), omega (arith, one))
 weight_in-range (word ∷ []) w is =
     let of_weight = IsNumeral-number_in 1 greatest_weight word w is in
     (omega (arith, of_weight.1), omega (arith, of_weight.2))
