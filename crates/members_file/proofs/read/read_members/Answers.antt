@@ -79,13 +79,13 @@ returns-then-not-branch c =
     let sites = c.in_ok-sites.sites.items in
     let isnt : are_blank (lines c.in_ok-sites.rest.now) ≡ false =
     sym c.in_ok-is_blank.ensures ∙ c.if-not-branch.true in
-    subst (λ (n : ℕ). HasFault c.args.text.now n) (omega (arith, c.len-then-not-branch.ensures))
+    subst (λ (n : ℕ). HasFault c.args.text.now n) (omega (arith, c.len.ensures))
     (fault_after c.args.text.now c.in_ok-first.first.now (lines c.in_ok-first.after.now)
     (lines c.in_ok-sites.rest.now) c.in_ok-federation.federation sites is says
     c.in_ok-sites.ensures (λ ends. false≢true (sym isnt ∙ ends.1)))
 
-pub new-requires-2-clause-sites : goal.new-requires-2-clause-sites
-new-requires-2-clause-sites c =
+pub new-requires-clause-sites : goal.new-requires-clause-sites
+new-requires-clause-sites c =
     let sites = c.in_ok-sites.sites.items in
     let weights : c.deref-3.result.now ≡ weights_of sites =
     c.deref-3.ensures.value ∙ c.in_ok-weights.ensures ∙ ap weights_of c.deref-2.ensures.value in
