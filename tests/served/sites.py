@@ -77,10 +77,12 @@ def make_empty_bag(folder):
     (folder / "manifest-sha512.txt").write_bytes(b"")
 
 
-def write_members(file, ports):
-    """Writes a members file of federation 7."""
-    lines = [f"site {site} {port}\n" for site, port in zip(SITES, ports)]
-    file.write_text("federation 7\n" + "".join(lines))
+def write_members(file, ports, weights=()):
+    """Writes a members file of federation 7, in which only the sites of these weights name one."""
+    words = [f"site {site} {port}" for site, port in enumerate(ports, 1)]
+    for place, weight in enumerate(weights):
+        words[place] += f" {weight}"
+    file.write_text("".join(f"{line}\n" for line in ["federation 7", *words]))
     return file
 
 

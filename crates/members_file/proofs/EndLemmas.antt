@@ -5,10 +5,11 @@ use Rattle.std.proofs.Common.{append_assoc}
 use Rattle.std.specs.Str.Lines.{lines}
 use Rattle.std.proofs.lemmas.Bool.{eqb-true}
 use Rattle.words.specs.Words.{words_of}
+use Rattle.members_file.specs.declared.listed_site.ListedSite.{ListedSite}
 use Rattle.members_file.specs.Files.{AreDistinct, AreSites}
 use Rattle.members_file.specs.Files.{are_blank}
 use Rattle.members_file.specs.Lines.{site_in}
-use Rattle.members_file.specs.inner.Sites.{HasSites, next_port}
+use Rattle.members_file.specs.inner.Sites.{HasSites, next_site}
 use Rattle.members_file.proofs.DistinctLemmas.{AreDistinct-front}
 use Rattle.members_file.proofs.SiteLemmas.{AreSites-no_more}
 use Rattle.members_file.proofs.SiteLemmas.{AreSitesFrom-same, Parts-from}
@@ -42,13 +43,13 @@ parted (l ∷ a) b (m ∷ x) y is =
         ∙ ap (λ (n : List ℕ). n ∷ (x ++ line ∷ between)) head) back
 
 -- the sites of the first lines, and of one line more
-one_line_more : (front back : List (List ℕ)) (line : List ℕ) (ports : List ℕ)
-    → AreSites (front ++ line ∷ back) ports
-    → (more : List ℕ) × AreSites (front ++ line ∷ []) more
-one_line_more front back line ports are =
-    let all = subst (λ (ls : List (List ℕ)). AreSites ls ports)
+one_line_more : (front back : List (List ℕ)) (line : List ℕ) (sites : List ListedSite)
+    → AreSites (front ++ line ∷ back) sites
+    → (more : List ListedSite) × AreSites (front ++ line ∷ []) more
+one_line_more front back line sites are =
+    let all = subst (λ (ls : List (List ℕ)). AreSites ls sites)
     (sym (append_assoc front (line ∷ []) back)) are in
-    let parts = Parts-from 1 (front ++ line ∷ []) back ports all.0 in (
+    let parts = Parts-from 1 (front ++ line ∷ []) back sites all.0 in (
       parts.first,
       (
         parts.are_first,
@@ -57,48 +58,48 @@ one_line_more front back line ports are =
     )
 
 -- what two ways of reading the sites have in common
-pub record Agree (a b : List (List ℕ)) (p q : List ℕ) (r u : List (List ℕ)) : Type 0 where
-  pub sites : a ≡ b
-  pub ports : p ≡ q
+pub record Agree (a b : List (List ℕ)) (p q : List ListedSite) (r u : List (List ℕ)) : Type 0 where
+  pub named : a ≡ b
+  pub sites : p ≡ q
   pub rest : r ≡ u
 
 -- the sites' lines end in one place
-pub HasSites-agree : (all : List (List ℕ)) (p q : List ℕ) (r u : List (List ℕ))
-    → (s : HasSites all p r) → (t : HasSites all q u) → Agree s.sites t.sites p q r u
-HasSites-agree all p q r u s t = go (parted s.sites r t.sites u (sym s.is ∙ t.is))
+pub HasSites-agree : (all : List (List ℕ)) (p q : List ListedSite) (r u : List (List ℕ))
+    → (s : HasSites all p r) → (t : HasSites all q u) → Agree s.named t.named p q r u
+HasSites-agree all p q r u s t = go (parted s.named r t.named u (sym s.is ∙ t.is))
   where
-    go : Parted s.sites r t.sites u → Agree s.sites t.sites p q r u
-    go (same sites rest) = record {
-      sites = sites;
-      ports = AreSitesFrom-same 1 t.sites p q
-          (subst (λ (ls : List (List ℕ)). AreSites ls p) sites s.ports).0 t.ports.0;
+    go : Parted s.named r t.named u → Agree s.named t.named p q r u
+    go (same named rest) = record {
+      named = named;
+      sites = AreSitesFrom-same 1 t.named p q
+          (subst (λ (ls : List (List ℕ)). AreSites ls p) named s.sites).0 t.sites.0;
       rest = rest;
     }
-    go (shorter line between sites rest) =
-        let more = one_line_more s.sites between line q
-        (subst (λ (ls : List (List ℕ)). AreSites ls q) sites t.ports) in
+    go (shorter line between named rest) =
+        let more = one_line_more s.named between line q
+        (subst (λ (ls : List (List ℕ)). AreSites ls q) named t.sites) in
         absurd (s.no_more line (between ++ u) more.0 rest more.1)
-    go (longer line between sites rest) =
-        let more = one_line_more t.sites between line p
-        (subst (λ (ls : List (List ℕ)). AreSites ls p) sites s.ports) in
+    go (longer line between named rest) =
+        let more = one_line_more t.named between line p
+        (subst (λ (ls : List (List ℕ)). AreSites ls p) named s.sites) in
         absurd (t.no_more line (between ++ r) more.0 rest more.1)
 
 -- a line without words is of no site
-no_words : (words : List (List ℕ)) → length words ≡ 0 → (ports : List ℕ)
-    → next_port ports words ≡ None
-unfolding next_port site_in
-no_words [] is ports = refl
-no_words (word ∷ words) is ports = absurd (omega arith)
+no_words : (words : List (List ℕ)) → length words ≡ 0 → (sites : List ListedSite)
+    → next_site sites words ≡ None
+unfolding next_site site_in
+no_words [] is sites = refl
+no_words (word ∷ words) is sites = absurd (omega arith)
 
-pub blank_ends : (sites rest : List (List ℕ)) (ports : List ℕ) → AreSites sites ports
-    → are_blank rest ≡ true → (line : List ℕ) (later : List (List ℕ)) (more : List ℕ)
-    → rest ≡ line ∷ later → ¬ AreSites (sites ++ line ∷ []) more
-blank_ends sites rest ports are blank line later more is =
+pub blank_ends : (named rest : List (List ℕ)) (sites : List ListedSite) → AreSites named sites
+    → are_blank rest ≡ true → (line : List ℕ) (later : List (List ℕ)) (more : List ListedSite)
+    → rest ≡ line ∷ later → ¬ AreSites (named ++ line ∷ []) more
+blank_ends named rest sites are blank line later more is =
     let whole : are_blank (line ∷ later) ≡ true =
     subst (λ (ls : List (List ℕ)). are_blank ls ≡ true) is blank in
     let none = and_first (eqb (length (words_of line)) 0) (are_blank later) whole in
-    AreSites-no_more sites ports line more are
-    (no_words (words_of line) (eqb-true (length (words_of line)) 0 none) ports)
+    AreSites-no_more named sites line more are
+    (no_words (words_of line) (eqb-true (length (words_of line)) 0 none) sites)
   where
     and_first : (first rest : Bool) → (first && rest) ≡ true → first ≡ true
     and_first true rest both = refl

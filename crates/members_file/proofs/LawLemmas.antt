@@ -6,10 +6,11 @@ use Rattle.std.specs.Str.Lines.{lines}
 use Rattle.std.proofs.lemmas.Bool.{false≢true}
 use Rattle.std.proofs.lemmas.Option.{same_Some}
 use Rattle.words.specs.Words.{words_of}
+use Rattle.members_file.specs.declared.listed_site.ListedSite.{ListedSite}
 use Rattle.members_file.specs.Files.{HasFault, IsTextOf}
 use Rattle.members_file.specs.Files.{MembersFile, are_blank, named_by, no_federation, no_site}
 use Rattle.members_file.specs.Lines.{federation_in}
-use Rattle.members_file.specs.inner.Sites.{BeginsSites, HasSites, next_port}
+use Rattle.members_file.specs.inner.Sites.{BeginsSites, HasSites, next_site}
 use Rattle.members_file.proofs.SiteLemmas.{AreSitesFrom-length}
 use Rattle.members_file.proofs.ReadLemmas.{BeginsSites-none, BeginsSites-more, HasSites-from}
 use Rattle.members_file.proofs.ReadLemmas.{HasSites-end, fault_of_none, fault_of_first, fault_after}
@@ -17,12 +18,12 @@ use Rattle.members_file.proofs.EndLemmas.{HasSites-agree, blank_ends, same_lines
 
 -- the sites of a members file
 sites_of : (text : List ℕ) (file : MembersFile) → (t : IsTextOf text file)
-    → HasSites (t.sites ++ t.rest) file.ports t.rest
+    → HasSites (t.named ++ t.rest) file.sites t.rest
 sites_of text file t = record {
-  sites = t.sites;
+  named = t.named;
   is = refl;
-  ports = t.ports;
-  no_more = blank_ends t.sites t.rest file.ports t.ports t.blank;
+  sites = t.sites;
+  no_more = blank_ends t.named t.rest file.sites t.sites t.blank;
 }
 
 one_federation : (text a b : List ℕ) (later others : List (List ℕ)) (f g : ℕ)
@@ -36,58 +37,58 @@ one_federation text a b later others f g is also says likewise =
 pub one_file : (text : List ℕ) (a b : MembersFile) → IsTextOf text a → IsTextOf text b → a ≡ b
 one_file text a b t u =
     let same =
-    same_lines text t.first u.first (t.sites ++ t.rest) (u.sites ++ u.rest) t.is u.is in
+    same_lines text t.first u.first (t.named ++ t.rest) (u.named ++ u.rest) t.is u.is in
     let others =
-    subst (λ (ls : List (List ℕ)). HasSites ls b.ports u.rest) (sym same.rest)
+    subst (λ (ls : List (List ℕ)). HasSites ls b.sites u.rest) (sym same.rest)
     (sites_of text b u) in
     let agree =
-    HasSites-agree (t.sites ++ t.rest) a.ports b.ports t.rest u.rest (sites_of text a t) others in
+    HasSites-agree (t.named ++ t.rest) a.sites b.sites t.rest u.rest (sites_of text a t) others in
     let federation =
-    one_federation text t.first u.first (t.sites ++ t.rest) (u.sites ++ u.rest) a.federation
+    one_federation text t.first u.first (t.named ++ t.rest) (u.named ++ u.rest) a.federation
     b.federation t.is u.is t.federation u.federation in
-    ap (λ (f : ℕ). named_by f a.ports) federation
-    ∙ ap (λ (ports : List ℕ). named_by b.federation ports) agree.ports
+    ap (λ (f : ℕ). named_by f a.sites) federation
+    ∙ ap (λ (sites : List ListedSite). named_by b.federation sites) agree.sites
 
 pub one_fault : (text : List ℕ) (m n : ℕ) → HasFault text m → HasFault text n → m ≡ n
 one_fault _ _ n (no_federation text m none at) (no_federation _ _ also likewise) =
     at ∙ sym likewise
 one_fault _ _ n (no_federation text m none at)
-    (no_site _ _ f first sites rest ports is says are no_more no_end likewise) =
-    absurd (none first (sites ++ rest) f is says)
-one_fault _ _ n (no_site text m f first sites rest ports is says are no_more no_end at)
-    (no_federation _ _ none likewise) = absurd (none first (sites ++ rest) f is says)
-one_fault _ _ _ (no_site text m f first sites rest ports is says are no_more no_end at)
-    (no_site _ n g other lines_of left named also tells likewise no_other no_stop place) =
-    let same = same_lines text first other (sites ++ rest) (lines_of ++ left) is also in
-    let here : HasSites (sites ++ rest) ports rest =
-    record { sites = sites; is = refl; ports = are; no_more = no_more } in
-    let there : HasSites (sites ++ rest) named left =
-    record { sites = lines_of; is = same.rest; ports = likewise; no_more = no_other } in
-    let agree = HasSites-agree (sites ++ rest) ports named rest left here there in
-    at ∙ ap (λ (ls : List (List ℕ)). length ls + 2) agree.sites ∙ sym place
+    (no_site _ _ f first named rest sites is says are no_more no_end likewise) =
+    absurd (none first (named ++ rest) f is says)
+one_fault _ _ n (no_site text m f first named rest sites is says are no_more no_end at)
+    (no_federation _ _ none likewise) = absurd (none first (named ++ rest) f is says)
+one_fault _ _ _ (no_site text m f first named rest sites is says are no_more no_end at)
+    (no_site _ n g other lines_of left others also tells likewise no_other no_stop place) =
+    let same = same_lines text first other (named ++ rest) (lines_of ++ left) is also in
+    let here : HasSites (named ++ rest) sites rest =
+    record { named = named; is = refl; sites = are; no_more = no_more } in
+    let there : HasSites (named ++ rest) others left =
+    record { named = lines_of; is = same.rest; sites = likewise; no_more = no_other } in
+    let agree = HasSites-agree (named ++ rest) sites others rest left here there in
+    at ∙ ap (λ (ls : List (List ℕ)). length ls + 2) agree.named ∙ sym place
 
 pub never_both : (text : List ℕ) (file : MembersFile) (n : ℕ) → IsTextOf text file
     → ¬ HasFault text n
 never_both _ file _ t (no_federation text n none at) =
-    none t.first (t.sites ++ t.rest) file.federation t.is t.federation
-never_both _ file _ t (no_site text n f first sites rest ports is says are no_more no_end at) =
-    let same = same_lines text first t.first (sites ++ rest) (t.sites ++ t.rest) is t.is in
-    let here : HasSites (sites ++ rest) ports rest =
-    record { sites = sites; is = refl; ports = are; no_more = no_more } in
-    let there : HasSites (sites ++ rest) file.ports t.rest =
+    none t.first (t.named ++ t.rest) file.federation t.is t.federation
+never_both _ file _ t (no_site text n f first named rest sites is says are no_more no_end at) =
+    let same = same_lines text first t.first (named ++ rest) (t.named ++ t.rest) is t.is in
+    let here : HasSites (named ++ rest) sites rest =
+    record { named = named; is = refl; sites = are; no_more = no_more } in
+    let there : HasSites (named ++ rest) file.sites t.rest =
     record {
-      sites = t.sites;
+      named = t.named;
       is = same.rest;
-      ports = t.ports;
-      no_more = blank_ends t.sites t.rest file.ports t.ports t.blank;
+      sites = t.sites;
+      no_more = blank_ends t.named t.rest file.sites t.sites t.blank;
     } in
-    let agree = HasSites-agree (sites ++ rest) ports file.ports rest t.rest here there in
-    let some : 1 ≤ length sites =
+    let agree = HasSites-agree (named ++ rest) sites file.sites rest t.rest here there in
+    let some : 1 ≤ length named =
     omega (
       arith,
       t.some,
-      AreSitesFrom-length 1 t.sites file.ports t.ports.0,
-      ap (λ (ls : List (List ℕ)). length ls) agree.sites,
+      AreSitesFrom-length 1 t.named file.sites t.sites.0,
+      ap (λ (ls : List (List ℕ)). length ls) agree.named,
     ) in
     no_end (
       some,
@@ -97,23 +98,23 @@ never_both _ file _ t (no_site text n f first sites rest ports is says are no_mo
 -- ---- each text is one or the other
 
 -- the sites of lines
-all_sites : (all : List (List ℕ)) (ports : List ℕ) (rest : List (List ℕ))
-    → BeginsSites all ports rest
-    → (named : List ℕ) × (left : List (List ℕ)) × HasSites all named left
-all_sites all ports [] begins = (ports, [], HasSites-end all ports [] begins refl)
-all_sites all ports (line ∷ later) begins =
-    go (next_port ports (words_of line)) refl
-    (λ port is.
-    all_sites all (ports ++ port ∷ []) later
-    (BeginsSites-more all ports (line ∷ later) line later port begins refl is))
+all_sites : (all : List (List ℕ)) (sites : List ListedSite) (rest : List (List ℕ))
+    → BeginsSites all sites rest
+    → (said : List ListedSite) × (left : List (List ℕ)) × HasSites all said left
+all_sites all sites [] begins = (sites, [], HasSites-end all sites [] begins refl)
+all_sites all sites (line ∷ later) begins =
+    go (next_site sites (words_of line)) refl
+    (λ site is.
+    all_sites all (sites ++ site ∷ []) later
+    (BeginsSites-more all sites (line ∷ later) line later site begins refl is))
   where
-    go : (next : Option ℕ) → next_port ports (words_of line) ≡ next
-        → ((port : ℕ) → next_port ports (words_of line) ≡ Some port
-        → (named : List ℕ) × (left : List (List ℕ)) × HasSites all named left)
-        → (named : List ℕ) × (left : List (List ℕ)) × HasSites all named left
+    go : (next : Option ListedSite) → next_site sites (words_of line) ≡ next
+        → ((site : ListedSite) → next_site sites (words_of line) ≡ Some site
+        → (said : List ListedSite) × (left : List (List ℕ)) × HasSites all said left)
+        → (said : List ListedSite) × (left : List (List ℕ)) × HasSites all said left
     go None is later_sites =
-        (ports, line ∷ later, HasSites-from all ports (line ∷ later) line later begins refl is)
-    go (Some port) is later_sites = later_sites port is
+        (sites, line ∷ later, HasSites-from all sites (line ∷ later) line later begins refl is)
+    go (Some site) is later_sites = later_sites site is
 
 -- a members file, or a line at fault
 abbrev Answer : List ℕ → Type 0
@@ -125,26 +126,26 @@ after_first text first later f is says =
     let found = all_sites later [] later (BeginsSites-none later) in
     go found.0 found.1 found.2 (are_blank found.1) refl
   where
-    go : (ports : List ℕ) (rest : List (List ℕ)) → HasSites later ports rest
+    go : (sites : List ListedSite) (rest : List (List ℕ)) → HasSites later sites rest
         → (blank : Bool) → are_blank rest ≡ blank → Answer text
-    go ports rest has false isnt =
+    go sites rest has false isnt =
         inr (
-          length ports + 2,
-          fault_after text first later rest f ports is says has
+          length sites + 2,
+          fault_after text first later rest f sites is says has
               (λ ends. false≢true (sym isnt ∙ ends.1)),
         )
     go [] rest has true blank =
         inr (2, fault_after text first later rest f [] is says has (λ ends. omega (arith, ends.0)))
-    go (port ∷ ports) rest has true blank =
+    go (site ∷ sites) rest has true blank =
         inl (
-          named_by f (port ∷ ports),
+          named_by f (site ∷ sites),
           record {
             first = first;
-            sites = has.sites;
+            named = has.named;
             rest = rest;
             is = is ∙ ap (λ (ls : List (List ℕ)). first ∷ ls) has.is;
             federation = says;
-            ports = has.ports;
+            sites = has.sites;
             some = omega arith;
             blank = blank;
           },

@@ -2,61 +2,67 @@
 use Rattle.std.proofs.Common.{◌≡◌, ℕ, ◌+◌, ◌≤◌, true, List, [], ◌∷◌, ◌++◌}
 use Rattle.std.proofs.Common.{length, Option, Some, None, Err, refl, sym, ap, ◌∙◌, subst, arith}
 use Rattle.std.proofs.Common.{append_assoc}
+use Rattle.std.specs.List.{Contains}
 use Rattle.std.specs.Option.{ok_or}
 use Rattle.std.specs.Str.Lines.{lines}
+use Rattle.std.proofs.lemmas.List.{length-map}
+use Rattle.std.proofs.lemmas.List.Elements.{All-contains, All-map}
+use Rattle.fed_types.specs.Sites.{CountFits, IsWeight}
 use Rattle.words.specs.Words.{words_of}
+use Rattle.members_file.specs.declared.listed_site.ListedSite.{ListedSite}
 use Rattle.members_file.specs.declared.members_fault.MembersFault.{MembersFault}
-use Rattle.members_file.specs.Files.{ArePorts, HasFault}
-use Rattle.members_file.specs.Files.{are_blank, no_federation, no_site}
+use Rattle.members_file.specs.Files.{AreListed, HasFault}
+use Rattle.members_file.specs.Files.{are_blank, no_federation, no_site, weights_of}
 use Rattle.members_file.specs.Limits.{most_sites}
 use Rattle.members_file.specs.Lines.{federation_in}
-use Rattle.members_file.specs.inner.Sites.{BeginsSites, HasSites, next_port}
+use Rattle.members_file.specs.inner.Sites.{BeginsSites, HasSites, next_site}
 use Rattle.members_file.proofs.SiteLemmas.{AreSites-more, AreSites-no_more, AreSitesFrom-length}
-use Rattle.members_file.proofs.SiteLemmas.{AreSitesFrom-most, AreSitesFrom-range}
+use Rattle.members_file.proofs.SiteLemmas.{AreSitesFrom-most, AreSitesFrom-ports}
+use Rattle.members_file.proofs.SiteLemmas.{AreSitesFrom-weights}
 use Rattle.members_file.proofs.EndLemmas.{same_lines}
 
 -- no line is read
 pub BeginsSites-none : (all : List (List ℕ)) → BeginsSites all [] all
 BeginsSites-none all = record {
-  sites = [];
+  named = [];
   is = refl;
-  ports = (tt, λ i j d below within same. absurd (omega arith));
+  sites = (tt, λ i j d below within same. absurd (omega arith));
 }
 
 -- the next line is of the next site
-pub BeginsSites-more : (all : List (List ℕ)) (ports : List ℕ) (rest : List (List ℕ))
-    (line : List ℕ) (later : List (List ℕ)) (port : ℕ) → BeginsSites all ports rest
-    → rest ≡ line ∷ later → next_port ports (words_of line) ≡ Some port
-    → BeginsSites all (ports ++ port ∷ []) later
-BeginsSites-more all ports rest line later port begins next is = record {
-  sites = begins.sites ++ line ∷ [];
-  is = begins.is ∙ ap (λ (ls : List (List ℕ)). begins.sites ++ ls) next
-      ∙ sym (append_assoc begins.sites (line ∷ []) later);
-  ports = AreSites-more begins.sites ports line port begins.ports is;
+pub BeginsSites-more : (all : List (List ℕ)) (sites : List ListedSite) (rest : List (List ℕ))
+    (line : List ℕ) (later : List (List ℕ)) (site : ListedSite) → BeginsSites all sites rest
+    → rest ≡ line ∷ later → next_site sites (words_of line) ≡ Some site
+    → BeginsSites all (sites ++ site ∷ []) later
+BeginsSites-more all sites rest line later site begins next is = record {
+  named = begins.named ++ line ∷ [];
+  is = begins.is ∙ ap (λ (ls : List (List ℕ)). begins.named ++ ls) next
+      ∙ sym (append_assoc begins.named (line ∷ []) later);
+  sites = AreSites-more begins.named sites line site begins.sites is;
 }
 
 -- the next line isn't
-pub HasSites-from : (all : List (List ℕ)) (ports : List ℕ) (rest : List (List ℕ))
-    (line : List ℕ) (later : List (List ℕ)) → BeginsSites all ports rest
-    → rest ≡ line ∷ later → next_port ports (words_of line) ≡ None → HasSites all ports rest
-HasSites-from all ports rest line later begins next is = record {
-  sites = begins.sites;
+pub HasSites-from : (all : List (List ℕ)) (sites : List ListedSite) (rest : List (List ℕ))
+    (line : List ℕ) (later : List (List ℕ)) → BeginsSites all sites rest
+    → rest ≡ line ∷ later → next_site sites (words_of line) ≡ None → HasSites all sites rest
+HasSites-from all sites rest line later begins next is = record {
+  named = begins.named;
   is = begins.is;
-  ports = begins.ports;
+  sites = begins.sites;
   no_more = λ other more_lines more also.
       let lines_are : line ∷ later ≡ other ∷ more_lines = sym next ∙ also in
       let same : line ≡ other = cc in
-      AreSites-no_more begins.sites ports other more begins.ports
-      (subst (λ (l : List ℕ). next_port ports (words_of l) ≡ None) same is);
+      AreSites-no_more begins.named sites other more begins.sites
+      (subst (λ (l : List ℕ). next_site sites (words_of l) ≡ None) same is);
 }
 
 -- there is none
-pub HasSites-end : (all : List (List ℕ)) (ports : List ℕ) (rest : List (List ℕ))
-    → BeginsSites all ports rest → rest ≡ [] → HasSites all ports rest
-HasSites-end all ports rest begins none = record {
-  sites = begins.sites;
+pub HasSites-end : (all : List (List ℕ)) (sites : List ListedSite) (rest : List (List ℕ))
+    → BeginsSites all sites rest → rest ≡ [] → HasSites all sites rest
+HasSites-end all sites rest begins none = record {
+  named = begins.named;
   is = begins.is;
-  ports = begins.ports;
+  sites = begins.sites;
   no_more = λ other more_lines more also.
       let lines_are : [] ≡ other ∷ more_lines = sym none ∙ also in
       absurd (cc lines_are);
@@ -64,21 +70,43 @@ HasSites-end all ports rest begins none = record {
 
 -- ---- all that is read
 
--- no more ports than can be
-pub HasSites-most : (all : List (List ℕ)) (ports : List ℕ) (rest : List (List ℕ))
-    → HasSites all ports rest → length ports ≤ most_sites
-HasSites-most all ports rest has =
-    omega (arith, AreSitesFrom-most 1 has.sites ports has.ports.0 (omega arith))
+-- no more sites than can be
+pub HasSites-most : (all : List (List ℕ)) (sites : List ListedSite) (rest : List (List ℕ))
+    → HasSites all sites rest → length sites ≤ most_sites
+HasSites-most all sites rest has =
+    omega (arith, AreSitesFrom-most 1 has.named sites has.sites.0 (omega arith))
 
--- what is true of the ports of one site or more
-pub ArePorts-read : (all : List (List ℕ)) (ports : List ℕ) (rest : List (List ℕ))
-    → HasSites all ports rest → 1 ≤ length ports → ArePorts ports
-ArePorts-read all ports rest has some = record {
+-- what is true of one site or more
+pub AreListed-read : (all : List (List ℕ)) (sites : List ListedSite) (rest : List (List ℕ))
+    → HasSites all sites rest → 1 ≤ length sites → AreListed sites
+AreListed-read all sites rest has some = record {
   some = some;
-  most = HasSites-most all ports rest has;
-  in_range = AreSitesFrom-range 1 has.sites ports has.ports.0;
-  distinct = has.ports.1;
+  most = HasSites-most all sites rest has;
+  ports = AreSitesFrom-ports 1 has.named sites has.sites.0;
+  weights = AreSitesFrom-weights 1 has.named sites has.sites.0;
+  distinct = has.sites.1;
 }
+
+-- members can have the weights of one site or more
+pub weights-fit : (all : List (List ℕ)) (sites : List ListedSite) (rest : List (List ℕ))
+    → HasSites all sites rest → 1 ≤ length sites
+    → CountFits (weights_of sites) × ¬ Contains {X = ℕ} (weights_of sites) 0
+weights-fit all sites rest has some =
+    let many = length-map sites (λ (s : ListedSite). s.weight) in
+    let most = HasSites-most all sites rest has in
+    let each =
+    All-map IsWeight (λ (s : ListedSite). s.weight) sites
+    (AreSitesFrom-weights 1 has.named sites has.sites.0) in (
+      (omega (arith, many, some), omega (arith, many, most)),
+      λ zero.
+          let least = (All-contains IsWeight (weights_of sites) 0 each zero).0 in
+          absurd (omega (arith, least)),
+    )
+
+-- there are none without a site
+pub weights-some : (sites : List ListedSite) → CountFits (weights_of sites) → 1 ≤ length sites
+weights-some sites fit =
+    omega (arith, length-map sites (λ (s : ListedSite). s.weight), fit.0)
 
 -- the first line names no federation, or there is none
 pub fault_of_none : (text : List ℕ) → lines text ≡ [] → HasFault text 1
@@ -99,14 +127,15 @@ fault_of_first text first later is none =
     refl
 
 -- the line after the sites' isn't one of a members file
-pub fault_after : (text first : List ℕ) (later rest : List (List ℕ)) (f : ℕ) (ports : List ℕ)
+pub fault_after : (text first : List ℕ) (later rest : List (List ℕ)) (f : ℕ)
+    (sites : List ListedSite)
     → lines text ≡ first ∷ later → federation_in (words_of first) ≡ Some f
-    → HasSites later ports rest → ¬ ((1 ≤ length ports) × (are_blank rest ≡ true))
-    → HasFault text (length ports + 2)
-fault_after text first later rest f ports is says has no_end =
-    let many = AreSitesFrom-length 1 has.sites ports has.ports.0 in
-    no_site text (length ports + 2) f first has.sites rest ports
-    (is ∙ ap (λ (ls : List (List ℕ)). first ∷ ls) has.is) says has.ports has.no_more
+    → HasSites later sites rest → ¬ ((1 ≤ length sites) × (are_blank rest ≡ true))
+    → HasFault text (length sites + 2)
+fault_after text first later rest f sites is says has no_end =
+    let many = AreSitesFrom-length 1 has.named sites has.sites.0 in
+    no_site text (length sites + 2) f first has.named rest sites
+    (is ∙ ap (λ (ls : List (List ℕ)). first ∷ ls) has.is) says has.sites has.no_more
     (λ ends. no_end (omega (arith, many, ends.0), ends.1)) (omega (arith, many))
 
 -- a test that answers by a fault

@@ -2,42 +2,50 @@
 -- and a line's words are those of a schedule. Every line of a members file is ASCII, so bytes that
 -- aren't UTF-8 are in a line at fault.
 use Rattle.std.specs.Prelude.{◌≡◌, ◌≢◌, ℕ, ◌+◌, ◌≤◌, ◌==◌, Bool, true, ⊤}
-use Rattle.std.specs.Prelude.{List, [], ◌∷◌, ◌++◌, length, replicate, All, Some}
+use Rattle.std.specs.Prelude.{List, [], ◌∷◌, ◌++◌, length, map, All, Some}
 use Rattle.std.specs.List.{AllPairs, list_all}
 use Rattle.std.specs.Str.Lines.{lines}
-use Rattle.fed_types.specs.Sites.{Membership, membership_of}
+use Rattle.fed_types.specs.Sites.{IsWeight, Membership, membership_of}
 use Rattle.words.specs.Words.{words_of}
+use Rattle.members_file.specs.declared.listed_site.ListedSite.{ListedSite}
 use Rattle.members_file.specs.Limits.{most_sites, greatest_port}
 use Rattle.members_file.specs.Lines.{federation_in, site_in}
 
--- what a members file says: the number of the federation, and the port of each site, that of site 1
--- first
+-- what a members file says: the number of the federation, and the port and the weight of each site,
+-- those of site 1 first
 pub record MembersFile : Type 0 where
   pub federation : ℕ
-  pub ports : List ℕ
+  pub sites : List ListedSite
 
 -- the file that says this
-abbrev pub named_by : ℕ → List ℕ → MembersFile
-named_by federation ports = record { federation = federation; ports = ports }
+abbrev pub named_by : ℕ → List ListedSite → MembersFile
+named_by federation sites = record { federation = federation; sites = sites }
 
--- the members that it names, each of weight 1
+-- the ports of sites, and their weights
+abbrev pub ports_of : List ListedSite → List ℕ
+ports_of sites = map (λ s. s.port) sites
+
+abbrev pub weights_of : List ListedSite → List ℕ
+weights_of sites = map (λ s. s.weight) sites
+
+-- the members that it names
 abbrev pub members_named : MembersFile → Membership
-members_named file = membership_of file.federation (replicate (length file.ports) 1)
+members_named file = membership_of file.federation (weights_of file.sites)
 
--- the lines are `site N PORT` for the sites n, n + 1 and so on, with these ports
-abbrev pub AreSitesFrom : ℕ → List (List ℕ) → List ℕ → Type 0
+-- the lines are those of the sites n, n + 1 and so on, each with its port and its weight
+abbrev pub AreSitesFrom : ℕ → List (List ℕ) → List ListedSite → Type 0
 AreSitesFrom n [] [] = ⊤
-AreSitesFrom n (line ∷ lines) (port ∷ ports) =
-    (site_in (words_of line) ≡ Some (n, port)) × AreSitesFrom (n + 1) lines ports
-AreSitesFrom n lines ports = ⊥
+AreSitesFrom n (line ∷ lines) (site ∷ sites) =
+    (site_in (words_of line) ≡ Some (n, site)) × AreSitesFrom (n + 1) lines sites
+AreSitesFrom n lines sites = ⊥
 
--- no port is in the list twice
-abbrev pub AreDistinct : List ℕ → Type 0
-AreDistinct ports = AllPairs (λ p q. p ≢ q) ports
+-- no two of them have the same port
+abbrev pub AreDistinct : List ListedSite → Type 0
+AreDistinct sites = AllPairs (λ a b. a.port ≢ b.port) sites
 
--- the lines are those of the sites 1, 2, 3 and so on, with these ports, no port twice
-abbrev pub AreSites : List (List ℕ) → List ℕ → Type 0
-AreSites lines ports = AreSitesFrom 1 lines ports × AreDistinct ports
+-- the lines are those of the sites 1, 2, 3 and so on, no port twice
+abbrev pub AreSites : List (List ℕ) → List ListedSite → Type 0
+AreSites lines sites = AreSitesFrom 1 lines sites × AreDistinct sites
 
 -- the lines have no words
 abbrev pub are_blank : List (List ℕ) → Bool
@@ -47,12 +55,12 @@ are_blank lines = list_all (λ line. length (words_of line) == 0) lines
 -- of one site or more, and then blank lines, if any.
 pub record IsTextOf (text : List ℕ) (file : MembersFile) : Type 0 where
   pub first : List ℕ
-  pub sites : List (List ℕ)
+  pub named : List (List ℕ)
   pub rest : List (List ℕ)
-  pub is : lines text ≡ first ∷ (sites ++ rest)
+  pub is : lines text ≡ first ∷ (named ++ rest)
   pub federation : federation_in (words_of first) ≡ Some file.federation
-  pub ports : AreSites sites file.ports
-  pub some : 1 ≤ length file.ports
+  pub sites : AreSites named file.sites
+  pub some : 1 ≤ length file.sites
   pub blank : are_blank rest ≡ true
 
 -- The text is no members file, and this is the number of its first line at fault. It is line 1 if
@@ -64,17 +72,18 @@ pub data HasFault : List ℕ → ℕ → Type 0 where
       → ((first : List ℕ) (later : List (List ℕ)) (f : ℕ) → lines text ≡ first ∷ later
       → federation_in (words_of first) ≢ Some f)
       → number ≡ 1 → HasFault text number
-  no_site : (text : List ℕ) (number f : ℕ) (first : List ℕ) (sites rest : List (List ℕ))
-      (ports : List ℕ) → lines text ≡ first ∷ (sites ++ rest)
-      → federation_in (words_of first) ≡ Some f → AreSites sites ports
-      → ((line : List ℕ) (later : List (List ℕ)) (more : List ℕ) → rest ≡ line ∷ later
-      → ¬ AreSites (sites ++ line ∷ []) more)
-      → ¬ ((1 ≤ length sites) × (are_blank rest ≡ true))
-      → number ≡ length sites + 2 → HasFault text number
+  no_site : (text : List ℕ) (number f : ℕ) (first : List ℕ) (named rest : List (List ℕ))
+      (sites : List ListedSite) → lines text ≡ first ∷ (named ++ rest)
+      → federation_in (words_of first) ≡ Some f → AreSites named sites
+      → ((line : List ℕ) (later : List (List ℕ)) (more : List ListedSite) → rest ≡ line ∷ later
+      → ¬ AreSites (named ++ line ∷ []) more)
+      → ¬ ((1 ≤ length named) × (are_blank rest ≡ true))
+      → number ≡ length named + 2 → HasFault text number
 
--- what is true of the ports of every members file
-pub record ArePorts (ports : List ℕ) : Type 0 where
-  pub some : 1 ≤ length ports
-  pub most : length ports ≤ most_sites
-  pub in_range : All (λ p. (1 ≤ p) × (p ≤ greatest_port)) ports
-  pub distinct : AreDistinct ports
+-- what is true of the sites of every members file
+pub record AreListed (sites : List ListedSite) : Type 0 where
+  pub some : 1 ≤ length sites
+  pub most : length sites ≤ most_sites
+  pub ports : All (λ s. (1 ≤ s.port) × (s.port ≤ greatest_port)) sites
+  pub weights : All (λ s. IsWeight s.weight) sites
+  pub distinct : AreDistinct sites

@@ -1,13 +1,12 @@
 ghost use Rattle.std.specs.Prelude.{◌≡◌, map, IfOk};
 ghost use Rattle.words.specs.Words.{words_of};
-ghost use Rattle.members_file.specs.Lines.{federation_in, site_in};
-ghost use Rattle.members_file.specs.inner.Sites.{next_port};
+ghost use Rattle.members_file.specs.Lines.{federation_in, site_in, weight_in};
+ghost use Rattle.members_file.specs.inner.Sites.{is_taken, next_site};
 
+use crate::listed_site::ListedSite;
+use fed_types::{GREATEST_WEIGHT, MOST_MEMBERS};
 use std::alloc::{AllocError, Global};
 use words::{parse_number, split_words};
-
-// The most sites that a members file can have.
-const MOST_SITES: u64 = 15;
 
 /// The federation's number, by the words `federation F`.
 #[tactic(auto, unfolding(crate::specs::Lines::federation_in))]
@@ -23,43 +22,63 @@ pub(crate) fn parse_federation(words: &[&[u8]]) -> Option<u64>
     parse_number(0, u64::MAX, federation)
 }
 
-// The number of a site and its port, by the words `site N PORT`.
+// The number of a site, and what is said of it, by the words `site N PORT` or `site N PORT WEIGHT`.
 #[tactic(auto, unfolding(crate::specs::Lines::site_in))]
-fn parse_site(words: &[&[u8]]) -> Option<(usize, u16)>
+fn parse_site(words: &[&[u8]]) -> Option<(usize, ListedSite)>
     ensures { result ≡ site_in (map (λ word. word.now) words.now) }
 {
-    let [name, site, port] = words else {
+    let [name, site, port, weight @ ..] = words else {
         return None;
     };
     if *name != b"site".as_slice() {
         return None;
     }
-    let site = parse_number(1, MOST_SITES, site)?;
-    let port = parse_number(1, u64::from(u16::MAX), port)?;
-    Some((site as usize, port as u16))
+    let site = parse_number(1, u64::from(MOST_MEMBERS), site)?;
+    let port = parse_number(1, u64::from(u16::MAX), port)? as u16;
+    let weight = parse_weight(weight)?;
+    Some((site as usize, ListedSite { port, weight }))
 }
 
-// The port of the next site, after those of these ports, by the words of its line.
-#[tactic(auto, unfolding(crate::specs::inner::Sites::next_port))]
-fn parse_next(words: &[&[u8]], ports: &[u16]) -> Option<u16>
-    ensures { result ≡ next_port ports.now (map (λ word. word.now) words.now) }
+// The weight, by the words after the port; 1 where there are none.
+#[tactic(auto, unfolding(crate::specs::Lines::weight_in))]
+fn parse_weight(words: &[&[u8]]) -> Option<u8>
+    ensures { result ≡ weight_in (map (λ word. word.now) words.now) }
 {
-    let (site, port) = parse_site(words)?;
-    if site == ports.len() + 1 && !ports.contains(&port) {
-        Some(port)
+    match words {
+        [] => Some(1),
+        [weight] => Some(parse_number(1, u64::from(GREATEST_WEIGHT), weight)? as u8),
+        _ => None,
+    }
+}
+
+// The next site, after these, by the words of its line.
+#[tactic(auto, unfolding(crate::specs::inner::Sites::next_site))]
+fn parse_next(words: &[&[u8]], sites: &[ListedSite]) -> Option<ListedSite>
+    ensures { result ≡ next_site sites.now (map (λ word. word.now) words.now) }
+{
+    let (number, site) = parse_site(words)?;
+    if number == sites.len() + 1 && !is_taken(sites, site.port) {
+        Some(site)
     } else {
         None
     }
 }
 
-/// The port of the next site, after those of these ports, if the line names it.
-pub(crate) fn next_port(
+// Whether one of the sites has this port.
+fn is_taken(sites: &[ListedSite], port: u16) -> bool
+    ensures { result ≡ is_taken sites.now port }
+{
+    sites.iter().any(|site| site.port == port)
+}
+
+/// The next site, after these, if the line names it.
+pub(crate) fn next_site(
     alloc: Global,
     line: &[u8],
-    ports: &[u16],
-) -> Result<Option<u16>, AllocError>
-    ensures { IfOk result (λ port. port ≡ next_port ports.now (words_of line.now)) }
+    sites: &[ListedSite],
+) -> Result<Option<ListedSite>, AllocError>
+    ensures { IfOk result (λ site. site ≡ next_site sites.now (words_of line.now)) }
 {
     let words = split_words(alloc, line)?;
-    Ok(parse_next(&words, ports))
+    Ok(parse_next(&words, sites))
 }

@@ -2,14 +2,14 @@
 
 use crate::stop::Stop;
 use fed_types::SiteNo;
-use members_file::{MemberPorts, MembersFault, read_members};
+use members_file::{MemberSites, MembersFault, read_members};
 use outcomes::{ReadFault, read_all};
-use std::alloc::Global;
+use std::alloc::{AllocError, Global};
 use std::fs::{File, Files};
 use std::io::{ErrorKind, Read};
 
 /// The members in the file of this path.
-pub(crate) fn members_at<R: Files + AllocGlobal>(rt: &R, path: &str) -> Result<MemberPorts, Stop> {
+pub(crate) fn members_at<R: Files + AllocGlobal>(rt: &R, path: &str) -> Result<MemberSites, Stop> {
     match File::open(rt, path) {
         Ok(mut file) => members_in(rt.alloc(), &mut file),
         Err(error) if error.kind() == ErrorKind::OutOfMemory => Err(Stop::Memory),
@@ -18,7 +18,7 @@ pub(crate) fn members_at<R: Files + AllocGlobal>(rt: &R, path: &str) -> Result<M
 }
 
 // The members that a reader has left.
-fn members_in<R: Read>(alloc: Global, input: &mut R) -> Result<MemberPorts, Stop> {
+fn members_in<R: Read>(alloc: Global, input: &mut R) -> Result<MemberSites, Stop> {
     match read_all(alloc, input) {
         Ok(text) => match read_members(alloc, text.as_slice()) {
             Ok(members) => Ok(members),
@@ -31,10 +31,18 @@ fn members_in<R: Read>(alloc: Global, input: &mut R) -> Result<MemberPorts, Stop
 }
 
 /// The port of the site of this number, if it is a member.
-pub(crate) fn port_of(members: &MemberPorts, number: SiteNo) -> Result<u16, Stop> {
+pub(crate) fn port_of(members: &MemberSites, number: SiteNo) -> Result<u16, Stop> {
     let place = usize::from(number.number()) - 1;
-    match members.ports().get(place) {
-        Some(port) => Ok(*port),
+    match members.sites().get(place) {
+        Some(site) => Ok(site.port),
         None => Err(Stop::NotAMember),
+    }
+}
+
+/// The ports of all sites, that of site 1 first.
+pub(crate) fn ports_of(alloc: Global, members: &MemberSites) -> Result<Vec<u16>, Stop> {
+    match members.ports(alloc) {
+        Ok(ports) => Ok(ports),
+        Err(AllocError) => Err(Stop::Memory),
     }
 }

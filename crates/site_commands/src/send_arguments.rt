@@ -3,7 +3,7 @@
 use crate::site_arguments::{members_argument, wait_argument};
 use clap::{Arg, ArgMatches, Command, value_parser};
 use dgram::LONGEST_PATH;
-use fed_types::{LONGEST_OBJECT, SiteNo};
+use fed_types::{GREATEST_SITE, LONGEST_OBJECT, SiteNo};
 use std::alloc::{AllocError, Global};
 
 const ABOUT: &str = "Deposits a bag at a site that serves, or asks it for one";
@@ -88,8 +88,8 @@ fn to_argument<'a>(alloc: Global) -> Arg<'a> {
         .long("to")
         .value_name("N")
         .required(true)
-        .value_parser(value_parser!(u8).range(1..=15))
-        .help("The number of the site, 1 to 15")
+        .value_parser(value_parser!(u8).range(1..=i64::from(GREATEST_SITE)))
+        .help("The number of the site, 1 to 63")
 }
 
 fn object_argument<'a>(alloc: Global) -> Arg<'a> {

@@ -1,6 +1,6 @@
 //! The command `site`: a site of the members file, over a file and a socket.
 
-use crate::members_at::{members_at, port_of};
+use crate::members_at::{members_at, port_of, ports_of};
 use crate::serving::site_on;
 use crate::site_arguments::SiteTask;
 use crate::stop::{Stop, write_stop};
@@ -28,6 +28,7 @@ fn try_to_serve<W: Write>(
 ) -> Result<Result<u8, ProgramFault>, Stop> {
     let members = members_at(rt, task.members)?;
     let number = port_of(&members, task.number)?;
+    let ports = ports_of(rt.alloc(), &members)?;
     let cell = cell_at(rt, task.cell)?;
     let mut port = socket(rt, number, task.wait)?;
     let mut folders = DiskFolders::new(disk(rt)?);
@@ -38,7 +39,7 @@ fn try_to_serve<W: Write>(
         task.number,
         &mut port,
         &mut folders,
-        members.ports(),
+        &ports,
         task.turns,
         output,
     ))

@@ -1,14 +1,17 @@
 //! The arguments of the command `site`.
 
 use clap::{Arg, ArgMatches, Command, value_parser};
-use fed_types::SiteNo;
+use fed_types::{GREATEST_SITE, SiteNo};
 use std::alloc::{AllocError, Global};
 
 const ABOUT: &str = "Serves as a site of a federation, over UDP on this machine";
 
 const EXAMPLE: &str = "The members file is a text; all sites are on 127.0.0.1:
-  federation F    the number of the federation
-  site N PORT     for each of the sites 1, 2, 3 .., at most 15: its port
+  federation F            the number of the federation
+  site N PORT [WEIGHT]    for each of the sites 1, 2, 3 .., at most 63: its port, and its
+                          weight, 1 to 255, which is 1 where none is given
+Sites that have more than half of all weight decide. Sites and weights stay as they are as long as
+there are cells.
 The cell is the file in which the site keeps its word; it is made where it is missing.
 In each turn the site waits for one datagram, and prints a line for what it does:
   registered N OBJ V HEX        a bag was deposited, of this identity
@@ -75,7 +78,7 @@ pub(crate) fn members_argument<'a>(alloc: Global) -> Arg<'a> {
         .long("members")
         .value_name("FILE")
         .required(true)
-        .help("The members file: the port of each site")
+        .help("The members file: the port and the weight of each site")
 }
 
 fn number_argument<'a>(alloc: Global) -> Arg<'a> {
@@ -83,8 +86,8 @@ fn number_argument<'a>(alloc: Global) -> Arg<'a> {
         .long("number")
         .value_name("N")
         .required(true)
-        .value_parser(value_parser!(u8).range(1..=15))
-        .help("The number of the site, 1 to 15")
+        .value_parser(value_parser!(u8).range(1..=i64::from(GREATEST_SITE)))
+        .help("The number of the site, 1 to 63")
 }
 
 fn cell_argument<'a>(alloc: Global) -> Arg<'a> {

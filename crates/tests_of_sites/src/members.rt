@@ -64,7 +64,7 @@ fn says(alloc: Global, text: &[u8], federation: u64, ports: &[u16]) -> Result<bo
     let members = file.members();
     let is_so = members.federation() == federation && usize::from(members.count()) == ports.len();
     let are_1 = members.weights().iter().all(|weight| *weight == 1);
-    Ok(is_so && are_1 && file.ports() == ports)
+    Ok(is_so && are_1 && file.ports(alloc)?.as_slice() == ports)
 }
 
 #[test]
@@ -73,6 +73,68 @@ fn reads_files(rt: HostRuntime) {
         let said = says(rt.alloc(), text, federation, ports);
         assert_eq!(rt; said, Ok(true), "in {text:?}");
     }
+}
+
+// Texts in which some sites have a weight, and the port and the weight of each site.
+static WEIGHTED: [(&[u8], &[(u16, u8)]); 5] = [
+    (
+        b"federation 7\nsite 1 9001 2\nsite 2 9002 1\nsite 3 9003 1\n",
+        &[(9001, 2), (9002, 1), (9003, 1)],
+    ),
+    // The ends of the range, and no weight in between.
+    (
+        b"federation 7\nsite 1 9001 255\nsite 2 9002\nsite 3 9003 1",
+        &[(9001, 255), (9002, 1), (9003, 1)],
+    ),
+    // Spaces, and leading zeros.
+    (
+        b"federation 7\n site  1 9001   0002 \nsite 2 9002  \n",
+        &[(9001, 2), (9002, 1)],
+    ),
+    (b"federation 7\r\nsite 1 9001 3\r\n\r\n", &[(9001, 3)]),
+    // Weights and ports that are the same.
+    (
+        b"federation 7\nsite 1 255 255\nsite 2 1 255\n",
+        &[(255, 255), (1, 255)],
+    ),
+];
+
+// The sites of a text are these, by ports and by weights.
+fn names(alloc: Global, text: &[u8], sites: &[(u16, u8)]) -> Result<bool, MembersFault> {
+    let file = read_members(alloc, text)?;
+    let members = file.members();
+    let ports = file.ports(alloc)?;
+    let weights = members.weights();
+    let mut is_so = file.sites().len() == sites.len()
+        && ports.len() == sites.len()
+        && weights.len() == sites.len();
+    for (place, (port, weight)) in sites.iter().enumerate() {
+        is_so = is_so && ports.get(place) == Some(port) && weights.get(place) == Some(weight);
+    }
+    Ok(is_so)
+}
+
+#[test]
+fn reads_weights(rt: HostRuntime) {
+    for &(text, sites) in &WEIGHTED {
+        assert_eq!(rt; names(rt.alloc(), text, sites), Ok(true), "in {text:?}");
+    }
+}
+
+// As many sites as there can be, each with another weight.
+#[test]
+fn reads_63_sites(rt: HostRuntime) -> Result<(), Fail> {
+    let alloc = rt.alloc();
+    let mut text = String::from_str(alloc, "federation 7\n")?;
+    let mut sites = Vec::new(alloc);
+    for number in 1..=63u8 {
+        let port = 9000 + u16::from(number);
+        let weight = 192 + number;
+        text.push_str(format!(in alloc; "site {number} {port} {weight}\n")?.as_str())?;
+        sites.push((port, weight))?;
+    }
+    assert_eq!(rt; names(alloc, text.as_bytes(), &sites), Ok(true));
+    Ok(())
 }
 
 #[test]

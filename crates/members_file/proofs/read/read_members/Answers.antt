@@ -1,14 +1,16 @@
 use Rattle.std.proofs.Common.{◌≡◌, ℕ, false, List, [], ◌∷◌, length, map, Some, None, Bor, refl, sym}
 use Rattle.std.proofs.Common.{ap, ◌∙◌, subst, inl, inr, arith}
+use Rattle.std.specs.List.{Contains}
 use Rattle.std.specs.Str.Lines.{lines}
 use Rattle.std.proofs.lemmas.Bool.{cases_lt, false≢true}
 use Rattle.std.proofs.lemmas.Result.{err_from_is_err_and}
+use Rattle.fed_types.specs.Sites.{CountFits}
 use Rattle.words.specs.Words.{words_of}
 use Rattle.members_file.specs.declared.members_fault.MembersFault.TheVariants.{Line}
-use Rattle.members_file.specs.Files.{HasFault, are_blank}
+use Rattle.members_file.specs.Files.{HasFault, are_blank, weights_of}
 use Rattle.members_file.specs.Lines.{federation_in}
 use Rattle.members_file.proofs.ReadLemmas.{fault_from_ok_or, fault_of_none, fault_of_first}
-use Rattle.members_file.proofs.ReadLemmas.{fault_after, HasSites-most, ArePorts-read}
+use Rattle.members_file.proofs.ReadLemmas.{fault_after, AreListed-read, weights-fit, weights-some}
 use Rattle.members_file.proofs.read.read_members.Goals as goal
 
 pub returns-in_err-first : goal.returns-in_err-first
@@ -37,13 +39,6 @@ returns-in_err-federation c =
     rw (p.1, p.2, f.1)
     (fault_of_first c.args.text.now c.in_ok-first.first.now (lines c.in_ok-first.after.now) is none)
 
-pub overflow_cast-len : goal.overflow_cast-len
-overflow_cast-len c =
-    let most =
-    HasSites-most (lines c.in_ok-first.after.now) c.in_ok-ports.ports.items
-    (lines c.in_ok-ports.rest.now) c.in_ok-ports.ensures in
-    omega (arith, c.len.ensures, most)
-
 pub returns-in_default : goal.returns-in_default
 returns-in_default c =
     let is : lines c.args.text.now ≡ c.in_ok-first.first.now ∷ lines c.in_ok-first.after.now =
@@ -54,21 +49,22 @@ returns-in_default c =
     ≡ Some c.in_ok-federation.federation =
     sym (ap federation_in words) ∙ sym c.parse_federation.ensures
     ∙ c.in_ok-federation.ensures.ok_part in
-    let ports = c.in_ok-ports.ports.items in
-    let most =
-    HasSites-most (lines c.in_ok-first.after.now) ports (lines c.in_ok-ports.rest.now)
-    c.in_ok-ports.ensures in
-    let none : length ports ≡ 0 =
-    elim (cases_lt 0 (length ports)) [
+    let sites = c.in_ok-sites.sites.items in
+    let weights : c.deref-3.result.now ≡ weights_of sites =
+    c.deref-3.ensures.value ∙ c.in_ok-weights.ensures ∙ ap weights_of c.deref-2.ensures.value in
+    let none : length sites ≡ 0 =
+    elim (cases_lt 0 (length sites)) [
       | inl some ↦ absurd
           (false≢true (c.in_default.ensures.ok.1
-          (omega (arith, c.len.ensures), omega (arith, c.len.ensures, most))))
+          (subst (λ (ws : List ℕ). CountFits ws × ¬ Contains {X = ℕ} ws 0) (sym weights)
+          (weights-fit (lines c.in_ok-first.after.now) sites (lines c.in_ok-sites.rest.now)
+          c.in_ok-sites.ensures some))))
       | inr zero ↦ omega arith
     ] in
     subst (λ (n : ℕ). HasFault c.args.text.now n) (omega (arith, none))
     (fault_after c.args.text.now c.in_ok-first.first.now (lines c.in_ok-first.after.now)
-    (lines c.in_ok-ports.rest.now) c.in_ok-federation.federation ports is says
-    c.in_ok-ports.ensures (λ ends. omega (arith, none, ends.0)))
+    (lines c.in_ok-sites.rest.now) c.in_ok-federation.federation sites is says
+    c.in_ok-sites.ensures (λ ends. omega (arith, none, ends.0)))
 
 pub returns-then-not-branch : goal.returns-then-not-branch
 returns-then-not-branch c =
@@ -80,16 +76,19 @@ returns-then-not-branch c =
     ≡ Some c.in_ok-federation.federation =
     sym (ap federation_in words) ∙ sym c.parse_federation.ensures
     ∙ c.in_ok-federation.ensures.ok_part in
-    let ports = c.in_ok-ports.ports.items in
-    let isnt : are_blank (lines c.in_ok-ports.rest.now) ≡ false =
+    let sites = c.in_ok-sites.sites.items in
+    let isnt : are_blank (lines c.in_ok-sites.rest.now) ≡ false =
     sym c.in_ok-is_blank.ensures ∙ c.if-not-branch.true in
-    subst (λ (n : ℕ). HasFault c.args.text.now n) (omega (arith, c.len-then-not-branch.ensures))
+    subst (λ (n : ℕ). HasFault c.args.text.now n) (omega (arith, c.len.ensures))
     (fault_after c.args.text.now c.in_ok-first.first.now (lines c.in_ok-first.after.now)
-    (lines c.in_ok-ports.rest.now) c.in_ok-federation.federation ports is says
-    c.in_ok-ports.ensures (λ ends. false≢true (sym isnt ∙ ends.1)))
+    (lines c.in_ok-sites.rest.now) c.in_ok-federation.federation sites is says
+    c.in_ok-sites.ensures (λ ends. false≢true (sym isnt ∙ ends.1)))
 
-pub new-requires-2-clause-ports : goal.new-requires-2-clause-ports
-new-requires-2-clause-ports c =
-    ArePorts-read (lines c.in_ok-first.after.now) c.in_ok-ports.ports.items
-    (lines c.in_ok-ports.rest.now) c.in_ok-ports.ensures
-    (omega (arith, c.len.ensures, (c.in-Ok.ensures.ok.0 refl).0))
+pub new-requires-clause-sites : goal.new-requires-clause-sites
+new-requires-clause-sites c =
+    let sites = c.in_ok-sites.sites.items in
+    let weights : c.deref-3.result.now ≡ weights_of sites =
+    c.deref-3.ensures.value ∙ c.in_ok-weights.ensures ∙ ap weights_of c.deref-2.ensures.value in
+    AreListed-read (lines c.in_ok-first.after.now) sites (lines c.in_ok-sites.rest.now)
+    c.in_ok-sites.ensures
+    (weights-some sites (subst CountFits weights (c.in-Ok.ensures.ok.0 refl).0))
