@@ -1,3 +1,5 @@
+//! An acceptor, asked for one ballot after the other.
+
 use crate::values::{Voted, ballot, promises, slot, slot_a, vote, votes};
 use acceptor::{Acceptor, Answer, Decision};
 use fed_types::{BagId, Ballot, Slot, Vote};

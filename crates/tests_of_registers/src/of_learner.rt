@@ -1,3 +1,5 @@
+//! A learner, told of votes and of known bags.
+
 use crate::memberships::Pair;
 use crate::values::{ballot, slot};
 use fed_types::{BagId, Members, Quorums, SiteNo, Slot};

@@ -1,3 +1,5 @@
+//! A proposer, over members with weights and over others.
+
 use crate::memberships::Unanimous;
 use crate::values::{Voted, ballot, slot_a, vote};
 use fed_types::{BagId, Members, Quorums, SiteNo, Slot};

@@ -1,3 +1,5 @@
+//! The tables of a site, from a deposit to the known bag.
+
 use crate::values::{ballot, owner, promises, slot_a, votes};
 use fed_types::{BagId, Ballot, SiteNo, Slot, Vote};
 use records::{Entry, Record, Round};

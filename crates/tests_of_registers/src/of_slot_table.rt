@@ -1,3 +1,5 @@
+//! Rows by their slot.
+
 ghost use Rattle.std.specs.Prelude.{◌≡◌, Some, IsSome};
 ghost use Rattle.slot_table.specs.Rows.{row_at, IsWith};
 
