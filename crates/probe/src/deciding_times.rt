@@ -66,17 +66,20 @@ fn push_rate(text: &mut String, call: &str, rate: f64, bare: f64) -> Result<(), 
 fn best_rates(rt: &HostRuntime, count: u32, records: &[Record]) -> Result<[f64; 11], Fault> {
     let mut best = [0.0; 11];
     for _ in 0..ROUNDS {
-        keep_best(&mut best, rates(rt, count, records)?);
+        best = better(best, rates(rt, count, records)?);
     }
     Ok(best)
 }
 
-fn keep_best(best: &mut [f64; 11], rates: [f64; 11]) {
+/// The better rate of each call.
+fn better(best: [f64; 11], rates: [f64; 11]) -> [f64; 11] {
+    let mut best = best;
     for call in 0..CALLS.len() {
         if rates[call] > best[call] {
             best[call] = rates[call];
         }
     }
+    best
 }
 
 /// The rate of each call.

@@ -101,8 +101,24 @@ fn push_bag(alloc: Global, text: &mut String, words: &str, bag: &BagId) -> Resul
     push_hex(alloc, text, &bag.0)
 }
 
+/// Appends how many records an opened site has.
+pub(crate) fn push_opened(text: &mut String, count: usize) -> Result<(), AllocError> {
+    write!(text, "opened {count}\n")
+}
+
+/// Appends why a cell is refused, by the fault's number.
+pub(crate) fn push_unopened(text: &mut String, number: u8) -> Result<(), AllocError> {
+    write!(text, "unopened {number}\n")
+}
+
+/// Appends the bytes of a closed site's cell.
+pub(crate) fn push_cell(alloc: Global, text: &mut String, bytes: &[u8]) -> Result<(), AllocError> {
+    text.push_str("cell ")?;
+    push_hex(alloc, text, bytes)
+}
+
 /// Appends bytes in hex, and ends the line.
-pub(crate) fn push_hex(alloc: Global, text: &mut String, bytes: &[u8]) -> Result<(), AllocError> {
+fn push_hex(alloc: Global, text: &mut String, bytes: &[u8]) -> Result<(), AllocError> {
     let digits = hex::encode(alloc, bytes)?;
     write!(text, "{digits}\n")
 }

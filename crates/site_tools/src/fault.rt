@@ -1,7 +1,7 @@
 use bag_tree::TreeFault;
 use fed_types::TypeFault;
 use hex::FromHexError;
-use std::alloc::{AllocError, AllocFailed};
+use std::alloc::AllocError;
 use std::io;
 use thiserror::Error;
 
@@ -25,12 +25,6 @@ pub enum ToolFault {
 
 impl From<AllocError> for ToolFault {
     fn from(_e: AllocError) -> ToolFault {
-        ToolFault::Memory
-    }
-}
-
-impl<T: Drop> From<AllocFailed<T>> for ToolFault {
-    fn from(_e: AllocFailed<T>) -> ToolFault {
         ToolFault::Memory
     }
 }

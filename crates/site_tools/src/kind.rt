@@ -16,18 +16,20 @@ pub(crate) enum Kind {
     Known,
 }
 
-/// All kinds, in the order of a round.
-pub(crate) static KINDS: [Kind; 7] = [
-    Kind::Prepare,
-    Kind::Promise,
-    Kind::Accept,
-    Kind::Accepted,
-    Kind::Refused,
-    Kind::Ask,
-    Kind::Known,
-];
-
 impl Kind {
+    /// All kinds, in the order of a round.
+    pub(crate) fn all() -> [Kind; 7] {
+        [
+            Kind::Prepare,
+            Kind::Promise,
+            Kind::Accept,
+            Kind::Accepted,
+            Kind::Refused,
+            Kind::Ask,
+            Kind::Known,
+        ]
+    }
+
     pub(crate) fn name(self) -> &'static str {
         match self {
             Kind::Prepare => "Prepare",

@@ -1,4 +1,6 @@
-use crate::answer_text::{push_answer, push_hex, push_refusal, push_reply};
+use crate::answer_text::{
+    push_answer, push_cell, push_opened, push_refusal, push_reply, push_unopened,
+};
 use crate::call::Failure;
 use crate::fault::ToolFault;
 use book::OpenFault;
@@ -83,19 +85,14 @@ impl Output {
         count: usize,
     ) -> Result<(), ToolFault> {
         match opened {
-            Ok(()) => Ok(write!(self.text, "opened {count}\n")?),
+            Ok(()) => Ok(push_opened(&mut self.text, count)?),
             Err(OpenFault::Memory) => Err(ToolFault::Wrong),
-            Err(fault) => self.unopened(fault.number()),
+            Err(fault) => Ok(push_unopened(&mut self.text, fault.number())?),
         }
-    }
-
-    fn unopened(&mut self, number: u8) -> Result<(), ToolFault> {
-        Ok(write!(self.text, "unopened {number}\n")?)
     }
 
     /// The bytes of a closed site's cell.
     pub(crate) fn cell(&mut self, bytes: &[u8]) -> Result<(), ToolFault> {
-        self.text.push_str("cell ")?;
-        Ok(push_hex(self.alloc, &mut self.text, bytes)?)
+        Ok(push_cell(self.alloc, &mut self.text, bytes)?)
     }
 }

@@ -3,7 +3,7 @@
 
 use crate::calls::{FEDERATION, datagrams, deposit_all, propose_all, slots, take_all};
 use crate::fault::ToolFault;
-use crate::kind::{KINDS, Kind};
+use crate::kind::Kind;
 use crate::place::empty_cell;
 use crate::tree::tree;
 use cell_device::MemoryCell;
@@ -112,7 +112,7 @@ fn time_calls(
 ) -> Result<(), ToolFault> {
     time_deposits(rt, site, count, text)?;
     time_proposals(rt, site, count, text)?;
-    for kind in KINDS {
+    for kind in Kind::all() {
         time_arrivals(rt, site, count, kind, text)?;
     }
     Ok(())
