@@ -7,7 +7,6 @@ use crate::tree::tree;
 use crate::words::{bytes_of, fuse_of, members_of, place_of_number, site_of, slot_of};
 use bag_tree::Facts;
 use fed_types::{Members, SiteNo, Slot};
-use records::Owner;
 use site::{Answer, Reply, Sealed, SiteFault};
 use std::alloc::Global;
 
@@ -51,7 +50,7 @@ impl Federation {
     fn add_site(&mut self, members: Members, site: SiteNo) -> Result<(), ToolFault> {
         push(&mut self.places, Place::new(self.alloc))?;
         match self.places.get_mut(place_of(site)) {
-            Some(place) => open_new(self.alloc, place, Owner { members, site }),
+            Some(place) => open_new(self.alloc, place, members, site),
             None => Err(ToolFault::Wrong),
         }
     }
@@ -197,14 +196,19 @@ impl Federation {
         let site = only_site_of(words)?;
         let members = self.members.ok_or(ToolFault::Line)?;
         let place = self.places.get_mut(place_of(site)).ok_or(ToolFault::Line)?;
-        let opened = place.open(self.alloc, Owner { members, site });
+        let opened = place.open(self.alloc, members, site);
         output.opened(opened, place.count())
     }
 }
 
 /// Opens a site of the new federation.
-fn open_new(alloc: Global, place: &mut Place, owner: Owner) -> Result<(), ToolFault> {
-    match place.open(alloc, owner) {
+fn open_new(
+    alloc: Global,
+    place: &mut Place,
+    members: Members,
+    site: SiteNo,
+) -> Result<(), ToolFault> {
+    match place.open(alloc, members, site) {
         Ok(()) => Ok(()),
         Err(_) => Err(ToolFault::Wrong),
     }

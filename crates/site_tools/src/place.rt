@@ -2,7 +2,7 @@ use crate::call::{Call, Failure, make};
 use crate::fault::ToolFault;
 use book::OpenFault;
 use cell_device::{Fuse, MemoryCell};
-use fed_types::Slot;
+use fed_types::{Members, SiteNo, Slot};
 use records::Owner;
 use site::{Answer, Reply, Site, SiteFault};
 use std::alloc::Global;
@@ -77,10 +77,15 @@ impl Place {
 
     /// Opens the site over its cell. Where that finds no memory it is opened again, and has to find
     /// some.
-    pub(crate) fn open(&mut self, alloc: Global, owner: Owner) -> Result<(), OpenFault> {
+    pub(crate) fn open(
+        &mut self,
+        alloc: Global,
+        members: Members,
+        site: SiteNo,
+    ) -> Result<(), OpenFault> {
         self.close();
-        match self.open_once(alloc, owner) {
-            Err(OpenFault::Memory) => self.open_once(alloc, owner),
+        match self.open_once(alloc, Owner { members, site }) {
+            Err(OpenFault::Memory) => self.open_once(alloc, Owner { members, site }),
             opened => opened,
         }
     }

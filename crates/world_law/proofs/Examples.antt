@@ -8,6 +8,7 @@ use Rattle.fed_types.specs.Lists.{is_in}
 use Rattle.fed_types.specs.Quorums.{QuorumSystem, quorums_of}
 use Rattle.fed_types.specs.Sites.{sites_to}
 use Rattle.fed_types.specs.Slots.{SlotName, same_slot}
+use Rattle.fields.specs.Checksums.{with_checksum}
 use Rattle.records.specs.declared.entry.Entry.TheVariants as entry
 use Rattle.records.specs.Layout.{record_bytes}
 use Rattle.records.specs.Words.{promised_of, vote_of, used_of, deposit_of, known_of}
@@ -140,14 +141,14 @@ known site tree = lines.Known site a (named_bag tree)
 -- the beginning of a datagram of federation 7 about the object, of this kind and sender
 abbrev front : (kind from : ℕ) → List ℕ
 front kind from =
-    66 ∷ 80 ∷ 1 ∷ kind ∷ 0 ∷ 0 ∷ 0 ∷ 0 ∷ 0 ∷ 0 ∷ 0 ∷ 7 ∷ from ∷ 1 ∷ 97 ∷ 0 ∷ 0 ∷ 0 ∷ 1 ∷ []
+    66 ∷ 80 ∷ 2 ∷ kind ∷ 0 ∷ 0 ∷ 0 ∷ 0 ∷ 0 ∷ 0 ∷ 0 ∷ 7 ∷ from ∷ 1 ∷ 97 ∷ 0 ∷ 0 ∷ 0 ∷ 1 ∷ []
 
 -- a ballot of a round below 256
 abbrev ballot_bytes : (round site : ℕ) → List ℕ
 ballot_bytes round site = 0 ∷ 0 ∷ 0 ∷ round ∷ site ∷ []
 
 abbrev prepare : List ℕ
-prepare = front 1 1 ++ ballot_bytes 1 1
+prepare = with_checksum (front 1 1 ++ ballot_bytes 1 1)
 
 -- site 1 proposes, and is promised its ballot by itself and 2
 abbrev five_turns : List Step
@@ -281,8 +282,8 @@ pub record Examples : Type 0 where
       (after 3 (deposit 1 1 ∷ propose 1 ∷ delivers (1 ∷ 1 ∷ []))).lines
       ≡ registered 1 1 ∷ lines.Sent 1 1 1 prepare ∷ lines.Sent 2 1 2 prepare
       ∷ lines.Sent 3 1 3 prepare
-      ∷ lines.Sent 4 1 1 (front 2 1 ++ ballot_bytes 1 1 ++ 0 ∷ [])
-      ∷ lines.Sent 5 1 1 (front 5 1 ++ ballot_bytes 1 1 ++ ballot_bytes 1 1) ∷ []
+      ∷ lines.Sent 4 1 1 (with_checksum (front 2 1 ++ ballot_bytes 1 1 ++ 0 ∷ []))
+      ∷ lines.Sent 5 1 1 (with_checksum (front 5 1 ++ ballot_bytes 1 1 ++ ballot_bytes 1 1)) ∷ []
   -- the next round is above the one that a refusal named, not only above those that were used
   refusal_raises_the_round :
       map (λ (d : Send). d.message)
@@ -297,7 +298,7 @@ pub record Examples : Type 0 where
       (after 3 (deliver 1 Whole ∷ propose 1 ∷ deposit 1 1 ∷ propose 1 ∷ pump 1 ∷ [])).lines
       ≡ lines.Skip 16 reasons.Datagram ∷ lines.Refused 1 faults.NoDeposit ∷ registered 1 1
       ∷ lines.Sent 1 1 1 prepare ∷ lines.Sent 2 1 2 prepare ∷ lines.Sent 3 1 3 prepare
-      ∷ lines.Sent 4 2 1 (front 2 2 ++ ballot_bytes 1 1 ++ 0 ∷ []) ∷ []
+      ∷ lines.Sent 4 2 1 (with_checksum (front 2 2 ++ ballot_bytes 1 1 ++ 0 ∷ [])) ∷ []
   -- bytes that are a message are skipped, others are dropped; a site that is no member is named
   -- first, and one that is down last
   bytes :

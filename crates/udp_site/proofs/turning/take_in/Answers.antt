@@ -22,9 +22,9 @@ asked_of old federation bytes asked said same is p =
 
 pub returns-in-Hear-clause-comes : goal.returns-in-Hear-clause-comes
 returns-in-Hear-clause-comes g c old there serves =
-    let asked = asked_of old c.federation.result c.args.bytes.now c.in_ok-asked_by.field-0
+    let asked = asked_of old c.federation.result c.args.bytes.now c.in_ok-message.field-0
     (asks.Hear c.in-Hear.message) (same_federation old c.args.site.now there c.members.result c.federation.result
-    c.federation.ensures c.members.ensures) c.in-Hear.is c.in_ok-asked_by.ensures in
+    c.federation.ensures c.members.ensures) c.in-Hear.is c.in_ok-message.ensures in
     by_request g.C.Cell.device c.args.ports.now (g.F.Folders.gives c.args.folders.now) old c.args.from
     (message_of (members old).federation c.args.bytes.now) (Says c.in-Hear.message) (asked c.args.from)
     (g.P.Port.traffic c.args.port.now) (g.P.Port.traffic c.hear.new.port) c.args.lines.now.items
@@ -33,10 +33,10 @@ returns-in-Hear-clause-comes g c old there serves =
 
 pub returns-in-Deposit-clause-comes : goal.returns-in-Deposit-clause-comes
 returns-in-Deposit-clause-comes g c old there serves =
-    let asked = asked_of old c.federation.result c.args.bytes.now c.in_ok-asked_by.field-0
+    let asked = asked_of old c.federation.result c.args.bytes.now c.in_ok-message.field-0
     (asks.Deposit c.in-Deposit.slot c.in-Deposit.path)
     (same_federation old c.args.site.now there c.members.result c.federation.result
-    c.federation.ensures c.members.ensures) c.in-Deposit.is c.in_ok-asked_by.ensures in
+    c.federation.ensures c.members.ensures) c.in-Deposit.is c.in_ok-message.ensures in
     by_request g.C.Cell.device c.args.ports.now (g.F.Folders.gives c.args.folders.now) old c.args.from
     (message_of (members old).federation c.args.bytes.now)
     (Deposits c.args.from c.in-Deposit.slot c.in-Deposit.path) (asked c.args.from)
@@ -46,10 +46,10 @@ returns-in-Deposit-clause-comes g c old there serves =
 
 pub returns-in-Query-clause-comes : goal.returns-in-Query-clause-comes
 returns-in-Query-clause-comes g c old there serves =
-    let asked = asked_of old c.federation.result c.args.bytes.now c.in_ok-asked_by.field-0
+    let asked = asked_of old c.federation.result c.args.bytes.now c.in_ok-message.field-0
     (asks.Query c.in-Query.slot)
     (same_federation old c.args.site.now there c.members.result c.federation.result
-    c.federation.ensures c.members.ensures) c.in-Query.is c.in_ok-asked_by.ensures in
+    c.federation.ensures c.members.ensures) c.in-Query.is c.in_ok-message.ensures in
     by_request g.C.Cell.device c.args.ports.now (g.F.Folders.gives c.args.folders.now) old c.args.from
     (message_of (members old).federation c.args.bytes.now) (Queries c.args.from c.in-Query.slot)
     (asked c.args.from) (g.P.Port.traffic c.args.port.now) (g.P.Port.traffic c.take_query.new.port)
@@ -58,18 +58,18 @@ returns-in-Query-clause-comes g c old there serves =
 
 pub returns-in-Nothing-clause-comes : goal.returns-in-Nothing-clause-comes
 returns-in-Nothing-clause-comes g c old there serves =
-    let asked = asked_of old c.federation.result c.args.bytes.now c.in_ok-asked_by.field-0
+    let asked = asked_of old c.federation.result c.args.bytes.now c.in_ok-message.field-0
     asks.Nothing (same_federation old c.args.site.now there c.members.result
     c.federation.result c.federation.ensures c.members.ensures) c.in-Nothing.is
-    c.in_ok-asked_by.ensures in
+    c.in_ok-message.ensures in
     let traffic = g.P.Port.traffic c.args.port.now in
     by_request g.C.Cell.device c.args.ports.now (g.F.Folders.gives c.args.folders.now) old c.args.from
     (message_of (members old).federation c.args.bytes.now) Noise (asked c.args.from) traffic traffic
     c.args.lines.now.items c.drop_noise.new.lines.items c.args.site.now c.drop_noise.result
     (c.drop_noise.ensures old there serves traffic)
 
-pub returns-in_err-asked_by-clause-comes : goal.returns-in_err-asked_by-clause-comes
-returns-in_err-asked_by-clause-comes g c old there serves =
+pub returns-in_err-message-clause-comes : goal.returns-in_err-message-clause-comes
+returns-in_err-message-clause-comes g c old there serves =
     let gives = g.F.Folders.gives c.args.folders.now in
     let traffic = g.P.Port.traffic c.args.port.now in
     let could = could_come g.C.Cell.device c.args.ports.now gives old serves c.args.from
