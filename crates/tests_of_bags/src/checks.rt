@@ -140,7 +140,7 @@ fn number_of_files(alloc: Global, files: &[File]) -> Result<u8, TreeFault> {
 fn faults_with_others(rt: HostRuntime) -> Result<(), Fail> {
     for &(files, want) in &FAULTS {
         let found = number_of_files(rt.alloc(), files)?;
-        assert_eq!(rt; found, want, "of {files:?}");
+        assert_eq!(rt; found, want);
     }
     Ok(())
 }
