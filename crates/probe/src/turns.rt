@@ -21,21 +21,20 @@ struct Journal {
 /// Opens the site's journal in this file, and says its records; then it does what the lines ask.
 /// `open` opens the journal again over the same cell.
 pub fn answer_turns(rt: &HostRuntime, path: &str, site: SiteNo) -> Result<(), Fault> {
-    let owner = owner(site)?;
     let cell = FileCell::open(rt, path)?;
     let mut journal = Journal {
         book: None,
         cell: Some(cell),
     };
-    let answered = answer_lines(rt, &mut journal, owner);
+    let answered = answer_lines(rt, &mut journal, site);
     drop(journal);
     answered
 }
 
-fn answer_lines(rt: &HostRuntime, journal: &mut Journal, owner: Owner) -> Result<(), Fault> {
-    answer(rt, journal, "open", owner)?;
+fn answer_lines(rt: &HostRuntime, journal: &mut Journal, site: SiteNo) -> Result<(), Fault> {
+    answer(rt, journal, "open", site)?;
     for line in rt.lines(rt.alloc()) {
-        answer_line(rt, journal, line, owner)?;
+        answer_line(rt, journal, line, site)?;
     }
     Ok(())
 }
@@ -44,16 +43,16 @@ fn answer_line(
     rt: &HostRuntime,
     journal: &mut Journal,
     line: io::Result<String>,
-    owner: Owner,
+    site: SiteNo,
 ) -> Result<(), Fault> {
     let line = line?;
-    answer(rt, journal, line.as_str(), owner)
+    answer(rt, journal, line.as_str(), site)
 }
 
 /// Does what a line asks for, and prints what that gives.
-fn answer(rt: &HostRuntime, journal: &mut Journal, line: &str, owner: Owner) -> Result<(), Fault> {
+fn answer(rt: &HostRuntime, journal: &mut Journal, line: &str, site: SiteNo) -> Result<(), Fault> {
     let mut said = String::new(rt.alloc());
-    match turn(rt.alloc(), &mut said, journal, line, owner) {
+    match turn(rt.alloc(), &mut said, journal, line, site) {
         Ok(()) => Ok(rt.println(said)?),
         Err(fault) => Err(fault),
     }
@@ -65,10 +64,10 @@ fn turn(
     said: &mut String,
     journal: &mut Journal,
     line: &str,
-    owner: Owner,
+    site: SiteNo,
 ) -> Result<(), Fault> {
     match line {
-        "open" => push_opened(said, journal, alloc, owner),
+        "open" => push_opened(said, journal, alloc, site),
         "commit" => push_commit(said, journal, alloc),
         _ => Err(Fault::Turn),
     }
@@ -79,9 +78,9 @@ fn push_opened(
     said: &mut String,
     journal: &mut Journal,
     alloc: Global,
-    owner: Owner,
+    site: SiteNo,
 ) -> Result<(), Fault> {
-    match journal.open(alloc, owner) {
+    match journal.open(alloc, owner(site)?) {
         Some(fault) => Ok(write!(said, "{fault:?}")?),
         None => journal.push_records(said),
     }
