@@ -45,8 +45,8 @@ pub(super) fn bench_for(alloc: Global, site: Site<MemoryCell>, limits: Limits) -
     }
 }
 
-/// The one site of federation 7.
-pub(super) fn owner() -> Result<Owner, Fail> {
+// The one site of federation 7.
+fn owner() -> Result<Owner, Fail> {
     Ok(Owner {
         members: Members::new(7, 1)?,
         site: SiteNo::new(1)?,
@@ -54,11 +54,8 @@ pub(super) fn owner() -> Result<Owner, Fail> {
 }
 
 /// That site, over this cell.
-pub(super) fn opened(
-    alloc: Global,
-    cell: MemoryCell,
-    owner: Owner,
-) -> Result<Site<MemoryCell>, Fail> {
+pub(super) fn opened(alloc: Global, cell: MemoryCell) -> Result<Site<MemoryCell>, Fail> {
+    let owner = owner()?;
     match Site::open(alloc, cell, owner) {
         Ok(site) => Ok(site),
         Err(_) => Err(Fail::from("the site isn't opened")),

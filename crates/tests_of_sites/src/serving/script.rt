@@ -1,5 +1,5 @@
 use super::agreement::bring_agreement;
-use super::bench::{Bench, Limits, bench_for, cell_of, opened, owner};
+use super::bench::{Bench, Limits, bench_for, cell_of, opened};
 use super::noise::{bring_hundred, bring_near_misses};
 use cell_device::MemoryCell;
 use site::Site;
@@ -60,9 +60,8 @@ pub(super) fn plays(alloc: Global, limits: Limits, script: &Script) -> Result<bo
 }
 
 fn site_of(alloc: Global, journal: &str) -> Result<Site<MemoryCell>, Fail> {
-    let owner = owner()?;
     let cell = cell_of(alloc, journal)?;
-    opened(alloc, cell, owner)
+    opened(alloc, cell)
 }
 
 fn plays_at(

@@ -2,12 +2,11 @@
 //! which a bag is agreed. What the cell holds is opened again then, and the bag is still agreed.
 
 use super::agreement::{SAID, SENT};
-use super::bench::{Bench, Limits, NO_LIMITS, bench_for, cell_of, opened, owner};
+use super::bench::{Bench, Limits, NO_LIMITS, bench_for, cell_of, opened};
 use super::narrow::Narrow;
 use super::script::{Step, take};
 use super::{CLIENT, QUERY, with_bag};
 use cell_device::MemoryCell;
-use records::Owner;
 use site::Site;
 use std::alloc::Global;
 use std::test::Fail;
@@ -59,7 +58,7 @@ fn agrees_after(bench: &mut Bench, records: usize) -> Result<bool, Fail> {
 }
 
 // Opened again, the site has all its records, and the bag is agreed.
-fn agrees_still(bench: Bench, owner: Owner) -> Result<bool, Fail> {
+fn agrees_still(bench: Bench) -> Result<bool, Fail> {
     let Bench {
         alloc,
         site,
@@ -68,7 +67,7 @@ fn agrees_still(bench: Bench, owner: Owner) -> Result<bool, Fail> {
         ..
     } = bench;
     let records = site.records().len();
-    match opened(alloc, site.close(), owner) {
+    match opened(alloc, site.close()) {
         Ok(site) => {
             let output = Narrow::new(alloc, usize::MAX);
             let mut bench = Bench {
@@ -89,21 +88,19 @@ fn loses_nothing_at(
     site: Site<MemoryCell>,
     limits: Limits,
     fault: ServeFault,
-    owner: Owner,
 ) -> Result<bool, Fail> {
     let mut bench = bench_for(alloc, site, limits);
     match is_broken_off(&mut bench, fault) {
-        Ok(true) => agrees_still(bench, owner),
+        Ok(true) => agrees_still(bench),
         Ok(false) => Ok(false),
         Err(fault) => Err(fault),
     }
 }
 
 fn loses_nothing(alloc: Global, limits: Limits, fault: ServeFault) -> Result<bool, Fail> {
-    let owner = owner()?;
     let cell = cell_of(alloc, "")?;
-    match opened(alloc, cell, owner) {
-        Ok(site) => loses_nothing_at(alloc, site, limits, fault, owner),
+    match opened(alloc, cell) {
+        Ok(site) => loses_nothing_at(alloc, site, limits, fault),
         Err(fault) => Err(fault),
     }
 }
