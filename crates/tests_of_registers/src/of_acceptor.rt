@@ -59,12 +59,20 @@ enum Decided {
 }
 
 fn decision(asked: Ballot, decided: Decided) -> Result<Decision, Fail> {
-    Ok(match decided {
-        Decided::Promises(voted) => promises(asked, vote(voted)?),
-        Decided::Votes(bag) => votes(asked, bag),
-        Decided::VotesAgain(bag) => votes_again(asked, bag),
-        Decided::Refuses(round, site) => refuses(asked, ballot(round, site)?),
-    })
+    match decided {
+        Decided::Promises(voted) => promises_after(asked, voted),
+        Decided::Votes(bag) => Ok(votes(asked, bag)),
+        Decided::VotesAgain(bag) => Ok(votes_again(asked, bag)),
+        Decided::Refuses(round, site) => refuses_below(asked, round, site),
+    }
+}
+
+fn promises_after(asked: Ballot, voted: Option<Voted>) -> Result<Decision, Fail> {
+    Ok(promises(asked, vote(voted)?))
+}
+
+fn refuses_below(asked: Ballot, round: u32, site: u8) -> Result<Decision, Fail> {
+    Ok(refuses(asked, ballot(round, site)?))
 }
 
 // The round and the site of a ballot, what the acceptor is asked for it, and what it decides.
