@@ -15,6 +15,8 @@ MANIFESTS = (b"", b"\n")
 BAGS = {hashlib.sha512(it).hexdigest() for it in MANIFESTS}
 # Where a datagram has the version, in hex digits: the object is of one byte.
 VERSION = slice(30, 38)
+# And where its checksum begins, which follows from the bytes before it.
+CHECKSUM = -16
 
 
 class Wrong(Exception):
@@ -113,7 +115,7 @@ class Program:
             word, *words = line.split()
             if word == "sent":
                 digits = words[3]
-                text = digits[: VERSION.start] + digits[VERSION.stop :]
+                text = digits[: VERSION.start] + digits[VERSION.stop : CHECKSUM]
                 said[int(digits[VERSION], 16) - 1].sent.append(Datagram(int(words[2]), text))
             elif word in ("registered", "known", "reply"):
                 said[int(words[2]) - 1].reports.append([word, *words])

@@ -10,7 +10,7 @@ PROPOSE, RESTART, DELIVER = "propose", "restart", "deliver"
 
 
 class Datagram(NamedTuple):
-    """A datagram on its way to a site: its bytes in hex, without the slot's version."""
+    """A datagram on its way to a site: its bytes in hex, without the version and the checksum."""
 
     to: int
     text: str
