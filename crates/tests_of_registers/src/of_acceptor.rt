@@ -33,6 +33,18 @@ fn note(acceptor: &mut Acceptor, alloc: Global, slot: &Slot, body: Entry) -> Res
     Ok(())
 }
 
+fn note_any(
+    acceptor: &mut Acceptor,
+    alloc: Global,
+    slot: &Slot,
+    entry: Option<Entry>,
+) -> Result<(), Fail> {
+    match entry {
+        Some(body) => note(acceptor, alloc, slot, body),
+        None => Ok(()),
+    }
+}
+
 fn votes_again(ballot: Ballot, bag: BagId) -> Decision {
     Decision {
         entry: None,
@@ -87,12 +99,27 @@ fn is_right(
 ) -> Result<bool, Fail> {
     let Step(round, site, asked, decided) = step;
     let ballot = ballot(*round, *site)?;
-    let want = decision(ballot, *decided)?;
-    let is_right = decide(acceptor, slot, ballot, *asked) == want;
-    if let Some(body) = want.entry {
-        note(acceptor, alloc, slot, body)?;
+    let found = decide(acceptor, slot, ballot, *asked);
+    match decision(ballot, *decided) {
+        Ok(want) => note_wanted(acceptor, alloc, slot, &found, want),
+        Err(fault) => Err(fault),
     }
-    Ok(is_right)
+}
+
+// Whether the decision is the one that is wanted, of which the acceptor takes note.
+fn note_wanted(
+    acceptor: &mut Acceptor,
+    alloc: Global,
+    slot: &Slot,
+    found: &Decision,
+    want: Decision,
+) -> Result<bool, Fail> {
+    let is_right = *found == want;
+    let Decision { entry, .. } = want;
+    match note_any(acceptor, alloc, slot, entry) {
+        Ok(()) => Ok(is_right),
+        Err(fault) => Err(fault),
+    }
 }
 
 static ONE_SLOT: [Step; 8] = [
