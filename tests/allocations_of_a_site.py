@@ -1,9 +1,9 @@
 """Makes each allocation of `bagpaxos site` fail in turn. The site gets the same datagrams in each
 run: they are sent when it waits for the first, and sites 2 and 3 are sockets, of which that of
-site 2 promises and votes as it is asked. The site has to go on, with lines of the whole run, or of
-a call that found no memory; or it ends with status 1 and a word for it. Whatever it said, in a
-datagram or a line, is in its cell then, which opens again. gdb runs this: see the script
-`allocations` beside it."""
+site 2 promises and votes as it is asked. The site has to go on, with all lines of the whole run but
+two at most, or of a call that found no memory; or it ends with status 1 and a word for it. Whatever
+it said, in a datagram or a line, is in its cell then, which opens again; and its log has lines of
+these alone. gdb runs this: see the script `allocations` beside it."""
 import os
 import pathlib
 import subprocess
@@ -22,7 +22,7 @@ from messages import Message, ballot, deposit, message, records
 from sites import PROGRAM, free_ports, make_bag, socket_at, write_members
 
 ROOM = pathlib.Path(os.environ["ROOM"])
-TURNS, TOO_MANY = 24, 5000
+TURNS, TOO_MANY = 40, 5000
 STOPPED = ("memory", "open 5", "stopped 3")
 BAG = make_bag(ROOM / "served-bag", b"abc")
 VALUE = bytes.fromhex(BAG)
@@ -30,12 +30,13 @@ PORT = free_ports(1)[0]
 CLIENT, SITE_2, SITE_3 = sockets = [socket_at() for _ in range(3)]
 PORTS = [PORT, SITE_2.getsockname()[1], SITE_3.getsockname()[1]]
 MEMBERS = write_members(ROOM / "served-members", PORTS)
-CELL, SAID = ROOM / "served-cell", ROOM / "served-lines"
-WORDS = f"site --members {MEMBERS} --number 1 --cell {CELL} --wait 1 --turns "
+CELL, SAID, LOG = ROOM / "served-cell", ROOM / "served-lines", ROOM / "served-log"
+WORDS = f"site --members {MEMBERS} --number 1 --cell {CELL} --log {LOG} --bags {ROOM} "
+WORDS += "--wait 1 --wait-most 1 --turns "
 # What comes to the site, and from whom. The last deposit is the one that it proposes when idle.
 OLD, NEW = ballot(1, 3), ballot(5, 2)
 COMING = [
-    (CLIENT, deposit("a", 1, ROOM / "served-bag")),
+    (CLIENT, deposit("a", 1, "served-bag")),
     (CLIENT, Message(QUERY, 0, "a", 1)),
     (SITE_2, Message(PREPARE, 2, "a", 1, NEW)),
     (SITE_3, Message(PREPARE, 3, "a", 1, OLD)),
@@ -47,7 +48,7 @@ COMING = [
     (SITE_3, Message(KNOWN, 3, "c", 1, VALUE)),
     (SITE_2, Message(REFUSED, 2, "c", 1, OLD + NEW)),
     (CLIENT, Message(KNOWN, 9, "c", 1, VALUE)),
-    (CLIENT, deposit("b", 1, ROOM / "served-bag")),
+    (CLIENT, deposit("b", 1, "served-bag")),
 ]
 WHOLE = [
     f"registered 1 a 1 {BAG}",
@@ -138,7 +139,11 @@ def why_wrong_lines(status, lines, has_failed):
     if status != (1 if stopped else 0):
         return "not the status for it"
     others = [it for it in lines[: len(lines) - stopped] if it not in WHOLE + OTHERWISE]
-    return f"lines of no such run: {others}" if others else None
+    if others:
+        return f"lines of no such run: {others}"
+    # One call at most came to nothing, and one that needed it.
+    lost = [it for it in WHOLE if it not in lines]
+    return f"lines that are lost: {lost}" if len(lost) > 2 and not stopped else None
 
 
 def why_not_kept(lines):
@@ -150,6 +155,20 @@ def why_not_kept(lines):
     lost = [it for it in said if it not in journal]
     codes = {it.body[0] for it in Waiting.heard if it.kind == DEPOSIT_REPLY}
     return f"lost {lost}" if lost else None if codes <= {0, 14} else f"replies {codes}"
+
+
+def why_wrong_log(lines):
+    """What is wrong with the log: lines may be left out of it."""
+    text = LOG.read_text() if LOG.exists() else ""
+    if text and not text.endswith("\n"):
+        return "the log ends within a line"
+    for line in text.splitlines():
+        said = line.split(" ", 2)[2]
+        # After a refusal comes the request. A folder may find no memory to be read.
+        known = " ".join(said.split()[:3]) if said.startswith("refused") else said
+        if known not in lines and not said.startswith(("serves ", "unread 1 27 ")):
+            return f"a line of the log: {line}"
+    return None
 
 
 def why_not_open():
@@ -165,13 +184,15 @@ def why_not_open():
 def attempt(failing):
     """Runs the site with that allocation failing: whether one did, its lines, what is wrong."""
     CELL.unlink(missing_ok=True)
+    LOG.unlink(missing_ok=True)
     for socket in sockets:
         list(received(socket))
     Waiting.is_first, Waiting.heard = True, []
     has_failed, status, said = run(failing, f"{WORDS} {TURNS} < /dev/null", SAID)
     Waiting.hear()
     lines = said.decode().splitlines()
-    why = why_wrong_lines(status, lines, has_failed) or why_not_kept(lines) or why_not_open()
+    why = why_wrong_lines(status, lines, has_failed) or why_not_kept(lines)
+    why = why or why_wrong_log(lines) or why_not_open()
     return has_failed, lines, why and f"{why}: status {status}, {lines}"
 
 

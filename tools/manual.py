@@ -4,7 +4,7 @@ import subprocess
 
 SECTION = re.compile(r"(Commands|Arguments|Options):\n((?:  .*\n)+)\n?")
 # The values of these options and arguments are files, or folders; of others nothing is known.
-FILES, FOLDERS = ("<FILE>",), ("<FOLDER>", "[PATH]")
+FILES, FOLDERS = ("<FILE>", "[FILE]", "<CELL>"), ("<FOLDER>", "[PATH]")
 
 
 class Help:
@@ -78,17 +78,19 @@ def completion(program):
     values, words = [], []
     for name, command in commands.items():
         for option, value in options_of(command):
-            values += [f"    {name}:{option}) {files_for(value)}return ;;"] if value else []
+            by = "".join(f"_bagpaxos_by {it}; " for it in kinds_for([value])[:1])
+            values += [f"    {name}:{option}) {by}return ;;"] if value else []
         options = " ".join(option for option, _ in options_of(command))
         words.append(f"    {name}:-*) _bagpaxos_by -W '{options}' ;;")
         arguments = [it.rstrip(".") for it, _ in command.entries("Arguments")]
-        words += [f"    {name}:*) _bagpaxos_by -d ;;"] if {*arguments} & {*FOLDERS} else []
+        words += [f"    {name}:*) _bagpaxos_by {it} ;;" for it in kinds_for(arguments)[:1]]
     lines = {"values": "\n".join(values), "words": "\n".join(words)}
     return COMPLETION.format(first=" ".join(first), **lines)
 
 
-def files_for(value):
-    return "_bagpaxos_by -f; " if value in FILES else ""
+def kinds_for(values):
+    """How bash completes each of these, where that is known."""
+    return [kind for kind, of in (("-f", FILES), ("-d", FOLDERS)) for it in values if it in of]
 
 
 COMPLETION = """\

@@ -48,24 +48,30 @@ def function_at(path, text, old):
 
 
 def verdicts_on(function, crate, said):
-    """What the check says of the function, by each name of its that the check gives."""
+    """What the check says of the function, by each name of its that the check gives. One of which
+    a goal of its own is open counts as not proved; of another that has no proof it says what this
+    one calls."""
     path, block, name = function
     inner = (it for it in path[4:-3].split("/") if it not in ("lib", "main", "mod"))
     module = "::".join([crate, *inner])
     owner = re.sub(r"<.*", "", block.split(" for ")[-1].strip())
-    found = []
+    found, elsewhere = [], []
     for line in said:
-        verdict = re.match(r"fn (\S+): (proved|not proved|no proof)", line)
-        if not verdict or not verdict[1].startswith(module + "::"):
+        verdict = re.match(r"fn (\S+): (proved|not proved|no proof)(: expected answers)?", line)
+        if not verdict or not verdict[1].endswith("::" + name):
             continue
-        if not verdict[1].endswith("::" + name):
+        given = verdict[1], "not proved" if verdict[3] else verdict[2]
+        if owner and re.fullmatch(rf"{crate}::(\w+::)*{owner}::{name}", verdict[1]):
+            # A method may stand in another file than its type, whose module the name has.
+            elsewhere.append(given)
+        if not verdict[1].startswith(module + "::"):
             continue
         between = verdict[1][len(module) :][: -len(name) - 2].removeprefix("::")
         is_same = not owner or between == owner or between.startswith(owner + "+")
         if between.startswith(owner) if owner else not between:
             if is_same or " for " in block:
-                found.append((verdict[1], verdict[2]))
-    return found
+                found.append(given)
+    return found or elsewhere
 
 
 def verdict_of(function, crate, said):
@@ -80,12 +86,42 @@ def name_of(function, crate, said):
     return found[0][0] if len(found) == 1 else None
 
 
+# What a check says of a name that isn't there, or of a text that is none.
+NAMES = r"is not in scope|has no field|is no name|operand is missing|expected the end"
+NAMES += r"|cannot continue"
+
+
 def is_unread(line):
-    """The check couldn't read an edited text, so that no contract was tried."""
+    """The check couldn't read an edited text, so that no contract was tried: it isn't of the
+    language, has a name that isn't there, or doesn't type."""
+    if re.match(r"(?:\./)?(?:src|specs)/\S+:\d+:\d+: error\[[\w-]+\]", line):
+        return True
     at = re.match(r"(?:\./)?(?:src|specs)/\S+:\d+:\d+: error: (?:(`[^`]*`): )?(.*)", line)
-    words = r"is not in scope|has no field|is no name|operand is missing|expected the end"
-    words += r"|cannot continue"
-    return bool(at) and (not at[1] or bool(re.search(words, re.sub(r"`[^`]*`", "", at[2]))))
+    return bool(at) and (not at[1] or bool(re.search(NAMES, re.sub(r"`[^`]*`", "", at[2]))))
+
+
+def sentences(said):
+    """The lines of a check, each with what goes on from it."""
+    found = []
+    for line in said:
+        if line.startswith("  ") and found:
+            found[-1] += " " + line.strip()
+        else:
+            found.append(line)
+    return found
+
+
+def is_of_a_name(sentence):
+    """A proof by hand names what the edit took away, which says nothing of the contract."""
+    words = r"has no field|is not in scope|has no `|was not admitted"
+    return bool(re.match(rf"(?:note: )?(?:\./)?proofs/.*(?:{words})", sentence))
+
+
+def is_for_names_alone(said):
+    """All that the check refuses is what proofs by hand name; the first of that, or None."""
+    place = r"(?:note: )?\S+:\d+:\d+: (?:error|it is not proved)"
+    refused = [it for it in sentences(said) if re.match(place, it)]
+    return refused[0] if refused and all(map(is_of_a_name, refused)) else None
 
 
 def batches_of(mutants, most):

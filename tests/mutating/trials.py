@@ -5,7 +5,8 @@ import shutil
 import threading
 
 from checks import ended, linked, linked_work
-from edits import Mutant, batches_of, is_unread, name_of, verdict_of
+from edits import Mutant, batches_of, name_of, verdict_of
+from edits import is_for_names_alone, is_of_a_name, is_unread, sentences
 from repository import PARTS
 
 # A check of more mutants costs less for each; a run that is cut loses those that it was trying.
@@ -70,7 +71,7 @@ class Trial:
             words = [word for it in only for word in ("--only", it)]
             said, _ = self.bases.lanes.run(self.rank, folder, ["check", *words])
             unread = next((it for it in said if is_unread(it)), None)
-            return (said, None) if unread is None else (None, f"it can't be read: {unread[:160]}")
+            return (said, None) if unread is None else (None, f"it can't be read: {unread[:200]}")
         finally:
             self.idle.put(copy)
 
@@ -79,16 +80,17 @@ class Trial:
         return mutant.function and name_of(mutant.function, self.crate, self.said)
 
     def tried_alone(self, mutant):
-        """Why the mutant passes, or None where the check refuses it."""
+        """Why the mutant passes, or None where the check refuses it; and then the line of a proof by
+        hand, which names what it took away, where nothing else refuses it."""
         said, why = self.check([mutant], is_whole=True)
         if why:
-            return why
+            return why, None
         last = [it for it in said if it.startswith("logic=")]
         if last and last[-1].startswith("logic=not-proved"):
-            return None
+            return None, is_for_names_alone(said)
         if last:
-            return "the crate is proved with it"
-        return f"the check came to no end: {ended(said)}"
+            return "the crate is proved with it", None
+        return f"the check came to no end: {ended(said)}", None
 
 
 def together(trial, mutants, tell):
@@ -98,7 +100,10 @@ def together(trial, mutants, tell):
     later, alone = [], []
     for mutant in mutants:
         verdict = None if why else verdict_of(mutant.function, trial.crate, said)
-        if verdict == "not proved":
+        # Where a proof by hand names what isn't there, it has to be seen whether that is all.
+        own = f"/{mutant.function[2]}/"
+        lost = not why and any(own in it for it in sentences(said) if is_of_a_name(it))
+        if verdict == "not proved" and not lost:
             tell(mutant.name, None)
         elif verdict == "no proof" and len(mutants) > 1:
             later.append(mutant)
@@ -134,7 +139,7 @@ def try_crate(crate, names, bases, rank, tell):
     alone = [it for it in mutants if trial.name(it) is None]
     # One more than there are places: so the next copy is ready where a place becomes free.
     with concurrent.futures.ThreadPoolExecutor(bases.lanes.count + 1) as pool:
-        try_alone = lambda it: tell(it.name, trial.tried_alone(it))
+        try_alone = lambda it: tell(it.name, *trial.tried_alone(it))
         early = [pool.submit(try_alone, it) for it in alone]
         late = in_batches(trial, pool, [it for it in mutants if it not in alone], tell)
         list(pool.map(try_alone, late))

@@ -1,10 +1,11 @@
-"""Datagrams, layout 2, and journals, layout 1, as docs/FORMATS.md has them. No test of itself."""
+"""Datagrams and journals as docs/FORMATS.md has them. No test of itself."""
 import hashlib
 from typing import NamedTuple
 
 FEDERATION = 7
 BALLOT_BYTES = 5
 CHECKSUM_BYTES = 8
+OLD_HEADER_BYTES = 13
 # The kinds of datagrams, and of records.
 PREPARE, PROMISE, ACCEPT, ACCEPTED, REFUSED, ASK, KNOWN = range(1, 8)
 DEPOSIT, QUERY, DEPOSIT_REPLY, QUERY_REPLY = 16, 17, 32, 33
@@ -71,13 +72,28 @@ def deposit(object, version, path):
     return Message(DEPOSIT, 0, object, version, len(path).to_bytes(2, "big") + path)
 
 
+def header_at(journal, at, digit):
+    """Whether a header of this layout begins here."""
+    return journal[at : at + 12] == b"BPJ" + digit + FEDERATION.to_bytes(8, "big")
+
+
 def records(journal):
-    """The records of a whole journal."""
-    assert journal[:12] == b"BPJ1" + FEDERATION.to_bytes(8, "big")
-    found, at = [], 13
+    """The records of a whole journal; those that were carried over have no checksum."""
+    at = OLD_HEADER_BYTES if header_at(journal, 0, b"1") else 0
+    assert at or header_at(journal, 0, b"2")
+    found, is_sealed = [], False
     while at < len(journal):
+        if not is_sealed and header_at(journal, at, b"2"):
+            at, is_sealed = at + OLD_HEADER_BYTES + 1 + journal[at + OLD_HEADER_BYTES], True
+            continue
         end = at + 2 + int.from_bytes(journal[at : at + 2], "big")
         assert end <= len(journal)
-        found.append(Record(journal[at + 2], *named(journal[at + 3 : end])))
+        found.append(record(journal[at:end], is_sealed))
         at = end
     return found
+
+
+def record(bytes, is_sealed):
+    before = bytes[:-CHECKSUM_BYTES] if is_sealed else bytes
+    assert not is_sealed or sealed(before) == bytes
+    return Record(before[2], *named(before[3:]))

@@ -42,6 +42,19 @@ def need_the_program():
         sys.exit(1)
 
 
+def can_trace(count):
+    """Whether strace is here; without it a test fails, unless WITHOUT_STRACE is set."""
+    tried = ["strace", "-o", "/dev/null", "-e", "inject=getpid:error=EIO", "true"]
+    try:
+        if subprocess.run(tried, capture_output=True).returncode == 0:
+            return True
+    except FileNotFoundError:
+        pass
+    print("skipped system calls that fail: strace isn't here, or can't trace")
+    count.expect("strace is here, or WITHOUT_STRACE is set", "WITHOUT_STRACE" in os.environ, True)
+    return False
+
+
 def socket_at(port=0):
     """A socket on this port of 127.0.0.1, or on a free one."""
     made = socket.socket(socket.AF_INET, socket.SOCK_DGRAM)
@@ -95,10 +108,10 @@ def run(*words, **how):
 class Served:
     """A site in a process of its own, on a cell that outlives it."""
 
-    def __init__(self, room, members, number, turns=TURNS, wait=20):
+    def __init__(self, room, members, number, wait=20, options=("--turns", TURNS)):
         self.room, self.cell, self.number = room, room / f"cell-{number}", number
         self.words = [PROGRAM, "site", "--members", members, "--number", str(number)]
-        self.words += ["--cell", self.cell, "--turns", turns, "--wait", str(wait)]
+        self.words += ["--cell", self.cell, "--wait", str(wait), *options]
         self.log = room / f"lines-{number}"
         self.start()
 

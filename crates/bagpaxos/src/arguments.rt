@@ -1,10 +1,18 @@
 //! What the program's arguments ask for.
 
+use audit_command::{AuditTask, audit_command, audit_task};
+use catch_up::{CatchUpTask, catch_up_command, catch_up_task};
 use clap::error::ErrorKind;
 use clap::{Arg, ArgAction, ArgMatches, Command, Error};
 use folder_checks::{CheckTask, check_command, check_task};
+use ledger_commands::{
+    JournalTask, LedgerTask, journal_command, journal_task, ledger_command, ledger_task,
+};
 use lines::Options;
-use site_commands::{SendTask, SiteTask, send_command, send_task, site_command, site_task};
+use site_commands::{
+    MembersTask, SendTask, SiteTask, members_command, members_task, send_command, send_task,
+    site_command, site_task,
+};
 use std::alloc::{AllocError, Global};
 
 const ABOUT: &str =
@@ -55,6 +63,16 @@ pub enum Task<'a> {
     Site(SiteTask<'a>),
     /// Ask a site that serves.
     Send(SendTask<'a>),
+    /// Print what a cell says.
+    Journal(JournalTask<'a>),
+    /// Say what cells prove together.
+    Audit(AuditTask<'a>),
+    /// Bring a site up to date.
+    CatchUp(CatchUpTask<'a>),
+    /// Read a members file, or write one.
+    Members(MembersTask<'a>),
+    /// Print what a cell says of each version.
+    Ledger(LedgerTask<'a>),
 }
 
 /// What these words ask for, the program's own name being the first of them. Help is an error of
@@ -76,6 +94,8 @@ fn matches_of<'a>(alloc: Global, words: &'a [String]) -> Result<ArgMatches<'a>, 
 fn mistake_in(task: &Option<Task>) -> Option<&'static str> {
     match task {
         Some(Task::Send(send)) => send.mistake(),
+        Some(Task::Site(site)) => site.mistake(),
+        Some(Task::Members(members)) => members.mistake(),
         _ => None,
     }
 }
@@ -87,6 +107,21 @@ fn refusal(alloc: Global, mistake: &str) -> Result<Error, AllocError> {
 fn task_in<'a>(alloc: Global, matches: &ArgMatches<'a>) -> Result<Option<Task<'a>>, AllocError> {
     if let Some(check) = matches.subcommand_matches("check") {
         return Ok(Some(Task::Check(check_task(alloc, check)?)));
+    }
+    if let Some(audit) = matches.subcommand_matches("audit") {
+        return match audit_task(alloc, audit)? {
+            Some(task) => Ok(Some(Task::Audit(task))),
+            None => Ok(None),
+        };
+    }
+    if let Some(catch_up) = matches.subcommand_matches("catch-up") {
+        return match catch_up_task(alloc, catch_up)? {
+            Some(task) => Ok(Some(Task::CatchUp(task))),
+            None => Ok(None),
+        };
+    }
+    if let Some(members) = matches.subcommand_matches("members") {
+        return Ok(Some(Task::Members(members_task(alloc, members)?)));
     }
     Ok(other_task_in(matches))
 }
@@ -104,15 +139,36 @@ fn other_task_in<'a>(matches: &ArgMatches<'a>) -> Option<Task<'a>> {
             None => None,
         };
     }
-    match send_task(matches.subcommand_matches("send")?) {
-        Some(task) => Some(Task::Send(task)),
+    if let Some(send) = matches.subcommand_matches("send") {
+        return match send_task(send) {
+            Some(task) => Some(Task::Send(task)),
+            None => None,
+        };
+    }
+    cell_task_in(matches)
+}
+
+fn cell_task_in<'a>(matches: &ArgMatches<'a>) -> Option<Task<'a>> {
+    if let Some(ledger) = matches.subcommand_matches("ledger") {
+        return match ledger_task(ledger) {
+            Some(task) => Some(Task::Ledger(task)),
+            None => None,
+        };
+    }
+    match journal_task(matches.subcommand_matches("journal")?) {
+        Some(task) => Some(Task::Journal(task)),
         None => None,
     }
 }
 
 // Each part is added in a call of its own: a command is much for a proof to carry past a `?`.
 fn command<'a>(alloc: Global) -> Result<Command<'a>, AllocError> {
-    let command = with_subcommand(Ok(program(alloc)), check_command(alloc));
+    let command = with_subcommand(Ok(program(alloc)), audit_command(alloc));
+    let command = with_subcommand(command, catch_up_command(alloc));
+    let command = with_subcommand(command, check_command(alloc));
+    let command = with_subcommand(command, journal_command(alloc));
+    let command = with_subcommand(command, ledger_command(alloc));
+    let command = with_subcommand(command, members_command(alloc));
     let command = with_subcommand(command, run_command(alloc));
     let command = with_subcommand(command, send_command(alloc));
     with_subcommand(command, site_command(alloc))

@@ -6,6 +6,7 @@ use std::fs;
 use std::fs::{File, OpenOptions};
 use std::io::{self, ErrorKind, Read, Seek, SeekFrom, Write};
 use std::os::fd::AsRawFd;
+use std::os::unix::fs::OpenOptionsExt;
 use std::path::Path;
 
 /// A cell in a file. No contract says what a file holds.
@@ -24,6 +25,8 @@ pub struct FileCell {
     /// So many of the first bytes are on the disk: the length at the last sync that succeeded, or
     /// the least one to which the file was cut since.
     sure: u64,
+    /// The length that the calls gave the file.
+    length: u64,
     state: State,
     failures: u64,
 }
@@ -35,8 +38,8 @@ enum State {
     Sound,
     /// A change failed, and so did the cutting back: that is done first.
     CutOwed,
-    /// That failed again, or the path no longer leads to the file: nothing, until it is opened
-    /// anew.
+    /// That failed again, or the path no longer leads to the file as the calls left it: nothing,
+    /// until it is opened anew.
     Lost,
 }
 
@@ -46,9 +49,10 @@ impl FileCell {
     ghost use Rattle.cell_device.specs.Calls.{one_more, HasCause};
     ghost use Rattle.cell_device.specs.FileCells.{failures_of};
 
-    /// The cell in the file of this path, which is made where it is missing; a path without a
-    /// folder leads to the present one. It is refused with `Device` where it isn't a file, where
-    /// another cell has it open, or where the system refuses it; or with `Memory`.
+    /// The cell in the file of this path, which is made where it is missing, with rights for its
+    /// owner alone; a path without a folder leads to the present one. It is refused with `Device`
+    /// where it isn't a file, where another cell has it open, or where the system refuses it; or
+    /// with `Memory`.
     pub fn open(rt: &HostRuntime, path: &str) -> Result<FileCell, CellFault>
         ensures { IfOk result (λ cell. failures_of cell ≡ 0) }
     {
@@ -74,6 +78,7 @@ impl FileCell {
             file,
             place,
             sure,
+            length: sure,
             state: State::Sound,
             failures: 0,
         })
@@ -106,6 +111,7 @@ impl FileCell {
         ensures later { failures_of self.old ≤ failures_of self.new }
         ensures count { failures_of self.new ≡ one_more (failures_of self.old) }
     {
+        self.length = self.sure;
         self.state = match cut_back(&self.file, self.sure) {
             Ok(()) => State::Sound,
             Err(_) => State::CutOwed,
@@ -150,7 +156,10 @@ impl Cell for FileCell {
     fn append(&mut self, bytes: &[u8]) -> Result<(), CellFault> {
         self.begin()?;
         match self.file.write_all(bytes) {
-            Ok(()) => Ok(()),
+            Ok(()) => {
+                self.length = self.length.saturating_add(bytes.len() as u64);
+                Ok(())
+            }
             Err(_) => Err(self.fail_change()),
         }
     }
@@ -158,6 +167,7 @@ impl Cell for FileCell {
     fn cut(&mut self, len: usize) -> Result<(), CellFault> {
         self.begin()?;
         self.sure = self.sure.min(len as u64);
+        self.length = self.length.min(len as u64);
         match shorten(&self.file, len as u64) {
             Ok(()) => Ok(()),
             Err(_) => Err(self.fail_change()),
@@ -171,11 +181,12 @@ impl Cell for FileCell {
         }
         // After the sync, so that the answer speaks of the file that the path leads to now.
         match self.place.length() {
-            Ok(length) => {
+            Ok(length) if length == self.length => {
                 self.sure = length;
                 Ok(())
             }
-            Err(_) => {
+            // The path leads elsewhere, or somebody else has changed the file.
+            _ => {
                 self.state = State::Lost;
                 Err(self.fail())
             }
@@ -197,6 +208,7 @@ fn open_locked(rt: &HostRuntime, path: &str) -> io::Result<File> {
         .read(true)
         .append(true)
         .create(true)
+        .mode(0o600)
         .open(rt, path)?;
     file.try_lock()?;
     Ok(file)

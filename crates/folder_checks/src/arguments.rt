@@ -40,14 +40,23 @@ Of several folders, each of these lines but `memory` has the folder before it, a
 With --progress, or where standard error is a terminal and a check takes its time, lines there say
 how far it is: 1000 of 2500 files, 4096000 of 10240000 bytes, 300 MB/s
 
-The exit status is 0 where each folder is a valid bag, 1 for all else, and 2 for a mistake in the
-arguments.
+With --registered FILE, a site's cell or a list that `ledger` printed, lines there say which of the
+known bags the folders are, once all are checked:
+  FOLDER is OBJ V               it is the bag that is known as version V of OBJ
+  FOLDER is no registered bag   it is a valid bag, but that of no version
+  not among these: OBJ V        no folder is the bag of this version
+and where FILE can't be used the only line on standard output says why: `open 4`, `damaged OFFSET`,
+`ledger line N`.
+
+The exit status is 0 where each folder is a valid bag, and with --registered each is registered and
+none is missing; 1 for all else, and 2 for a mistake in the arguments.
 
 Examples:
   bagpaxos check path/to/bag
   bagpaxos check --explain path/to/bag
   bagpaxos check --progress path/to/bag
-  bagpaxos check path/to/bag path/to/another";
+  bagpaxos check path/to/bag path/to/another
+  bagpaxos check --registered cell.1 bags/*";
 
 /// Folders to check.
 #[derive(Debug, Drop)]
@@ -57,6 +66,8 @@ pub struct CheckTask<'a> {
     pub report: Report,
     /// Whether to say how far it is.
     pub progress: bool,
+    /// The path of what knows the registered bags, if the folders are compared with it.
+    pub registered: Option<&'a str>,
 }
 
 /// What these arguments of the command ask for.
@@ -77,6 +88,7 @@ pub fn check_task<'a>(
         paths,
         report,
         progress: matches.get_flag("progress"),
+        registered: matches.get_str("registered"),
     })
 }
 
@@ -94,10 +106,21 @@ pub fn check_command<'a>(alloc: Global) -> Result<Command<'a>, AllocError> {
         .long("progress")
         .action(ArgAction::SetTrue)
         .help("Say on standard error how far it is");
-    Command::new(alloc, "check")
+    let registered = Arg::new(alloc, "registered")
+        .long("registered")
+        .value_name("FILE")
+        .help("Say on standard error which registered bags they are, by a cell or a ledger");
+    let command = Command::new(alloc, "check")
         .about(ABOUT)
-        .after_help(EXAMPLE)
-        .arg(explain)?
-        .arg(progress)?
-        .arg(folders)
+        .after_help(EXAMPLE);
+    let command = with_flags(command, explain, progress)?;
+    command.arg(registered)?.arg(folders)
+}
+
+fn with_flags<'a>(
+    command: Command<'a>,
+    explain: Arg<'a>,
+    progress: Arg<'a>,
+) -> Result<Command<'a>, AllocError> {
+    command.arg(explain)?.arg(progress)
 }

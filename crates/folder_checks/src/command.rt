@@ -13,7 +13,7 @@ use std::io::{IsTerminal, Stderr};
 /// standard error.
 pub fn check_folders(rt: &HostRuntime, task: &CheckTask<'_>) -> Result<u8, ProgramFault> {
     let mut output = io::writer(rt);
-    match watched(rt, task.progress) {
+    match watched_folders(rt, task.progress) {
         Ok(mut folders) => {
             let paths = task.paths.as_slice();
             check_all_on(rt.alloc(), &mut folders, paths, task.report, &mut output)
@@ -22,9 +22,9 @@ pub fn check_folders(rt: &HostRuntime, task: &CheckTask<'_>) -> Result<u8, Progr
     }
 }
 
-// The folders of the file system; on standard error it is said how far each check is, where that is
-// asked for or a person may read it.
-fn watched(
+/// The folders of the file system; on standard error it is said how far each check is, where that
+/// is asked for or a person may read it.
+pub fn watched_folders(
     rt: &HostRuntime,
     progress: bool,
 ) -> Result<DiskFolders<HostRuntime, Progress<HostRuntime, Stderr>>, AllocError> {

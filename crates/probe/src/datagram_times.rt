@@ -69,7 +69,7 @@ fn decoded_version(alloc: Global, bytes: &[u8]) -> Result<u64, DgramFault> {
     Ok(u64::from(message.slot.version()))
 }
 
-fn total_line(alloc: Global, total: u64) -> Result<String, Fault> {
+pub fn total_line(alloc: Global, total: u64) -> Result<String, Fault> {
     Ok(format!(in alloc; "{total}\n")?)
 }
 
@@ -89,7 +89,8 @@ fn digest_encoded(alloc: Global, message: &Message, count: u32) -> Result<u64, A
     Ok(digest_often(&mut bytes, count))
 }
 
-fn digest_often(bytes: &mut Vec<u8>, count: u32) -> u64 {
+/// Takes the SHA-256 of the bytes so often, and adds up the first byte of each.
+pub fn digest_often(bytes: &mut Vec<u8>, count: u32) -> u64 {
     let mut total = 0u64;
     for _ in 0..count {
         let [byte, ..] = Sha256::digest(bytes.as_slice());

@@ -16,8 +16,8 @@ pub enum Fault {
     #[error("tasks: encode|decode|decide|arrive N, file|commit|turns PATH SITE, bench|fill PATH N, open PATH, memory, deciding, sites, schedule")]
     Arguments,
     /// A line is no comment, no federation with the hex digits of a datagram, and no site with
-    /// those of a cell.
-    #[error("a line that is neither FEDERATION HEX nor SITE | HEX")]
+    /// those of a cell, with or without weights and a call that fails.
+    #[error("a line that is neither FEDERATION HEX nor SITE WEIGHT .. | fail|stop CALL KEPT | HEX")]
     Line,
     /// A script or a schedule has a line that it can't have.
     #[error("a line that no script and no schedule has")]

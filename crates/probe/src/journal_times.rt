@@ -1,17 +1,19 @@
 //! Calls to be timed, on journals in files. They belong to the site of the example.
 
+use crate::datagram_times::{digest_often, total_line};
 use crate::example::{site, slot, vote};
 use crate::fault::Fault;
 use crate::files::open_book;
 use crate::opening::owner;
 use book::{Book, Entry, Record, Round};
 use cell_device::{Cell, CellFault, FileCell};
+use fields::CHECKSUM_BYTES;
 use records::header;
 use std::alloc::Global;
 use std::time::Instant;
 
 /// The bytes that a Round record for object `a` has.
-const ROUND_BYTES: usize = 13;
+const ROUND_BYTES: usize = 21;
 
 /// Commits the Vote so often, in a new file. How many commits a second that were.
 pub fn commits_line(rt: &HostRuntime, path: &str, count: u32) -> Result<String, Fault> {
@@ -31,6 +33,22 @@ fn time_commits(rt: &HostRuntime, book: &mut Book<FileCell>, count: u32) -> Resu
     Ok(start.elapsed(rt)?.as_secs_f64())
 }
 
+/// Takes the SHA-256 of the Vote's bytes before their checksum, so often.
+pub fn vote_digests_line(alloc: Global, count: u32) -> Result<String, Fault> {
+    let mut bytes = vote_bytes(alloc)?;
+    bytes.truncate(bytes.len().saturating_sub(CHECKSUM_BYTES));
+    let total = digest_often(&mut bytes, count);
+    drop(bytes);
+    total_line(alloc, total)
+}
+
+fn vote_bytes(alloc: Global) -> Result<Vec<u8>, Fault> {
+    let record = vote(alloc)?;
+    let bytes = record.to_bytes(alloc);
+    drop(record);
+    Ok(bytes?)
+}
+
 /// Writes the header and Rounds 1 to `count` to a new file. How many bytes those records are.
 pub fn filled_line(rt: &HostRuntime, path: &str, count: u32) -> Result<String, Fault> {
     let bytes = rounds(rt.alloc(), count)?;
@@ -42,9 +60,9 @@ pub fn filled_line(rt: &HostRuntime, path: &str, count: u32) -> Result<String, F
 }
 
 fn write_journal(rt: &HostRuntime, path: &str, records: &[u8]) -> Result<(), Fault> {
-    let owner = owner(site()?)?;
+    let header = header(rt.alloc(), owner(site()?)?)?;
     let mut cell = FileCell::open(rt, path)?;
-    let written = append_all(&mut cell, &header(owner), records);
+    let written = append_all(&mut cell, &header, records);
     drop(cell);
     Ok(written?)
 }

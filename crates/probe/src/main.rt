@@ -8,6 +8,7 @@
 mod accepting_memory;
 mod accepting_times;
 mod cases;
+mod crash;
 mod datagram_case;
 mod datagram_times;
 mod deciding_memory;

@@ -1,17 +1,22 @@
 //! A cell is opened, and what that gives is said in a line.
 
-use crate::example::FEDERATION;
+use crate::example::{FEDERATION, WEIGHTS};
 use crate::fault::Fault;
 use crate::records_text::push_records;
 use book::{Book, OpenFault, Owner};
 use cell_device::Cell;
-use fed_types::{MOST_MEMBERS, Members, SiteNo};
+use fed_types::{Members, SiteNo};
 use std::alloc::Global;
 
-/// The owner of this site's journal, in a federation of as many members as there can be.
+/// The owner of this site's journal, in a federation of three members of weight 1.
 pub fn owner(site: SiteNo) -> Result<Owner, Fault> {
+    weighted(site, &WEIGHTS)
+}
+
+/// That in a federation whose members have these weights.
+pub fn weighted(site: SiteNo, weights: &[u8]) -> Result<Owner, Fault> {
     Ok(Owner {
-        members: Members::new(FEDERATION, MOST_MEMBERS)?,
+        members: Members::weighted(FEDERATION, weights)?,
         site,
     })
 }
@@ -55,7 +60,7 @@ fn push_refused<C: Cell + Drop>(
     }
 }
 
-fn push_fault(text: &mut String, fault: OpenFault) -> Result<(), Fault> {
+pub fn push_fault(text: &mut String, fault: OpenFault) -> Result<(), Fault> {
     match fault {
         OpenFault::Memory => Err(Fault::Memory),
         fault => Ok(write!(text, "{fault:?}")?),

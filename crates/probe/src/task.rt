@@ -13,6 +13,8 @@ pub enum Task {
     Decode,
     /// Take a SHA-256 so often, to be timed beside these.
     Digest,
+    /// Take that of a record so often.
+    DigestVote,
     /// Open the cell in a file.
     File,
     /// Open the cell in a file, and commit a record.
@@ -45,6 +47,7 @@ pub fn task_of(name: &str) -> Option<Task> {
         "encode" => Some(Task::Encode),
         "decode" => Some(Task::Decode),
         "digest" => Some(Task::Digest),
+        "digest-vote" => Some(Task::DigestVote),
         "file" => Some(Task::File),
         "commit" => Some(Task::Commit),
         "turns" => Some(Task::Turns),

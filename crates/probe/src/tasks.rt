@@ -6,7 +6,7 @@ use crate::deciding_memory::decided_line;
 use crate::deciding_times::decisions_text;
 use crate::fault::Fault;
 use crate::files::{commit_line, opened_line};
-use crate::journal_times::{commits_line, filled_line, opening_time_line};
+use crate::journal_times::{commits_line, filled_line, opening_time_line, vote_digests_line};
 use crate::out_of_memory::voted_line;
 use crate::schedule_text::printed_again;
 use crate::task::{
@@ -21,6 +21,7 @@ pub fn perform(rt: &HostRuntime, task: Task, words: &mut Args) -> Result<String,
         Task::Encode => encode(rt, words),
         Task::Decode => decode(rt, words),
         Task::Digest => digest(rt, words),
+        Task::DigestVote => digest_vote(rt, words),
         Task::File => file(rt, words),
         Task::Commit => commit(rt, words),
         Task::Turns => turns(rt, words),
@@ -56,6 +57,10 @@ fn decode(rt: &HostRuntime, words: &mut Args) -> Result<String, Fault> {
 
 fn digest(rt: &HostRuntime, words: &mut Args) -> Result<String, Fault> {
     digesting_line(rt.alloc(), last_count(words)?)
+}
+
+fn digest_vote(rt: &HostRuntime, words: &mut Args) -> Result<String, Fault> {
+    vote_digests_line(rt.alloc(), last_count(words)?)
 }
 
 fn file(rt: &HostRuntime, words: &mut Args) -> Result<String, Fault> {

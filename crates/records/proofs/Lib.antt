@@ -1,13 +1,17 @@
 pub mod Encoding
 pub mod Prefixes
+pub mod Apart
+pub mod Texts
+pub mod Carrying
 pub mod OneReading
-pub mod Steps
 pub mod Walk
+pub mod Again
+pub mod Found
+pub mod Parting
 pub mod Readings
+pub mod Mended
 pub mod Words
 pub mod Lists
 pub mod Highest
 pub mod Bounds
-pub mod Texts
 pub mod Total
-mod Examples

@@ -1,40 +1,29 @@
 -- The records are read one after another.
-use Rattle.std.proofs.Common.{◌≡◌, ℕ, ◌≤◌, ◌+◌, ◌-◌, List, [], ◌∷◌, ◌++◌, length, take, drop, refl}
-use Rattle.std.proofs.Common.{sym, ap, subst, ◌∙◌, arith, append_assoc, length-append}
+use Rattle.std.proofs.Common.{◌≡◌, ℕ, zero, suc, ◌≤◌, ◌+◌, ◌-◌, ◌*◌, List, [], ◌∷◌, ◌++◌, length}
+use Rattle.std.proofs.Common.{take, drop, get_or, Option, Some, None, refl, sym, ap, subst, ◌∙◌}
+use Rattle.std.proofs.Common.{arith, inr, append_assoc, length-append}
+use Rattle.std.specs.Prelude.{IsSome}
+use Rattle.std.specs.Int.{w16, to_be_bytes, from_be_bytes}
 use Rattle.std.proofs.lemmas.List.{append-nil, take_at, take-append-drop, length-drop, length-take}
+use Rattle.std.proofs.lemmas.List.{take-append-le}
+use Rattle.std.proofs.lemmas.Nat.{be_bytes_2}
 use Rattle.std.proofs.Math.Seq.{take-length}
-use Rattle.records.specs.Numbers.{header_len}
+use Rattle.fields.specs.Checksums.{checksum}
+use Rattle.fields.proofs.Bytes.{IsBytes, IsBytes-prefix, IsBytes-rest, bind_some, some_is, not_some}
+use Rattle.fields.proofs.Checksums.{without_again, without_taken, checksum_size as sum_size}
+use Rattle.records.specs.declared.layout.Layout.{Layout}
+use Rattle.records.specs.declared.layout.Layout.TheVariants.{First, Second}
 use Rattle.records.specs.declared.record.Record.{Record}
-use Rattle.records.specs.declared.journal.Step.TheVariants as steps
-use Rattle.records.specs.Layout.{record_bytes, records_bytes}
-use Rattle.records.specs.Records.{IsRecord, AreRecords}
-use Rattle.records.specs.inner.Steps.{IsStep, Parts}
+use Rattle.records.specs.declared.journal.Find.TheVariants as finds
+use Rattle.records.specs.Layout.{content_bytes, checksum_size, sealed, framed, encoded}
+use Rattle.records.specs.Layout.{all_encoded}
+use Rattle.records.specs.Records.{IsRecord}
+use Rattle.records.specs.Journals.{length_field, IsNoRecord}
+use Rattle.records.specs.inner.Decoding.{content_at}
+use Rattle.records.specs.inner.Steps.{unsealed, record_in, IsWhole, IsSized, IsPassed}
+use Rattle.records.proofs.Encoding.{content_taken, content_again}
 use Rattle.records.proofs.Prefixes.{record_size, content_size}
-
-pub records-push : (rs : List Record) (r : Record) → records_bytes (rs ++ r ∷ []) ≡ records_bytes rs
-    ++ record_bytes r
-unfolding records_bytes
-records-push [] r = append-nil (record_bytes r)
-records-push (s ∷ rs) r = ap (λ (b : List ℕ). record_bytes s ++ b) (records-push rs r)
-    ∙ sym (append_assoc (record_bytes s) (records_bytes rs) (record_bytes r))
-
-pub whole-push : (rs : List Record) (r : Record) → AreRecords rs → IsRecord r
-    → AreRecords (rs ++ r ∷ [])
-whole-push [] r h k = (k, tt)
-whole-push (s ∷ rs) r h k = (h.0, whole-push rs r h.1 k)
-
-pub parts_start : (bytes : List ℕ) (rs : List Record) → header_len ≤ length bytes → rs ≡ []
-    → Parts bytes rs header_len (drop header_len bytes)
-unfolding records_bytes
-parts_start bytes rs long none =
-    subst (λ (l : List Record). Parts bytes l header_len (drop header_len bytes))
-    (sym none) (record {
-      are_records = tt;
-      in_range = long;
-      after_header = omega arith;
-      text = sym (append-nil (take header_len bytes));
-      rest_is = refl;
-    })
+use Rattle.records.proofs.Texts.{records-push, whole-push}
 
 -- the bytes from a place on
 abbrev pub from : List ℕ → ℕ → List ℕ
@@ -44,58 +33,170 @@ pub from_is : (bytes : List ℕ) (place : ℕ) → from bytes place ≡ drop pla
 from_is bytes place = ap (λ (n : ℕ). take n (drop place bytes)) (sym (length-drop place bytes))
     ∙ take-length (drop place bytes)
 
--- so many bytes a record takes
-pub step_size : (rest : List ℕ) (r : Record) (size : ℕ) → IsStep rest (steps.Whole r size)
+-- as the code reads the length
+pub field_of : (bytes : List ℕ) → 2 ≤ length bytes → get_or bytes 0 0 * 256 + get_or bytes 1 0
+    ≡ length_field bytes
+field_of [] two = absurd (omega (arith, two))
+field_of (a ∷ []) two = absurd (omega (arith, two))
+field_of (a ∷ b ∷ rest) two = refl
+
+-- ---- a whole record is read as it is written
+
+sealed_again : (l : Layout) (u : List ℕ) → unsealed l (sealed l u) ≡ Some u
+sealed_again First u = refl
+sealed_again Second u = without_again u
+
+sealed_taken : (l : Layout) (w u : List ℕ) → unsealed l w ≡ Some u → w ≡ sealed l u
+sealed_taken First w u e = some_is w u e
+sealed_taken Second w u e = without_taken u w e
+
+pub sealed_begins : (l : Layout) (u : List ℕ) → (more : List ℕ) × (sealed l u ≡ u ++ more)
+sealed_begins First u = ([], sym (append-nil u))
+sealed_begins Second u = (checksum u, refl)
+
+pub sealed_size : (l : Layout) (u : List ℕ) → length (sealed l u) ≡ length u + checksum_size l
+sealed_size First u = omega arith
+sealed_size Second u = omega (arith, length-append u (checksum u), sum_size u)
+
+pub record_again : (l : Layout) (r : Record) → IsRecord r → record_in l (encoded l r) ≡ Some r
+unfolding record_in encoded
+record_again l r h =
+    let content : drop 2 (framed l r) ≡ content_bytes r = refl in
+    rw (sealed_again l (framed l r), content) (content_again r h)
+
+-- the first two bytes, and the rest
+two_and : (u : List ℕ) → 2 ≤ length u → u ≡ take 2 u ++ drop 2 u
+two_and u two = sym (take-append-drop 2 u)
+
+pub record_taken : (l : Layout) (w : List ℕ) (r : Record) → IsBytes w
+    → length w ≡ 2 + length_field w → 19 ≤ length w + 8 → record_in l w ≡ Some r
+    → IsRecord r × (w ≡ encoded l r)
+unfolding record_in encoded
+record_taken l w r fits size least e =
+    let o = bind_some (unsealed l w) (λ u. content_at (drop 2 u)) r e in
+    let u = o.0 in
+    let whole : w ≡ sealed l u = sealed_taken l w u o.1 in
+    let begins = sealed_begins l u in
+    let its : IsBytes u = IsBytes-prefix u begins.0 (subst IsBytes (whole ∙ begins.1) fits) in
+    let behind : IsBytes (drop 2 u) = IsBytes-rest (take 2 u) (drop 2 u)
+    (subst IsBytes (sym (take-append-drop 2 u)) its) in
+    let t = content_taken (drop 2 u) r behind o.2 in
+    let sizes : length w ≡ length u + checksum_size l = ap length whole ∙ sealed_size l u in
+    let content : 11 ≤ length (content_bytes r) = (content_size r t.1).0 in
+    let more : length (drop 2 u) ≡ length (content_bytes r) = ap length t.0 in
+    let long : 2 ≤ length u = omega (arith, more, content, length-drop 2 u) in
+    let n : length_field w ≡ length (content_bytes r) + checksum_size l =
+    omega (arith, size, sizes, more, length-drop 2 u, long) in
+    let first : take 2 w ≡ take 2 u = ap (take 2) (whole ∙ begins.1)
+    ∙ take-append-le 2 u begins.0 long in
+    let two : IsBytes (take 2 u) = IsBytes-prefix (take 2 u) (drop 2 u)
+    (subst IsBytes (sym (take-append-drop 2 u)) its) in
+    let field : to_be_bytes w16 (length (content_bytes r) + checksum_size l) ≡ take 2 u =
+    be_bytes_2 (take 2 u) (length (content_bytes r) + checksum_size l)
+    (omega (arith, length-take 2 u, long)) two
+    (sym n ∙ ap (λ (b : List ℕ). from_be_bytes w16 b) first) in
+    let parts : u ≡ framed l r = two_and u long ∙ ap (λ (b : List ℕ). b ++ drop 2 u)
+    (sym field) ∙ ap (λ (b : List ℕ). to_be_bytes w16 (length (content_bytes r)
+    + checksum_size l) ++ b) t.0 in
+    (t.1, whole ∙ ap (sealed l) parts)
+
+-- ---- the bytes that a size finds
+
+module _ (l : Layout) (bytes : List ℕ) (size : ℕ) (sized : IsSized l bytes (finds.Whole size)) where
+  whole_size : length (take size bytes) ≡ size
+  whole_size = omega (arith, length-take size bytes, sized.2)
+
+  field_again : length_field (take size bytes) ≡ length_field bytes
+  field_again = ap (λ (b : List ℕ). from_be_bytes w16 b) (by size bytes least)
+    where
+      least : 2 ≤ size
+      least = omega (arith, sized.1)
+
+      by : (n : ℕ) (xs : List ℕ) → 2 ≤ n → take 2 (take n xs) ≡ take 2 xs
+      by zero xs two = absurd (omega (arith, two))
+      by (suc zero) xs two = absurd (omega (arith, two))
+      by (suc (suc n)) [] two = refl
+      by (suc (suc n)) (x ∷ []) two = refl
+      by (suc (suc n)) (x ∷ y ∷ xs) two = refl
+
+  pub sized_whole : (r : Record) → IsBytes bytes
+      → record_in l (take size bytes) ≡ Some r → IsWhole l bytes r size
+  sized_whole r fits e =
+      let its : IsBytes (take size bytes) = IsBytes-prefix (take size bytes) (drop size bytes)
+      (subst IsBytes (sym (take-append-drop size bytes)) fits) in
+      let t = record_taken l (take size bytes) r its
+      (whole_size ∙ sized.1 ∙ ap (λ (n : ℕ). 2 + n) (sym field_again))
+      (omega (arith, whole_size, sized.3)) e in
+      (t.0, sized.2, t.1)
+
+  pub sized_none : record_in l (take size bytes) ≡ None → IsNoRecord l bytes
+  sized_none e = (
+    sized.0,
+    inr (
+      omega (arith, sized.1, sized.2),
+      λ r h same. not_some (record_in l (take size bytes)) r e
+          (ap (λ (n : ℕ). record_in l (take n bytes)) sized.1 ∙ ap (record_in l) same
+          ∙ record_again l r h),
+    ),
+  )
+
+-- a record, or none
+pub some_of : (o : Option Record) → IsSome o → (r : Record) × (o ≡ Some r)
+some_of (Some r) some = (r, refl)
+some_of None some = absurd (cc some)
+
+pub none_of : (o : Option Record) → (IsSome o → ⊥) → o ≡ None
+none_of (Some r) none = absurd (none refl)
+none_of None none = refl
+
+-- ---- one after another
+
+pub whole_least : (l : Layout) (bytes : List ℕ) (r : Record) (size : ℕ) → IsWhole l bytes r size
     → 13 ≤ size
-step_size rest r size (is, fits, e) =
+whole_least l bytes r size (is, fits, e) =
     omega (
       arith,
-      length-take size rest,
+      length-take size bytes,
       fits,
       ap length e,
-      record_size r [],
-      ap length (append-nil (record_bytes r)),
-      content_size r is,
+      record_size l r [],
+      ap length (append-nil (encoded l r)),
+      (content_size r is).0,
     )
 
 pub take_both : (bytes : List ℕ) (m n : ℕ) → m ≤ length bytes → n ≤ length (drop m bytes)
     → take (m + n) bytes ≡ take m bytes ++ take n (drop m bytes)
 take_both bytes m n fits more =
-    let front = take m bytes in
-    let middle = take n (drop m bytes) in
-    let parts : bytes ≡ (front ++ middle) ++ drop n (drop m bytes) =
+    let a = take m bytes in
+    let b = take n (drop m bytes) in
+    let parts : bytes ≡ (a ++ b) ++ drop n (drop m bytes) =
     sym (take-append-drop m bytes)
-    ∙ ap (λ (b : List ℕ). front ++ b) (sym (take-append-drop n (drop m bytes)))
-    ∙ sym (append_assoc front middle (drop n (drop m bytes))) in
-    let size : length (front ++ middle) ≡ m + n =
+    ∙ ap (λ (x : List ℕ). a ++ x) (sym (take-append-drop n (drop m bytes)))
+    ∙ sym (append_assoc a b (drop n (drop m bytes))) in
+    let size : length (a ++ b) ≡ m + n =
     omega (
       arith,
-      length-append front middle,
+      length-append a b,
       length-take m bytes,
       length-take n (drop m bytes),
       fits,
       more,
     ) in
-    ap (take (m + n)) parts ∙ take_at (front ++ middle) (drop n (drop m bytes)) (m + n) size
+    ap (take (m + n)) parts ∙ take_at (a ++ b) (drop n (drop m bytes)) (m + n) size
 
-pub parts_next : (bytes : List ℕ) (rs ss : List Record) (place size : ℕ) (r : Record)
-    → Parts bytes rs place (drop place bytes) → IsStep (from bytes place) (steps.Whole r size)
-    → ss ≡ rs ++ r ∷ []
-    → Parts bytes ss (place + size) (drop (place + size) bytes)
-parts_next bytes rs ss place size r p s e =
-    let step : IsStep (drop place bytes) (steps.Whole r size) =
-    subst (λ (b : List ℕ). IsStep b (steps.Whole r size)) (from_is bytes place) s in
-    let text : take (place + size) bytes ≡ take header_len bytes ++ records_bytes (rs ++ r ∷ []) =
-    take_both bytes place size p.in_range step.1
-    ∙ ap (λ (b : List ℕ). b ++ take size (drop place bytes)) p.text
-    ∙ append_assoc (take header_len bytes) (records_bytes rs) (take size (drop place bytes))
-    ∙ ap (λ (b : List ℕ). take header_len bytes ++ (records_bytes rs ++ b)) step.2
-    ∙ ap (λ (b : List ℕ). take header_len bytes ++ b) (sym (records-push rs r)) in
-    subst (λ (l : List Record). Parts bytes l (place + size) (drop (place + size) bytes))
-    (sym e) (record {
-      are_records = whole-push rs r p.are_records step.0;
-      in_range = omega (arith, step.1, length-drop place bytes, p.in_range);
-      after_header = omega (arith, p.after_header);
-      text = text;
-      rest_is = refl;
-    })
+pub passed_none : (l : Layout) (bytes : List ℕ) → IsPassed l bytes [] 0
+unfolding all_encoded
+passed_none l bytes = (tt, omega arith, refl)
+
+pub passed_next : (l : Layout) (bytes : List ℕ) (rs : List Record) (len size : ℕ) (r : Record)
+    → IsPassed l bytes rs len → IsWhole l (from bytes len) r size
+    → IsPassed l bytes (rs ++ r ∷ []) (len + size)
+passed_next l bytes rs len size r p w =
+    let whole : IsWhole l (drop len bytes) r size =
+    subst (λ (b : List ℕ). IsWhole l b r size) (from_is bytes len) w in (
+      whole-push rs r p.0 whole.0,
+      omega (arith, whole.1, length-drop len bytes, p.1),
+      take_both bytes len size p.1 whole.1
+          ∙ ap (λ (b : List ℕ). b ++ take size (drop len bytes)) p.2
+          ∙ ap (λ (b : List ℕ). all_encoded l rs ++ b) whole.2 ∙ sym (records-push l rs r),
+    )

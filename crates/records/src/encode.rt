@@ -1,14 +1,13 @@
 ghost use Rattle.std.specs.Prelude.{◌≡◌, ◌≤◌, length, IfOk};
 ghost use Rattle.fields.specs.Puts.{Puts};
-ghost use Rattle.records.specs.Numbers.{shortest_record, longest_record};
+ghost use Rattle.records.specs.Numbers.{shortest_content, longest_content};
+ghost use Rattle.records.specs.declared.layout.Layout.TheVariants.{Second};
 ghost use Rattle.records.specs.Records.{IsRecord};
-ghost use Rattle.records.specs.Layout.{entry_bytes, content_bytes, record_bytes, header_bytes};
+ghost use Rattle.records.specs.Layout.{entry_bytes, content_bytes, framed, record_bytes};
 
 use crate::entry::Entry;
-use crate::layout::{HEADER, MAGIC};
-use crate::owner::Owner;
 use crate::record::Record;
-use fields::{put_bag, put_ballot, put_slot, put_vote};
+use fields::{CHECKSUM_BYTES, put_bag, put_ballot, put_checksum, put_slot, put_vote};
 use std::alloc::{AllocError, Global};
 
 fn put_entry(out: &mut Vec<u8>, entry: &Entry) -> Result<(), AllocError>
@@ -31,19 +30,21 @@ fn put_content(out: &mut Vec<u8>, kept: &Record) -> Result<(), AllocError>
     put_entry(out, &kept.body)
 }
 
-#[tactic(auto, unfolding(crate::specs::Layout::record_bytes))]
-fn put_record(out: &mut Vec<u8>, kept: &Record) -> Result<(), AllocError>
-    ensures { Puts result out.old out.new (record_bytes kept.now) }
+// All before the checksum.
+fn put_frame(out: &mut Vec<u8>, kept: &Record) -> Result<(), AllocError>
+    ensures { Puts result out.old out.new (framed Second kept.now) }
 {
-    out.extend_from_slice(&(kept.size() as u16).to_be_bytes())?;
+    let size = kept.size() + CHECKSUM_BYTES;
+    out.extend_from_slice(&(size as u16).to_be_bytes())?;
     put_content(out, kept)
 }
 
 impl Record {
-    /// How many bytes the record has, its length left out: `SHORTEST` to `LONGEST`.
+    /// How many bytes the record has between its length field and its checksum: `SHORTEST` to
+    /// `LONGEST`.
     fn size(&self) -> usize
         ensures value { result ≡ length (content_bytes self.now) }
-        ensures in_range { (shortest_record ≤ result) × (result ≤ longest_record) }
+        ensures in_range { (shortest_content ≤ result) × (result ≤ longest_content) }
         ensures sound { IsRecord self.now }
     {
         let head = 1 + 1 + self.slot.object().len() + self.slot.version().to_be_bytes().len();
@@ -51,22 +52,14 @@ impl Record {
     }
 
     /// The record's bytes.
+    #[tactic(auto, unfolding(crate::specs::Layout::encoded))]
     pub fn to_bytes(&self, alloc: Global) -> Result<Vec<u8>, AllocError>
         ensures bytes { IfOk result (λ bytes. bytes.items ≡ record_bytes self.now) }
         ensures sound { IsRecord self.now }
     {
-        let mut out = Vec::with_capacity(alloc, 2 + self.size())?;
-        put_record(&mut out, self)?;
+        let mut out = Vec::with_capacity(alloc, 2 + self.size() + CHECKSUM_BYTES)?;
+        put_frame(&mut out, self)?;
+        put_checksum(&mut out, 0)?;
         Ok(out)
     }
-}
-
-/// The bytes with which the journal of this owner begins.
-#[tactic(auto, unfolding(crate::specs::Layout::header_bytes))]
-pub fn header(owner: Owner) -> [u8; HEADER]
-    ensures { result ≡ header_bytes owner }
-{
-    let [a, b, c, d] = MAGIC;
-    let [e, f, g, h, i, j, k, l] = owner.members.federation().to_be_bytes();
-    [a, b, c, d, e, f, g, h, i, j, k, l, owner.site.number()]
 }

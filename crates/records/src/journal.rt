@@ -1,17 +1,19 @@
-ghost use Rattle.std.specs.Prelude.{◌≤◌, ◌<◌, ◌↔◌, List, Result, length, IfOk, IsTrue};
+ghost use Rattle.std.specs.Prelude.{◌≡◌, ◌≤◌, ◌↔◌, ℕ, List, Result, length, IfOk, OnOk};
+ghost use Rattle.std.specs.Prelude.{IsTrue, All};
 ghost use Rattle.records.specs.declared.fault.JournalFault.{JournalFault as declared_fault};
 ghost use Rattle.records.specs.declared.record.Record.{Record as declared_record};
 ghost use Rattle.records.specs.Answers.{IsReading, HasTextEnd, records_read};
 ghost use Rattle.records.specs.Faults.{IsOrMemory};
-ghost use Rattle.records.specs.Journals.{IsNew, Says};
-ghost use Rattle.records.specs.inner.Steps.{IsStep, IsSized, IsFound, HeaderSays, HasRecords};
-ghost use Rattle.records.specs.inner.Steps.{ReadsRecords};
+ghost use Rattle.records.specs.Journals.{Says};
+ghost use Rattle.records.specs.inner.Parts.{IsRun};
+ghost use Rattle.records.specs.inner.Found.{ArePartsOf, Allows};
+ghost use Rattle.records.specs.inner.Steps.{IsSized, IsFound, Passes, IsNext, HasRead, HasReadBoth};
 
 use crate::decode::{is_record, read_record};
-use crate::encode::header;
 use crate::fault::JournalFault;
-use crate::layout::{HEADER, LONGEST, MAGIC, SHORTEST};
+use crate::layout::{LONGEST, Layout, SHORTEST};
 use crate::owner::Owner;
+use crate::parts::{Parts, find_parts, is_new};
 use crate::record::Record;
 use fields::FieldFault;
 use std::alloc::{AllocError, Global};
@@ -21,19 +23,10 @@ use std::alloc::{AllocError, Global};
 pub struct Journal {
     /// The records, in order.
     pub records: Vec<Record>,
-    /// How many of the bytes are a text of these records: 0 where the header is not complete.
+    /// How many of the bytes are a header, or two, and these records.
     pub end: usize,
-}
-
-/// What comes next.
-#[derive(Debug, Drop)]
-pub(crate) enum Step {
-    /// Nothing, or a torn tail.
-    End,
-    /// A record of this many bytes.
-    Whole(Record, usize),
-    /// What is no record.
-    Damaged,
+    /// Whether a header of the second layout is among them.
+    pub current: bool,
 }
 
 /// What comes next, by its size alone.
@@ -47,15 +40,23 @@ pub(crate) enum Find {
     Damaged,
 }
 
+/// How many of the bytes are records of a layout, and whether what follows is no record.
+#[derive(Clone, Copy, Debug)]
+pub(crate) struct Passed {
+    pub len: usize,
+    pub damaged: bool,
+}
+
 // Finds how many bytes come next, by the length before them.
-fn find_size(bytes: &[u8]) -> Find
-    ensures { IsSized bytes.now result }
+fn find_size(layout: Layout, bytes: &[u8]) -> Find
+    ensures { IsSized layout bytes.now result }
 {
     let [high, low, rest @ ..] = bytes else {
         return Find::End;
     };
     let size = usize::from(u16::from_be_bytes([*high, *low]));
-    if size < SHORTEST || LONGEST < size {
+    let more = layout.checksum_size();
+    if size < SHORTEST + more || LONGEST + more < size {
         return Find::Damaged;
     }
     if rest.len() < size {
@@ -65,14 +66,14 @@ fn find_size(bytes: &[u8]) -> Find
 }
 
 // Finds what comes next. It takes no memory.
-fn find_next(bytes: &[u8]) -> Find
-    ensures { IsFound bytes.now result }
+fn find_next(layout: Layout, bytes: &[u8]) -> Find
+    ensures { IsFound layout bytes.now result }
 {
-    match find_size(bytes) {
+    match find_size(layout, bytes) {
         Find::End => Find::End,
         Find::Damaged => Find::Damaged,
         Find::Whole(size) => {
-            if !is_record(&bytes[2..size]) {
+            if !is_record(layout, &bytes[..size]) {
                 return Find::Damaged;
             }
             Find::Whole(size)
@@ -80,52 +81,58 @@ fn find_next(bytes: &[u8]) -> Find
     }
 }
 
-// Whether records follow the header, up to the end or a torn tail. It takes no memory.
-fn check_records(bytes: &[u8]) -> Result<(), JournalFault>
-    requires { HEADER ≤ length bytes.now }
-    ensures { HasRecords bytes.now result }
+// How many of the bytes are records of the layout. It takes no memory.
+pub(crate) fn pass_records(layout: Layout, bytes: &[u8]) -> Passed
+    ensures { Passes layout bytes.now result }
 {
-    let mut place = HEADER;
+    let mut len = 0;
     loop {
-        match find_next(&bytes[place..]) {
-            Find::End => return Ok(()),
-            Find::Damaged => return Err(JournalFault::Damaged(place)),
-            Find::Whole(size) => place += size,
+        match find_next(layout, &bytes[len..]) {
+            Find::End => {
+                return Passed {
+                    len,
+                    damaged: false,
+                };
+            }
+            Find::Damaged => return Passed { len, damaged: true },
+            Find::Whole(size) => len += size,
         }
     }
 }
 
-fn next_record(alloc: Global, bytes: &[u8]) -> Result<Step, AllocError>
-    ensures { IfOk result (IsStep bytes.now) }
+// Reads what comes next of bytes that are records, whose checksums were compared before.
+fn next_record(
+    alloc: Global,
+    layout: Layout,
+    bytes: &[u8],
+) -> Result<Option<(Record, usize)>, AllocError>
+    ensures { IfOk result (IsNext layout bytes.now) }
 {
-    match find_size(bytes) {
-        Find::End => Ok(Step::End),
-        Find::Damaged => Ok(Step::Damaged),
-        Find::Whole(size) => match read_record(alloc, &bytes[2..size]) {
-            Ok(record) => Ok(Step::Whole(record, size)),
-            Err(FieldFault::Malformed) => Ok(Step::Damaged),
+    match find_size(layout, bytes) {
+        Find::End => Ok(None),
+        Find::Damaged => Ok(None),
+        Find::Whole(size) => match read_record(alloc, layout, &bytes[..size]) {
+            Ok(record) => Ok(Some((record, size))),
+            Err(FieldFault::Malformed) => Ok(None),
             Err(FieldFault::Memory) => Err(AllocError),
         },
     }
 }
 
-// The records after the header.
-fn read_records(alloc: Global, bytes: &[u8]) -> Result<Journal, JournalFault>
-    requires { HEADER ≤ length bytes.now }
-    ensures { ReadsRecords bytes.now result }
+// Reads bytes that are records of the layout, after those that were read before.
+fn read_records(
+    alloc: Global,
+    layout: Layout,
+    bytes: &[u8],
+    records: &mut Vec<Record>,
+) -> Result<(), AllocError>
+    ensures { OnOk result (HasRead layout bytes.now records.old.items records.new.items) }
 {
-    let mut records = Vec::new(alloc);
-    let mut place = HEADER;
+    let mut place = 0;
     loop {
-        match next_record(alloc, &bytes[place..])? {
-            Step::End => {
-                return Ok(Journal {
-                    records,
-                    end: place,
-                });
-            }
-            Step::Damaged => return Err(JournalFault::Damaged(place)),
-            Step::Whole(next, size) => {
+        match next_record(alloc, layout, &bytes[place..])? {
+            None => return Ok(()),
+            Some((next, size)) => {
                 records.push(next)?;
                 place += size;
             }
@@ -133,57 +140,103 @@ fn read_records(alloc: Global, bytes: &[u8]) -> Result<Journal, JournalFault>
     }
 }
 
-// Whether the bytes begin with the whole header.
-fn check_header(owner: Owner, bytes: &[u8]) -> Result<(), JournalFault>
-    requires { HEADER ≤ length bytes.now }
-    ensures { HeaderSays owner bytes.now result }
-{
-    if &bytes[..4] != MAGIC.as_slice() {
-        return Err(JournalFault::Damaged(0));
-    }
-    if &bytes[4..12] != owner.members.federation().to_be_bytes().as_slice() {
-        return Err(JournalFault::OtherFederation);
-    }
-    if bytes[12] != owner.site.number() {
-        return Err(JournalFault::OtherSite);
-    }
-    Ok(())
+/// Records of a layout, one after another.
+#[derive(Clone, Copy, Drop)]
+pub(crate) struct Run<'a> {
+    /// Their bytes.
+    pub records: &'a [u8],
+    /// Where they end.
+    pub end: usize,
+    /// Whether what follows them is no record.
+    pub damaged: bool,
 }
 
-// Whether the bytes, fewer than the header has, are a prefix of it.
-fn is_new(owner: Owner, bytes: &[u8]) -> bool
-    requires { length bytes.now < HEADER }
-    ensures { IsTrue result ↔ IsNew owner bytes.now }
+// The records of the layout from this place on.
+pub(crate) fn run_from(layout: Layout, bytes: &[u8], place: usize) -> Run
+    requires { place ≤ length bytes.now }
+    ensures { IsRun layout bytes.now place result.records.now result.end result.damaged }
 {
-    &header(owner)[..bytes.len()] == bytes
+    let rest = &bytes[place..];
+    let passed = pass_records(layout, rest);
+    Run {
+        records: &rest[..passed.len],
+        end: place + passed.len,
+        damaged: passed.damaged,
+    }
+}
+
+// Whether all weights are 1.
+fn are_ones(weights: &[u8]) -> bool
+    ensures { IsTrue result ↔ All (λ w. w ≡ 1) weights.now }
+{
+    weights.iter().all(|weight| *weight == 1)
+}
+
+// Whether these weights, those of a journal, are the owner's. Where it says none, all are 1.
+fn has_weights(owner: Owner, weights: &[u8]) -> bool
+    ensures none { length weights.now ≡ 0
+        → (IsTrue result ↔ All (λ w. w ≡ 1) owner.members.weights) }
+    ensures some { 1 ≤ length weights.now
+        → (IsTrue result ↔ (weights.now ≡ owner.members.weights)) }
+{
+    let members = owner.members;
+    if weights.is_empty() {
+        return are_ones(members.weights());
+    }
+    weights == members.weights()
+}
+
+// Whether a journal of these parts may be the owner's by its weights: always, if it has no records.
+fn allows_weights(owner: Owner, parts: &Parts) -> bool
+    ensures { (bytes : List ℕ) (is : ArePartsOf owner bytes parts.now)
+        → Allows owner bytes parts.now is result }
+{
+    if parts.old.is_empty() && parts.new.is_empty() {
+        return true;
+    }
+    has_weights(owner, parts.weights)
+}
+
+// The records of both parts.
+fn read_both(alloc: Global, old: &[u8], new: &[u8]) -> Result<Vec<Record>, AllocError>
+    ensures { IfOk result (λ records. HasReadBoth old.now new.now records.items) }
+{
+    let mut records = Vec::new(alloc);
+    read_records(alloc, Layout::First, old, &mut records)?;
+    read_records(alloc, Layout::Second, new, &mut records)?;
+    Ok(records)
 }
 
 // What the bytes say, and where their text ends.
-#[tactic(auto, unfolding(crate::specs::Texts::IsTextOf))]
+#[tactic(auto, unfolding(crate::specs::Journals::Says))]
 fn read_text(alloc: Global, owner: Owner, bytes: &[u8]) -> Result<Journal, JournalFault>
     ensures said { IsReading owner bytes.now result }
     ensures text { IfOk result (HasTextEnd owner bytes.now) }
 {
-    if HEADER <= bytes.len() {
-        check_header(owner, bytes)?;
-        // Memory is taken only where the bytes say records, so it hides no fault.
-        if let Err(fault) = check_records(bytes) {
-            return Err(fault);
-        }
-        return read_records(alloc, bytes);
+    let Owner { members, site } = owner;
+    if is_new(Owner { members, site }, bytes) {
+        return Ok(Journal {
+            records: Vec::new(alloc),
+            end: 0,
+            current: false,
+        });
     }
-    if !is_new(owner, bytes) {
-        return Err(JournalFault::Damaged(0));
+    let parts = find_parts(Owner { members, site }, bytes)?;
+    // Memory is taken only where the bytes say records, so it hides no fault.
+    if !allows_weights(Owner { members, site }, &parts) {
+        return Err(JournalFault::OtherWeights);
     }
+    let records = read_both(alloc, parts.old, parts.new)?;
     Ok(Journal {
-        records: Vec::new(alloc),
-        end: 0,
+        records,
+        end: parts.end,
+        current: !parts.weights.is_empty(),
     })
 }
 
-/// Reads the journal of this owner: its records in order, none skipped and none in part. What
-/// follows a crash, a torn tail or an unfinished header, is passed over. Memory can run out only
-/// where the bytes say records, so it hides no fault of theirs.
+/// Reads the journal of this owner: its records in order, none skipped and none in part, whichever
+/// layouts they are in. What follows a crash, a torn tail or an unfinished header, is passed over.
+/// Memory can run out only where the bytes say records, so it hides no fault of theirs.
 pub fn read_journal(alloc: Global, owner: Owner, bytes: &[u8]) -> Result<Journal, JournalFault>
     // What is answered is what the bytes say.
     ensures said { IsReading owner bytes.now result }

@@ -1,15 +1,43 @@
-//! The numbers of a journal's layout.
+//! The numbers of a journal's layouts.
 
-/// The four bytes with which every journal begins.
-pub const MAGIC: [u8; 4] = [0x42, 0x50, 0x4a, 0x31];
+ghost use Rattle.std.specs.Prelude.{◌≡◌};
+ghost use Rattle.records.specs.Layout.{checksum_size};
 
-/// The bytes before the first record: magic, federation and site.
-pub const HEADER: usize = 13;
+use fields::CHECKSUM_BYTES;
 
-/// The fewest bytes that a record can have, its length left out.
+/// A layout of records: those of the first have no checksum, those of the second end with one.
+#[derive(Clone, Copy, Debug, PartialEq, Eq)]
+pub enum Layout {
+    First,
+    Second,
+}
+
+impl Layout {
+    /// How many bytes of a record are its checksum.
+    pub(crate) fn checksum_size(self) -> usize
+        ensures { result ≡ checksum_size self }
+    {
+        match self {
+            Layout::First => 0,
+            Layout::Second => CHECKSUM_BYTES,
+        }
+    }
+}
+
+/// The four bytes with which a journal of the first layout begins.
+pub const OLD_MAGIC: [u8; 4] = [0x42, 0x50, 0x4a, 0x31];
+
+/// The four bytes with which a header of the second layout begins.
+pub const MAGIC: [u8; 4] = [0x42, 0x50, 0x4a, 0x32];
+
+/// The bytes of a header up to the site: magic, federation and site. A header of the first layout
+/// has no more.
+pub const FRONT: usize = 13;
+
+/// The fewest bytes that a record can have between its length field and its checksum.
 pub const SHORTEST: usize = 11;
 
-/// The most bytes that a record can have, its length left out.
+/// The most bytes that a record can have between its length field and its checksum.
 pub const LONGEST: usize = 275;
 
 pub(crate) const DEPOSIT: u8 = 1;

@@ -9,14 +9,14 @@ use schedule::Schedule;
 use std::alloc::Global;
 
 /// Runs a schedule: the lines are those of the reference run. No two of them report different bags
-/// for one slot, and each bag that they report was deposited for the slot before, by a line of the
-/// schedule, from files that were a valid bag of its identity. The one fault is out of memory, and
+/// for one slot, and each bag that one of them reports was deposited for the slot by a line of the
+/// schedule before the one that prints it, from files that were a valid bag of its identity. The one fault is out of memory, and
 /// then there is no trace.
 #[tactic(auto, unfolding(world_law::specs::Worlds::run_of))]
 pub fn run(alloc: Global, schedule: &Schedule) -> Result<Trace, RunFault>
     ensures lines { IfOk result (λ trace. trace ≡ (run_of schedule.now).lines) }
     ensures agree { IfOk result (λ trace. LinesAgree trace) }
-    ensures deposited { ReportsWereDeposited schedule.now }
+    ensures deposited { IfOk result (λ trace. ReportsWereDeposited schedule.now trace) }
 {
     let mut federation = Federation::new(alloc, schedule.members())?;
     let first = schedule.first_line();

@@ -20,7 +20,7 @@ impl Model for Trace {
 
 impl Trace {
     /// The trace of these lines.
-    pub fn new(lines: Vec<Line>) -> Trace
+    pub(crate) fn new(lines: Vec<Line>) -> Trace
         ensures { result ≡ lines.items }
     {
         Trace { lines }

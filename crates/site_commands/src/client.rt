@@ -1,7 +1,10 @@
 //! A client of a site: what it asks, and the answer.
 
 use crate::client_answer::{deposit_text, query_text};
-use dgram::{Body, DgramFault, FolderPath, LONGEST_DATAGRAM, Message, decode, encode};
+use dgram::{
+    Body, DepositAnswer, DgramFault, FolderPath, LONGEST_DATAGRAM, Message, QueryAnswer, decode,
+    encode,
+};
 use fed_types::{SiteNo, Slot};
 use outcomes::{Answer, ProgramFault, write_answer};
 use std::alloc::{AllocError, Global};
@@ -21,6 +24,21 @@ pub struct Request<'a> {
     pub slot: &'a Slot,
 }
 
+/// What a site replies.
+#[derive(Clone, Copy)]
+pub(crate) enum Reply {
+    ToDeposit(DepositAnswer),
+    ToQuery(QueryAnswer),
+}
+
+/// Which replies are looked for.
+#[derive(Clone, Copy, PartialEq, Eq)]
+pub(crate) enum Wanted {
+    ToDeposit,
+    ToQuery,
+    Any,
+}
+
 /// Sends a deposit of the folder of this path to a site, or without a path a query, and writes the
 /// answer as one line: `registered ..` or `reply ..` with status 0, `refused N CODE` with status 1.
 /// It is the first datagram that is the reply of this site for this slot. Where nothing came in one
@@ -32,7 +50,15 @@ pub fn send_on<P: Port, W: Write>(
     path: Option<FolderPath>,
     output: &mut W,
 ) -> Result<u8, ProgramFault> {
-    match ask(alloc, port, request, path) {
+    write_reply(output, answer(alloc, port, request, path))
+}
+
+/// Writes this answer, or that there is none or no memory for it.
+pub(crate) fn write_reply<W: Write>(
+    output: &mut W,
+    answer: Result<Option<Answer>, AllocError>,
+) -> Result<u8, ProgramFault> {
+    match answer {
         Ok(Some(answer)) => write_answer(output, answer.status, answer.text.as_str()),
         Ok(None) => write_answer(output, 1, "no answer\n"),
         Err(AllocError) => write_answer(output, 1, "memory\n"),
@@ -40,30 +66,74 @@ pub fn send_on<P: Port, W: Write>(
 }
 
 // The answer, if there is one.
-fn ask<P: Port>(
+fn answer<P: Port>(
     alloc: Global,
     port: &mut P,
     request: &Request<'_>,
     path: Option<FolderPath>,
 ) -> Result<Option<Answer>, AllocError> {
-    let is_deposit = path.is_some();
+    let wanted = if path.is_some() {
+        Wanted::ToDeposit
+    } else {
+        Wanted::ToQuery
+    };
     let bytes = datagram(alloc, request, path)?;
-    if port.send(request.target, bytes.as_slice()).is_err() {
+    match ask(alloc, port, request, wanted, bytes.as_slice())? {
+        Some(reply) => Ok(Some(answer_of(alloc, request, reply)?)),
+        None => Ok(None),
+    }
+}
+
+/// What a site replies to a query for the slot's bag, if it replies.
+pub fn ask_for_bag<P: Port>(
+    alloc: Global,
+    port: &mut P,
+    request: &Request<'_>,
+) -> Result<Option<QueryAnswer>, AllocError> {
+    let bytes = datagram(alloc, request, None)?;
+    match ask(alloc, port, request, Wanted::ToQuery, bytes.as_slice())? {
+        Some(Reply::ToQuery(answer)) => Ok(Some(answer)),
+        _ => Ok(None),
+    }
+}
+
+/// What a reply says.
+pub(crate) fn answer_of(
+    alloc: Global,
+    request: &Request<'_>,
+    reply: Reply,
+) -> Result<Answer, AllocError> {
+    let slot = request.slot.copy(alloc)?;
+    match reply {
+        Reply::ToDeposit(answer) => deposit_text(alloc, request.to, slot, answer),
+        Reply::ToQuery(answer) => query_text(alloc, request.to, slot, answer),
+    }
+}
+
+/// Sends a datagram, and gives the reply that is wanted, if it comes.
+pub(crate) fn ask<P: Port>(
+    alloc: Global,
+    port: &mut P,
+    request: &Request<'_>,
+    wanted: Wanted,
+    bytes: &[u8],
+) -> Result<Option<Reply>, AllocError> {
+    if port.send(request.target, bytes).is_err() {
         return Ok(None);
     }
     for _ in 0..MOST_DATAGRAMS {
         let Ok(Turn::Got(_, bytes)) = port.receive() else {
             return Ok(None);
         };
-        if let Some(answer) = answer_in(alloc, request, is_deposit, bytes.as_slice())? {
-            return Ok(Some(answer));
+        if let Some(reply) = reply_in(alloc, request, wanted, bytes.as_slice())? {
+            return Ok(Some(reply));
         }
     }
     Ok(None)
 }
 
-// The datagram of a deposit of the folder of this path, or of a query.
-fn datagram(
+/// The datagram of a deposit of the folder of this path, or of a query.
+pub(crate) fn datagram(
     alloc: Global,
     request: &Request<'_>,
     path: Option<FolderPath>,
@@ -78,40 +148,34 @@ fn datagram(
     Ok(bytes)
 }
 
-// What these bytes answer, if they are the reply of the site for the slot.
-fn answer_in(
+// The reply of the site for the slot in these bytes, if it is one that is wanted.
+fn reply_in(
     alloc: Global,
     request: &Request<'_>,
-    is_deposit: bool,
+    wanted: Wanted,
     bytes: &[u8],
-) -> Result<Option<Answer>, AllocError> {
+) -> Result<Option<Reply>, AllocError> {
     match decode(alloc, request.federation, bytes) {
         Ok(Message { slot, body }) => {
             if slot != *request.slot {
                 return Ok(None);
             }
-            reply_in(alloc, request.to, is_deposit, slot, &body)
+            Ok(reply_by(request.to, wanted, &body))
         }
         Err(DgramFault::Memory) => Err(AllocError),
         Err(DgramFault::NotOurs | DgramFault::Malformed) => Ok(None),
     }
 }
 
-// The answer of the site for the slot, if this is one.
-fn reply_in(
-    alloc: Global,
-    to: SiteNo,
-    is_deposit: bool,
-    slot: Slot,
-    body: &Body,
-) -> Result<Option<Answer>, AllocError> {
+// The reply of the site, if this is one that is wanted.
+fn reply_by(to: SiteNo, wanted: Wanted, body: &Body) -> Option<Reply> {
     match body {
-        Body::DepositReply { from, answer } if is_deposit && *from == to => {
-            Ok(Some(deposit_text(alloc, to, slot, *answer)?))
+        Body::DepositReply { from, answer } if wanted != Wanted::ToQuery && *from == to => {
+            Some(Reply::ToDeposit(*answer))
         }
-        Body::QueryReply { from, answer } if !is_deposit && *from == to => {
-            Ok(Some(query_text(alloc, to, slot, *answer)?))
+        Body::QueryReply { from, answer } if wanted != Wanted::ToDeposit && *from == to => {
+            Some(Reply::ToQuery(*answer))
         }
-        _ => Ok(None),
+        _ => None,
     }
 }

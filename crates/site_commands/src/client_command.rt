@@ -1,16 +1,18 @@
 //! The command `send`: a client of a site of the members file.
 
 use crate::client::{Request, send_on};
-use crate::members_at::{members_at, port_of};
+use crate::file_members::{members_at, port_of};
 use crate::send_arguments::SendTask;
 use crate::serving_command::socket;
 use crate::stop::{Stop, write_stop};
+use crate::until_known::send_until_known;
 use dgram::FolderPath;
 use fed_types::Slot;
 use outcomes::ProgramFault;
 use std::alloc::{AllocError, Global};
 use std::io;
 use std::io::Write;
+use udp_site::Waits;
 
 /// Asks as the arguments say. The answer is written to standard output.
 pub fn send_to_site(rt: &HostRuntime, task: &SendTask<'_>) -> Result<u8, ProgramFault> {
@@ -31,14 +33,29 @@ fn try_to_send<W: Write>(
     let target = port_of(&members, task.to)?;
     let slot = slot_of(rt.alloc(), task)?;
     let path = path_of(rt.alloc(), task)?;
-    let mut port = socket(rt, 0, task.wait)?;
+    let federation = members.members().federation();
+    let mut port = socket(rt, federation, 0, waits_of(task))?;
     let request = Request {
-        federation: members.members().federation(),
+        federation,
         to: task.to,
         target,
         slot: &slot,
     };
-    Ok(send_on(rt.alloc(), &mut port, &request, path, output))
+    Ok(match task.until_known {
+        Some(seconds) => {
+            let alloc = rt.alloc();
+            send_until_known(alloc, rt, &mut port, &request, path, seconds, output)
+        }
+        None => send_on(rt.alloc(), &mut port, &request, path, output),
+    })
+}
+
+// A client waits as long each time.
+fn waits_of(task: &SendTask<'_>) -> Waits {
+    Waits {
+        first: task.wait,
+        most: task.wait,
+    }
 }
 
 // The slot, which the arguments name within its limits.

@@ -1,19 +1,33 @@
-//! The commands `site` and `send`: a site that serves, over a file and a socket, and its client.
+//! The commands `site`, `send` and `members`: a site that serves, over a file and a socket, its
+//! client, and the file that says who the sites are.
 #![tactic(auto)]
 
 mod client;
 mod client_answer;
 mod client_command;
-mod members_at;
+mod file_members;
+mod folders_below;
+mod member_list;
+mod member_words;
+mod members_arguments;
+mod members_printing;
 mod send_arguments;
 mod serving;
 mod serving_command;
 mod site_arguments;
 mod stop;
+mod until_known;
 
-pub use client::{Request, send_on};
+pub use client::{Request, ask_for_bag, send_on};
 pub use client_command::send_to_site;
-pub use send_arguments::{SendTask, send_command, send_task};
-pub use serving::site_on;
-pub use serving_command::serve_site;
-pub use site_arguments::{SiteTask, site_command, site_task};
+pub use file_members::{members_at, port_of};
+pub use members_arguments::{MembersTask, members_command, members_task};
+pub use members_printing::print_members;
+pub use send_arguments::{SendTask, send_command, send_task, to_argument};
+pub use serving::{Service, site_on};
+pub use serving_command::{serve_site, socket};
+pub use site_arguments::{
+    SiteTask, Turns, members_argument, site_command, site_task, wait_argument,
+};
+pub use stop::{Stop, write_numbered, write_stop};
+pub use until_known::send_until_known;

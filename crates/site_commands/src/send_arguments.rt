@@ -23,11 +23,15 @@ OBJ; without it asks which bag is version V of OBJ. It prints one line, of site 
   no answer                    the site doesn't answer
 or `members unread`, `members line N`, `not a member`, `socket` or `memory`, as bagpaxos site.
 
-The exit status is 0 for `registered` and `reply`, 1 for all else, and 2 for a mistake in the
-arguments.
+With --until-known it asks until the bag is known, and with PATH deposits it first: again after 20
+ms, then twice as long each time, and a second at most. After SECONDS, or where the deposit is
+refused, it prints the last line that there was.
+
+The exit status is 0 for `registered` and `reply`, with --until-known for `reply .. known` alone; 1
+for all else, and 2 for a mistake in the arguments.
 
 Example:
-  bagpaxos send --members members --to 1 --wait 1000 report 1 path/to/bag";
+  bagpaxos send --members members --to 1 --wait 1000 --until-known 30 report 1 path/to/bag";
 
 /// What to ask of a site.
 #[derive(Clone, Copy, Debug)]
@@ -35,6 +39,8 @@ pub struct SendTask<'a> {
     pub members: &'a str,
     pub to: SiteNo,
     pub wait: u32,
+    /// For how many seconds it asks until the bag is known.
+    pub until_known: Option<u32>,
     /// 1 to 200 bytes.
     pub object: &'a str,
     /// 1 or more.
@@ -64,6 +70,7 @@ pub fn send_task<'a>(matches: &ArgMatches<'a>) -> Option<SendTask<'a>> {
         members: matches.get_str("members")?,
         to: SiteNo::new(matches.get_one::<u8>("to")?).ok()?,
         wait: matches.get_one::<u32>("wait")?,
+        until_known: matches.get_one::<u32>("until-known"),
         object: matches.get_str("OBJ")?,
         version: matches.get_one::<u32>("V")?,
         path: matches.get_str("PATH"),
@@ -72,24 +79,43 @@ pub fn send_task<'a>(matches: &ArgMatches<'a>) -> Option<SendTask<'a>> {
 
 /// The command, with its help.
 pub fn send_command<'a>(alloc: Global) -> Result<Command<'a>, AllocError> {
-    Command::new(alloc, "send")
-        .about(ABOUT)
-        .after_help(EXAMPLE)
+    let command = Command::new(alloc, "send").about(ABOUT).after_help(EXAMPLE);
+    let command = with_options(alloc, command)?;
+    with_slot(alloc, command)
+}
+
+fn with_options<'a>(alloc: Global, command: Command<'a>) -> Result<Command<'a>, AllocError> {
+    command
         .arg(members_argument(alloc))?
         .arg(to_argument(alloc))?
         .arg(wait_argument(alloc))?
+        .arg(until_argument(alloc))
+}
+
+// With what it is asked for.
+fn with_slot<'a>(alloc: Global, command: Command<'a>) -> Result<Command<'a>, AllocError> {
+    command
         .arg(object_argument(alloc))?
         .arg(version_argument(alloc))?
         .arg(path_argument(alloc))
 }
 
-fn to_argument<'a>(alloc: Global) -> Arg<'a> {
+/// The option of the site that is asked.
+pub fn to_argument<'a>(alloc: Global) -> Arg<'a> {
     Arg::new(alloc, "to")
         .long("to")
         .value_name("N")
         .required(true)
         .value_parser(value_parser!(u8).range(1..=i64::from(GREATEST_SITE)))
         .help("The number of the site, 1 to 63")
+}
+
+fn until_argument<'a>(alloc: Global) -> Arg<'a> {
+    Arg::new(alloc, "until-known")
+        .long("until-known")
+        .value_name("SECONDS")
+        .value_parser(value_parser!(u32).range(1..))
+        .help("Ask until the bag is known, for so many seconds, 1 to 4294967295")
 }
 
 fn object_argument<'a>(alloc: Global) -> Arg<'a> {

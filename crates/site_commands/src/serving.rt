@@ -1,5 +1,6 @@
 //! One site that serves.
 
+use crate::site_arguments::Turns;
 use crate::stop::{Stop, write_numbered, write_stop};
 use bag_folders::Folders;
 use book::OpenFault;
@@ -8,11 +9,22 @@ use fed_types::{Members, SiteNo};
 use outcomes::ProgramFault;
 use records::Owner;
 use site::Site;
+use site_log::SiteLog;
 use std::alloc::{AllocError, Global};
 use std::io::Write;
 use udp_site::{Port, ServeFault, serve};
 
-/// Opens the site of this number, and serves so many turns. Its lines are written, and the exit
+/// How a site serves.
+#[derive(Clone, Copy)]
+pub struct Service<'a> {
+    /// The ports of all sites, that of site 1 first.
+    pub ports: &'a [u16],
+    pub turns: Turns,
+    /// The log that is told when it begins, if there is one.
+    pub log: Option<&'a SiteLog>,
+}
+
+/// Opens the site of this number, and serves its turns. Its lines are written, and the exit
 /// status is 0; or it is 1, and a last line says why: `not a member`, `open N` with the number of
 /// the `OpenFault`, or `stopped N` with that of the `ServeFault`.
 pub fn site_on<C: Cell + Drop, P: Port, F: Folders, W: Write>(
@@ -22,8 +34,7 @@ pub fn site_on<C: Cell + Drop, P: Port, F: Folders, W: Write>(
     number: SiteNo,
     port: &mut P,
     folders: &mut F,
-    ports: &[u16],
-    turns: u32,
+    service: Service<'_>,
     output: &mut W,
 ) -> Result<u8, ProgramFault> {
     if !members.has(number) {
@@ -31,8 +42,26 @@ pub fn site_on<C: Cell + Drop, P: Port, F: Folders, W: Write>(
     }
     let site = number;
     match Site::open(alloc, cell, Owner { members, site }) {
-        Ok(mut site) => serve_on(alloc, &mut site, port, folders, ports, turns, output),
+        Ok(mut site) => serve_as(alloc, &mut site, port, folders, service, output),
         Err((_, fault)) => write_numbered(output, open_line(alloc, fault)),
+    }
+}
+
+// Says that it begins, and serves.
+fn serve_as<C: Cell + Drop, P: Port, F: Folders, W: Write>(
+    alloc: Global,
+    site: &mut Site<C>,
+    port: &mut P,
+    folders: &mut F,
+    service: Service<'_>,
+    output: &mut W,
+) -> Result<u8, ProgramFault> {
+    if let Some(log) = service.log {
+        log.begins(site.records());
+    }
+    match service.turns {
+        Turns::Count(turns) => serve_on(alloc, site, port, folders, service.ports, turns, output),
+        Turns::Forever => serve_forever(alloc, site, port, folders, service.ports, output),
     }
 }
 
@@ -50,6 +79,24 @@ fn serve_on<C: Cell + Drop, P: Port, F: Folders, W: Write>(
         Ok(()) => Ok(0),
         Err(fault) => write_stopped(alloc, output, fault),
     }
+}
+
+// Serves until something stops it: as many turns as can be served in one call, again and again.
+fn serve_forever<C: Cell + Drop, P: Port, F: Folders, W: Write>(
+    alloc: Global,
+    site: &mut Site<C>,
+    port: &mut P,
+    folders: &mut F,
+    ports: &[u16],
+    output: &mut W,
+) -> Result<u8, ProgramFault> {
+    for _ in 0..u64::MAX {
+        match serve(alloc, site, port, folders, ports, u32::MAX, output) {
+            Ok(()) => {}
+            Err(fault) => return write_stopped(alloc, output, fault),
+        }
+    }
+    Ok(0)
 }
 
 // Says why the site stopped serving, unless that is because nothing can be written.

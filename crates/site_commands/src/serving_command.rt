@@ -1,48 +1,173 @@
 //! The command `site`: a site of the members file, over a file and a socket.
 
-use crate::members_at::{members_at, port_of, ports_of};
-use crate::serving::site_on;
+use crate::file_members::{members_at, port_of, ports_of};
+use crate::folders_below::FoldersBelow;
+use crate::serving::{Service, site_on};
 use crate::site_arguments::SiteTask;
 use crate::stop::{Stop, write_stop};
 use bag_folders::DiskFolders;
 use cell_device::{CellFault, FileCell};
+use fed_types::Members;
 use outcomes::ProgramFault;
+use site_log::{LoggedFolders, LoggedOutput, LoggedPort, SiteLog};
+use std::alloc::AllocError;
+use std::fs::{self, File};
 use std::io;
-use std::io::Write;
-use udp_site::{PortFault, UdpPort};
+use std::io::{ErrorKind, Write};
+use udp_site::{PortFault, UdpPort, Waits};
 
 /// Serves as the arguments say. The lines are written to standard output.
 pub fn serve_site(rt: &HostRuntime, task: &SiteTask<'_>) -> Result<u8, ProgramFault> {
     let mut output = io::writer(rt);
-    match try_to_serve(rt, task, &mut output) {
-        Ok(answer) => answer,
+    match equip(rt, task) {
+        Ok(means) => serve_with(rt, task, means, &mut output),
         Err(stop) => write_stop(rt.alloc(), &mut output, stop),
     }
 }
 
-// What serving came to, or why it wasn't begun.
-fn try_to_serve<W: Write>(
+/// What a site serves with.
+#[derive(Drop)]
+struct Means<'a> {
+    members: Members,
+    ports: Vec<u16>,
+    folders: FoldersBelow<'a, DiskFolders<HostRuntime>>,
+    cell: FileCell,
+    port: UdpPort,
+}
+
+// All that is needed, in the order in which it is looked for.
+fn equip<'a>(rt: &HostRuntime, task: &SiteTask<'a>) -> Result<Means<'a>, Stop> {
+    let file = members_at(rt, task.members)?;
+    let number = port_of(&file, task.number)?;
+    let ports = ports_of(rt.alloc(), &file)?;
+    let members = file.members();
+    let folders = folders_of(rt, task)?;
+    let cell = cell_of(rt, task)?;
+    let port = socket(rt, members.federation(), number, task.waits)?;
+    Ok(Means {
+        members,
+        ports,
+        folders,
+        cell,
+        port,
+    })
+}
+
+// Serves, with a log where one is asked for.
+fn serve_with<W: Write>(
     rt: &HostRuntime,
     task: &SiteTask<'_>,
+    means: Means<'_>,
     output: &mut W,
-) -> Result<Result<u8, ProgramFault>, Stop> {
-    let members = members_at(rt, task.members)?;
-    let number = port_of(&members, task.number)?;
-    let ports = ports_of(rt.alloc(), &members)?;
-    let cell = cell_at(rt, task.cell)?;
-    let mut port = socket(rt, number, task.wait)?;
-    let mut folders = DiskFolders::new(disk(rt)?);
-    Ok(site_on(
+) -> Result<u8, ProgramFault> {
+    let Some(path) = task.log else {
+        return serve_unlogged(rt, task, means, output);
+    };
+    match SiteLog::open(rt, path, means.members, task.number, means.port.port()) {
+        Ok(log) => serve_logged(rt, task, means, &log),
+        Err(AllocError) => write_stop(rt.alloc(), output, Stop::Memory),
+    }
+}
+
+fn serve_unlogged<W: Write>(
+    rt: &HostRuntime,
+    task: &SiteTask<'_>,
+    means: Means<'_>,
+    output: &mut W,
+) -> Result<u8, ProgramFault> {
+    let Means {
+        members,
+        ports,
+        mut folders,
+        cell,
+        mut port,
+    } = means;
+    let service = Service {
+        ports: &ports,
+        turns: task.turns,
+        log: None,
+    };
+    let number = task.number;
+    site_on(
         rt.alloc(),
         cell,
-        members.members(),
-        task.number,
+        members,
+        number,
         &mut port,
         &mut folders,
-        &ports,
-        task.turns,
+        service,
         output,
-    ))
+    )
+}
+
+// The same, while the log is told of all that comes, can't be read, or is written.
+fn serve_logged(
+    rt: &HostRuntime,
+    task: &SiteTask<'_>,
+    means: Means<'_>,
+    log: &SiteLog,
+) -> Result<u8, ProgramFault> {
+    let Means {
+        members,
+        ports,
+        folders,
+        cell,
+        port,
+    } = means;
+    let service = Service {
+        ports: &ports,
+        turns: task.turns,
+        log: Some(log),
+    };
+    let number = task.number;
+    site_on(
+        rt.alloc(),
+        cell,
+        members,
+        number,
+        &mut LoggedPort::new(log, port),
+        &mut LoggedFolders::new(log, folders),
+        service,
+        &mut LoggedOutput::new(log, io::writer(rt)),
+    )
+}
+
+// The folders that clients may have deposited.
+fn folders_of<'a>(
+    rt: &HostRuntime,
+    task: &SiteTask<'a>,
+) -> Result<FoldersBelow<'a, DiskFolders<HostRuntime>>, Stop> {
+    if let Some(top) = task.bags {
+        find_folder(rt, top)?;
+    }
+    let folders = DiskFolders::new(disk(rt)?);
+    Ok(FoldersBelow::new(rt.alloc(), task.bags, folders))
+}
+
+fn find_folder(rt: &HostRuntime, path: &str) -> Result<(), Stop> {
+    match fs::metadata(rt, path) {
+        Ok(found) if found.is_dir() => Ok(()),
+        Ok(_) => Err(Stop::BagsUnread),
+        Err(error) if error.kind() == ErrorKind::OutOfMemory => Err(Stop::Memory),
+        Err(_) => Err(Stop::BagsUnread),
+    }
+}
+
+// The cell that the arguments name.
+fn cell_of(rt: &HostRuntime, task: &SiteTask<'_>) -> Result<FileCell, Stop> {
+    if task.existing {
+        find_cell(rt, task.cell)?;
+    }
+    cell_at(rt, task.cell)
+}
+
+// Whether there is a file at this path. Between this and the cell's opening it may go.
+fn find_cell(rt: &HostRuntime, path: &str) -> Result<(), Stop> {
+    match File::open(rt, path) {
+        Ok(_) => Ok(()),
+        Err(error) if error.kind() == ErrorKind::OutOfMemory => Err(Stop::Memory),
+        Err(_) => Err(Stop::CellUnopened),
+    }
 }
 
 // The cell in the file of this path.
@@ -62,8 +187,13 @@ fn disk(rt: &HostRuntime) -> Result<HostRuntime, Stop> {
 }
 
 /// A socket at this port, or at a free one where it is 0.
-pub(crate) fn socket(rt: &HostRuntime, number: u16, wait: u32) -> Result<UdpPort, Stop> {
-    match UdpPort::bind(rt, number, wait) {
+pub fn socket(
+    rt: &HostRuntime,
+    federation: u64,
+    number: u16,
+    waits: Waits,
+) -> Result<UdpPort, Stop> {
+    match UdpPort::bind(rt, federation, number, waits) {
         Ok(port) => Ok(port),
         Err(PortFault::Device) => Err(Stop::Socket),
         Err(PortFault::Memory) => Err(Stop::Memory),

@@ -1,8 +1,9 @@
 //! The arguments of the command `site`.
 
-use clap::{Arg, ArgMatches, Command, value_parser};
+use clap::{Arg, ArgAction, ArgMatches, Command, value_parser};
 use fed_types::{GREATEST_SITE, SiteNo};
 use std::alloc::{AllocError, Global};
+use udp_site::Waits;
 
 const ABOUT: &str = "Serves as a site of a federation, over UDP on this machine";
 
@@ -12,7 +13,8 @@ const EXAMPLE: &str = "The members file is a text; all sites are on 127.0.0.1:
                           weight, 1 to 255, which is 1 where none is given
 Sites that have more than half of all weight decide. Sites and weights stay as they are as long as
 there are cells.
-The cell is the file in which the site keeps its word; it is made where it is missing.
+The cell is the file in which the site keeps its word; it is made where it is missing, unless
+--existing is given: a site that has a cell must never be started without it.
 In each turn the site waits for one datagram, and prints a line for what it does:
   registered N OBJ V HEX        a bag was deposited, of this identity
   known N OBJ V HEX             the site learned which bag is version V of OBJ
@@ -20,24 +22,44 @@ In each turn the site waits for one datagram, and prints a line for what it does
                                 deposit, of which nothing is known, and `nothing`
   refused N CODE                it refused a call
   dropped N                     what came was no message for it
-In a turn in which nothing comes it may propose one of its deposits to all.
+In a turn in which nothing comes it may propose one of its deposits to all. While nothing moves,
+each such turn waits twice as long as the one before, up to --wait-most; a deposit, a vote that
+another site asks for or gives, and a bag that it knows bring the first wait back. However much
+comes, such a turn is taken once ten times --wait, 250 ms and its own wait have passed since the
+last one; after a vote or a known bag of another site, once its own wait has.
+
+With --bags a path that is absolute or has `..` in it is that of a folder that isn't there.
+
+With --log each line is also written to a file, which grows: after the time in UTC and the port
+from which came what it is about (`-` in a turn in which nothing came). After `refused` comes what
+was asked for, and a folder that can't be read has a line of its own:
+  TIME - serves site 1 of 3, federation 7, port 42001, 12 records, 3 known
+  TIME 51234 refused 1 10 14 deposit OBJ V PATH
+  TIME 51234 unread 1 21 deposit OBJ V PATH PLACE
+Where the log can't be written, standard error says so once, and the site goes on.
 
 The exit status is 0 after the last turn; 1 where a last line says why it stopped:
   members unread    the members file can't be read
   members line N    line N of the members file is at fault
   not a member      the members file has no such site
-  open 4            the cell's file can't be opened or read, or another process has it open
+  bags unread       with --bags: it isn't a folder
+  open 4            the cell's file can't be opened or read, another process has it open, or it
+                    isn't there, with --existing
   socket            the site's port can't be had
-  open N            the cell is of another federation (1) or site (2), or damaged (3); 5: no memory
+  open N            the cell is of another federation (1) or site (2), damaged (3), or of members
+                    with other weights (6); 5: no memory
   stopped N         a receive failed (1), the cell failed (2), or out of memory (3)
   memory            out of memory
 or where standard output can't be written; and 2 for a mistake in the arguments.
 
 Example:
-  bagpaxos site --members members --number 1 --cell cell.1 --turns 1000 --wait 100";
+  bagpaxos site --members members --number 1 --cell cell.1 --forever --wait 100";
 
-/// The most milliseconds that a turn waits.
-pub(crate) const LONGEST_WAIT: i64 = 60000;
+/// The most milliseconds that a turn waits while things move.
+const LONGEST_WAIT: i64 = 60000;
+
+/// The most milliseconds that it may wait while nothing does: a day.
+const MOST_WAIT: i64 = 86_400_000;
 
 /// A site to serve as.
 #[derive(Clone, Copy, Debug)]
@@ -45,8 +67,33 @@ pub struct SiteTask<'a> {
     pub members: &'a str,
     pub number: SiteNo,
     pub cell: &'a str,
-    pub turns: u32,
-    pub wait: u32,
+    /// Whether the cell has to be there.
+    pub existing: bool,
+    /// The folder below which clients' bags are read, if it isn't the file system's.
+    pub bags: Option<&'a str>,
+    /// The path of the log, if there is one.
+    pub log: Option<&'a str>,
+    pub turns: Turns,
+    pub waits: Waits,
+}
+
+/// How many turns a site serves.
+#[derive(Clone, Copy, Debug)]
+pub enum Turns {
+    /// So many.
+    Count(u32),
+    /// One after another, until it is stopped.
+    Forever,
+}
+
+impl SiteTask<'_> {
+    /// What is amiss in the arguments together, if anything is.
+    pub fn mistake(&self) -> Option<&'static str> {
+        if self.waits.most < self.waits.first {
+            return Some("--wait-most is less than --wait");
+        }
+        None
+    }
 }
 
 /// What these arguments of the command ask for.
@@ -55,25 +102,63 @@ pub fn site_task<'a>(matches: &ArgMatches<'a>) -> Option<SiteTask<'a>> {
         members: matches.get_str("members")?,
         number: SiteNo::new(matches.get_one::<u8>("number")?).ok()?,
         cell: matches.get_str("cell")?,
-        turns: matches.get_one::<u32>("turns")?,
-        wait: matches.get_one::<u32>("wait")?,
+        existing: matches.get_flag("existing"),
+        bags: matches.get_str("bags"),
+        log: matches.get_str("log"),
+        turns: turns_in(matches)?,
+        waits: Waits {
+            first: matches.get_one::<u32>("wait")?,
+            most: matches.get_one::<u32>("wait-most")?,
+        },
     })
+}
+
+fn turns_in(matches: &ArgMatches<'_>) -> Option<Turns> {
+    if matches.get_flag("forever") {
+        return Some(Turns::Forever);
+    }
+    match matches.get_one::<u32>("turns") {
+        Some(turns) => Some(Turns::Count(turns)),
+        None => None,
+    }
 }
 
 /// The command, with its help.
 pub fn site_command<'a>(alloc: Global) -> Result<Command<'a>, AllocError> {
-    Command::new(alloc, "site")
-        .about(ABOUT)
-        .after_help(EXAMPLE)
+    let command = Command::new(alloc, "site").about(ABOUT).after_help(EXAMPLE);
+    let command = with_place(alloc, command)?;
+    let command = with_paths(alloc, command)?;
+    let command = with_turns(alloc, command)?;
+    with_waits(alloc, command)
+}
+
+// With the options that say which site it is.
+fn with_place<'a>(alloc: Global, command: Command<'a>) -> Result<Command<'a>, AllocError> {
+    command
         .arg(members_argument(alloc))?
         .arg(number_argument(alloc))?
         .arg(cell_argument(alloc))?
-        .arg(turns_argument(alloc))?
-        .arg(wait_argument(alloc))
+        .arg(existing_argument(alloc))
+}
+
+// With those that say where bags are read, and where a log is written.
+fn with_paths<'a>(alloc: Global, command: Command<'a>) -> Result<Command<'a>, AllocError> {
+    command.arg(bags_argument(alloc))?.arg(log_argument(alloc))
+}
+
+// With those that say how many turns it serves.
+fn with_turns<'a>(alloc: Global, command: Command<'a>) -> Result<Command<'a>, AllocError> {
+    let turns = turns_argument(alloc)?;
+    command.arg(turns)?.arg(forever_argument(alloc))
+}
+
+// With those that say how long it waits.
+fn with_waits<'a>(alloc: Global, command: Command<'a>) -> Result<Command<'a>, AllocError> {
+    command.arg(wait_argument(alloc))?.arg(most_argument(alloc))
 }
 
 /// The option of the members file.
-pub(crate) fn members_argument<'a>(alloc: Global) -> Arg<'a> {
+pub fn members_argument<'a>(alloc: Global) -> Arg<'a> {
     Arg::new(alloc, "members")
         .long("members")
         .value_name("FILE")
@@ -98,21 +183,58 @@ fn cell_argument<'a>(alloc: Global) -> Arg<'a> {
         .help("The file in which the site keeps its records")
 }
 
-fn turns_argument<'a>(alloc: Global) -> Arg<'a> {
+fn existing_argument<'a>(alloc: Global) -> Arg<'a> {
+    Arg::new(alloc, "existing")
+        .long("existing")
+        .action(ArgAction::SetTrue)
+        .help("Don't make the cell: where it is missing, end with `open 4`")
+}
+
+fn bags_argument<'a>(alloc: Global) -> Arg<'a> {
+    Arg::new(alloc, "bags")
+        .long("bags")
+        .value_name("FOLDER")
+        .help("Read clients' bags by their paths below this folder alone")
+}
+
+fn log_argument<'a>(alloc: Global) -> Arg<'a> {
+    Arg::new(alloc, "log").long("log").value_name("FILE").help(
+        "Append what it prints to this file, with the time and who asked",
+    )
+}
+
+fn turns_argument<'a>(alloc: Global) -> Result<Arg<'a>, AllocError> {
     Arg::new(alloc, "turns")
         .long("turns")
         .value_name("T")
-        .required(true)
         .value_parser(value_parser!(u32).range(1..))
         .help("How many turns it serves, 1 to 4294967295")
+        .required_unless_present("forever")?
+        .conflicts_with("forever")
+}
+
+fn forever_argument<'a>(alloc: Global) -> Arg<'a> {
+    Arg::new(alloc, "forever")
+        .long("forever")
+        .action(ArgAction::SetTrue)
+        .help("Serve until it is stopped, in place of --turns")
 }
 
 /// The option of how long a turn waits.
-pub(crate) fn wait_argument<'a>(alloc: Global) -> Arg<'a> {
+pub fn wait_argument<'a>(alloc: Global) -> Arg<'a> {
     Arg::new(alloc, "wait")
         .long("wait")
         .value_name("MS")
         .required(true)
         .value_parser(value_parser!(u32).range(1..=LONGEST_WAIT))
         .help("How many milliseconds a turn waits for a datagram, 1 to 60000")
+}
+
+fn most_argument<'a>(alloc: Global) -> Arg<'a> {
+    Arg::new(alloc, "wait-most")
+        .long("wait-most")
+        .value_name("MS")
+        .default_value("60000")
+        .value_parser(value_parser!(u32).range(1..=MOST_WAIT))
+        .help("The most while nothing moves, --wait to 86400000")
 }

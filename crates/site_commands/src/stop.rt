@@ -6,13 +6,17 @@ use std::io::Write;
 
 /// Why a site doesn't serve, or nothing is sent.
 #[derive(Clone, Copy, Debug, PartialEq, Eq)]
-pub(crate) enum Stop {
+pub enum Stop {
     /// The members file can't be read.
     MembersUnread,
     /// This line of the members file is the first at fault.
     MembersLine(usize),
+    /// The federation's number doesn't come from the list of its members.
+    OtherList,
     /// No member has the site's number.
     NotAMember,
+    /// The folder below which bags are read isn't one.
+    BagsUnread,
     /// The file of the cell can't be opened.
     CellUnopened,
     /// There is no socket.
@@ -22,15 +26,13 @@ pub(crate) enum Stop {
 }
 
 /// Writes why, as a line, and gives the status 1.
-pub(crate) fn write_stop<W: Write>(
-    alloc: Global,
-    output: &mut W,
-    stop: Stop,
-) -> Result<u8, ProgramFault> {
+pub fn write_stop<W: Write>(alloc: Global, output: &mut W, stop: Stop) -> Result<u8, ProgramFault> {
     match stop {
         Stop::MembersUnread => write_answer(output, 1, "members unread\n"),
         Stop::MembersLine(line) => write_numbered(output, members_line(alloc, line)),
+        Stop::OtherList => write_answer(output, 1, "members other list\n"),
         Stop::NotAMember => write_answer(output, 1, "not a member\n"),
+        Stop::BagsUnread => write_answer(output, 1, "bags unread\n"),
         Stop::CellUnopened => write_answer(output, 1, "open 4\n"),
         Stop::Socket => write_answer(output, 1, "socket\n"),
         Stop::Memory => write_answer(output, 1, "memory\n"),
@@ -38,7 +40,7 @@ pub(crate) fn write_stop<W: Write>(
 }
 
 /// Writes this line, or that there was no memory for it, and gives the status 1.
-pub(crate) fn write_numbered<W: Write>(
+pub fn write_numbered<W: Write>(
     output: &mut W,
     line: Result<String, AllocError>,
 ) -> Result<u8, ProgramFault> {

@@ -9,7 +9,7 @@ use Rattle.cell_device.specs.Memory.{image_of, fuse_of, device_of}
 use Rattle.records.specs.declared.owner.Owner.{Owner}
 use Rattle.records.specs.declared.record.Record.{Record}
 use Rattle.records.specs.Journals.{Says}
-use Rattle.records.proofs.OneReading.{new_from}
+use Rattle.records.proofs.Texts.{nothing_says}
 use Rattle.book.specs.declared.fault.OpenFault.{OpenFault}
 use Rattle.book.specs.declared.fault.OpenFault.TheVariants as faults
 use Rattle.book.specs.Faults.{IsOrDeviceOrMemory}
@@ -98,5 +98,4 @@ rests owner cell s stands = go s.records s.session s.mode stands
 pub empty_keeps_none : (owner : Owner) (cell : MemoryCell) → image_of cell ≡ at_rest []
     → Keeps owner cell []
 empty_keeps_none owner cell empty =
-    subst (λ (i : Image). Says owner i.seen (Ok [])) (sym empty)
-    (tt, inl (refl, new_from owner [] (omega arith) refl))
+    subst (λ (i : Image). Says owner i.seen (Ok [])) (sym empty) (nothing_says owner)

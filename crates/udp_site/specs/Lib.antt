@@ -7,5 +7,7 @@ pub mod Served
 pub mod Faults
 pub mod Failing
 pub mod MemoryPorts
+pub mod Pace
+pub mod Signs
 pub mod UdpPorts
 pub mod inner

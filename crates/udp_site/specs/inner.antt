@@ -6,3 +6,4 @@ pub mod Stopping
 pub mod Asking
 pub mod Arrivals
 pub mod Receiving
+pub mod Paced

@@ -40,7 +40,7 @@ use Rattle.site.specs.Effects.{Send, to_each, only_says, quiet}
 use Rattle.world_law.specs.Laws.{OnRecord, WasSent, IsChosen, Follows, Report, report_of}
 use Rattle.lines.specs.Notices.{Notice, Learned, notice_of}
 use Rattle.world_law.specs.Networks.{Network}
-use Rattle.world_law.proofs.Heard.{gathered_heard, gathered_promise}
+use Rattle.world_law.proofs.Heard.{gathered_heard, gathered_promise, highest_prior_is, prior_of}
 use Rattle.world_law.proofs.Kept.{vote_for, Proposes, IsCurrent, Kept}
 use Rattle.world_law.proofs.Conditions.{given_if, kept_if, and_not, unless_known_is}
 use Rattle.world_law.proofs.Step.{Extends, Sound, IsNew, ReportsChosen, reports_nothing}
@@ -301,6 +301,8 @@ module _ (q : QuorumSystem) (laws : AreQuorums q) (w : Network) (inv : Kept q w)
               sent = λ r h.
                   sent_extends g
                   (now_sent (promise_message slot r.site c.ballot r.prior) (promise_heard r h));
+              prior = highest_prior ps;
+              highest = prior_of ps (highest_prior ps) (highest_prior_is ps);
               follows =
                   subst (λ (j : ℕ). Follows x j slot (highest_prior ps) bag) (sym cur.own)
                   (follows_extends x (highest_prior ps) bag g follows);

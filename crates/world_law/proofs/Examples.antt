@@ -2,15 +2,16 @@
 use Rattle.std.proofs.Common.{ℕ, ◌≡◌, refl, List, [], ◌∷◌, ◌++◌, Option, None, Some, map, length}
 use Rattle.std.proofs.Common.{replicate, filter_map}
 use Rattle.std.specs.Prelude.{Ok}
+use Rattle.sha2.specs.Sha256.{sha256, digest_bytes}
 use Rattle.fed_types.specs.declared.bag_id.BagId.{BagId}
 use Rattle.fed_types.specs.Ballots.{BallotNumber, ballot_cmp}
 use Rattle.fed_types.specs.Lists.{is_in}
 use Rattle.fed_types.specs.Quorums.{QuorumSystem, quorums_of}
 use Rattle.fed_types.specs.Sites.{sites_to}
 use Rattle.fed_types.specs.Slots.{SlotName, same_slot}
-use Rattle.fields.specs.Checksums.{with_checksum}
+use Rattle.fields.specs.Checksums.{checksum, with_checksum}
 use Rattle.records.specs.declared.entry.Entry.TheVariants as entry
-use Rattle.records.specs.Layout.{record_bytes}
+use Rattle.records.specs.Layout.{encoded}
 use Rattle.records.specs.Words.{promised_of, vote_of, used_of, deposit_of, known_of}
 use Rattle.dgram.specs.declared.body.Body.TheVariants.{Prepare}
 use Rattle.dgram.specs.declared.message.Message.{Message}
@@ -242,9 +243,9 @@ pub record Examples : Type 0 where
   -- lost
   lost_vote : says 3 (vote_cut_at 0)
       ≡ registered 1 1 ∷ registered 3 2 ∷ lines.Down 2 ∷ lines.Up 2 1 ∷ known 3 2 ∷ []
-  kept_vote : says 3 (vote_cut_at 78)
+  kept_vote : says 3 (vote_cut_at 86)
       ≡ registered 1 1 ∷ registered 3 2 ∷ lines.Down 2 ∷ lines.Up 2 2 ∷ known 3 1 ∷ []
-  torn_vote : says 3 (vote_cut_at 77)
+  torn_vote : says 3 (vote_cut_at 85)
       ≡ registered 1 1 ∷ registered 3 2 ∷ lines.Down 2 ∷ lines.Up 2 1 ∷ known 3 2 ∷ []
   -- of two proposers that of the greater ballot wins; then nobody proposes any more
   duel :
@@ -318,7 +319,7 @@ pub record Examples : Type 0 where
       ∷ lines.Skip 16 reasons.Path ∷ lines.Skip 16 reasons.Site ∷ lines.Skip 16 reasons.Tree ∷ []
 
 pub all : Examples
-unfolding ballot_cmp is_in sites_to same_slot record_bytes promised_of vote_of used_of deposit_of
+unfolding ballot_cmp is_in sites_to same_slot encoded checksum sha256 digest_bytes promised_of vote_of used_of deposit_of
     known_of message_of bodies_of promises_for promisers priors voters_for floor_of
     prepare_decision accept_decision chosen_by next_ballot gathered highest_prior proposal on_body
     on_arrival on_deposit on_propose on_ask reply_of to_each new_site new_network outcome happens

@@ -13,7 +13,7 @@ use Rattle.dgram.specs.declared.body.Body.TheVariants.{Prepare, Promise, Accept,
 use Rattle.dgram.specs.declared.body.Body.TheVariants.{Ask, Known, Deposit, Query, DepositReply}
 use Rattle.dgram.specs.declared.body.Body.TheVariants.{QueryReply}
 use Rattle.dgram.specs.Heard.{promisers}
-use Rattle.proposer.specs.Proposals.{Current, gathered, highest_prior}
+use Rattle.proposer.specs.Proposals.{Current, gathered}
 use Rattle.proposer.specs.Sessions.{Session}
 use Rattle.site.specs.Effects.{Send}
 use Rattle.world_law.specs.Laws.{OnRecord, WasSent, IsChosenBy, IsChosen, IsPrior, IsBacked}
@@ -65,7 +65,9 @@ module _ {w x : Network} (g : Grows w x) where
     quorum = k.quorum;
     members = k.members;
     sent = λ p h. sent_grows (k.sent p h);
-    follows = follows_grows vote.ballot.site slot (highest_prior k.promises) vote.bag k.follows;
+    prior = k.prior;
+    highest = k.highest;
+    follows = follows_grows vote.ballot.site slot k.prior vote.bag k.follows;
   }
 
   prior_grows : (n : ℕ) (slot : SlotName) (b : BallotNumber) (o : Option Vote)

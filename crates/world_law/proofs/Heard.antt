@@ -1,8 +1,9 @@
 -- What was heard, as the laws need it: what was gathered was heard, and the highest vote that
 -- promises name.
-use Rattle.std.proofs.Common.{◌≡◌, ◌≤◌, ℕ, refl, ap, subst, ◌∙◌, List, [], ◌∷◌, ◌++◌}
-use Rattle.std.proofs.Common.{length, map, drop, Option, Some}
+use Rattle.std.proofs.Common.{◌≡◌, ◌≤◌, ℕ, refl, sym, ap, subst, ◌∙◌, List, [], ◌∷◌, ◌++◌}
+use Rattle.std.proofs.Common.{length, map, drop, Option, None, Some}
 use Rattle.fed_types.specs.declared.vote.Vote.{Vote}
+use Rattle.fed_types.specs.Ballots.{Below}
 use Rattle.fed_types.specs.Lists.{Has}
 use Rattle.fed_types.specs.Slots.{SlotName}
 use Rattle.fed_types.specs.Laws.Ballots.{same_ballot_decides}
@@ -18,6 +19,7 @@ use Rattle.dgram.specs.Heard.{body_in, bodies_of, PromiseFrom, promise_in, promi
 use Rattle.dgram.specs.Heard.{priors}
 use Rattle.dgram.proofs.Heard.{has_message, has_promise}
 use Rattle.proposer.specs.Proposals.{Current, gathered, highest_prior}
+use Rattle.world_law.specs.Laws.{IsNamed, IsHighestPrior}
 use Rattle.proposer.specs.Sessions.{promise_message}
 use Rattle.proposer.proofs.Gathered.{one_of, gathered-push}
 
@@ -62,20 +64,14 @@ gathered_promise slot c heard from prior within =
 
 -- ---- the highest vote that promises name
 
--- a promise of these names the vote
-pub record IsNamed (promises : List PromiseFrom) (vote : Vote) : Type 0 where
-  pub promise : PromiseFrom
-  pub among : Has promise promises
-  pub names : promise.prior ≡ Some vote
-
 -- no named vote is above it, and it is one of them
-pub record IsHighestPrior (promises : List PromiseFrom) (o : Option Vote) : Type 0 where
+pub record IsBest (promises : List PromiseFrom) (o : Option Vote) : Type 0 where
   pub bounds : (p : PromiseFrom) (vote : Vote) → Has p promises → p.prior ≡ Some vote
       → AtLeast (λ (v : Vote). v.ballot) o vote
   pub named : (vote : Vote) → o ≡ Some vote → IsNamed promises vote
 
 pub highest_prior_is : (promises : List PromiseFrom)
-    → IsHighestPrior promises (highest_prior promises)
+    → IsBest promises (highest_prior promises)
 unfolding highest_prior priors
 highest_prior_is promises =
     let best = highest_is (λ (v : Vote). v.ballot) (priors promises) in
@@ -86,3 +82,38 @@ highest_prior_is promises =
           let f = has_filter_map (λ (p : PromiseFrom). p.prior) vote promises (best.among vote e) in
           record { promise = f.0; among = f.1; names = f.2 };
     }
+
+same_vote : {x y : Vote} → ◌≡◌ {A = Option Vote} (Some x) (Some y) → x ≡ y
+same_vote e = cc
+
+-- the same, in the words of the laws
+pub prior_of : (promises : List PromiseFrom) (o : Option Vote) → IsBest promises o
+    → IsHighestPrior promises o
+prior_of promises None h = λ vote n. absurd (none (h.bounds n.promise vote n.among n.names))
+  where
+    none : {vote : Vote} → AtLeast (λ (v : Vote). v.ballot) None vote → ⊥
+    none a = let e = a.is in cc
+prior_of promises (Some highest) h = record {
+  named = h.named highest refl;
+  none_higher = λ vote n. below vote (h.bounds n.promise vote n.among n.names);
+}
+  where
+    below : (vote : Vote) → AtLeast (λ (v : Vote). v.ballot) (Some highest) vote
+        → ¬ Below highest.ballot vote.ballot
+    below vote a =
+        subst (λ (v : Vote). ¬ Below v.ballot vote.ballot) (sym (same_vote a.is)) a.at_least
+
+pub best_of : (promises : List PromiseFrom) (o : Option Vote) → IsHighestPrior promises o
+    → IsBest promises o
+best_of promises None h = record {
+  bounds = λ p vote among e. absurd (h vote (record { promise = p; among = among; names = e }));
+  named = λ vote e. absurd (cc e);
+}
+best_of promises (Some highest) h = record {
+  bounds = λ p vote among e. record {
+    top = highest;
+    is = refl;
+    at_least = h.none_higher vote (record { promise = p; among = among; names = e });
+  };
+  named = λ vote e. subst (IsNamed promises) (same_vote e) h.named;
+}

@@ -12,12 +12,11 @@ use Rattle.fed_types.specs.Laws.Lists.{has_map}
 use Rattle.records.specs.declared.entry.Entry.TheVariants as entry
 use Rattle.dgram.specs.declared.body.Body.TheVariants.{Promise, Accept}
 use Rattle.dgram.specs.Heard.{PromiseFrom, promisers}
-use Rattle.proposer.specs.Proposals.{highest_prior}
 use Rattle.world_law.specs.Laws.{OnRecord, WasSent, IsChosenBy, IsChosen, IsHighestBelow, IsPrior}
 use Rattle.world_law.specs.Laws.{IsBacked, Follows}
 use Rattle.world_law.specs.Networks.{Network}
 use Rattle.world_law.proofs.Order.{at_most_trans, at_most_cases, ballot_induction}
-use Rattle.world_law.proofs.Heard.{IsHighestPrior, highest_prior_is}
+use Rattle.world_law.proofs.Heard.{IsBest, best_of}
 use Rattle.world_law.proofs.Kept.{vote_for, Promises, Proposes, Kept}
 
 -- ---- what a sent message says, by its kind
@@ -78,11 +77,11 @@ record Top (w : Network) (slot : SlotName) (b c : BallotNumber) (o : Option Vote
 top_of : {q : QuorumSystem} {w : Network} {slot : SlotName} {vote later : Vote} → Kept q w
     → Below vote.ballot later.ballot → (k : IsBacked q w slot later)
     → Shared w slot vote later.ballot k.promises
-    → Top w slot vote.ballot later.ballot (highest_prior k.promises)
+    → Top w slot vote.ballot later.ballot k.prior
 top_of {q} {w} {slot} {vote} {later} inv lower k s = at_prior s.p.prior refl s.promises.prior_is
   where
     at_top : (x : Vote) → ¬ Below x.ballot vote.ballot → (o : Option Vote)
-        → IsHighestPrior k.promises o → (p : PromiseFrom) → Has p k.promises
+        → IsBest k.promises o → (p : PromiseFrom) → Has p k.promises
         → p.prior ≡ Some x → Top w slot vote.ballot later.ballot o
     at_top x above o h p among e =
         let r = h.bounds p x among e in
@@ -97,11 +96,11 @@ top_of {q} {w} {slot} {vote} {later} inv lower k s = at_prior s.p.prior refl s.p
         }
 
     at_prior : (o : Option Vote) → s.p.prior ≡ o → IsPrior w s.p.site slot later.ballot o
-        → Top w slot vote.ballot later.ballot (highest_prior k.promises)
+        → Top w slot vote.ballot later.ballot k.prior
     at_prior None e says = absurd (says vote s.voted lower)
     at_prior (Some x) e says =
-        at_top x (says.none_higher vote s.voted lower) (highest_prior k.promises)
-        (highest_prior_is k.promises) s.p s.among e
+        at_top x (says.none_higher vote s.voted lower) k.prior
+        (best_of k.promises k.prior k.highest) s.p s.among e
 
 -- what was chosen was asked for
 pub asked_in : {q : QuorumSystem} {w : Network} {slot : SlotName} {vote : Vote} → AreQuorums q
@@ -135,8 +134,8 @@ carried_step q w slot vote laws inv chosen c before lower u asked =
           | inr k ↦ before h.ballot named.says.lower k h.bag again
         ]
 
-    from_top : Top w slot vote.ballot c (highest_prior backed.promises)
-        → Follows w c.site slot (highest_prior backed.promises) u → u ≡ vote.bag
+    from_top : Top w slot vote.ballot c backed.prior
+        → Follows w c.site slot backed.prior u → u ≡ vote.bag
     from_top t f =
         let e : t.top.bag ≡ u = rw t.is at f in
         sym e ∙ at_vote t.top t.named t.later
@@ -181,16 +180,16 @@ module _ (q : QuorumSystem) (laws : AreQuorums q) (w : Network) (inv : Kept q w)
 
   from_below : (slot : SlotName) (b : BallotNumber)
       → ((c : BallotNumber) → Below c b → Comes slot c) → Comes slot b
-  from_below slot b before bag a = go (highest_prior backed.promises) refl backed.follows
+  from_below slot b before bag a = go backed.prior refl backed.follows
     where
       backed : IsBacked q w slot (vote_for b bag)
       backed = (accept_says inv a).backed
 
-      go : (o : Option Vote) → highest_prior backed.promises ≡ o → Follows w b.site slot o bag
+      go : (o : Option Vote) → backed.prior ≡ o → Follows w b.site slot o bag
           → P slot bag
       go None e f = deposits b.site slot bag f
       go (Some u) e f =
-          let t = (highest_prior_is backed.promises).named u e in
+          let t = (best_of backed.promises backed.prior backed.highest).named u e in
           let says : IsPrior w t.promise.site slot b (Some u) =
           rw t.names at (promise_says inv (backed.sent t.promise t.among)).prior_is in
           subst (P slot) f (before u.ballot says.lower u.bag (vote_asked inv says.voted))

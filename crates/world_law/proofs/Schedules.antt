@@ -1,7 +1,7 @@
 -- What every world of a schedule keeps: its network does what the laws say, what its lines report
 -- was chosen, and each deposit on record was made by a line so far.
 use Rattle.std.proofs.Common.{ℕ, zero, suc, ◌≡◌, ◌⊎◌, inl, inr, refl, sym, ap, ◌∙◌, ◌+◌}
-use Rattle.std.proofs.Common.{List, [], ◌∷◌, ◌++◌, Option, None, Some}
+use Rattle.std.proofs.Common.{List, [], ◌∷◌, ◌++◌, length, Option, None, Some, arith}
 use Rattle.std.specs.Prelude.{Ok}
 use Rattle.fed_types.specs.declared.bag_id.BagId.{BagId}
 use Rattle.fed_types.specs.Lists.{Has, here, there}
@@ -17,7 +17,7 @@ use Rattle.schedule.specs.declared.command.Command.{Command}
 use Rattle.lines.specs.declared.line.Line.{Line}
 use Rattle.lines.specs.declared.line.Line.TheVariants as lines
 use Rattle.lines.specs.declared.line.Reason.{Reason}
-use Rattle.world_law.specs.Headline.{reported, Hands, DepositedIn}
+use Rattle.world_law.specs.Headline.{reported, Hands, DepositedBy}
 use Rattle.world_law.specs.Laws.{OnRecord, IsChosen, Report, report_of, site_of}
 use Rattle.world_law.specs.Networks.{Network, new_network, new_site, Event, Deposit, Propose, Ask}
 use Rattle.lines.specs.Notices.{Notice, Registered, Learned}
@@ -291,10 +291,22 @@ holds_from [] number w h = h
 holds_from (line ∷ others) number w h =
     holds_from others (number + 1) (after_line w number line) (line_then w h number line).holds
 
+-- one of these lines, the first of which has this number, deposits the bag for the slot
+pub record DepositedAmong
+    (number : ℕ) (w : World) (lines : List (Option Command)) (slot : SlotName) (bag : BagId)
+    : Type 0 where
+  pub earlier : List (Option Command)
+  pub line : Option Command
+  pub later : List (Option Command)
+  pub split : lines ≡ earlier ++ line ∷ later
+  pub at : ℕ
+  pub at_is : at ≡ number + length earlier
+  pub deposits : DepositedBy (run_from number w earlier) at line slot bag
+
 deposits_from : (lines : List (Option Command)) (number : ℕ) (w : World) → Holds w
     → (k : ℕ) (slot : SlotName) (bag : BagId)
     → OnRecord (run_from number w lines).network k slot (entry.Deposit bag)
-    → OnRecord w.network k slot (entry.Deposit bag) ⊎ DepositedIn number w lines slot bag
+    → OnRecord w.network k slot (entry.Deposit bag) ⊎ DepositedAmong number w lines slot bag
 unfolding run_from
 deposits_from [] number w h k slot bag i = inl i
 deposits_from (line ∷ others) number w h k slot bag i =
@@ -302,16 +314,32 @@ deposits_from (line ∷ others) number w h k slot bag i =
     elim (deposits_from others (number + 1) (after_line w number line) step.holds k slot bag i) [
       | inl now ↦ elim (step.new k slot bag now) [
         | inl old ↦ inl old
-        | inr hands ↦ inr (inl (record { site = k; hands = hands; on_record = now }))
+        | inr hands ↦ inr (record {
+          earlier = [];
+          line = line;
+          later = others;
+          split = refl;
+          at = number;
+          at_is = omega arith;
+          deposits = record { site = k; hands = hands; on_record = now };
+        })
       ]
-      | inr later ↦ inr (inr later)
+      | inr d ↦ inr (record {
+        earlier = line ∷ d.earlier;
+        line = d.line;
+        later = d.later;
+        split = ap (λ (ls : List (Option Command)). line ∷ ls) d.split;
+        at = d.at;
+        at_is = omega (arith, d.at_is);
+        deposits = d.deposits;
+      })
     ]
 
 -- each deposit on record was made by a line
 pub deposited : (members : Membership) (number : ℕ) (lines : List (Option Command)) (k : ℕ)
     (slot : SlotName) (bag : BagId)
     → OnRecord (run_from number (new_world members) lines).network k slot (entry.Deposit bag)
-    → DepositedIn number (new_world members) lines slot bag
+    → DepositedAmong number (new_world members) lines slot bag
 unfolding new_world new_network new_site
 deposited members number lines k slot bag i =
     elim (deposits_from lines number (new_world members) (new_holds members) k slot bag i) [

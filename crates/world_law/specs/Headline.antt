@@ -1,6 +1,6 @@
 -- What is promised of every schedule: the sites' reports agree, and each bag that is reported was
 -- deposited before.
-use Rattle.std.specs.Prelude.{ℕ, ◌≡◌, ◌≢◌, ◌+◌, true, ◌⊎◌, List, [], ◌∷◌, ◌++◌, length, drop}
+use Rattle.std.specs.Prelude.{ℕ, ◌≡◌, ◌≢◌, ◌≤◌, ◌<◌, ◌+◌, true, List, ◌∷◌, ◌++◌, length, drop}
 use Rattle.std.specs.Prelude.{Option, Some, None}
 use Rattle.fed_types.specs.declared.bag_id.BagId.{BagId}
 use Rattle.fed_types.specs.declared.vote.Vote.{Vote}
@@ -69,23 +69,27 @@ pub record DepositedBy
   pub hands : Hands w line site slot bag
   pub on_record : OnRecord (after_line w number line).network site slot (entry.Deposit bag)
 
--- one of these lines, the first of which has this number, deposits the bag for the slot
-abbrev pub DepositedIn : (number : ℕ) → World → List (Option Command) → SlotName → BagId → Type 0
-DepositedIn number w [] slot bag = ⊥
-DepositedIn number w (line ∷ others) slot bag =
-    DepositedBy w number line slot bag
-    ⊎ DepositedIn (number + 1) (after_line w number line) others slot bag
-
 -- ---- the lines of a schedule
 
 -- the world after these first lines of a schedule
 abbrev pub world_after : Plan → List (Option Command) → World
 world_after plan before = run_from (first_number plan) (new_world plan.members) before
 
+-- the world after these and the next line
+abbrev pub world_with : Plan → List (Option Command) → Option Command → World
+world_with plan before line =
+    after_line (world_after plan before) (first_number plan + length before) line
+
 -- one of the first lines of a schedule deposits the bag for the slot
-abbrev pub DepositedBefore : Plan → List (Option Command) → SlotName → BagId → Type 0
-DepositedBefore plan before slot bag =
-    DepositedIn (first_number plan) (new_world plan.members) before slot bag
+pub record DepositedBefore
+    (plan : Plan) (before : List (Option Command)) (slot : SlotName) (bag : BagId)
+    : Type 0 where
+  pub earlier : List (Option Command)
+  pub line : Option Command
+  pub later : List (Option Command)
+  pub split : before ≡ earlier ++ line ∷ later
+  pub deposits :
+      DepositedBy (world_after plan earlier) (first_number plan + length earlier) line slot bag
 
 -- what a line of the schedule prints
 abbrev pub printed : World → (number : ℕ) → Option Command → List Line
@@ -97,15 +101,25 @@ LinesStay =
     (w : World) (number : ℕ) (line : Option Command)
     → (after_line w number line).lines ≡ w.lines ++ printed w number line
 
--- validity: what a line of a schedule reports was deposited by a line before it
-abbrev pub ReportsWereDeposited : Plan → Type 0
-ReportsWereDeposited plan =
-    (before after : List (Option Command)) (line : Option Command)
-    → plan.lines ≡ before ++ line ∷ after
-    → (l : Line) (slot : SlotName) (bag : BagId)
-    → Has l (printed (world_after plan before) (first_number plan + length before) line)
+-- What a run has printed in this place is printed by this line of the schedule, with these before
+-- it: they print no more than what stands before the place, and with the line it is there.
+pub record IsPrintedBy
+    (plan : Plan) (place : ℕ) (before : List (Option Command)) (line : Option Command)
+    : Type 0 where
+  pub later : List (Option Command)
+  pub split : plan.lines ≡ before ++ line ∷ later
+  pub not_yet : length (world_after plan before).lines ≤ place
+  pub by_it : place < length (world_with plan before line).lines
+
+-- validity: what a line of the run reports was deposited by a line of the schedule before the one
+-- that prints it
+abbrev pub ReportsWereDeposited : Plan → List Line → Type 0
+ReportsWereDeposited plan trace =
+    (earlier later : List Line) (l : Line) (slot : SlotName) (bag : BagId)
+    → trace ≡ earlier ++ l ∷ later
     → reported l ≡ Some (record { slot = slot; bag = bag })
-    → DepositedBefore plan before slot bag
+    → (before : List (Option Command)) × (line : Option Command)
+    × IsPrintedBy plan (length earlier) before line × DepositedBefore plan before slot bag
 
 -- origin: each bag that a site was asked to vote for, voted for, knows, or says that it knows, was
 -- deposited for the slot

@@ -14,7 +14,6 @@ use Rattle.dgram.specs.declared.body.Body.{Body}
 use Rattle.dgram.specs.declared.body.Body.TheVariants.{Promise, Accept, Accepted, Known}
 use Rattle.dgram.specs.Encoding.{body_from}
 use Rattle.dgram.specs.Heard.{PromiseFrom, promisers}
-use Rattle.proposer.specs.Proposals.{highest_prior}
 use Rattle.site.specs.declared.answer.Reply.TheVariants as replies
 use Rattle.site.specs.Effects.{Send}
 use Rattle.world_law.specs.Networks.{Network, Event, Deposit, Propose, Ask, Query, Deliver, Raw}
@@ -74,15 +73,33 @@ abbrev pub Follows : Network → (proposer : ℕ) → SlotName → Option Vote �
 Follows w proposer slot None bag = OnRecord w proposer slot (entry.Deposit bag)
 Follows w proposer slot (Some prior) bag = prior.bag ≡ bag
 
+-- one of these promises names the vote
+pub record IsNamed (promises : List PromiseFrom) (vote : Vote) : Type 0 where
+  pub promise : PromiseFrom
+  pub among : Has promise promises
+  pub names : promise.prior ≡ Some vote
+
+-- one of them names it, and none a higher one
+pub record IsHighestNamed (promises : List PromiseFrom) (highest : Vote) : Type 0 where
+  pub named : IsNamed promises highest
+  pub none_higher : (vote : Vote) → IsNamed promises vote → ¬ Below highest.ballot vote.ballot
+
+-- the highest vote that they name, or none where they name none
+abbrev pub IsHighestPrior : List PromiseFrom → Option Vote → Type 0
+IsHighestPrior promises None = (vote : Vote) → ¬ IsNamed promises vote
+IsHighestPrior promises (Some highest) = IsHighestNamed promises highest
+
 -- members that are a quorum have promised the ballot, and the bag is the one that follows from the
--- votes that their promises name
+-- highest vote that their promises name
 pub record IsBacked (q : QuorumSystem) (w : Network) (slot : SlotName) (vote : Vote) : Type 0 where
   pub promises : List PromiseFrom
   pub quorum : IsQuorum q (promisers promises)
   pub members : (p : PromiseFrom) → Has p promises → Has p.site q.members
   pub sent : (p : PromiseFrom) → Has p promises
       → WasSent w slot (Promise p.site vote.ballot p.prior)
-  pub follows : Follows w vote.ballot.site slot (highest_prior promises) vote.bag
+  pub prior : Option Vote
+  pub highest : IsHighestPrior promises prior
+  pub follows : Follows w vote.ballot.site slot prior vote.bag
 
 -- ---- reports
 

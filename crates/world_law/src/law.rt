@@ -87,10 +87,11 @@ pub fn lines_agree()
     ensures { (plan : Plan) → LinesAgree (run_of plan).lines }
 {}
 
-/// What a line of a schedule reports was deposited for the slot by a line before it, from files
-/// that were a valid bag of this identity. What is printed is added at the end, and stays.
+/// What a line of a run reports was deposited for the slot by a line of the schedule before the one
+/// that prints it, from files that were a valid bag of this identity. What is printed is added at
+/// the end, and stays.
 pub fn reports_were_deposited()
-    ensures deposited { (plan : Plan) → ReportsWereDeposited plan }
+    ensures deposited { (plan : Plan) → ReportsWereDeposited plan (run_of plan).lines }
     ensures lines { LinesStay }
 {}
 

@@ -1,17 +1,23 @@
-use Rattle.std.proofs.Common.{◌-◌, arith, subst, take, drop}
+use Rattle.std.proofs.Common.{subst, take, inl, inr}
 use Rattle.fields.specs.declared.fault.FieldFault.{FieldFault}
 use Rattle.fields.specs.Decoding.{Fails}
-use Rattle.records.specs.inner.Decoding.{content_at}
-use Rattle.records.proofs.Steps.{sized_whole, sized_none}
+use Rattle.records.specs.inner.Steps.{record_before}
+use Rattle.records.proofs.Again.{none_next, whole_next, unread_next}
 use Rattle.records.proofs.journal.next_record.Goals as goal
 
+pub returns-in-End : goal.returns-in-End
+returns-in-End c = none_next c.args.layout c.args.bytes.now (inl c.in-End.ensures)
+
+pub returns-in-Damaged : goal.returns-in-Damaged
+returns-in-Damaged c = none_next c.args.layout c.args.bytes.now (inr c.in-Damaged.ensures)
+
 pub returns-in-Ok : goal.returns-in-Ok
-returns-in-Ok c = sized_whole c.args.bytes.now c.in-Whole.size c.in-Whole.ensures c.in-Ok.record
-    (λ i. omega (arith, c.type_inv.bytes i)) c.in-Ok.ensures
+returns-in-Ok c = whole_next c.args.layout c.args.bytes.now c.in-Whole.size c.in-Whole.ensures
+    c.in-Ok.record c.in-Ok.ensures
 
 pub returns-in-Err-Malformed : goal.returns-in-Err-Malformed
 returns-in-Err-Malformed c =
-    sized_none c.args.bytes.now c.in-Whole.size c.in-Whole.ensures
+    unread_next c.args.layout c.args.bytes.now c.in-Whole.size c.in-Whole.ensures
     (subst (λ (f : FieldFault). Fails f
-    (content_at (take (c.in-Whole.size - 2) (drop 2 c.args.bytes.now))))
+    (record_before c.args.layout (take c.in-Whole.size c.args.bytes.now)))
     c.in-Err-Malformed.field-0-is c.in-Err-Malformed.ensures)

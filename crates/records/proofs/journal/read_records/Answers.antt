@@ -1,58 +1,53 @@
-use Rattle.std.proofs.Common.{length, drop, arith, ap, subst}
+use Rattle.std.proofs.Common.{◌+◌, List, length, arith, ap, subst, sym}
 use Rattle.std.proofs.lemmas.List.{length-drop}
-use Rattle.records.specs.declared.journal.Step.TheVariants as steps
-use Rattle.records.specs.Journals.{IsEnd, IsNoRecord}
-use Rattle.records.specs.inner.Steps.{IsStep}
-use Rattle.records.proofs.Walk.{from, from_is, parts_start, parts_next, step_size}
+use Rattle.records.specs.declared.record.Record.{Record}
+use Rattle.records.specs.inner.Steps.{IsNext}
+use Rattle.records.proofs.Walk.{from, from_is}
+use Rattle.records.proofs.Again.{IsReadTo, next_range, read_none, read_end}
+use Rattle.records.proofs.Again.{read_step}
 use Rattle.records.proofs.journal.read_records.Goals as goal
 
-pub loop-records-init : goal.loop-records-init
-loop-records-init c =
-    record {
-      read = parts_start c.args.bytes.now c.new-records.result.items c.requires
-          c.new-records.ensures.items;
-    }
+pub loop-next-init : goal.loop-next-init
+loop-next-init c = (
+  omega arith,
+  λ rs are is. read_none c.args.layout c.args.bytes.now rs c.args.records.now.items are is,
+)
 
-pub returns-in-Damaged : goal.returns-in-Damaged
-returns-in-Damaged c =
-    let step : IsNoRecord (from c.args.bytes.now c.loop-records.place) =
-    subst (IsStep (from c.args.bytes.now c.loop-records.place)) c.in-Damaged.is
-    c.in_ok-next_record.ensures in (
-      c.loop-records.records.items,
-      drop c.loop-records.place c.args.bytes.now,
-      c.loop-records.invariant.read,
-      subst IsNoRecord (from_is c.args.bytes.now c.loop-records.place) step,
-    )
+pub returns-in-None : goal.returns-in-None
+returns-in-None c = λ rs are is.
+    read_end c.args.layout c.args.bytes.now rs c.loop-next.place c.args.records.now.items
+    c.loop-next.records.items (c.loop-next.invariant.1 rs are is)
+    (subst (IsNext c.args.layout (from c.args.bytes.now c.loop-next.place)) c.in-None.is
+    c.in_ok-next_record.ensures)
 
-pub returns-in-End : goal.returns-in-End
-returns-in-End c =
-    let here = from c.args.bytes.now c.loop-records.place in
-    let step : IsEnd here = subst (IsStep here) c.in-End.is c.in_ok-next_record.ensures in
-    let rest = drop c.loop-records.place c.args.bytes.now in (
-      rest,
-      c.loop-records.invariant.read,
-      subst IsEnd (from_is c.args.bytes.now c.loop-records.place) step,
-    )
-
-pub loop-records-smaller : goal.loop-records-smaller
-loop-records-smaller c =
-    let rest = from c.args.bytes.now c.loop-records.place in
-    let step : IsStep rest (steps.Whole c.in-Whole.next c.in-Whole.size) =
-    subst (IsStep rest) c.in-Whole.is c.in_ok-next_record.ensures in
+pub loop-next-smaller : goal.loop-next-smaller
+loop-next-smaller c =
+    let rest = from c.args.bytes.now c.loop-next.place in
+    let next = subst (IsNext c.args.layout rest) c.in-Some.is c.in_ok-next_record.ensures in
+    let range = next_range c.args.layout rest c.in-Some.next c.in-Some.size next in
     omega (
       arith,
-      step.1,
-      step_size rest c.in-Whole.next c.in-Whole.size step,
-      ap length (from_is c.args.bytes.now c.loop-records.place),
-      length-drop c.loop-records.place
-          c.args.bytes.now,
+      range,
+      ap length (from_is c.args.bytes.now c.loop-next.place),
+      length-drop c.loop-next.place c.args.bytes.now,
     )
 
-pub loop-records-preserved : goal.loop-records-preserved
-loop-records-preserved c =
-    record {
-      read = parts_next c.args.bytes.now c.loop-records.records.items c.push.new.self.items
-          c.loop-records.place c.in-Whole.size c.in-Whole.next c.loop-records.invariant.read
-          (subst (IsStep (from c.args.bytes.now c.loop-records.place)) c.in-Whole.is
-          c.in_ok-next_record.ensures) c.in_ok-push-in-Whole.ensures.items;
-    }
+pub loop-next-preserved : goal.loop-next-preserved
+loop-next-preserved c =
+    let rest = from c.args.bytes.now c.loop-next.place in
+    let next = subst (IsNext c.args.layout rest) c.in-Some.is c.in_ok-next_record.ensures in
+    let range = next_range c.args.layout rest c.in-Some.next c.in-Some.size next in (
+      omega (
+        arith,
+        range,
+        ap length (from_is c.args.bytes.now c.loop-next.place),
+        length-drop c.loop-next.place c.args.bytes.now,
+        c.loop-next.invariant.0,
+      ),
+      λ rs are is. subst (λ (new : List Record). IsReadTo c.args.layout c.args.bytes.now rs
+          (c.loop-next.place + c.in-Some.size) c.args.records.now.items new)
+          (sym c.in_ok-push-in-Some.ensures.items)
+          (read_step c.args.layout c.args.bytes.now rs c.loop-next.place
+          c.args.records.now.items c.loop-next.records.items c.in-Some.next c.in-Some.size
+          (c.loop-next.invariant.1 rs are is) next),
+    )

@@ -1,5 +1,5 @@
 use Rattle.std.proofs.Common.{◌≡◌, ◌+◌, ◌<◌, ◌≤◌, length, take, get_or, ap, ◌∙◌, subst, sym}
-use Rattle.world_law.specs.Headline.{LinesAgree}
+use Rattle.world_law.specs.Headline.{LinesAgree, ReportsWereDeposited}
 use Rattle.world_law.specs.Worlds.{World, new_world, run_from}
 use Rattle.world_law.proofs.Promised as laws
 use Rattle.federation.specs.Federations.{StandsFor}
@@ -26,12 +26,6 @@ lines-preserved c =
     (run_from-more first c.lines.index w lines c.line-item.result within is)
     (c.in_ok-run_line.ensures (run_from first w (take c.lines.index lines)) c.lines.invariant)
 
-pub returns-in_err-federation-clause-deposited : goal.returns-in_err-federation-clause-deposited
-returns-in_err-federation-clause-deposited c = laws.reports_were_deposited c.args.schedule.now
-
-pub returns-in_err-run_line-clause-deposited : goal.returns-in_err-run_line-clause-deposited
-returns-in_err-run_line-clause-deposited c = laws.reports_were_deposited c.args.schedule.now
-
 pub returns-clause-lines : goal.returns-clause-lines
 returns-clause-lines c =
     let plan = c.args.schedule.now in
@@ -48,4 +42,6 @@ returns-clause-agree c =
     subst LinesAgree (sym (returns-clause-lines c)) (laws.lines_agree c.args.schedule.now)
 
 pub returns-clause-deposited : goal.returns-clause-deposited
-returns-clause-deposited c = laws.reports_were_deposited c.args.schedule.now
+returns-clause-deposited c =
+    subst (ReportsWereDeposited c.args.schedule.now) (sym (returns-clause-lines c))
+    (laws.reports_were_deposited c.args.schedule.now)

@@ -1,0 +1,12 @@
+pub mod Shown
+pub mod Reported
+pub mod Decided
+pub mod Found
+pub mod Outcomes
+pub mod Naming
+pub mod Growing
+pub mod Counting
+pub mod Filling
+pub mod Voting
+pub mod Answered
+pub mod Beginning

@@ -1,0 +1,16 @@
+//! What the cells of several sites show together: which bags were chosen.
+#![tactic(auto)]
+
+mod cells;
+mod finding;
+mod law;
+mod row;
+mod rows;
+mod votes;
+
+pub use cells::Cells;
+pub use finding::Finding;
+pub use law::{
+    cells_have_no_conflict, chosen_is_all_that_is_reported, findings_are_true, members_are_counted,
+    what_cells_show_is_chosen,
+};

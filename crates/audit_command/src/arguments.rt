@@ -1,0 +1,64 @@
+//! The arguments of the command `audit`.
+
+use clap::{Arg, ArgMatches, Command};
+use site_commands::members_argument;
+use std::alloc::{AllocError, Global};
+
+const ABOUT: &str = "Says which bags the cells of several sites prove to be chosen";
+
+const EXAMPLE: &str =
+    "Cells may be in use, or copies: each is read without a lock, and never changed. Two cells of one
+site count as one. For each version, in the order in which the cells name them, it prints
+  chosen OBJ V HEX R S      members with more than half of all weight have a vote for this bag on
+                            record, in the ballot of round R of site S: no other bag is ever known
+  known OBJ V HEX           a cell says that this bag is known; these cells don't show why
+  open OBJ V                these cells show no bag
+  conflict OBJ V HEX HEX    they show two: they aren't those of sites that kept their word
+and at last how many of each there are: C chosen, K known, O open, X conflicts. Before that there is
+a line for each cell that can't be used as it is:
+  unread CELL               it can't be read, or begins with no header
+  foreign CELL              it is of another federation, of no member, or of other weights
+  damaged CELL OFFSET       it is damaged from this byte on; what comes before is used
+
+The exit status is 0 where there is no conflict, and no such line; 1 where there is, or a last line
+says `members unread`, `members line N` or `memory`, or standard output can't be written; and 2 for
+a mistake in the arguments.
+
+Example:
+  bagpaxos audit --members members cell.1 cell.2 cell.3";
+
+/// Cells to audit.
+#[derive(Debug, Drop)]
+pub struct AuditTask<'a> {
+    pub members: &'a str,
+    /// The paths of the cells.
+    pub cells: Vec<&'a str>,
+}
+
+/// What these arguments of the command ask for.
+pub fn audit_task<'a>(
+    alloc: Global,
+    matches: &ArgMatches<'a>,
+) -> Result<Option<AuditTask<'a>>, AllocError> {
+    let mut cells = Vec::new(alloc);
+    if let Some(paths) = matches.get_strs("CELL") {
+        cells.extend_from_slice(paths)?;
+    }
+    match matches.get_str("members") {
+        Some(members) => Ok(Some(AuditTask { members, cells })),
+        None => Ok(None),
+    }
+}
+
+/// The command, with its help.
+pub fn audit_command<'a>(alloc: Global) -> Result<Command<'a>, AllocError> {
+    let cells = Arg::new(alloc, "CELL")
+        .required(true)
+        .num_args(1..)
+        .help("The files of the cells");
+    Command::new(alloc, "audit")
+        .about(ABOUT)
+        .after_help(EXAMPLE)
+        .arg(members_argument(alloc))?
+        .arg(cells)
+}

@@ -1,0 +1,99 @@
+//! The arguments of the command `catch-up`.
+
+use clap::{Arg, ArgMatches, Command, value_parser};
+use fed_types::SiteNo;
+use site_commands::{members_argument, to_argument, wait_argument};
+use std::alloc::{AllocError, Global};
+
+const ABOUT: &str = "Asks a site for all that others know, until it knows that too";
+
+const EXAMPLE: &str =
+    "Each file is a cell, which may be in use and is never changed, or a list that `ledger` printed. The
+site is asked for each version for which one of them knows a bag. It asks the other sites for what
+it doesn't know; so it is asked again, after pauses of 20 ms to a second, until it knows all, or
+--for is over. For each known bag of each file it prints
+  known OBJ V HEX       the site knows the bag that the file knows
+  other OBJ V HEX HEX   it knows the first, and the file knows the second
+  open OBJ V            it didn't know the version when time was over
+and at last `K of N`: so many of all it knows as the files do.
+
+The exit status is 0 where that is all of them; 1 where it isn't, or a last line says why nobody
+was asked:
+  members unread    the members file can't be read
+  members line N    line N of the members file is at fault
+  not a member      the members file has no such site
+  open 4            a file can't be read
+  damaged OFFSET    a cell is damaged from this byte on
+  ledger line N     line N of a list is none of a ledger's
+  socket            a socket can't be had
+  memory            out of memory
+or where standard output can't be written; and 2 for a mistake in the arguments.
+
+Example:
+  bagpaxos catch-up --members members --to 2 cell.1 cell.3";
+
+/// A site to bring up to date.
+#[derive(Debug, Drop)]
+pub struct CatchUpTask<'a> {
+    pub members: &'a str,
+    pub to: SiteNo,
+    /// How many milliseconds an answer may take.
+    pub wait: u32,
+    pub seconds: u32,
+    /// The paths of cells and lists.
+    pub files: Vec<&'a str>,
+}
+
+/// What these arguments of the command ask for.
+pub fn catch_up_task<'a>(
+    alloc: Global,
+    matches: &ArgMatches<'a>,
+) -> Result<Option<CatchUpTask<'a>>, AllocError> {
+    let mut files = Vec::new(alloc);
+    if let Some(paths) = matches.get_strs("FILE") {
+        files.extend_from_slice(paths)?;
+    }
+    Ok(task_of(matches, files))
+}
+
+fn task_of<'a>(matches: &ArgMatches<'a>, files: Vec<&'a str>) -> Option<CatchUpTask<'a>> {
+    Some(CatchUpTask {
+        members: matches.get_str("members")?,
+        to: SiteNo::new(matches.get_one::<u8>("to")?).ok()?,
+        wait: matches.get_one::<u32>("wait")?,
+        seconds: matches.get_one::<u32>("for")?,
+        files,
+    })
+}
+
+/// The command, with its help.
+pub fn catch_up_command<'a>(alloc: Global) -> Result<Command<'a>, AllocError> {
+    let command = Command::new(alloc, "catch-up")
+        .about(ABOUT)
+        .after_help(EXAMPLE);
+    let command = with_site(alloc, command)?;
+    command.arg(for_argument(alloc))?.arg(files_argument(alloc))
+}
+
+fn with_site<'a>(alloc: Global, command: Command<'a>) -> Result<Command<'a>, AllocError> {
+    command
+        .arg(members_argument(alloc))?
+        .arg(to_argument(alloc))?
+        .arg(wait_argument(alloc).required(false).default_value("1000"))
+}
+
+fn for_argument<'a>(alloc: Global) -> Arg<'a> {
+    Arg::new(alloc, "for")
+        .long("for")
+        .value_name("SECONDS")
+        .default_value("60")
+        .value_parser(value_parser!(u32).range(1..))
+        .help("How long it asks, 1 to 4294967295")
+}
+
+fn files_argument<'a>(alloc: Global) -> Arg<'a> {
+    Arg::new(alloc, "FILE")
+        .required(true)
+        .num_args(1..)
+        .help("Cells, or lists of what they know")
+}

@@ -1,0 +1,84 @@
+//! The command `catch-up`.
+
+use crate::arguments::CatchUpTask;
+use crate::asking::{AskFault, Asked, catch_up_on};
+use known_bags::{KnownBag, SourceFault, push_source};
+use outcomes::{ProgramFault, write_answer};
+use site_commands::{Stop, members_at, port_of, socket, write_numbered, write_stop};
+use std::alloc::{AllocError, Global};
+use std::io;
+use std::io::Write;
+use udp_site::Waits;
+
+/// Asks as the arguments say. The lines are written to standard output.
+pub fn catch_up_site(rt: &HostRuntime, task: &CatchUpTask<'_>) -> Result<u8, ProgramFault> {
+    let mut output = io::writer(rt);
+    let mut versions = Vec::new(rt.alloc());
+    for path in &task.files {
+        match push_source(rt, &mut versions, path) {
+            Ok(()) => {}
+            Err(fault) => return write_source_fault(rt.alloc(), &mut output, fault),
+        }
+    }
+    match asked_by(rt, task) {
+        Ok(asked) => ask_all(rt, task, asked, &mut versions, &mut output),
+        Err(stop) => write_stop(rt.alloc(), &mut output, stop),
+    }
+}
+
+fn asked_by(rt: &HostRuntime, task: &CatchUpTask<'_>) -> Result<Asked, Stop> {
+    let members = members_at(rt, task.members)?;
+    let target = port_of(&members, task.to)?;
+    Ok(Asked {
+        federation: members.members().federation(),
+        to: task.to,
+        target,
+    })
+}
+
+fn ask_all<W: Write>(
+    rt: &HostRuntime,
+    task: &CatchUpTask<'_>,
+    asked: Asked,
+    versions: &mut Vec<KnownBag>,
+    output: &mut W,
+) -> Result<u8, ProgramFault> {
+    // A client waits as long each time.
+    let waits = Waits {
+        first: task.wait,
+        most: task.wait,
+    };
+    match socket(rt, asked.federation, 0, waits) {
+        Ok(mut port) => {
+            let alloc = rt.alloc();
+            let ended = catch_up_on(alloc, rt, &mut port, &asked, versions, task.seconds, output);
+            match ended {
+                Ok(status) => Ok(status),
+                Err(AskFault::Memory) => write_answer(output, 1, "memory\n"),
+                Err(AskFault::Output) => Err(ProgramFault::Output),
+            }
+        }
+        Err(stop) => write_stop(rt.alloc(), output, stop),
+    }
+}
+
+fn write_source_fault<W: Write>(
+    alloc: Global,
+    output: &mut W,
+    fault: SourceFault,
+) -> Result<u8, ProgramFault> {
+    match fault {
+        SourceFault::Unread => write_answer(output, 1, "open 4\n"),
+        SourceFault::Damaged(offset) => write_numbered(output, damaged_line(alloc, offset)),
+        SourceFault::Line(line) => write_numbered(output, ledger_line(alloc, line)),
+        SourceFault::Memory => write_answer(output, 1, "memory\n"),
+    }
+}
+
+fn damaged_line(alloc: Global, offset: usize) -> Result<String, AllocError> {
+    format!(in alloc; "damaged {offset}\n")
+}
+
+fn ledger_line(alloc: Global, line: usize) -> Result<String, AllocError> {
+    format!(in alloc; "ledger line {line}\n")
+}

@@ -1,0 +1,10 @@
+//! The command `catch-up`: a site that was down learns what others know.
+#![tactic(auto)]
+
+mod arguments;
+mod asking;
+mod command;
+mod progress;
+
+pub use arguments::{CatchUpTask, catch_up_command, catch_up_task};
+pub use command::catch_up_site;

@@ -1,0 +1,9 @@
+pub mod Passing
+pub mod Headers
+pub mod Moving
+pub mod Reading
+pub mod Finding
+pub mod Telling
+pub mod Opening
+pub mod Noting
+pub mod Printed

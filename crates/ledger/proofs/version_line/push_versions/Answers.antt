@@ -1,0 +1,20 @@
+use Rattle.std.proofs.Common.{◌≡◌, ◌+◌, ◌++◌, ℕ, suc, ap, sym, take, arith, append_assoc, ◌∙◌}
+use Rattle.std.specs.List.{flat_map}
+use Rattle.std.specs.Map.{keys_of}
+use Rattle.std.specs.String.{string_bytes}
+use Rattle.ledger.specs.inner.Rows.{listed_in, slot_at, text_if}
+use Rattle.ledger.proofs.Printed.{text_next}
+use Rattle.ledger.proofs.version_line.push_versions.Goals as goal
+
+pub loop-place-preserved : goal.loop-place-preserved
+loop-place-preserved c =
+    let rows = c.args.versions.now.entries in
+    let f = listed_in c.args.listing rows in
+    let n : ℕ = c.loop-place.place in
+    let next : n + 1 ≡ suc n = omega arith in
+    c.in_ok-push_at.ensures
+    ∙ ap (λ bytes. bytes ++ text_if f (slot_at rows n)) c.loop-place.invariant
+    ∙ append_assoc (string_bytes c.args.text.now) (flat_map f (take n (keys_of rows)))
+    (text_if f (slot_at rows n))
+    ∙ ap (λ lines. string_bytes c.args.text.now ++ lines) (sym (text_next f rows n))
+    ∙ ap (λ k. string_bytes c.args.text.now ++ flat_map f (take k (keys_of rows))) (sym next)

@@ -1,0 +1,25 @@
+use Rattle.std.proofs.Common.{◌≡◌, ◌+◌, ◌++◌, ◌∷◌, [], List, ℕ, ap, subst, sym, take, ◌∙◌}
+use Rattle.std.proofs.lemmas.List.{take_more}
+use Rattle.records.specs.declared.record.Record.{Record}
+use Rattle.slot_table.specs.Rows.{Rows}
+use Rattle.ledger.specs.declared.row.Row.{Row}
+use Rattle.ledger.specs.inner.Rows.{StandsFor}
+use Rattle.ledger.proofs.Noting.{none_stand, one_more}
+use Rattle.ledger.proofs.versions.versions_of.Goals as goal
+
+pub loop-kept-init : goal.loop-kept-init
+loop-kept-init c =
+    subst (λ (rows : Rows Row). StandsFor rows []) (sym c.new-versions.ensures.empty) none_stand
+
+pub loop-kept-preserved : goal.loop-kept-preserved
+loop-kept-preserved c =
+    let records : List Record = c.args.records.now in
+    let i : ℕ = c.loop-kept.kept-index in
+    let r : Record = c.kept-item.result in
+    let more : take (i + 1) records ≡ take i records ++ r ∷ [] =
+    take_more records i r c.loop-kept-test.true
+    ∙ ap (λ (x : Record). take i records ++ x ∷ []) (sym c.kept-item.is) in
+    subst (StandsFor c.note.new.versions.entries) (sym more)
+    (one_more c.loop-kept.versions.entries c.note.new.versions.entries r
+    c.in_ok-note.ensures.entries c.in_ok-note.ensures.rows (take i records)
+    c.loop-kept.invariant)

@@ -1,0 +1,57 @@
+-- The text of what a cell says of its versions: a line for each that is listed, and one for the
+-- cell's end.
+use Rattle.std.specs.Prelude.{ℕ, Bool, not, ◌||◌, ◌&&◌, if◌then◌else◌, List, [], ◌∷◌, ◌++◌, codes}
+use Rattle.std.specs.List.{flat_map}
+use Rattle.std.specs.Fmt.{decimal}
+use Rattle.hex.specs.Hex.{encode_lower}
+use Rattle.fed_types.specs.Slots.{SlotName}
+use Rattle.words.specs.Escapes.{escaped_text}
+use Rattle.records.specs.declared.record.Record.{Record}
+use Rattle.ledger.specs.declared.contents.Contents.{Contents}
+use Rattle.ledger.specs.declared.listing.Listing.{Listing}
+use Rattle.ledger.specs.declared.standing.Standing.{Standing}
+use Rattle.ledger.specs.declared.standing.Standing.TheVariants.{Known, Pending, Voted, Asked}
+use Rattle.ledger.specs.Lines.{ending_line}
+use Rattle.ledger.specs.Versions.{slots_of, standing_of}
+
+-- whether a version is listed: all are where neither kind is asked for
+abbrev pub is_listed : Listing → Standing → Bool
+is_listed listing (Known bag) = listing.known || not listing.pending
+is_listed listing (Pending bag) = listing.pending || not listing.known
+is_listed listing (Voted bag) = not listing.known && not listing.pending
+is_listed listing Asked = not listing.known && not listing.pending
+
+-- what is said
+abbrev pub word_of : Standing → List ℕ
+word_of (Known bag) = codes "known "
+word_of (Pending bag) = codes "pending "
+word_of (Voted bag) = codes "voted "
+word_of Asked = codes "asked "
+
+-- a space and the bag, where one is named
+abbrev pub bag_text : Standing → List ℕ
+bag_text (Known bag) = 32 ∷ encode_lower bag.0
+bag_text (Pending bag) = 32 ∷ encode_lower bag.0
+bag_text (Voted bag) = 32 ∷ encode_lower bag.0
+bag_text Asked = []
+
+-- the line of a version
+unfoldable pub version_line : SlotName → Standing → List ℕ
+version_line slot standing =
+    word_of standing ++ (escaped_text slot.object
+    ++ (32 ∷ (decimal slot.version ++ (bag_text standing ++ 10 ∷ []))))
+
+-- the line of a version that is listed
+abbrev pub listed_line : Listing → SlotName → Standing → List ℕ
+listed_line listing slot standing =
+    if is_listed listing standing then version_line slot standing else []
+
+-- the lines of the versions of records
+unfoldable pub versions_text : Listing → List Record → List ℕ
+versions_text listing records =
+    flat_map (λ slot. listed_line listing slot (standing_of records slot)) (slots_of records)
+
+-- the lines of a cell's versions, and its end
+unfoldable pub ledger_text : Listing → Contents → List ℕ
+ledger_text listing contents =
+    versions_text listing contents.records.items ++ ending_line contents.ending

@@ -1,0 +1,77 @@
+-- The text of what a cell says: a line for whose it is, one for each record, and one for its end.
+use Rattle.std.specs.Prelude.{ℕ, if◌then◌else◌, List, [], ◌∷◌, ◌++◌, codes}
+use Rattle.std.specs.List.{flat_map}
+use Rattle.std.specs.Fmt.{decimal}
+use Rattle.hex.specs.Hex.{encode_lower}
+use Rattle.fed_types.specs.declared.vote.Vote.{Vote}
+use Rattle.fed_types.specs.Ballots.{BallotNumber}
+use Rattle.fed_types.specs.Slots.{SlotName}
+use Rattle.words.specs.Escapes.{escaped_text}
+use Rattle.records.specs.declared.entry.Entry.{Entry}
+use Rattle.records.specs.declared.entry.Entry.TheVariants as entry
+use Rattle.records.specs.declared.entry.Entry.TheVariants.{Deposit, Round, Promise, Known}
+use Rattle.records.specs.declared.record.Record.{Record}
+use Rattle.ledger.specs.declared.contents.Contents.{Contents}
+use Rattle.ledger.specs.declared.ending.Ending.{Ending}
+use Rattle.ledger.specs.declared.ending.Ending.TheVariants.{Whole, Torn, Damaged}
+
+-- what a record is
+abbrev pub kind_text : Entry → List ℕ
+kind_text (Deposit bag) = codes "deposit "
+kind_text (Round round) = codes "round "
+kind_text (Promise ballot) = codes "promise "
+kind_text (entry.Vote vote) = codes "vote "
+kind_text (Known bag) = codes "known "
+
+-- a slot's object and its version, with a space after each
+abbrev pub slot_text : SlotName → List ℕ
+slot_text slot = escaped_text slot.object ++ (32 ∷ (decimal slot.version ++ 32 ∷ []))
+
+-- round and site
+abbrev pub ballot_text : BallotNumber → List ℕ
+ballot_text ballot = decimal ballot.round ++ 32 ∷ decimal ballot.site
+
+-- ballot and bag
+abbrev pub vote_text : Vote → List ℕ
+vote_text vote = ballot_text vote.ballot ++ 32 ∷ encode_lower vote.bag.0
+
+-- what a record says of its slot
+abbrev pub entry_text : Entry → List ℕ
+entry_text (Deposit bag) = encode_lower bag.0
+entry_text (Round round) = decimal round
+entry_text (Promise ballot) = ballot_text ballot
+entry_text (entry.Vote vote) = vote_text vote
+entry_text (Known bag) = encode_lower bag.0
+
+-- the line of a record
+unfoldable pub record_line : Record → List ℕ
+record_line r = kind_text r.body ++ (slot_text r.slot ++ (entry_text r.body ++ 10 ∷ []))
+
+-- a space, and a weight
+abbrev pub weight_word : ℕ → List ℕ
+weight_word weight = 32 ∷ decimal weight
+
+-- the weights, where a header names them
+abbrev pub weight_words : Contents → List ℕ
+weight_words contents =
+    if contents.names_weights then flat_map weight_word contents.owner.members.weights else []
+
+-- the federation, the site and the weights
+unfoldable pub owner_line : Contents → List ℕ
+owner_line contents =
+    codes "cell " ++ (decimal contents.owner.members.federation
+    ++ (32 ∷ (decimal contents.owner.site ++ (weight_words contents ++ 10 ∷ []))))
+
+abbrev pub ending_line : Ending → List ℕ
+ending_line Whole = []
+ending_line (Torn count) = codes "torn " ++ (decimal count ++ 10 ∷ [])
+ending_line (Damaged place) = codes "damaged " ++ (decimal place ++ 10 ∷ [])
+
+-- the lines of records
+unfoldable pub records_text : List Record → List ℕ
+records_text records = flat_map record_line records
+
+-- the lines of a cell
+unfoldable pub contents_text : Contents → List ℕ
+contents_text contents =
+    owner_line contents ++ (records_text contents.records.items ++ ending_line contents.ending)

@@ -1,0 +1,28 @@
+//! What a cell's bytes say to whoever reads them: whose cell it is, its records, how it ends, and
+//! what its records say of each version.
+#![tactic(auto)]
+
+mod contents;
+mod ending;
+mod headless;
+mod law;
+mod listing;
+mod named;
+mod printing;
+mod read;
+mod record_line;
+mod row;
+mod sizes;
+mod standing;
+mod version_line;
+mod versions;
+
+pub use contents::Contents;
+pub use ending::Ending;
+pub use headless::headless_ending;
+pub use law::contents_are_what_opening_gives;
+pub use listing::Listing;
+pub use printing::{ending_text, journal_text};
+pub use read::read_contents;
+pub use standing::Standing;
+pub use version_line::ledger_text;

@@ -1,0 +1,174 @@
+//! What the bytes of a cell say.
+
+ghost use Rattle.std.specs.Prelude.{◌≡◌, ◌≤◌, ◌-◌, ◌+◌, IfOk, MatchOption, length};
+ghost use Rattle.records.specs.Journals.{HasHeader};
+ghost use Rattle.ledger.specs.Cells.{HasNoOwner, IsCell};
+ghost use Rattle.ledger.specs.inner.Named.{IsHeadedBy};
+ghost use Rattle.ledger.specs.inner.Found.{HasEnd, IsDamageFound, IsDamageIn, IsAllFound};
+ghost use Rattle.ledger.specs.inner.Found.{IsAllAfter};
+ghost use Rattle.ledger.specs.inner.Found.{AreRecordsRead, IsTextRead, ending_of};
+
+use crate::contents::Contents;
+use crate::ending::Ending;
+use crate::named::{header_members, owner_of};
+use crate::sizes::pass_sizes;
+use fed_types::Members;
+use records::{FRONT, JournalFault, Owner, Record, read_journal};
+use std::alloc::{AllocError, Global};
+
+/// The members that a cell names, and where its last record or header ends.
+#[derive(Clone, Copy, Debug)]
+pub(crate) struct Found {
+    /// The owner's, where no header names them.
+    pub members: Members,
+    /// Whether a header names them.
+    pub named: bool,
+    pub end: usize,
+}
+
+// From where on the bytes are damaged, if they are.
+fn find_damage(alloc: Global, owner: Owner, bytes: &[u8]) -> Result<Option<usize>, AllocError>
+    requires { IsHeadedBy owner bytes.now }
+    ensures { IfOk result (IsDamageFound owner bytes.now) }
+{
+    match read_journal(alloc, owner, bytes) {
+        Ok(_) => Ok(None),
+        Err(fault) => damage_in(fault),
+    }
+}
+
+// Where a fault says that the bytes are damaged, if it does.
+fn damage_in(fault: JournalFault) -> Result<Option<usize>, AllocError>
+    ensures { IsDamageIn fault result }
+{
+    match fault {
+        JournalFault::Damaged(place) => Ok(Some(place)),
+        JournalFault::Memory => Err(AllocError),
+        JournalFault::OtherFederation | JournalFault::OtherSite | JournalFault::OtherWeights => {
+            Ok(None)
+        }
+    }
+}
+
+// What comes after a header of the second layout with these members, which ends at this place.
+fn found_after(bytes: &[u8], members: Members, place: usize) -> Found
+    requires { place ≤ length bytes.now }
+    ensures { IsAllAfter bytes.now members place result }
+{
+    Found {
+        members,
+        named: true,
+        end: place + pass_sizes(&bytes[place..]),
+    }
+}
+
+// The same, where a header of the first layout comes first.
+fn find_second(alloc: Global, owner: Owner, bytes: &[u8]) -> Result<Found, AllocError>
+    requires headed { IsHeadedBy owner bytes.now }
+    requires long { FRONT ≤ length bytes.now }
+    requires not_second { ¬ HasHeader owner bytes.now }
+    ensures { IfOk result (IsAllFound owner bytes.now) }
+{
+    let Owner { members, site } = owner;
+    let place = FRONT + pass_sizes(&bytes[FRONT..]);
+    match header_members(alloc, Owner { members, site }, &bytes[place..])? {
+        Some(named) => Ok(found_after(bytes, named, place + header_size(named))),
+        None => Ok(Found {
+            members,
+            named: false,
+            end: place,
+        }),
+    }
+}
+
+// How many bytes a header of the second layout with these members has.
+fn header_size(members: Members) -> usize
+    ensures { result ≡ 14 + length members.weights }
+{
+    FRONT + 1 + members.weights().len()
+}
+
+// Which members the bytes of a cell that isn't damaged name, and where its text ends.
+fn find_all(alloc: Global, owner: Owner, bytes: &[u8]) -> Result<Found, AllocError>
+    requires { IsHeadedBy owner bytes.now }
+    ensures { IfOk result (IsAllFound owner bytes.now) }
+{
+    let Owner { members, site } = owner;
+    match header_members(alloc, Owner { members, site }, bytes)? {
+        Some(named) => Ok(found_after(bytes, named, header_size(named))),
+        None => find_second(alloc, Owner { members, site }, bytes),
+    }
+}
+
+// The records of a cell that isn't damaged. Under the weights that it names it says records, so
+// this fails only where memory runs out.
+fn read_all(alloc: Global, owner: Owner, bytes: &[u8]) -> Result<Vec<Record>, AllocError>
+    ensures { IfOk result (λ records. AreRecordsRead owner bytes.now records.items) }
+{
+    match read_journal(alloc, owner, bytes) {
+        Ok(journal) => Ok(journal.records),
+        Err(_) => Err(AllocError),
+    }
+}
+
+// How a cell ends that isn't damaged.
+fn ending_at(end: usize, len: usize) -> Ending
+    requires { end ≤ len }
+    ensures { result ≡ ending_of (len - end) }
+{
+    if end == len {
+        Ending::Whole
+    } else {
+        Ending::Torn(len - end)
+    }
+}
+
+// The contents of a cell that isn't damaged.
+fn text_contents(alloc: Global, owner: Owner, bytes: &[u8]) -> Result<Contents, AllocError>
+    requires headed { IsHeadedBy owner bytes.now }
+    requires ended { HasEnd owner bytes.now }
+    ensures { IfOk result (IsTextRead owner bytes.now) }
+{
+    let Owner { members, site } = owner;
+    let found = find_all(alloc, Owner { members, site }, bytes)?;
+    let members = found.members;
+    let records = read_all(alloc, Owner { members, site }, bytes)?;
+    Ok(Contents {
+        owner: Owner { members, site },
+        names_weights: found.named,
+        records,
+        ending: ending_at(found.end, bytes.len()),
+    })
+}
+
+// The contents of a cell of this federation and site.
+fn contents_of(alloc: Global, owner: Owner, bytes: &[u8]) -> Result<Contents, AllocError>
+    requires { IsHeadedBy owner bytes.now }
+    ensures { IfOk result (IsCell bytes.now) }
+{
+    let Owner { members, site } = owner;
+    match find_damage(alloc, Owner { members, site }, bytes)? {
+        None => text_contents(alloc, Owner { members, site }, bytes),
+        Some(place) => {
+            let text = text_contents(alloc, Owner { members, site }, &bytes[..place])?;
+            Ok(Contents {
+                owner: text.owner,
+                names_weights: text.names_weights,
+                records: text.records,
+                ending: Ending::Damaged(place),
+            })
+        }
+    }
+}
+
+/// What the bytes of a cell say, by the header that they begin with: `None` where they begin with
+/// no whole header. It fails only where memory runs out.
+pub fn read_contents(alloc: Global, bytes: &[u8]) -> Result<Option<Contents>, AllocError>
+    ensures { IfOk result (λ contents. MatchOption contents (HasNoOwner bytes.now)
+        (IsCell bytes.now)) }
+{
+    match owner_of(alloc, bytes)? {
+        Some(owner) => Ok(Some(contents_of(alloc, owner, bytes)?)),
+        None => Ok(None),
+    }
+}

@@ -1,0 +1,135 @@
+//! The lines of versions.
+
+ghost use Rattle.std.specs.Prelude.{◌≡◌, ◌∷◌, IfOk, string_bytes};
+ghost use Rattle.hex.specs.Hex.{encode_lower};
+ghost use Rattle.std.specs.List.{flat_map};
+ghost use Rattle.std.specs.Map.{keys_of};
+ghost use Rattle.words.specs.Pushes.{Pushes};
+ghost use Rattle.ledger.specs.Ledgers.{word_of, bag_text, version_line, listed_line, ledger_text};
+ghost use Rattle.ledger.specs.inner.Rows.{listed_in, slot_at, text_if};
+
+use crate::contents::Contents;
+use crate::listing::Listing;
+use crate::printing::push_ending;
+use crate::record_line::push_bag;
+use crate::standing::Standing;
+use crate::versions::{Versions, slot_at, standing_in, versions_of};
+use fed_types::{BagId, Slot};
+use std::alloc::{AllocError, Global};
+use words::push_escaped;
+
+// What is said of a version.
+fn word_of(standing: Standing) -> &'static str
+    ensures { result.now ≡ word_of standing }
+{
+    match standing {
+        Standing::Known(_) => "known ",
+        Standing::Pending(_) => "pending ",
+        Standing::Voted(_) => "voted ",
+        Standing::Asked => "asked ",
+    }
+}
+
+// A bag, after a space.
+fn push_after_space(alloc: Global, text: &mut String, bag: BagId) -> Result<(), AllocError>
+    ensures { Pushes result text.old text.new (32 ∷ encode_lower bag.0) }
+{
+    text.push(' ')?;
+    push_bag(alloc, text, bag)
+}
+
+// The bag that is named, if one is.
+fn push_bag_of(alloc: Global, text: &mut String, standing: Standing) -> Result<(), AllocError>
+    ensures { Pushes result text.old text.new (bag_text standing) }
+{
+    match standing {
+        Standing::Known(bag) | Standing::Pending(bag) | Standing::Voted(bag) => {
+            push_after_space(alloc, text, bag)
+        }
+        Standing::Asked => Ok(()),
+    }
+}
+
+// The line of a version.
+#[tactic(auto, unfolding(crate::specs::Ledgers::version_line), using(std::proofs::Common::append_assoc))]
+fn push_version(
+    alloc: Global,
+    text: &mut String,
+    slot: &Slot,
+    standing: Standing,
+) -> Result<(), AllocError>
+    ensures { Pushes result text.old text.new (version_line slot.now standing) }
+{
+    text.push_str(word_of(standing))?;
+    push_escaped(text, slot.object())?;
+    let version = slot.version();
+    write!(text, " {version}")?;
+    push_bag_of(alloc, text, standing)?;
+    text.push('\n')
+}
+
+// The line of a version, where it is listed.
+fn push_listed(
+    alloc: Global,
+    text: &mut String,
+    listing: Listing,
+    slot: &Slot,
+    standing: Standing,
+) -> Result<(), AllocError>
+    ensures { Pushes result text.old text.new (listed_line listing slot.now standing) }
+{
+    if listing.has(standing) {
+        push_version(alloc, text, slot, standing)
+    } else {
+        Ok(())
+    }
+}
+
+// The line of the version at this place, if there is one, and it is listed.
+fn push_at(
+    alloc: Global,
+    text: &mut String,
+    listing: Listing,
+    versions: &Versions,
+    place: usize,
+) -> Result<(), AllocError>
+    ensures { Pushes result text.old text.new
+        (text_if (listed_in listing versions.now.entries) (slot_at versions.now.entries place)) }
+{
+    match slot_at(versions, place) {
+        Some(slot) => push_listed(alloc, text, listing, slot, standing_in(versions, slot)),
+        None => Ok(()),
+    }
+}
+
+// The lines of the versions that are listed.
+fn push_versions(
+    alloc: Global,
+    text: &mut String,
+    listing: Listing,
+    versions: &Versions,
+) -> Result<(), AllocError>
+    ensures { Pushes result text.old text.new
+        (flat_map (listed_in listing versions.now.entries) (keys_of versions.now.entries)) }
+{
+    for place in 0..versions.len() {
+        push_at(alloc, text, listing, versions, place)?;
+    }
+    Ok(())
+}
+
+/// The lines of a cell's versions, in the order of their first records, and how the cell ends. It
+/// fails only where memory runs out.
+pub fn ledger_text(
+    alloc: Global,
+    contents: &Contents,
+    listing: Listing,
+) -> Result<String, AllocError>
+    ensures { IfOk result (λ text. string_bytes text ≡ ledger_text listing contents.now) }
+{
+    let versions = versions_of(alloc, &contents.records)?;
+    let mut text = String::new(alloc);
+    push_versions(alloc, &mut text, listing, &versions)?;
+    push_ending(&mut text, contents.ending)?;
+    Ok(text)
+}

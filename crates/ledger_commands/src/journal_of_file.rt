@@ -1,0 +1,25 @@
+//! The command `journal`: over the file of a cell.
+
+use crate::cell_file::open_cell;
+use crate::journal::journal_on;
+use crate::journal_arguments::JournalTask;
+use outcomes::{ProgramFault, write_answer};
+use std::io;
+use std::io::{ErrorKind, Write};
+
+const UNREAD: &str = "open 4\n";
+
+/// Prints what the cell says, to standard output: where it can't be read, `open 4`, as `site` does.
+pub fn print_journal(rt: &HostRuntime, task: &JournalTask<'_>) -> Result<u8, ProgramFault> {
+    let mut output = io::writer(rt);
+    match open_cell(rt, task.cell) {
+        Ok(mut cell) => match journal_on(rt.alloc(), &mut cell, &mut output) {
+            Err(ProgramFault::Input) => write_answer(&mut output, 1, UNREAD),
+            answer => answer,
+        },
+        Err(error) if error.kind() == ErrorKind::OutOfMemory => {
+            write_answer(&mut output, 1, "memory\n")
+        }
+        Err(_) => write_answer(&mut output, 1, UNREAD),
+    }
+}

@@ -1,0 +1,77 @@
+//! The arguments of the command `ledger`.
+
+use clap::{Arg, ArgAction, ArgMatches, Command};
+use ledger::Listing;
+use std::alloc::{AllocError, Global};
+
+const ABOUT: &str = "Prints what a site's cell says of each version: which bag is known";
+
+const EXAMPLE: &str =
+    "The cell may be in use, or a copy: it is read without a lock, and never changed. It prints a
+line for each version, in the order in which the versions come first in the cell:
+  known OBJ V HEX           the site knows that this bag was chosen
+  pending OBJ V HEX         it knows of none, and has registered this bag as its own deposit
+  voted OBJ V HEX           neither; its vote, that of the greatest ballot, is for this bag
+  asked OBJ V               neither, and no vote: it has promised or issued a ballot, no more
+and at last, unless the cell ends with a whole record:
+  torn BYTES                so many bytes of a record that was cut short; opening cuts them off
+  damaged OFFSET            from this byte on there is neither a record nor a part of one
+The versions are then those of the records before that. With `--known`, `--pending` or both, only
+the lines of these kinds are printed, and the last one. `comm` of two sorted lists shows what a site
+lacks.
+
+The exit status is 0; 1 where the cell is damaged, can't be read (`open 4`), memory runs out
+(`memory`) or standard output can't be written; and 2 for a mistake in the arguments.
+
+Example:
+  bagpaxos ledger --known cell.1 | sort > known.1";
+
+/// A cell whose versions to print.
+#[derive(Clone, Copy, Debug)]
+pub struct LedgerTask<'a> {
+    /// The path of its file.
+    pub cell: &'a str,
+    /// Which of them.
+    pub listing: Listing,
+}
+
+/// What these arguments of the command ask for.
+pub fn ledger_task<'a>(matches: &ArgMatches<'a>) -> Option<LedgerTask<'a>> {
+    Some(LedgerTask {
+        cell: matches.get_str("CELL")?,
+        listing: Listing {
+            known: matches.get_flag("known"),
+            pending: matches.get_flag("pending"),
+        },
+    })
+}
+
+/// The command, with its help.
+pub fn ledger_command<'a>(alloc: Global) -> Result<Command<'a>, AllocError> {
+    Command::new(alloc, "ledger")
+        .about(ABOUT)
+        .after_help(EXAMPLE)
+        .arg(cell_argument(alloc))?
+        .arg(known_argument(alloc))?
+        .arg(pending_argument(alloc))
+}
+
+fn cell_argument<'a>(alloc: Global) -> Arg<'a> {
+    Arg::new(alloc, "CELL")
+        .required(true)
+        .help("The file of the cell")
+}
+
+fn known_argument<'a>(alloc: Global) -> Arg<'a> {
+    Arg::new(alloc, "known")
+        .long("known")
+        .action(ArgAction::SetTrue)
+        .help("Print the versions whose bag is known")
+}
+
+fn pending_argument<'a>(alloc: Global) -> Arg<'a> {
+    Arg::new(alloc, "pending")
+        .long("pending")
+        .action(ArgAction::SetTrue)
+        .help("Print the versions with a deposit of the site's and no known bag")
+}

@@ -1,0 +1,26 @@
+//! The command `ledger`: over the file of a cell.
+
+use crate::cell_file::open_cell;
+use crate::ledger_arguments::LedgerTask;
+use crate::version_lines::ledger_on;
+use outcomes::{ProgramFault, write_answer};
+use std::io;
+use std::io::{ErrorKind, Write};
+
+const UNREAD: &str = "open 4\n";
+
+/// Prints what the cell says of its versions, to standard output: where it can't be read, `open 4`,
+/// as `site` does.
+pub fn print_ledger(rt: &HostRuntime, task: &LedgerTask<'_>) -> Result<u8, ProgramFault> {
+    let mut output = io::writer(rt);
+    match open_cell(rt, task.cell) {
+        Ok(mut cell) => match ledger_on(rt.alloc(), &mut cell, &mut output, task.listing) {
+            Err(ProgramFault::Input) => write_answer(&mut output, 1, UNREAD),
+            answer => answer,
+        },
+        Err(error) if error.kind() == ErrorKind::OutOfMemory => {
+            write_answer(&mut output, 1, "memory\n")
+        }
+        Err(_) => write_answer(&mut output, 1, UNREAD),
+    }
+}

@@ -1,0 +1,98 @@
+//! The arguments of the command `members`.
+
+use crate::member_words::list_fault;
+use clap::{Arg, ArgAction, ArgMatches, Command};
+use std::alloc::{AllocError, Global};
+
+const ABOUT: &str = "Reads a members file, or writes one";
+
+const EXAMPLE: &str = "Of a members file it prints
+  ok F N Q HEX      the federation's number, the number of its sites, the weight that decides, and
+                    a digest of what the file says. Where sites differ in it they mustn't run
+                    together: compare it before the first start, and after every copy of the file.
+With --new it prints a members file for sites on these ports, that of site 1 first, each with its
+weight where one is given. The federation's number comes from this list, so that sites with
+another list are of another federation: they don't hear each other, nor open each other's cells.
+With --listed a file whose number doesn't come from its list is refused, as one that was cut.
+
+The exit status is 0; 1 where the last line says what is amiss:
+  members unread        the members file can't be read
+  members line N        line N of the members file is at fault
+  members other list    with --listed: the federation's number doesn't come from this list
+  memory                out of memory
+or where standard output can't be written; and 2 for a mistake in the arguments.
+
+Examples:
+  bagpaxos members --new 42001 42002 42003 > members
+  bagpaxos members --new 42001:2 42002 42003 > members
+  bagpaxos members members";
+
+/// A members file to read, or to write.
+#[derive(Debug, Drop)]
+pub struct MembersTask<'a> {
+    /// The path of the file that is to be read, if one is.
+    pub file: Option<&'a str>,
+    /// Whether its number has to come from its list.
+    pub listed: bool,
+    /// The sites of the file that is to be written, each as `PORT` or `PORT:WEIGHT`.
+    pub sites: Vec<&'a str>,
+}
+
+impl MembersTask<'_> {
+    /// What is amiss in the arguments together, if anything is.
+    pub fn mistake(&self) -> Option<&'static str> {
+        match self.file {
+            Some(_) => None,
+            None => list_fault(self.sites.as_slice()),
+        }
+    }
+}
+
+/// What these arguments of the command ask for.
+pub fn members_task<'a>(
+    alloc: Global,
+    matches: &ArgMatches<'a>,
+) -> Result<MembersTask<'a>, AllocError> {
+    let mut sites = Vec::new(alloc);
+    if let Some(words) = matches.get_strs("new") {
+        sites.extend_from_slice(words)?;
+    }
+    Ok(MembersTask {
+        file: matches.get_str("FILE"),
+        listed: matches.get_flag("listed"),
+        sites,
+    })
+}
+
+/// The command, with its help.
+pub fn members_command<'a>(alloc: Global) -> Result<Command<'a>, AllocError> {
+    Command::new(alloc, "members")
+        .about(ABOUT)
+        .after_help(EXAMPLE)
+        .arg(new_argument(alloc)?)?
+        .arg(listed_argument(alloc)?)?
+        .arg(file_argument(alloc)?)
+}
+
+fn new_argument<'a>(alloc: Global) -> Result<Arg<'a>, AllocError> {
+    Arg::new(alloc, "new")
+        .long("new")
+        .value_name("PORT")
+        .num_args(1..)
+        .help("Print a members file of sites with these ports, as PORT or PORT:WEIGHT")
+        .conflicts_with("FILE")
+}
+
+fn listed_argument<'a>(alloc: Global) -> Result<Arg<'a>, AllocError> {
+    Arg::new(alloc, "listed")
+        .long("listed")
+        .action(ArgAction::SetTrue)
+        .help("Refuse a file whose federation number doesn't come from its list")
+        .conflicts_with("new")
+}
+
+fn file_argument<'a>(alloc: Global) -> Result<Arg<'a>, AllocError> {
+    Arg::new(alloc, "FILE")
+        .help("The members file")
+        .required_unless_present("new")
+}

@@ -1,0 +1,173 @@
+//! A client that asks until a bag is known.
+
+use crate::client::{Reply, Request, Wanted, answer_of, ask, datagram, write_reply};
+use dgram::{DepositAnswer, FolderPath, QueryAnswer};
+use outcomes::{Answer, ProgramFault};
+use std::alloc::{AllocError, Global};
+use std::io::Write;
+use std::thread;
+use std::time::{Clock, Duration, Instant};
+use udp_site::Port;
+
+/// How many milliseconds it pauses after the first question.
+const FIRST_PAUSE: u64 = 20;
+
+/// How many at most.
+const LONGEST_PAUSE: u64 = 1000;
+
+/// Asks a site for a slot's bag until it is known, for so many seconds at most, and writes the last
+/// answer that there was as one line: `reply .. known ..` with status 0, any other with status 1.
+/// With a path the folder is deposited first, and again where the site then knows nothing of it. A
+/// deposit that is refused ends it at once. After each question it pauses, first for 20 ms, then
+/// for twice as long each time, and for a second at most.
+pub fn send_until_known<P: Port, C: Clock, W: Write>(
+    alloc: Global,
+    clock: &C,
+    port: &mut P,
+    request: &Request<'_>,
+    path: Option<FolderPath>,
+    seconds: u32,
+    output: &mut W,
+) -> Result<u8, ProgramFault> {
+    write_reply(
+        output,
+        last_answer(alloc, clock, port, request, path, seconds),
+    )
+}
+
+// The last answer, if there is one.
+fn last_answer<P: Port, C: Clock>(
+    alloc: Global,
+    clock: &C,
+    port: &mut P,
+    request: &Request<'_>,
+    path: Option<FolderPath>,
+    seconds: u32,
+) -> Result<Option<Answer>, AllocError> {
+    let questions = Questions::new(alloc, request, path)?;
+    match last_reply(alloc, clock, port, request, &questions, seconds)? {
+        Some(reply) => {
+            let status = if is_known(&reply) { 0 } else { 1 };
+            let Answer { text, .. } = answer_of(alloc, request, reply)?;
+            Ok(Some(Answer { status, text }))
+        }
+        None => Ok(None),
+    }
+}
+
+// The reply that says which bag is known or that a deposit is refused; or the last in this time.
+fn last_reply<P: Port, C: Clock>(
+    alloc: Global,
+    clock: &C,
+    port: &mut P,
+    request: &Request<'_>,
+    questions: &Questions,
+    seconds: u32,
+) -> Result<Option<Reply>, AllocError> {
+    let Ok(pauses) = Pauses::new(clock, seconds) else {
+        return Ok(None);
+    };
+    let mut pauses = pauses;
+    let mut last = None;
+    let mut bytes = questions.first();
+    for _ in 0..u32::MAX {
+        let Some(reply) = ask(alloc, port, request, Wanted::Any, bytes)? else {
+            bytes = questions.query.as_slice();
+            if !pauses.pause(clock) {
+                break;
+            }
+            continue;
+        };
+        bytes = questions.after(&reply);
+        let is_over = is_the_end(&reply) || !pauses.pause(clock);
+        last = Some(reply);
+        if is_over {
+            break;
+        }
+    }
+    Ok(last)
+}
+
+fn is_known(reply: &Reply) -> bool {
+    matches!(reply, Reply::ToQuery(QueryAnswer::Known(_)))
+}
+
+// Whether nothing else is to be waited for.
+fn is_the_end(reply: &Reply) -> bool {
+    match reply {
+        Reply::ToDeposit(DepositAnswer::Registered(_)) => false,
+        Reply::ToDeposit(_) => true,
+        Reply::ToQuery(_) => is_known(reply),
+    }
+}
+
+/// The datagrams that are sent.
+#[derive(Drop)]
+struct Questions {
+    deposit: Option<Vec<u8>>,
+    query: Vec<u8>,
+}
+
+impl Questions {
+    fn new(
+        alloc: Global,
+        request: &Request<'_>,
+        path: Option<FolderPath>,
+    ) -> Result<Questions, AllocError> {
+        let query = datagram(alloc, request, None)?;
+        let deposit = match path {
+            Some(path) => Some(datagram(alloc, request, Some(path))?),
+            None => None,
+        };
+        Ok(Questions { deposit, query })
+    }
+
+    // The deposit, if there is one.
+    fn first(&self) -> &[u8] {
+        match &self.deposit {
+            Some(deposit) => deposit.as_slice(),
+            None => self.query.as_slice(),
+        }
+    }
+
+    // What is sent after this reply. A site that knows nothing hasn't got the deposit.
+    fn after(&self, reply: &Reply) -> &[u8] {
+        match reply {
+            Reply::ToQuery(QueryAnswer::Nothing) => self.first(),
+            _ => self.query.as_slice(),
+        }
+    }
+}
+
+/// The pauses between questions, and when they end.
+#[derive(Drop)]
+struct Pauses {
+    start: Instant,
+    most: Duration,
+    millis: u64,
+}
+
+impl Pauses {
+    fn new<C: Clock>(clock: &C, seconds: u32) -> std::io::Result<Pauses> {
+        Ok(Pauses {
+            start: Instant::now(clock)?,
+            most: Duration::from_secs(u64::from(seconds)),
+            millis: FIRST_PAUSE,
+        })
+    }
+
+    // Pauses, and says whether there is time for one more question.
+    fn pause<C: Clock>(&mut self, clock: &C) -> bool {
+        let Ok(elapsed) = self.start.elapsed(clock) else {
+            return false;
+        };
+        let left = self.most.saturating_sub(elapsed);
+        if left.is_zero() {
+            return false;
+        }
+        let pause = Duration::from_millis(self.millis).min(left);
+        self.millis = self.millis.saturating_mul(2).min(LONGEST_PAUSE);
+        thread::sleep(clock, pause);
+        true
+    }
+}

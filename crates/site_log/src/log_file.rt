@@ -1,0 +1,45 @@
+//! The file of a log.
+
+use std::alloc::Global;
+use std::fs::{File, OpenOptions};
+use std::io::{self, ErrorKind, Write};
+
+/// A file to which lines are appended, as long as that succeeds.
+#[derive(Drop)]
+pub(crate) struct LogFile {
+    file: Option<File>,
+}
+
+impl LogFile {
+    /// The file of this path, which is made where it is missing. Where that fails, standard error
+    /// says so, and no line is kept.
+    pub(crate) fn open(rt: &HostRuntime, path: &str) -> LogFile {
+        match appending(rt, path) {
+            Ok(file) => LogFile { file: Some(file) },
+            Err(error) => {
+                say(rt, &error);
+                LogFile { file: None }
+            }
+        }
+    }
+
+    /// Appends a line. Where that fails, standard error says so, and this is the last one.
+    pub(crate) fn append(&mut self, rt: &HostRuntime, line: &str) {
+        let Some(file) = &mut self.file else {
+            return;
+        };
+        if let Err(error) = file.write_all(line.as_bytes()) {
+            say(rt, &error);
+            self.file = None;
+        }
+    }
+}
+
+fn appending(rt: &HostRuntime, path: &str) -> io::Result<File> {
+    OpenOptions::new().append(true).create(true).open(rt, path)
+}
+
+// Where standard error can't be written either, nobody is told.
+fn say(rt: &HostRuntime, error: &io::Error) {
+    let _ = eprintln!(rt; "bagpaxos: the log can't be written, and the site goes on: {error}");
+}

@@ -1,0 +1,32 @@
+//! An output whose lines are noted.
+
+use crate::site_log::SiteLog;
+use std::io::{Result, Write};
+
+/// An output that tells the log what was written. It is the output otherwise.
+#[derive(Drop)]
+pub struct LoggedOutput<'a, W> {
+    log: &'a SiteLog,
+    output: W,
+}
+
+impl<'a, W: Write> LoggedOutput<'a, W> {
+    /// This output, with this log.
+    pub fn new(log: &'a SiteLog, output: W) -> LoggedOutput<'a, W> {
+        LoggedOutput { log, output }
+    }
+}
+
+impl<W: Write> Write for LoggedOutput<'_, W> {
+    ghost contents = { λ o. W.contents o.output };
+
+    fn write(&mut self, buf: &[u8]) -> Result<usize> {
+        let count = self.output.write(buf)?;
+        self.log.wrote(&buf[..count]);
+        Ok(count)
+    }
+
+    fn flush(&mut self) -> Result<()> {
+        self.output.flush()
+    }
+}

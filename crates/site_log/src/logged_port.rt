@@ -1,0 +1,37 @@
+//! A port whose datagrams are noted.
+
+use crate::site_log::SiteLog;
+use udp_site::{Port, PortFault, Turn};
+
+/// A port that tells the log what came. It is the port otherwise.
+#[derive(Drop)]
+pub struct LoggedPort<'a, P> {
+    log: &'a SiteLog,
+    port: P,
+}
+
+impl<'a, P: Port> LoggedPort<'a, P> {
+    /// This port, with this log.
+    pub fn new(log: &'a SiteLog, port: P) -> LoggedPort<'a, P> {
+        LoggedPort { log, port }
+    }
+}
+
+impl<P: Port> Port for LoggedPort<'_, P> {
+    ghost use Rattle.cell_device.specs.Calls.{HasCause};
+    ghost use Rattle.udp_site.specs.Traffic.{IsReceived, IsHanded};
+
+    ghost traffic = { λ p. P.traffic p.port };
+
+    ghost failures = { λ p. P.failures p.port };
+
+    fn receive(&mut self) -> Result<Turn, PortFault> {
+        let turn = self.port.receive()?;
+        self.log.came(&turn);
+        Ok(turn)
+    }
+
+    fn send(&mut self, to: u16, bytes: &[u8]) -> Result<(), PortFault> {
+        self.port.send(to, bytes)
+    }
+}

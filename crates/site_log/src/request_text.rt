@@ -1,0 +1,85 @@
+//! What was asked for, in words.
+
+use dgram::{Body, Message, decode};
+use fed_types::{BagId, Ballot, Slot, Vote};
+use std::alloc::{AllocError, Global};
+use words::push_escaped;
+
+/// The message that these bytes are, in words: its kind, the object and the version; then, if it
+/// has them, the ballot's round and site, the bag or the folder. Bytes that are no message of this
+/// federation have none.
+pub(crate) fn request_text(
+    alloc: Global,
+    federation: u64,
+    bytes: &[u8],
+) -> Result<String, AllocError> {
+    let mut text = String::new(alloc);
+    if let Ok(message) = decode(alloc, federation, bytes) {
+        push_message(alloc, &mut text, &message)?;
+    }
+    Ok(text)
+}
+
+fn push_message(alloc: Global, text: &mut String, message: &Message) -> Result<(), AllocError> {
+    text.push_str(kind(&message.body))?;
+    push_slot(text, &message.slot)?;
+    push_body(alloc, text, &message.body)
+}
+
+fn kind(body: &Body) -> &'static str {
+    match body {
+        Body::Prepare { .. } => "prepare",
+        Body::Promise { .. } => "promise",
+        Body::Accept { .. } => "accept",
+        Body::Accepted { .. } => "accepted",
+        Body::Refused { .. } => "refused",
+        Body::Ask { .. } => "ask",
+        Body::Known { .. } => "known",
+        Body::Deposit { .. } => "deposit",
+        Body::Query => "query",
+        Body::DepositReply { .. } | Body::QueryReply { .. } => "reply",
+    }
+}
+
+fn push_slot(text: &mut String, slot: &Slot) -> Result<(), AllocError> {
+    text.push(' ')?;
+    push_escaped(text, slot.object())?;
+    let version = slot.version();
+    write!(text, " {version}")
+}
+
+fn push_body(alloc: Global, text: &mut String, body: &Body) -> Result<(), AllocError> {
+    match body {
+        Body::Prepare { ballot } | Body::Promise { ballot, .. } => push_ballot(text, *ballot),
+        Body::Refused { asked, .. } => push_ballot(text, *asked),
+        Body::Accept { vote } | Body::Accepted { vote, .. } => push_vote(alloc, text, *vote),
+        Body::Known { bag, .. } => push_bag(alloc, text, *bag),
+        Body::Deposit { path } => push_word(text, path.as_str()),
+        Body::Ask { .. } | Body::Query | Body::DepositReply { .. } | Body::QueryReply { .. } => {
+            Ok(())
+        }
+    }
+}
+
+/// Appends a space and a path, or another name, as one word.
+pub(crate) fn push_word(text: &mut String, word: &str) -> Result<(), AllocError> {
+    text.push(' ')?;
+    push_escaped(text, word)
+}
+
+fn push_ballot(text: &mut String, ballot: Ballot) -> Result<(), AllocError> {
+    let round = ballot.round();
+    let site = ballot.site().number();
+    write!(text, " {round} {site}")
+}
+
+fn push_vote(alloc: Global, text: &mut String, vote: Vote) -> Result<(), AllocError> {
+    push_ballot(text, vote.ballot)?;
+    push_bag(alloc, text, vote.bag)
+}
+
+fn push_bag(alloc: Global, text: &mut String, bag: BagId) -> Result<(), AllocError> {
+    let digits = hex::encode(alloc, bag.0)?;
+    text.push(' ')?;
+    text.push_str(digits.as_str())
+}

@@ -1,0 +1,195 @@
+//! What is noted of a site, and when.
+
+use crate::log_file::LogFile;
+use crate::moment::moment_text;
+use crate::request_text::{push_word, request_text};
+use bag_tree::TreeFault;
+use fed_types::{Members, SiteNo};
+use records::{Entry, Record};
+use std::alloc::{AllocError, Global};
+use std::cell::RefCell;
+use udp_site::Turn;
+
+/// A log of a site that serves, in a file. What can't be noted, for want of memory or of room, is
+/// left out: the site goes on.
+#[derive(Drop)]
+pub struct SiteLog {
+    rt: HostRuntime,
+    members: Members,
+    number: SiteNo,
+    port: u16,
+    state: RefCell<State>,
+}
+
+/// What the next line needs.
+#[derive(Drop)]
+struct State {
+    file: LogFile,
+    /// The port from which came what the site does now; none in an idle turn.
+    from: Option<u16>,
+    /// What came.
+    bytes: Vec<u8>,
+    /// The beginning of a line of the site's that isn't ended.
+    begun: String,
+}
+
+impl SiteLog {
+    /// A log of the site of this number, which serves at this port, in the file of this path.
+    pub fn open(
+        rt: &HostRuntime,
+        path: &str,
+        members: Members,
+        number: SiteNo,
+        port: u16,
+    ) -> Result<SiteLog, AllocError> {
+        let state = State {
+            file: LogFile::open(rt, path),
+            from: None,
+            bytes: Vec::new(rt.alloc()),
+            begun: String::new(rt.alloc()),
+        };
+        Ok(SiteLog {
+            rt: rt.clone()?,
+            members,
+            number,
+            port,
+            state: RefCell::new(state),
+        })
+    }
+
+    /// The site begins to serve, with these records.
+    pub fn begins(&self, records: &[Record]) {
+        if let Ok(mut state) = self.state.try_borrow_mut() {
+            let line = self.beginning(records);
+            append(&self.rt, &mut state, line);
+        }
+    }
+
+    /// The turn brings this.
+    pub(crate) fn came(&self, turn: &Turn) {
+        if let Ok(mut state) = self.state.try_borrow_mut() {
+            take(&mut state, turn);
+        }
+    }
+
+    /// The folder that a client named can't be read, for this reason, at this place below it.
+    pub(crate) fn unread(&self, fault: TreeFault, place: Option<&str>) {
+        if let Ok(mut state) = self.state.try_borrow_mut() {
+            let line = self.unread_line(&state, fault, place);
+            append(&self.rt, &mut state, line);
+        }
+    }
+
+    /// The site has written this.
+    pub(crate) fn wrote(&self, text: &[u8]) {
+        if let Ok(mut state) = self.state.try_borrow_mut() {
+            // Without room for all of it nothing is noted.
+            if state.begun.reserve(text.len()).is_ok() {
+                self.take_text(&mut state, text);
+            }
+        }
+    }
+
+    // At the end of each line it is noted.
+    fn take_text(&self, state: &mut State, text: &[u8]) {
+        for byte in text {
+            if *byte == b'\n' {
+                let line = self.line_of(state);
+                append(&self.rt, state, line);
+                state.begun.clear();
+            } else {
+                let _ = state.begun.push(char::from(*byte));
+            }
+        }
+    }
+
+    // `serves site S of N, federation F, port P, R records, K known`
+    fn beginning(&self, records: &[Record]) -> Result<String, AllocError> {
+        let mut line = self.heading(None)?;
+        let site = self.number.number();
+        let count = self.members.count();
+        let federation = self.members.federation();
+        let port = self.port;
+        write!(
+            line,
+            "serves site {site} of {count}, federation {federation}, port {port}, "
+        )?;
+        let kept = records.len();
+        let known = records.iter().filter(|it| is_known(it)).count();
+        write!(line, "{kept} records, {known} known")?;
+        Ok(line)
+    }
+
+    // The line that the site has written, and after `refused` what was asked for.
+    fn line_of(&self, state: &State) -> Result<String, AllocError> {
+        let mut line = self.heading(state.from)?;
+        line.push_str(state.begun.as_str())?;
+        if state.begun.as_str().starts_with("refused") {
+            self.push_request(&mut line, state)?;
+        }
+        Ok(line)
+    }
+
+    // `unread S CODE`, the request, and the place.
+    fn unread_line(
+        &self,
+        state: &State,
+        fault: TreeFault,
+        place: Option<&str>,
+    ) -> Result<String, AllocError> {
+        let mut line = self.heading(state.from)?;
+        let site = self.number.number();
+        let code = 20 + u32::from(fault.number());
+        write!(line, "unread {site} {code}")?;
+        self.push_request(&mut line, state)?;
+        if let Some(place) = place {
+            push_word(&mut line, place)?;
+        }
+        Ok(line)
+    }
+
+    fn push_request(&self, line: &mut String, state: &State) -> Result<(), AllocError> {
+        let federation = self.members.federation();
+        let request = request_text(self.rt.alloc(), federation, state.bytes.as_slice())?;
+        if request.is_empty() {
+            return Ok(());
+        }
+        line.push(' ')?;
+        line.push_str(request.as_str())
+    }
+
+    // The time, and the port from which came what the line is about; `-` where nothing came.
+    fn heading(&self, from: Option<u16>) -> Result<String, AllocError> {
+        let alloc = self.rt.alloc();
+        let moment = moment_text(alloc, &self.rt)?;
+        match from {
+            Some(port) => format!(in alloc; "{moment} {port} "),
+            None => format!(in alloc; "{moment} - "),
+        }
+    }
+}
+
+// Notes a line, unless there was no memory for it.
+fn append(rt: &HostRuntime, state: &mut State, line: Result<String, AllocError>) {
+    if let Ok(mut line) = line {
+        if line.push('\n').is_ok() {
+            state.file.append(rt, line.as_str());
+        }
+    }
+}
+
+// Keeps what came, for the lines that follow. Where memory runs out they have no request.
+fn take(state: &mut State, turn: &Turn) {
+    state.bytes.clear();
+    state.from = match turn {
+        Turn::Idle => None,
+        Turn::Got(from, bytes) => {
+            let _ = state.bytes.extend_from_slice(bytes.as_slice());
+            Some(*from)
+        }
+    };
+}
+
+fn is_known(record: &Record) -> bool {
+    matches!(record.body, Entry::Known(_))
+}

@@ -1,7 +1,0 @@
-use Rattle.std.specs.Prelude.{codes}
-use Rattle.bag_text.specs.Paths.{unescaped}
-use Rattle.tests_of_bags.proofs.laws.unescapes_once.Goals as goal
-
-pub returns : goal.returns
-unfolding unescaped
-returns c = c.escape_law.ensures (codes "data/%0A")

@@ -1,0 +1,37 @@
+-- How long a port waits. Waits are milliseconds, and moments are microseconds of its clock.
+use Rattle.std.specs.Prelude.{ℕ, ◌-◌, ◌*◌, min, max, true, false, if◌then◌else◌}
+use Rattle.udp_site.specs.declared.waits.Waits.{Waits}
+use Rattle.udp_site.specs.declared.pace.Pace.{Pace}
+use Rattle.udp_site.specs.declared.sign.Sign.{Sign}
+use Rattle.udp_site.specs.declared.sign.Sign.TheVariants as signs
+
+-- a port begins with its first wait, as after an idle turn at the moment 0
+abbrev pub begins : Waits → Pace
+begins waits = record { waits = waits; wait = waits.first; idle_at = 0; over = false }
+
+-- nothing came: it waits twice as long, up to the most that it may
+abbrev pub idles : Pace → (now : ℕ) → Pace
+idles pace now = record pace {
+  wait = min (2 * pace.wait) (max pace.waits.first pace.waits.most);
+  idle_at = now;
+  over = false;
+}
+
+-- Something moves: it waits for its first wait again. Where a proposal has got votes, or a bag is
+-- known, no proposal is under way any more.
+abbrev pub hears : Pace → Sign → Pace
+hears pace signs.Still = pace
+hears pace signs.Moves = record pace { wait = pace.waits.first }
+hears pace signs.Decides = record pace { wait = pace.waits.first; over = true }
+
+-- How long after an idle turn the next one comes, whatever else does: ten first waits, and 250 ms
+-- at least, since a site that is idle sooner outbids its own proposal; or one wait, where none is
+-- under way.
+abbrev pub between : Pace → ℕ
+between pace =
+    if pace.over then pace.wait else max pace.wait (max (10 * pace.waits.first) 250)
+
+-- for how many microseconds a turn that began then waits still; with 0 it is idle
+abbrev pub left : Pace → (began now : ℕ) → ℕ
+left pace began now =
+    min (1000 * pace.wait - (now - began)) (1000 * between pace - (now - pace.idle_at))

@@ -1,0 +1,23 @@
+-- What a datagram is a sign of.
+use Rattle.std.specs.Prelude.{ℕ, ◌==◌, if◌then◌else◌, Option, Some, None}
+use Rattle.dgram.specs.declared.body.Body.{Body}
+use Rattle.dgram.specs.declared.body.Body.TheVariants as bodies
+use Rattle.dgram.specs.declared.message.Message.{Message}
+use Rattle.udp_site.specs.declared.sign.Sign.{Sign}
+use Rattle.udp_site.specs.declared.sign.Sign.TheVariants.{Still, Moves, Decides}
+
+-- a proposal got its promises, or a bag was deposited; a vote, or a known bag; or nothing moves
+abbrev pub sign_by : Body → Sign
+sign_by (bodies.Accept vote) = Moves
+sign_by (bodies.Deposit path) = Moves
+sign_by (bodies.Accepted from vote) = Decides
+sign_by (bodies.Known from bag) = Decides
+sign_by body = Still
+
+abbrev pub sign_in : Option Message → Sign
+sign_in None = Still
+sign_in (Some message) = sign_by message.body
+
+-- what a port sends to itself is a sign of nothing
+abbrev pub sign_at : (own from : ℕ) → Option Message → Sign
+sign_at own from message = if own == from then Still else sign_in message

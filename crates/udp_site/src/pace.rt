@@ -1,0 +1,90 @@
+ghost use Rattle.std.specs.Prelude.{◌≡◌, ◌≤◌, ◌*◌};
+ghost use Rattle.udp_site.specs.Pace.{begins, idles, hears, between, left};
+
+use crate::sign::Sign;
+use crate::waits::Waits;
+
+/// How many of its first waits a port lets pass between two idle turns, where no turn is idle by
+/// itself.
+const FIRST_WAITS: u64 = 10;
+
+/// How many milliseconds at least.
+const LEAST_BETWEEN: u64 = 250;
+
+const MICROS: u64 = 1000;
+
+/// How long a port waits next. Moments are microseconds.
+#[derive(Clone, Copy, Debug, PartialEq, Eq)]
+pub(crate) struct Pace {
+    pub(crate) waits: Waits,
+    /// How long it waits now.
+    pub(crate) wait: u32,
+    /// When its last turn that was idle ended.
+    pub(crate) idle_at: u64,
+    /// Votes of others, or a known bag, have come since then.
+    pub(crate) over: bool,
+}
+
+impl Pace {
+    /// The pace of a port that begins at the moment 0.
+    pub(crate) fn new(waits: Waits) -> Pace
+        ensures { result ≡ begins waits }
+    {
+        Pace {
+            waits,
+            wait: waits.first,
+            idle_at: 0,
+            over: false,
+        }
+    }
+
+    /// A turn was idle.
+    pub(crate) fn idles(&mut self, now: u64)
+        ensures { self.new ≡ idles self.old now }
+    {
+        let most = self.waits.most.max(self.waits.first);
+        self.wait = self.wait.saturating_mul(2).min(most);
+        self.idle_at = now;
+        self.over = false;
+    }
+
+    /// A datagram came that is a sign of this.
+    pub(crate) fn hears(&mut self, sign: Sign)
+        ensures { self.new ≡ hears self.old sign }
+    {
+        match sign {
+            Sign::Still => {}
+            Sign::Moves => self.wait = self.waits.first,
+            Sign::Decides => {
+                self.wait = self.waits.first;
+                self.over = true;
+            }
+        }
+    }
+
+    /// For how many microseconds a turn that began then waits still. With 0 it is idle.
+    pub(crate) fn left(&self, began: u64, now: u64) -> u64
+        ensures { result ≡ left self.now began now }
+    {
+        let quiet = MICROS * u64::from(self.wait);
+        let fair = MICROS * self.between();
+        let since_began = now.saturating_sub(began);
+        let since_idle = now.saturating_sub(self.idle_at);
+        quiet
+            .saturating_sub(since_began)
+            .min(fair.saturating_sub(since_idle))
+    }
+
+    // The most milliseconds between two idle turns.
+    fn between(&self) -> u64
+        ensures between { result ≡ between self.now }
+        ensures within { result ≤ 10 * 4294967295 }
+    {
+        let wait = u64::from(self.wait);
+        if self.over {
+            return wait;
+        }
+        let waits = FIRST_WAITS * u64::from(self.waits.first);
+        wait.max(waits.max(LEAST_BETWEEN))
+    }
+}

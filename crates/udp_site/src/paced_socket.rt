@@ -1,0 +1,185 @@
+//! A socket, and how long it is waited at.
+
+ghost use Rattle.std.specs.Prelude.{◌≡◌, ◌≤◌, length, IfOk, OnErr, IfSome};
+ghost use Rattle.udp_site.specs.Pace.{begins, hears};
+ghost use Rattle.udp_site.specs.inner.Paced.{Waited, EndsWait};
+
+use crate::pace::Pace;
+use crate::sign::Sign;
+use crate::waits::Waits;
+use libc::net::{POLLIN, poll};
+use libc::types::pollfd;
+use std::io::{self, ErrorKind};
+use std::net::{IpAddr, Ipv4Addr, Net, SocketAddr, UdpSocket};
+use std::os::fd::AsRawFd;
+use std::time::{Clock, Instant};
+
+/// How often a call of the system is made for one datagram that is sent.
+const MOST_TRIES: u32 = 100;
+
+/// A socket on 127.0.0.1, with the clock and the pace of its waits.
+#[derive(Drop)]
+pub(crate) struct PacedSocket<R: Clock + Drop> {
+    clock: R,
+    /// The moment 0 of the pace.
+    made: Instant,
+    socket: UdpSocket,
+    pace: Pace,
+}
+
+/// How waiting ends.
+#[derive(Clone, Copy)]
+pub(crate) enum End {
+    /// A datagram came from this port, and so many bytes of it are in the buffer.
+    Taken(u16, usize),
+    /// The turn that began then is idle now.
+    Idle { began: u64, now: u64 },
+}
+
+impl<R: Clock + Drop> PacedSocket<R> {
+    /// A socket at this port, or at a free one where it is 0. A first wait of 0 is refused.
+    pub(crate) fn bind(net: &R, port: u16, waits: Waits) -> io::Result<PacedSocket<R>>
+    where
+        R: Net + Copy,
+        ensures { IfOk result (λ socket. socket.pace ≡ begins waits) }
+    {
+        if waits.first == 0 {
+            return Err(ErrorKind::InvalidInput.into());
+        }
+        let socket = UdpSocket::bind(net, at(port))?;
+        // Only `poll` waits.
+        socket.set_nonblocking(true)?;
+        Ok(PacedSocket {
+            clock: *net,
+            made: Instant::now(net)?,
+            socket,
+            pace: Pace::new(waits),
+        })
+    }
+
+    /// The number of its port.
+    pub(crate) fn number(&self) -> io::Result<u16> {
+        Ok(self.socket.local_addr()?.port())
+    }
+
+    /// Waits for a datagram, for as long as the pace says: the port from which it came, and how
+    /// many bytes of it are in the buffer; or the turn is idle. Where the pace says so at once,
+    /// what has come stays in the socket. A datagram from another address is passed over.
+    pub(crate) fn take(&mut self, buffer: &mut [u8]) -> io::Result<Option<(u16, usize)>>
+        ensures count { IfOk result (λ got. IfSome got (λ g. g.1 ≤ length buffer.new)) }
+        ensures paced { IfOk result (Waited self.old.pace self.new.pace) }
+        ensures same { OnErr result (self.new.pace ≡ self.old.pace) }
+    {
+        match self.wait_for(buffer)? {
+            End::Taken(from, count) => Ok(Some((from, count))),
+            End::Idle { now, .. } => {
+                self.pace.idles(now);
+                Ok(None)
+            }
+        }
+    }
+
+    // Waits for a datagram, or until nothing is left of the waits.
+    fn wait_for(&self, buffer: &mut [u8]) -> io::Result<End>
+        ensures { IfOk result (EndsWait self.now.pace (length buffer.new)) }
+    {
+        let began = self.moment()?;
+        for _ in 0..u64::MAX {
+            let now = self.moment()?;
+            let left = self.pace.left(began, now);
+            if left == 0 {
+                return Ok(End::Idle { began, now });
+            }
+            if let Some((from, count)) = taken_within(&self.socket, left, buffer)? {
+                return Ok(End::Taken(from, count));
+            }
+        }
+        Err(ErrorKind::TimedOut.into())
+    }
+
+    /// What was taken is a sign of this.
+    pub(crate) fn hears(&mut self, sign: Sign)
+        ensures { self.new.pace ≡ hears self.old.pace sign }
+    {
+        self.pace.hears(sign);
+    }
+
+    /// Sends a datagram to this port.
+    pub(crate) fn send_to(&self, port: u16, bytes: &[u8]) -> io::Result<()> {
+        for _ in 0..MOST_TRIES {
+            match self.socket.send_to(bytes, at(port)) {
+                Ok(_) => return Ok(()),
+                Err(error) => match error.kind() {
+                    // The second is of a datagram that was sent earlier.
+                    ErrorKind::Interrupted | ErrorKind::ConnectionRefused => {}
+                    _ => return Err(error),
+                },
+            }
+        }
+        Err(ErrorKind::Interrupted.into())
+    }
+
+    // The moment that it is.
+    fn moment(&self) -> io::Result<u64> {
+        let micros = self.made.elapsed(&self.clock)?.as_micros();
+        Ok(u64::try_from(micros).unwrap_or(u64::MAX))
+    }
+}
+
+/// Takes a datagram that is there. Where none is, it waits for so many microseconds at most until one
+/// may be. One from another address is passed over.
+fn taken_within(
+    socket: &UdpSocket,
+    micros: u64,
+    buffer: &mut [u8],
+) -> io::Result<Option<(u16, usize)>>
+    ensures { IfOk result (λ got. IfSome got (λ g. g.1 ≤ length buffer.new)) }
+{
+    match taken(socket, buffer) {
+        Ok(taken) => Ok(taken),
+        Err(error) => match error.kind() {
+            ErrorKind::WouldBlock => {
+                wait(socket, micros)?;
+                Ok(None)
+            }
+            // The second is of a datagram that was sent earlier.
+            ErrorKind::Interrupted | ErrorKind::ConnectionRefused => Ok(None),
+            _ => Err(error),
+        },
+    }
+}
+
+/// Takes a datagram, if it comes from this machine.
+fn taken(socket: &UdpSocket, buffer: &mut [u8]) -> io::Result<Option<(u16, usize)>>
+    ensures { IfOk result (λ got. IfSome got (λ g. g.1 ≤ length buffer.new)) }
+{
+    let (count, from) = socket.recv_from(buffer)?;
+    if from.ip() == IpAddr::V4(Ipv4Addr::LOCALHOST) {
+        Ok(Some((from.port(), count)))
+    } else {
+        Ok(None)
+    }
+}
+
+/// Waits for so many microseconds at most, in whole milliseconds, or until a datagram or a signal
+/// comes.
+fn wait(socket: &UdpSocket, micros: u64) -> io::Result<()> {
+    let mut asked = [pollfd {
+        fd: socket.as_raw_fd(),
+        events: POLLIN,
+        revents: 0,
+    }];
+    let millis = i32::try_from(micros.div_ceil(1000)).unwrap_or(i32::MAX);
+    if 0 <= poll(&mut asked, millis) {
+        return Ok(());
+    }
+    match io::Error::from_raw_os_error(os::errno()) {
+        error if error.kind() == ErrorKind::Interrupted => Ok(()),
+        error => Err(error),
+    }
+}
+
+/// The address of a port.
+fn at(port: u16) -> SocketAddr {
+    SocketAddr::new(IpAddr::V4(Ipv4Addr::LOCALHOST), port)
+}

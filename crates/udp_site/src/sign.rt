@@ -1,0 +1,56 @@
+//! What a datagram is a sign of.
+
+ghost use Rattle.std.specs.Prelude.{◌≡◌, IfOk};
+ghost use Rattle.dgram.specs.Decoded.{message_of};
+ghost use Rattle.udp_site.specs.Signs.{sign_by, sign_at};
+
+use dgram::{Body, DgramFault, Message, decode};
+use std::alloc::{AllocError, Global};
+
+/// What a datagram is a sign of, for the pace of a port.
+#[derive(Clone, Copy, Debug, PartialEq, Eq)]
+pub(crate) enum Sign {
+    /// Nothing moves.
+    Still,
+    /// Something moves.
+    Moves,
+    /// Something moves, and a proposal has got votes, or a bag is known.
+    Decides,
+}
+
+/// What these bytes are a sign of, which came to a port from one.
+pub(crate) fn sign_of(
+    alloc: Global,
+    federation: u64,
+    own: u16,
+    from: u16,
+    bytes: &[u8],
+) -> Result<Sign, AllocError>
+    ensures { IfOk result (λ sign. sign ≡ sign_at own from (message_of federation bytes.now)) }
+{
+    if own == from {
+        return Ok(Sign::Still);
+    }
+    match decode(alloc, federation, bytes) {
+        Ok(Message { body, .. }) => Ok(sign_by(&body)),
+        Err(DgramFault::Memory) => Err(AllocError),
+        Err(DgramFault::NotOurs) => Ok(Sign::Still),
+        Err(DgramFault::Malformed) => Ok(Sign::Still),
+    }
+}
+
+fn sign_by(body: &Body) -> Sign
+    ensures { result ≡ sign_by body.now }
+{
+    match body {
+        Body::Accept { .. } | Body::Deposit { .. } => Sign::Moves,
+        Body::Accepted { .. } | Body::Known { .. } => Sign::Decides,
+        Body::Prepare { .. }
+        | Body::Promise { .. }
+        | Body::Refused { .. }
+        | Body::Ask { .. }
+        | Body::Query
+        | Body::DepositReply { .. }
+        | Body::QueryReply { .. } => Sign::Still,
+    }
+}
