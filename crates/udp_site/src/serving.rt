@@ -100,11 +100,12 @@ fn one_turn<C: Cell, P: Port, F: Folders, W: Write>(
         Ok(()) => {}
         Err(_) => return Err(ServeFault::Memory),
     }
-    write_lines(alloc, lines, output)?;
+    let written = write_lines(alloc, lines, output);
+    // A cell that failed is the answer also where that can't be written.
     if is_refused(lines) {
         return Err(ServeFault::Cell);
     }
-    Ok(())
+    written
 }
 
 // Receives once.
