@@ -117,11 +117,23 @@ def is_of_a_name(sentence):
     return bool(re.match(rf"(?:note: )?(?:\./)?proofs/.*(?:{words})", sentence))
 
 
+def refusals(said):
+    """What the check refuses: goals that are open, and proofs that don't hold."""
+    place = r"(?:note: )?\S+:\d+:\d+: (?:error|it is not proved)"
+    return [it for it in sentences(said) if re.match(place, it)]
+
+
 def is_for_names_alone(said):
     """All that the check refuses is what proofs by hand name; the first of that, or None."""
-    place = r"(?:note: )?\S+:\d+:\d+: (?:error|it is not proved)"
-    refused = [it for it in sentences(said) if re.match(place, it)]
+    refused = refusals(said)
     return refused[0] if refused and all(map(is_of_a_name, refused)) else None
+
+
+def is_uncovered(said):
+    """Nothing is refused, but of a function no proof can be begun, since the prover doesn't cover
+    its code, so that no contract was tried; that line, or None."""
+    lines = (it for it in said if re.match(r"fn \S+: no proof: expected (?!answers)", it))
+    return None if refusals(said) else next(lines, None)
 
 
 def batches_of(mutants, most):

@@ -6,7 +6,7 @@ import threading
 
 from checks import ended, linked, linked_work
 from edits import Mutant, batches_of, name_of, verdict_of
-from edits import is_for_names_alone, is_of_a_name, is_unread, sentences
+from edits import is_for_names_alone, is_of_a_name, is_uncovered, is_unread, sentences
 from repository import PARTS
 
 # A check of more mutants costs less for each; a run that is cut loses those that it was trying.
@@ -80,14 +80,14 @@ class Trial:
         return mutant.function and name_of(mutant.function, self.crate, self.said)
 
     def tried_alone(self, mutant):
-        """Why the mutant passes, or None where the check refuses it; and then the line of a proof by
-        hand, which names what it took away, where nothing else refuses it."""
+        """Why the mutant passes, or None where the check refuses it; and then, where no clause does,
+        the line of a proof by hand, which names what it took away, or that no proof was begun."""
         said, why = self.check([mutant], is_whole=True)
         if why:
             return why, None
         last = [it for it in said if it.startswith("logic=")]
         if last and last[-1].startswith("logic=not-proved"):
-            return None, is_for_names_alone(said)
+            return None, is_for_names_alone(said) or is_uncovered(said)
         if last:
             return "the crate is proved with it", None
         return f"the check came to no end: {ended(said)}", None
