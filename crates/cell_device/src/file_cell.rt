@@ -49,8 +49,8 @@ impl FileCell {
     ghost use Rattle.cell_device.specs.Calls.{one_more, HasCause};
     ghost use Rattle.cell_device.specs.FileCells.{failures_of};
 
-    /// The cell in the file of this path, which is made where it is missing, with rights for its
-    /// owner alone; a path without a folder leads to the present one. It is refused with `Device`
+    /// The cell in the file of this path, which is created if missing, with rights for its owner
+    /// alone; a path without a folder leads to the present one. It is refused with `Device`
     /// where it isn't a file, where another cell has it open, or where the system refuses it; or
     /// with `Memory`.
     pub fn open(rt: &HostRuntime, path: &str) -> Result<FileCell, CellFault>
@@ -185,7 +185,8 @@ impl Cell for FileCell {
                 self.sure = length;
                 Ok(())
             }
-            // The path leads elsewhere, or somebody else has changed the file.
+            // The path leads elsewhere, or somebody else has changed the file's length. A change
+            // that keeps the length is found where the cell is opened next.
             _ => {
                 self.state = State::Lost;
                 Err(self.fail())

@@ -15,7 +15,8 @@ use crate::message::Message;
 use fields::{FieldFault, Reader, without_checksum};
 use std::alloc::Global;
 
-// Whether the first bytes are those of this layout and federation.
+// Whether the first bytes are those of this layout and federation. That is asked before the
+// checksum is computed, so that a site digests nothing that isn't meant for it.
 fn is_ours(federation: u64, bytes: &[u8]) -> bool
     requires { FRONT ≤ length bytes.now }
     ensures { IsTrue result ↔ IsOurs federation bytes.now }

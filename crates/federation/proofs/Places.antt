@@ -185,3 +185,11 @@ pub are_new : (members : Membership) (all : List Station) (n : ℕ) → NewSoFar
     → n ≡ count_of members → AreNew members all
 are_new members all n so_far is =
     record { count = so_far.count_is ∙ is; each = λ k station at. so_far.each k station at }
+
+-- what was put at a place is gone once something else is put there
+pub put_twice : {X : Type 0} (xs : List X) (place : ℕ) (first second : X)
+    → slice_set (slice_set xs place first) place second ≡ slice_set xs place second
+put_twice [] place first second = refl
+put_twice (x ∷ xs) zero first second = refl
+put_twice (x ∷ xs) (suc place) first second =
+    ap (λ (ys : List X). x ∷ ys) (put_twice xs place first second)

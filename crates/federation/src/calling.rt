@@ -90,7 +90,10 @@ impl Federation {
             (after_input w (place + 1) (input_of w.members.federation call.now) fate)) }
     {
         let site = self.site_at(place);
-        let Told { said, sends } = self.stations[place].call(call, fate)?;
+        let station = self.stations[place].take();
+        let (station, told) = station.call(call, fate)?;
+        self.stations[place] = station;
+        let Told { said, sends } = told;
         tell(self.alloc, &mut self.lines, &self.seen, site, call, said)?;
         send_all(&mut self.lines, &mut self.sent, sends)
     }

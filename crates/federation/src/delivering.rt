@@ -107,7 +107,7 @@ impl Federation {
     }
 }
 
-// What arrives is what the line at a place says was sent.
+// What arrives is what the line at a place says was sent. A datagram is kept once, in that line.
 fn arrival_at(alloc: Global, lines: &[Line], place: usize) -> Result<Option<Arrival>, AllocError>
     ensures { IfOk result (λ arrival. arriving arrival ≡ sent_by (slice_get lines.now place)) }
 {

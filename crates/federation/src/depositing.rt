@@ -1,4 +1,5 @@
-//! Deposits: a tree is checked, its bag is seen, and then the site is called.
+//! Deposits: a tree is checked, its bag is seen, and then the site is called, which trusts nobody
+//! and checks it again.
 
 ghost use Rattle.std.specs.Prelude.{◌<◌, ◌+◌, length, OnOk, IfOk, List, Result};
 ghost use Rattle.fed_types.specs.Values.{IsBag};

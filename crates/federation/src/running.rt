@@ -1,6 +1,6 @@
 //! The commands of a schedule.
 
-ghost use Rattle.std.specs.Prelude.{◌<◌, ◌+◌, length, OnOk};
+ghost use Rattle.std.specs.Prelude.{◌<◌, ◌+◌, length, OnOk, IfOk};
 ghost use Rattle.world_law.specs.Networks.{Ask};
 ghost use Rattle.world_law.specs.Worlds.{World, after_line, after_command, on_call, at_member, event_at};
 ghost use Rattle.federation.specs.Federations.{StandsFor};
@@ -12,16 +12,18 @@ use schedule::{Call, Command, Fate};
 use std::alloc::AllocError;
 
 impl Federation {
-    /// Runs the line of this number: its command, if it has one. `Err`: out of memory, and nothing
-    /// is promised.
-    pub fn run_line(&mut self, number: usize, line: &Option<Command>) -> Result<(), AllocError>
-        ensures { OnOk result ((w : World) → StandsFor self.old w
-            → StandsFor self.new (after_line w number line.now)) }
+    /// Runs the line of this number: its command, if it has one. `Err`: out of memory, and the
+    /// federation is given up.
+    pub fn run_line(self, number: usize, line: &Option<Command>) -> Result<Federation, AllocError>
+        ensures { IfOk result (λ after. (w : World) → StandsFor self w
+            → StandsFor after (after_line w number line.now)) }
     {
+        let mut federation = self;
         match line {
-            Some(command) => self.run_command(number, command),
-            None => Ok(()),
+            Some(command) => federation.run_command(number, command)?,
+            None => {}
         }
+        Ok(federation)
     }
 
     fn run_command(&mut self, number: usize, command: &Command) -> Result<(), AllocError>

@@ -65,7 +65,8 @@ impl Federation {
             return self.skip(number, Reason::Down);
         }
         let site = self.site_at(place);
-        self.stations[place].stop();
+        let station = self.stations[place].take();
+        self.stations[place] = station.stop();
         self.lines.push(Line::Down { site })?;
         Ok(())
     }
@@ -80,7 +81,9 @@ impl Federation {
             return self.skip(number, Reason::Up);
         }
         let site = self.site_at(place);
-        let records = self.stations[place].start()?;
+        let station = self.stations[place].take();
+        let (station, records) = station.start()?;
+        self.stations[place] = station;
         self.lines.push(Line::Up { site, records })?;
         Ok(())
     }

@@ -1,4 +1,4 @@
-//! Checks of all folders that are asked for, be it one or several.
+//! Checks of all folders that are asked for, one or many.
 
 ghost use Rattle.std.specs.Prelude.{◌≡◌, map, IfErr, IfOk, IfSome, IsErrOf};
 ghost use Rattle.outcomes.specs.Outcomes.{Writes, WritesPrefix};

@@ -1,4 +1,4 @@
-//! Words on how far a check is.
+//! Progress lines of a check.
 
 use bag_folders::Watcher;
 use outcomes::write_all;

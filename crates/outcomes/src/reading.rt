@@ -40,6 +40,9 @@ pub fn read_all<R: Read>(alloc: Global, input: &mut R) -> Result<Vec<u8>, ReadFa
     read_within(alloc, input, MOST_READS)
 }
 
+// `bag_folders` has a loop of its own, which hashes what it reads and never holds it: one loop for
+// both would want a trait of what takes pieces, with its laws, which is more than both loops.
+
 /// The same, of a reader that hasn't ended after `limit` reads.
 pub fn read_within<R: Read>(alloc: Global, input: &mut R, limit: u32) -> Result<Vec<u8>, ReadFault>
     ensures { IfOk result (λ bytes. IfSome (R.remaining input.old) (λ all. bytes.items ≡ all)) }

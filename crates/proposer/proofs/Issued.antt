@@ -10,7 +10,7 @@ use Rattle.fed_types.specs.Laws.Slots.{same_slot_decides}
 use Rattle.records.specs.declared.entry.Entry.{Entry}
 use Rattle.records.specs.declared.entry.Entry.TheVariants as entry
 use Rattle.records.specs.declared.record.Record.{Record}
-use Rattle.records.specs.Words.{with_one, if_some, entry_of, round_in, deposit_of}
+use Rattle.records.specs.Words.{with_one, if_some, entry_of, round_in}
 use Rattle.dgram.specs.declared.message.Message.{Message}
 use Rattle.dgram.specs.Heard.{bodies_of, refused_round, floor_of}
 use Rattle.slot_table.specs.Rows.{Rows, row_at, row_or, IsWith}
@@ -123,7 +123,7 @@ issued_stands old new slot records session under at stands =
     subst (λ (w : Option Message). StandsFor new records (heard_if session w)
     (waits under slot None)) h.waiting
     (by_round (current_in (row_of old slot)) (sym now.current)
-    (issued_current slot (deposit_of slot records) session.heard (session.current slot)
+    (issued_current slot (under.current_with slot) session.heard (session.current slot)
     (current_in (row_of old slot)) h.current))
   where
     now : IssuesWaiting (row_of old slot) (row_of new slot)
@@ -132,14 +132,15 @@ issued_stands old new slot records session under at stands =
     -- the row from which nothing waits
     row_knows : (heard : List Message)
         → floor_of (bodies_of slot heard) ≡ floor_of (bodies_of slot session.heard)
-        → CountsFor slot (deposit_of slot records) heard (session.current slot)
+        → CountsFor slot (under.current_with slot) heard (session.current slot)
         (current_in (row_of new slot))
         → Knows slot records heard (session.current slot) (under.begun slot)
+        (under.begun_with slot) (under.current_with slot)
         (at_slot slot None under.waiting slot) (row_of new slot)
     row_knows heard floor counts =
         let h = stands slot in
         subst (λ (w : Option Message). Knows slot records heard (session.current slot)
-        (under.begun slot) w (row_of new slot))
+        (under.begun slot) (under.begun_with slot) (under.current_with slot) w (row_of new slot))
         (sym (at_here slot None under.waiting))
         (record {
           used = now.used ∙ h.used;
@@ -147,19 +148,20 @@ issued_stands old new slot records session under at stands =
           begun = rw now.begun h.begun;
           current = counts;
           waiting = ap (waiting_in slot) now.current
-              ∙ issued_none slot (deposit_of slot records) heard (current_in (row_of old slot));
+              ∙ issued_none slot (under.current_with slot) heard (current_in (row_of old slot));
         })
 
     other : (s : SlotName) → same_slot slot s ≡ false → (heard : List Message)
-        → Knows s records heard (session.current s) (under.begun s) (under.waiting s) (row_of old s)
-        → Knows s records heard (session.current s) (under.begun s)
-        (at_slot slot None under.waiting s) (row_of old s)
+        → Knows s records heard (session.current s) (under.begun s) (under.begun_with s)
+        (under.current_with s) (under.waiting s) (row_of old s)
+        → Knows s records heard (session.current s) (under.begun s) (under.begun_with s)
+        (under.current_with s) (at_slot slot None under.waiting s) (row_of old s)
     other s e heard k =
-        subst (λ (w : Option Message). Knows s records heard (session.current s) (under.begun s) w
-        (row_of old s)) (sym (at_other slot s None under.waiting e)) k
+        subst (λ (w : Option Message). Knows s records heard (session.current s) (under.begun s)
+        (under.begun_with s) (under.current_with s) w (row_of old s)) (sym (at_other slot s None under.waiting e)) k
 
     with_message : (from : ℕ) (b : BallotNumber) (p : Promise)
-        → CountsFor slot (deposit_of slot records)
+        → CountsFor slot (under.current_with slot)
         (session.heard ++ promise_message slot p.site b p.prior ∷ []) (session.current slot)
         (current_in (row_of new slot))
         → StandsFor new records (hears session (promise_message slot p.site b p.prior))
@@ -175,10 +177,10 @@ issued_stands old new slot records session under at stands =
         ((same_slot_decides slot slot).1 refl))
         counts)
         (λ s e. other s e (session.heard ++ m ∷ [])
-        (other_knows s records session.heard (session.current s) (under.begun s) (under.waiting s) m
-        (row_of old s) (says_nothing slot s m.body e) (stands s)))
+        (other_knows s records session.heard (session.current s) (under.begun s) (under.begun_with s)
+        (under.current_with s) (under.waiting s) m (row_of old s) (says_nothing slot s m.body e) (stands s)))
 
-    without : CountsFor slot (deposit_of slot records) session.heard (session.current slot)
+    without : CountsFor slot (under.current_with slot) session.heard (session.current slot)
         (current_in (row_of new slot))
         → StandsFor new records session (waits under slot None)
     without counts =
@@ -187,8 +189,8 @@ issued_stands old new slot records session under at stands =
         (λ s e. other s e session.heard (stands s))
 
     by_waiting : (b : BallotNumber) (w : Option Promise)
-        → CountsFor slot (deposit_of slot records)
-        (heard_with slot (deposit_of slot records) session.heard (waiting_as slot b w))
+        → CountsFor slot (under.current_with slot)
+        (heard_with slot (under.current_with slot) session.heard (waiting_as slot b w))
         (session.current slot) (current_in (row_of new slot))
         → StandsFor new records (heard_if session (waiting_as slot b w)) (waits under slot None)
     by_waiting b None counts = without counts
@@ -196,17 +198,17 @@ issued_stands old new slot records session under at stands =
 
     by_round : (o : Option Round) → option_map issued (current_in (row_of old slot)) ≡ current_in
         (row_of new slot)
-        → CountsFor slot (deposit_of slot records)
-        (heard_with slot (deposit_of slot records) session.heard (waiting_in slot o))
+        → CountsFor slot (under.current_with slot)
+        (heard_with slot (under.current_with slot) session.heard (waiting_in slot o))
         (session.current slot) (option_map issued (current_in (row_of old slot)))
         → StandsFor new records (heard_if session (waiting_in slot o)) (waits under slot None)
     by_round None e counts =
-        without (subst (CountsFor slot (deposit_of slot records) session.heard
+        without (subst (CountsFor slot (under.current_with slot) session.heard
         (session.current slot)) e counts)
     by_round (Some round) e counts =
         by_waiting round.ballot round.waiting
-        (subst (CountsFor slot (deposit_of slot records)
-        (heard_with slot (deposit_of slot records) session.heard
+        (subst (CountsFor slot (under.current_with slot)
+        (heard_with slot (under.current_with slot) session.heard
         (waiting_as slot round.ballot round.waiting)) (session.current slot)) e counts)
 
 -- ---- a record noted
@@ -224,10 +226,10 @@ module _ (old new : Rows Row) (r : Record) (records : List Record) (session : Se
   -- of another slot the record says nothing
   others_stay : (s : SlotName) → same_slot r.slot s ≡ false
       → Knows s (records ++ r ∷ []) session.heard (session.current s) (under.begun s)
-      (under.waiting s) (row_of old s)
+      (under.begun_with s) (under.current_with s) (under.waiting s) (row_of old s)
   others_stay s e =
-      raised_knows s records r session.heard (session.current s) (under.begun s) (under.waiting s)
-      (row_of old s) (row_of old s)
+      raised_knows s records r session.heard (session.current s) (under.begun s)
+      (under.begun_with s) (under.current_with s) (under.waiting s) (row_of old s) (row_of old s)
       (ap (λ (t : Bool). with_one max (row_of old s).used
       (if_some round_in (cond t (Some r.body) None))) (sym e))
       refl refl refl (stands s)
@@ -244,7 +246,7 @@ module _ (old new : Rows Row) (r : Record) (records : List Record) (session : Se
   raised row n is puts used floor begun current =
       stands_at old new r.slot row (records ++ r ∷ []) session under puts
       (raised_knows r.slot records r session.heard (session.current r.slot) (under.begun r.slot)
-      (under.waiting r.slot) (row_of old r.slot) row
+      (under.begun_with r.slot) (under.current_with r.slot) (under.waiting r.slot) (row_of old r.slot) row
       (used ∙ ap (with_one max (row_of old r.slot).used) (sym (says n is))) floor begun current
       (stands r.slot))
       others_stay
@@ -259,32 +261,58 @@ module _ (old new : Rows Row) (r : Record) (records : List Record) (session : Se
       stands_at old new r.slot row (records ++ r ∷ []) (issues session r.slot b)
       (under_way_if under r.slot (Some b)) puts
       (subst (λ (c : Option Current). Knows r.slot (records ++ r ∷ []) session.heard c
-      (at_slot r.slot None under.begun r.slot) (at_slot r.slot None under.waiting r.slot) row)
+      (at_slot r.slot None under.begun r.slot) (at_slot r.slot None under.begun_with r.slot)
+      (at_slot r.slot (under.begun_with r.slot) under.current_with r.slot)
+      (at_slot r.slot None under.waiting r.slot) row)
       (sym (at_here r.slot (Some now) session.current))
       (subst (λ (x : Option BallotNumber). Knows r.slot (records ++ r ∷ []) session.heard (Some now)
-      x (at_slot r.slot None under.waiting r.slot) row)
+      x (at_slot r.slot None under.begun_with r.slot)
+      (at_slot r.slot (under.begun_with r.slot) under.current_with r.slot)
+      (at_slot r.slot None under.waiting r.slot) row)
       (sym (at_here r.slot None under.begun))
+      (subst (λ (bag : Option BagId). Knows r.slot (records ++ r ∷ []) session.heard (Some now) None
+      bag (at_slot r.slot (under.begun_with r.slot) under.current_with r.slot)
+      (at_slot r.slot None under.waiting r.slot) row)
+      (sym (at_here r.slot None under.begun_with))
+      (subst (λ (own : Option BagId). Knows r.slot (records ++ r ∷ []) session.heard (Some now) None
+      None own (at_slot r.slot None under.waiting r.slot) row)
+      (sym (at_here r.slot (under.begun_with r.slot) under.current_with))
       (subst (λ (w : Option Message). Knows r.slot (records ++ r ∷ []) session.heard (Some now) None
-      w row)
+      None (under.begun_with r.slot) w row)
       (sym (at_here r.slot None under.waiting))
-      (issued_knows r.slot records r session.heard (session.current r.slot) b (under.waiting r.slot)
+      (issued_knows r.slot records r session.heard (session.current r.slot) b
+      (under.begun_with r.slot) (under.current_with r.slot) (under.waiting r.slot)
       (row_of old r.slot) row
       (used ∙ ap (with_one max (row_of old r.slot).used) (sym (says (Some n) is))) floor begun
       current
       (subst (λ (x : Option BallotNumber). Knows r.slot records session.heard
-      (session.current r.slot) x (under.waiting r.slot) (row_of old r.slot)) next
-      (stands r.slot))))))
+      (session.current r.slot) x (under.begun_with r.slot) (under.current_with r.slot)
+      (under.waiting r.slot) (row_of old r.slot)) next
+      (stands r.slot))))))))
       (λ s e.
       subst (λ (c : Option Current). Knows s (records ++ r ∷ []) session.heard c
-      (at_slot r.slot None under.begun s) (at_slot r.slot None under.waiting s) (row_of old s))
+      (at_slot r.slot None under.begun s) (at_slot r.slot None under.begun_with s)
+      (at_slot r.slot (under.begun_with r.slot) under.current_with s)
+      (at_slot r.slot None under.waiting s) (row_of old s))
       (sym (at_other r.slot s (Some now) session.current e))
       (subst (λ (x : Option BallotNumber). Knows s (records ++ r ∷ []) session.heard
-      (session.current s) x (at_slot r.slot None under.waiting s) (row_of old s))
+      (session.current s) x (at_slot r.slot None under.begun_with s)
+      (at_slot r.slot (under.begun_with r.slot) under.current_with s)
+      (at_slot r.slot None under.waiting s) (row_of old s))
       (sym (at_other r.slot s None under.begun e))
+      (subst (λ (bag : Option BagId). Knows s (records ++ r ∷ []) session.heard
+      (session.current s) (under.begun s) bag
+      (at_slot r.slot (under.begun_with r.slot) under.current_with s)
+      (at_slot r.slot None under.waiting s) (row_of old s))
+      (sym (at_other r.slot s None under.begun_with e))
+      (subst (λ (own : Option BagId). Knows s (records ++ r ∷ []) session.heard
+      (session.current s) (under.begun s) (under.begun_with s) own
+      (at_slot r.slot None under.waiting s) (row_of old s))
+      (sym (at_other r.slot s (under.begun_with r.slot) under.current_with e))
       (subst (λ (w : Option Message). Knows s (records ++ r ∷ []) session.heard (session.current s)
-      (under.begun s) w (row_of old s))
+      (under.begun s) (under.begun_with s) (under.current_with s) w (row_of old s))
       (sym (at_other r.slot s None under.waiting e))
-      (others_stay s e))))
+      (others_stay s e))))))
     where
       now : Current
       now = record { ballot = b; since = length session.heard }
@@ -324,7 +352,7 @@ module _ (old new : Rows Row) (r : Record) (records : List Record) (session : Se
     where
       go : (b : Option BallotNumber) (o : Option Round) → under.begun r.slot ≡ b
           → is_of_round n o ≡ true
-          → BeginsFor (deposit_of r.slot records) b o
+          → BeginsFor (under.begun_with r.slot) b o
           → StandsFor new (records ++ r ∷ []) (issued_if session r.slot b)
           (under_way_if under r.slot b)
       go None None e f h = absurd (cc f)
@@ -348,7 +376,7 @@ module _ (old new : Rows Row) (r : Record) (records : List Record) (session : Se
   entry_stands (entry.Round n) e puts =
       subst (λ (b : Option BallotNumber). StandsFor new (records ++ r ∷ [])
       (issued_if session r.slot b) (under_way_if under r.slot b))
-      (sym (of_round_is (deposit_of r.slot records) (under.begun r.slot)
+      (sym (of_round_is (under.begun_with r.slot) (under.begun r.slot)
       (begun_in (row_of old r.slot)) n (stands r.slot).begun))
       (round_stands n (is_of_round n (begun_in (row_of old r.slot))) (ap round_in e) refl puts)
   entry_stands (entry.Deposit v) e puts = raised (row_of old r.slot) None (ap round_in e) puts refl

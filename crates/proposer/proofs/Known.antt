@@ -6,7 +6,7 @@ use Rattle.fed_types.specs.Ballots.{BallotNumber}
 use Rattle.fed_types.specs.Lists.{is_in}
 use Rattle.fed_types.specs.Slots.{SlotName}
 use Rattle.records.specs.declared.record.Record.{Record}
-use Rattle.records.specs.Words.{with_one, if_some, deposit_of}
+use Rattle.records.specs.Words.{with_one, if_some}
 use Rattle.dgram.specs.declared.message.Message.{Message}
 use Rattle.dgram.specs.Heard.{body_in, PromiseFrom, promise_in, promisers, refused_round}
 use Rattle.proposer.specs.Rounds.{Round}
@@ -51,18 +51,19 @@ counts_same slot own heard m (Some c) (Some round) isnt h =
 
 -- a row whose floor is raised where the message is a refusal
 pub heard_knows : (slot : SlotName) (records : List Record) (heard : List Message)
-    (c : Option Current) (b : Option BallotNumber) (w : Option Message) (m : Message)
-    (row next : Row) → next.used ≡ row.used → next.begun ≡ row.begun → next.current ≡ row.current
+    (c : Option Current) (b : Option BallotNumber) (bag own : Option BagId)
+    (w : Option Message) (m : Message) (row next : Row) → next.used ≡ row.used → next.begun ≡ row.begun → next.current ≡ row.current
     → next.floor ≡ with_one max row.floor (if_some refused_round (body_in slot m))
     → IsNoPromise slot c m
-    → Knows slot records heard c b w row → Knows slot records (heard ++ m ∷ []) c b w next
-heard_knows slot records heard c b w m row next used begun current floor isnt h = record {
+    → Knows slot records heard c b bag own w row
+    → Knows slot records (heard ++ m ∷ []) c b bag own w next
+heard_knows slot records heard c b bag own w m row next used begun current floor isnt h = record {
   used = used ∙ h.used;
   floor = floor
       ∙ ap (λ (n : ℕ). with_one max n (if_some refused_round (body_in slot m))) h.floor
       ∙ sym (floor-push slot heard m);
   begun = rw begun h.begun;
-  current = rw current (counts_same slot (deposit_of slot records) heard m c (current_in row) isnt
+  current = rw current (counts_same slot own heard m c (current_in row) isnt
       h.current);
   waiting = rw current h.waiting;
 }
@@ -74,10 +75,11 @@ other_no_promise slot None m e = tt
 other_no_promise slot (Some c) m e = ap (if_some (promise_in c.ballot)) e
 
 pub other_knows : (slot : SlotName) (records : List Record) (heard : List Message)
-    (c : Option Current) (b : Option BallotNumber) (w : Option Message) (m : Message) (row : Row)
-    → body_in slot m ≡ None
-    → Knows slot records heard c b w row → Knows slot records (heard ++ m ∷ []) c b w row
-other_knows slot records heard c b w m row e h =
-    heard_knows slot records heard c b w m row row refl refl refl
+    (c : Option Current) (b : Option BallotNumber) (bag own : Option BagId) (w : Option Message)
+    (m : Message) (row : Row) → body_in slot m ≡ None
+    → Knows slot records heard c b bag own w row
+    → Knows slot records (heard ++ m ∷ []) c b bag own w row
+other_knows slot records heard c b bag own w m row e h =
+    heard_knows slot records heard c b bag own w m row row refl refl refl
     (ap (λ (o : Option ℕ). with_one max row.floor o) (sym (ap (if_some refused_round) e)))
     (other_no_promise slot c m e) h

@@ -10,7 +10,7 @@ use Rattle.fed_types.specs.Quorums.{QuorumSystem, AreQuorums}
 use Rattle.fed_types.specs.Slots.{SlotName, same_slot}
 use Rattle.fed_types.specs.Laws.Slots.{same_slot_decides}
 use Rattle.records.specs.declared.record.Record.{Record}
-use Rattle.records.specs.Words.{with_one, if_some, used_of, deposit_of}
+use Rattle.records.specs.Words.{with_one, if_some, used_of}
 use Rattle.dgram.specs.declared.body.Body.{Body}
 use Rattle.dgram.specs.declared.message.Message.{Message}
 use Rattle.dgram.specs.Heard.{body_in, bodies_of, promise_in, refused_round, floor_of}
@@ -51,7 +51,7 @@ says_nothing slot s body e = ap (λ (t : Bool). cond t (Some body) None) e
 pub nothing_known : (rows : Rows Row) → rows ≡ [] → StandsFor rows [] new_session nothing
 unfolding used_of floor_of bodies_of
 nothing_known rows e slot =
-    subst (λ (r : Rows Row). Knows slot [] [] None None None (row_of r slot)) (sym e)
+    subst (λ (r : Rows Row). Knows slot [] [] None None None None None (row_of r slot)) (sym e)
     (record { used = refl; floor = refl; begun = tt; current = tt; waiting = refl })
 
 -- ---- a ballot begun
@@ -85,25 +85,33 @@ begins_at old mid new slot box plan same put is =
 pub begun_stands : (old new : Rows Row) (slot : SlotName) (ballot : BallotNumber) (own : BagId)
     (records : List Record) (session : Session) (under : UnderWay)
     → BeginsAt (fresh ballot own) old new slot → StandsFor old records session under
-    → deposit_of slot records ≡ Some own → StandsFor new records session (begins under slot ballot)
-begun_stands old new slot ballot own records session under at stands owns =
+    → StandsFor new records session (begins under slot ballot own)
+begun_stands old new slot ballot own records session under at stands =
     let h = stands slot in
     let now = at.1 in
-    stands_at old new slot (row_of new slot) records session (begins under slot ballot) at.0
+    stands_at old new slot (row_of new slot) records session (begins under slot ballot own) at.0
     (subst (λ (b : Option BallotNumber). Knows slot records session.heard (session.current slot) b
+    (at_slot slot (Some own) under.begun_with slot) (under.current_with slot)
     (under.waiting slot) (row_of new slot))
     (sym (at_here slot (Some ballot) under.begun))
+    (subst (λ (bag : Option BagId). Knows slot records session.heard (session.current slot)
+    (Some ballot) bag (under.current_with slot) (under.waiting slot) (row_of new slot))
+    (sym (at_here slot (Some own) under.begun_with))
     (record {
       used = now.used ∙ h.used;
       floor = now.floor ∙ h.floor;
-      begun = subst (BeginsFor (deposit_of slot records) (Some ballot)) (sym now.begun)
-          (record { is = refl; own = owns });
+      begun = subst (BeginsFor (Some own) (Some ballot)) (sym now.begun)
+          (record { is = refl; own = refl });
       current = rw now.current h.current;
       waiting = rw now.current h.waiting;
-    }))
+    })))
     (λ s e. subst (λ (b : Option BallotNumber). Knows s records session.heard (session.current s) b
-    (under.waiting s) (row_of old s))
-    (sym (at_other slot s (Some ballot) under.begun e)) (stands s))
+    (at_slot slot (Some own) under.begun_with s) (under.current_with s) (under.waiting s)
+    (row_of old s))
+    (sym (at_other slot s (Some ballot) under.begun e))
+    (subst (λ (bag : Option BagId). Knows s records session.heard (session.current s)
+    (under.begun s) bag (under.current_with s) (under.waiting s) (row_of old s))
+    (sym (at_other slot s (Some own) under.begun_with e)) (stands s)))
 
 -- the row that was put in is there
 pub put_present : (old new : Rows Row) (slot : SlotName) (row : Row) → IsWith old new slot row
@@ -118,8 +126,8 @@ pub heard_stands : (rows : Rows Row) (m : Message)
     → ((b : BallotNumber) → promise_in b m.body ≡ None) → StandsFor rows records session under
     → StandsFor rows records (hears session m) under
 heard_stands rows m records session under refuses promises stands s =
-    heard_knows s records session.heard (session.current s) (under.begun s) (under.waiting s) m
-    (row_of rows s) (row_of rows s) refl refl refl
+    heard_knows s records session.heard (session.current s) (under.begun s) (under.begun_with s)
+    (under.current_with s) (under.waiting s) m (row_of rows s) (row_of rows s) refl refl refl
     (floor_same (same_slot m.slot s)) (no_promise (session.current s) (same_slot m.slot s) refl)
     (stands s)
   where
@@ -147,7 +155,7 @@ refused_stands old mid new slot n from asked standing records session under same
     stands_at old new slot (with_floor (row_of mid slot) n) records (hears session m) under
     (puts_at old mid new slot (with_floor (row_of mid slot) n) same put)
     (heard_knows slot records session.heard (session.current slot) (under.begun slot)
-    (under.waiting slot) m (row_of old slot) (with_floor (row_of mid slot) n)
+    (under.begun_with slot) (under.current_with slot) (under.waiting slot) m (row_of old slot) (with_floor (row_of mid slot) n)
     (ap (λ (r : Row). r.used) (same slot)) (ap (λ (r : Row). r.begun) (same slot))
     (ap (λ (r : Row). r.current) (same slot))
     ((λ i. max (same slot i).floor (is i))
@@ -156,7 +164,7 @@ refused_stands old mid new slot n from asked standing records session under same
     (no_promise (session.current slot))
     (stands slot))
     (λ s e. other_knows s records session.heard (session.current s) (under.begun s)
-    (under.waiting s) m (row_of old s) (says_nothing slot s m.body e) (stands s))
+    (under.begun_with s) (under.current_with s) (under.waiting s) m (row_of old s) (says_nothing slot s m.body e) (stands s))
   where
     m : Message
     m = refusal_message slot from asked standing
@@ -208,11 +216,11 @@ module _ (q : QuorumSystem) (laws : AreQuorums q) (slot : SlotName) (from : ℕ)
     (at : HeardAt q ballot (record { site = from; prior = prior }) old new slot given)
     (stands : StandsFor old records session under) where
   pub promise_ready :
-      given ≡ ready q (deposit_of slot records) slot (session.current slot) session.heard ballot
+      given ≡ ready q (under.current_with slot) slot (session.current slot) session.heard ballot
       (record { site = from; prior = prior })
   promise_ready =
       (at.1).bag
-      ∙ gives_ready slot from ballot prior (deposit_of slot records) session.heard q laws
+      ∙ gives_ready slot from ballot prior (under.current_with slot) session.heard q laws
       (session.current slot) (current_in (row_of old slot)) (stands slot).current
 
   pub promise_stands :
@@ -223,18 +231,18 @@ module _ (q : QuorumSystem) (laws : AreQuorums q) (slot : SlotName) (from : ℕ)
       m : Message
       m = promise_message slot from ballot prior
 
-      after : After slot from ballot prior (deposit_of slot records) session.heard
+      after : After slot from ballot prior (under.current_with slot) session.heard
           (session.current slot) (under.waiting slot) (current_in (row_of new slot)) given
       after =
           let h = stands slot in
-          subst (λ (o : Option Round). After slot from ballot prior (deposit_of slot records)
+          subst (λ (o : Option Round). After slot from ballot prior (under.current_with slot)
           session.heard (session.current slot) (under.waiting slot) o given)
           (sym (at.1).current)
-          (subst (After slot from ballot prior (deposit_of slot records) session.heard
+          (subst (After slot from ballot prior (under.current_with slot) session.heard
           (session.current slot) (under.waiting slot)
           (after_promise q ballot (record { site = from; prior = prior })
           (current_in (row_of old slot)))) (sym (at.1).bag)
-          (after_is slot from ballot prior (deposit_of slot records) session.heard q
+          (after_is slot from ballot prior (under.current_with slot) session.heard q
           (session.current slot) (under.waiting slot) (current_in (row_of old slot)) h.current
           h.waiting))
 
@@ -247,7 +255,7 @@ module _ (q : QuorumSystem) (laws : AreQuorums q) (slot : SlotName) (from : ℕ)
           ((same_slot_decides slot slot).1 refl)
 
       go : (o : Option BagId)
-          → After slot from ballot prior (deposit_of slot records) session.heard
+          → After slot from ballot prior (under.current_with slot) session.heard
           (session.current slot) (under.waiting slot) (current_in (row_of new slot)) o
           → StandsFor new records (heard_after o session (promise_message slot from ballot prior))
           (waiting_after o under (promise_message slot from ballot prior))
@@ -262,12 +270,12 @@ module _ (q : QuorumSystem) (laws : AreQuorums q) (slot : SlotName) (from : ℕ)
             waiting = k.1;
           })
           (λ s e. other_knows s records session.heard (session.current s) (under.begun s)
-          (under.waiting s) m (row_of old s) (says_nothing slot s m.body e) (stands s))
+          (under.begun_with s) (under.current_with s) (under.waiting s) m (row_of old s) (says_nothing slot s m.body e) (stands s))
       go (Some bag) k =
           let h = stands slot in
           stands_at old new slot (row_of new slot) records session (waits under slot (Some m)) at.0
           (subst (λ (w : Option Message). Knows slot records session.heard (session.current slot)
-          (under.begun slot) w (row_of new slot))
+          (under.begun slot) (under.begun_with slot) (under.current_with slot) w (row_of new slot))
           (sym (at_here slot (Some m) under.waiting))
           (record {
             used = (at.1).used ∙ h.used;
@@ -277,5 +285,5 @@ module _ (q : QuorumSystem) (laws : AreQuorums q) (slot : SlotName) (from : ℕ)
             waiting = k.1;
           }))
           (λ s e. subst (λ (w : Option Message). Knows s records session.heard (session.current s)
-          (under.begun s) w (row_of old s))
+          (under.begun s) (under.begun_with s) (under.current_with s) w (row_of old s))
           (sym (at_other slot s (Some m) under.waiting e)) (stands s))

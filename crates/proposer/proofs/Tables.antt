@@ -42,21 +42,22 @@ only_at old new slot row puts s =
 pub stands_at : (old new : Rows Row) (slot : SlotName) (row : Row)
     (records : List Record) (session : Session) (under : UnderWay) → PutsAt old new slot row
     → Knows slot records session.heard (session.current slot) (under.begun slot)
-    (under.waiting slot) row
+    (under.begun_with slot) (under.current_with slot) (under.waiting slot) row
     → ((s : SlotName) → same_slot slot s ≡ false
-    → Knows s records session.heard (session.current s) (under.begun s) (under.waiting s)
-    (row_of old s))
+    → Knows s records session.heard (session.current s) (under.begun s) (under.begun_with s)
+    (under.current_with s) (under.waiting s) (row_of old s))
     → StandsFor new records session under
 stands_at old new slot row records session under puts at others s =
-    subst (Knows s records session.heard (session.current s) (under.begun s) (under.waiting s))
+    subst (Knows s records session.heard (session.current s) (under.begun s) (under.begun_with s)
+    (under.current_with s) (under.waiting s))
     (sym (puts s)) (go (same_slot slot s) refl)
   where
     go : (t : Bool) → same_slot slot s ≡ t
-        → Knows s records session.heard (session.current s) (under.begun s) (under.waiting s)
-        (cond t row (row_of old s))
+        → Knows s records session.heard (session.current s) (under.begun s) (under.begun_with s)
+        (under.current_with s) (under.waiting s) (cond t row (row_of old s))
     go true e =
         subst (λ (k : SlotName). Knows k records session.heard (session.current k) (under.begun k)
-        (under.waiting k) row)
+        (under.begun_with k) (under.current_with k) (under.waiting k) row)
         ((same_slot_decides slot s).0 e) at
     go false e = others s e
 
@@ -65,7 +66,8 @@ pub same_stands : (old new : Rows Row) → ((s : SlotName) → row_of new s ≡ 
     → (records : List Record) (session : Session) (under : UnderWay)
     → StandsFor old records session under → StandsFor new records session under
 same_stands old new same records session under stands s =
-    subst (Knows s records session.heard (session.current s) (under.begun s) (under.waiting s))
+    subst (Knows s records session.heard (session.current s) (under.begun s) (under.begun_with s)
+    (under.current_with s) (under.waiting s))
     (sym (same s)) (stands s)
 
 -- a slot that had a row has one after a row is put in

@@ -6,7 +6,7 @@ use Rattle.fed_types.specs.Ballots.{BallotNumber}
 use Rattle.fed_types.specs.Lists.{is_in}
 use Rattle.fed_types.specs.Slots.{SlotName}
 use Rattle.records.specs.declared.record.Record.{Record}
-use Rattle.records.specs.Words.{used_of, deposit_of}
+use Rattle.records.specs.Words.{used_of}
 use Rattle.dgram.specs.declared.body.Body.TheVariants.{Promise}
 use Rattle.dgram.specs.declared.message.Message.{Message}
 use Rattle.dgram.specs.Heard.{bodies_of, floor_of, promisers}
@@ -42,25 +42,26 @@ begun_in row = option_map (λ plan. round_of (box_value plan)) row.begun
 abbrev pub current_in : Row → Option Round
 current_in row = row.current
 
--- the round of the ballot that was begun, with the site's deposit
-pub record Begins (deposit : Option BagId) (ballot : BallotNumber) (round : Round) : Type 0 where
+-- the round of the ballot that was begun, with this bag
+pub record Begins (bag : Option BagId) (ballot : BallotNumber) (round : Round) : Type 0 where
   pub is : round ≡ fresh ballot round.own
-  pub own : deposit ≡ Some round.own
+  pub own : bag ≡ Some round.own
 
 abbrev pub BeginsFor : Option BagId → Option BallotNumber → Option Round → Type 0
 BeginsFor own None None = Unit {0}
 BeginsFor own (Some ballot) (Some round) = Begins own ballot round
 BeginsFor own _ _ = ⊥
 
--- the round of the current ballot: it counts the promises that were gathered
+-- the round of the current ballot, which was begun with this bag: it counts the promises that were
+-- gathered
 pub record Counts
-    (slot : SlotName) (deposit : Option BagId) (heard : List Message) (c : Current)
+    (slot : SlotName) (bag : Option BagId) (heard : List Message) (c : Current)
     (round : Round)
     : Type 0 where
   pub ballot : round.ballot ≡ c.ballot
   pub voters : (n : ℕ) → is_in round.voters n ≡ is_in (promisers (gathered slot c heard)) n
   pub best : round.best ≡ highest_prior (gathered slot c heard)
-  pub own : deposit ≡ Some round.own
+  pub own : bag ≡ Some round.own
   pub within : c.since ≤ length heard
 
 abbrev pub CountsFor :
@@ -79,16 +80,16 @@ abbrev pub waiting_in : SlotName → Option Round → Option Message
 waiting_in slot None = None
 waiting_in slot (Some round) = waiting_as slot round.ballot round.waiting
 
--- the row knows what records and messages say of the slot, its current ballot, and what is under
--- way
+-- the row knows what records and messages say of the slot, its current ballot, the next one that is
+-- begun, with which bags they were begun, and what waits
 pub record Knows
     (slot : SlotName) (records : List Record) (heard : List Message) (c : Option Current)
-    (next : Option BallotNumber) (m : Option Message) (row : Row)
+    (next : Option BallotNumber) (next_own own : Option BagId) (m : Option Message) (row : Row)
     : Type 0 where
   pub used : row.used ≡ used_of slot records
   pub floor : row.floor ≡ floor_of (bodies_of slot heard)
-  pub begun : BeginsFor (deposit_of slot records) next (begun_in row)
-  pub current : CountsFor slot (deposit_of slot records) heard c (current_in row)
+  pub begun : BeginsFor next_own next (begun_in row)
+  pub current : CountsFor slot own heard c (current_in row)
   pub waiting : waiting_in slot (current_in row) ≡ m
 
 -- so it is of every slot
@@ -96,4 +97,4 @@ abbrev pub StandsFor : tables.Rows Row → List Record → Session → UnderWay 
 StandsFor rows records session under =
     (slot : SlotName)
     → Knows slot records session.heard (session.current slot) (under.begun slot)
-    (under.waiting slot) (row_of rows slot)
+    (under.begun_with slot) (under.current_with slot) (under.waiting slot) (row_of rows slot)

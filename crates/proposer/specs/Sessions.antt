@@ -45,24 +45,41 @@ issues session slot ballot = record {
       session.current;
 }
 
--- What is under way, of each slot: a ballot that was begun, while its Round record isn't noted; and
--- the promise that made a proposal ready, while the proposal isn't issued.
+-- What is under way, of each slot: a ballot that was begun, while its Round record isn't noted, and
+-- the bag that it was begun with; the bag that the current ballot was begun with; and the promise
+-- that made a proposal ready, while the proposal isn't issued.
 pub record UnderWay : Type 0 where
   pub begun : SlotName → Option BallotNumber
+  pub begun_with : SlotName → Option BagId
+  pub current_with : SlotName → Option BagId
   pub waiting : SlotName → Option Message
 
 -- nothing is
 abbrev pub nothing : UnderWay
-nothing = record { begun = λ slot. None; waiting = λ slot. None }
+nothing = record {
+  begun = λ slot. None;
+  begun_with = λ slot. None;
+  current_with = λ slot. None;
+  waiting = λ slot. None;
+}
 
--- a ballot is begun
-abbrev pub begins : UnderWay → SlotName → BallotNumber → UnderWay
-begins under slot ballot =
-    record { begun = at_slot slot (Some ballot) under.begun; waiting = under.waiting }
+-- a ballot is begun with a bag
+abbrev pub begins : UnderWay → SlotName → BallotNumber → BagId → UnderWay
+begins under slot ballot own = record {
+  begun = at_slot slot (Some ballot) under.begun;
+  begun_with = at_slot slot (Some own) under.begun_with;
+  current_with = under.current_with;
+  waiting = under.waiting;
+}
 
 -- this promise waits, or none does
 abbrev pub waits : UnderWay → SlotName → Option Message → UnderWay
-waits under slot m = record { begun = under.begun; waiting = at_slot slot m under.waiting }
+waits under slot m = record {
+  begun = under.begun;
+  begun_with = under.begun_with;
+  current_with = under.current_with;
+  waiting = at_slot slot m under.waiting;
+}
 
 -- ---- a promise that gives a bag to propose waits, and one that gives none is heard
 abbrev pub heard_after : Option BagId → Session → Message → Session
@@ -93,5 +110,9 @@ issued_if session slot (Some ballot) = issues session slot ballot
 
 abbrev pub under_way_if : UnderWay → SlotName → Option BallotNumber → UnderWay
 under_way_if under slot None = under
-under_way_if under slot (Some ballot) =
-    record { begun = at_slot slot None under.begun; waiting = at_slot slot None under.waiting }
+under_way_if under slot (Some ballot) = record {
+  begun = at_slot slot None under.begun;
+  begun_with = at_slot slot None under.begun_with;
+  current_with = at_slot slot (under.begun_with slot) under.current_with;
+  waiting = at_slot slot None under.waiting;
+}

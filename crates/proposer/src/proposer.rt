@@ -3,7 +3,6 @@ ghost use Rattle.std.specs.Prelude.{OnOk, OnErr, IfOk, IsOk, IsSome};
 ghost use Rattle.fed_types.specs.Ballots.{BallotNumber};
 ghost use Rattle.fed_types.specs.Slots.{SlotName};
 ghost use Rattle.records.specs.declared.record.Record.{Record as declared_record};
-ghost use Rattle.records.specs.Words.{deposit_of};
 ghost use Rattle.slot_table.specs.Rows.{row_at, IsWith, HasRooms};
 ghost use Rattle.proposer.specs.Proposals.{next_ballot, ready, ballot_after};
 ghost use Rattle.proposer.specs.Sessions.{Session, UnderWay, new_session, nothing, begins};
@@ -69,10 +68,10 @@ impl<Q: Quorums + Drop> Proposer<Q> {
         self.table.reserve(slot, Row::empty())
     }
 
-    /// Begins the slot's next ballot, to propose this bag, the site's deposit, where no vote stands
-    /// in the way. The ballot becomes current once its Round record is noted, which takes no
-    /// memory. `RoundsSpent` where the greatest round was used or stood in the way; else `Memory`
-    /// where an allocation fails.
+    /// Begins the slot's next ballot, to propose this bag where no vote stands in the way. The
+    /// ballot becomes current once its Round record is noted, which takes no memory. `RoundsSpent`
+    /// where the greatest round was used or stood in the way; else `Memory` where an allocation
+    /// fails.
     pub fn begin(&mut self, slot: &Slot, own: BagId) -> Result<Ballot, ProposeFault>
         ensures answer { (records : List declared_record) (session : Session) (under : UnderWay)
             → StandsFor self.old.rows records session under → IsOrMemory result
@@ -84,8 +83,7 @@ impl<Q: Quorums + Drop> Proposer<Q> {
         ensures begun { IfOk result (λ ballot.
             (records : List declared_record) (session : Session) (under : UnderWay)
             → StandsFor self.old.rows records session under
-            → deposit_of slot.now records ≡ Some own
-            → StandsFor self.new.rows records session (begins under slot.now ballot)) }
+            → StandsFor self.new.rows records session (begins under slot.now ballot own)) }
         ensures present { IfOk result (λ ballot. IsSome (row_at self.new.rows slot.now)) }
         ensures unchanged { OnErr result
             ((s : SlotName) → row_of self.new.rows s ≡ row_of self.old.rows s) }
@@ -101,8 +99,8 @@ impl<Q: Quorums + Drop> Proposer<Q> {
         }
     }
 
-    /// Hears a promise, and gives the bag to propose exactly when it makes the proposal ready. Then
-    /// the promise waits, and counts once `issued` is called. It takes no memory.
+    /// Hears a promise, and gives the bag to propose exactly when it makes the proposal ready: that
+    /// of the highest vote named, or the one that the ballot was begun with. Then the promise waits, and counts once `issued` is called. It takes no memory.
     pub fn promise(
         &mut self,
         from: SiteNo,
@@ -112,7 +110,7 @@ impl<Q: Quorums + Drop> Proposer<Q> {
     ) -> Option<BagId>
         ensures ready { (records : List declared_record) (session : Session) (under : UnderWay)
             → StandsFor self.old.rows records session under
-            → result ≡ ready (Q.quorum_system self.old.members) (deposit_of slot.now records)
+            → result ≡ ready (Q.quorum_system self.old.members) (under.current_with slot.now)
             slot.now (session.current slot.now) session.heard ballot
             (record { site = from; prior = prior }) }
         ensures heard { (records : List declared_record) (session : Session) (under : UnderWay)

@@ -186,7 +186,9 @@ fn has_weights(owner: Owner, weights: &[u8]) -> bool
     weights == members.weights()
 }
 
-// Whether a journal of these parts may be the owner's by its weights: always, if it has no records.
+// Whether a journal of these parts may be the owner's by its weights: always, if it has no records,
+// since nothing was promised then. It is asked last: a damaged cell is damaged under any weights,
+// so that nobody looks for a members file where a disk is broken.
 fn allows_weights(owner: Owner, parts: &Parts) -> bool
     ensures { (bytes : List ℕ) (is : ArePartsOf owner bytes parts.now)
         → Allows owner bytes parts.now is result }

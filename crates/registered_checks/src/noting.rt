@@ -17,7 +17,7 @@ pub(crate) struct HeldBag {
 #[derive(Debug, Drop)]
 struct Held {
     bags: Vec<HeldBag>,
-    /// Whether one couldn't be noted, for want of memory.
+    /// Whether one couldn't be noted, out of memory.
     lacks_one: bool,
 }
 

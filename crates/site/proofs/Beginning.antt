@@ -99,7 +99,7 @@ module _ (owner : Owner) (old new : Contents) (slot : SlotName) (own : BagId)
           → (next_ballot owner.site slot records session.heard ≡ None
           → ◌≡◌ {A = Result BallotNumber ProposeFault} (Err f) (Err proposals.RoundsSpent))
           → StandsFor new records session under
-          → Begins owner new slot records session under (Err (propose_fault f))
+          → Begins owner new slot own records session under (Err (propose_fault f))
       go proposals.RoundsSpent records session under is spent stands = (none_left _ is, stands)
       go proposals.Memory records session under is spent stands =
           (one_left _ spent, under, stands)
@@ -108,7 +108,7 @@ module _ (owner : Owner) (old new : Contents) (slot : SlotName) (own : BagId)
       (order : (records : List Record) → IsOf old owner records → IsOf new owner records)
       (begun : (records : List Record) (session : Session) (under : UnderWay)
       → StandsFor old records session under → deposit_of slot records ≡ Some own
-      → StandsFor new records session (begins under slot ballot)) where
+      → StandsFor new records session (begins under slot ballot own)) where
     -- memory ran out for the answer
     pub begun_in_vain : result ≡ Err faults.Memory
         → ((records : List Record) (session : Session) (under : UnderWay)
@@ -122,7 +122,7 @@ module _ (owner : Owner) (old new : Contents) (slot : SlotName) (own : BagId)
           order = order;
           begun = λ records session under of stands deposit. (
             subst IsSome (sym (next_of _ ballot (next records session under of stands))) refl,
-            begins under slot ballot,
+            begins under slot ballot own,
             begun records session under stands deposit,
           );
         })

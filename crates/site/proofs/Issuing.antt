@@ -28,9 +28,10 @@ use Rattle.site.specs.inner.Concluded.{Stands, noted_under, Concludes}
 use Rattle.site.proofs.Concluding.{concluded}
 
 -- a ballot that was begun is issued by the record of its round
-issued_is : (slot : SlotName) (ballot : BallotNumber) (under : UnderWay)
-    → issued_by ((begins under slot ballot).begun slot) (entry.Round ballot.round) ≡ Some ballot
-issued_is slot ballot under =
+issued_is : (slot : SlotName) (ballot : BallotNumber) (own : BagId) (under : UnderWay)
+    → issued_by ((begins under slot ballot own).begun slot) (entry.Round ballot.round)
+    ≡ Some ballot
+issued_is slot ballot own under =
     ap (λ (b : Option BallotNumber). of_round b ballot.round) (at_here slot (Some ballot) under.begun)
     ∙ ap (λ (t : Bool). cond t (Some ballot) None) ((Decides-eqb ballot.round ballot.round).1 refl)
 
@@ -67,11 +68,11 @@ module _ {C : Type 0} (device : C → Device) (old mid : OpenSite C) (slot : Slo
   })
     where
       some : (r : Result (Record × Answer) SiteFault)
-          → Begins old.book.owner mid.tables slot old.book.records order.session.0
+          → Begins old.book.owner mid.tables slot own old.book.records order.session.0
           order.session.1.0 r
           → StandsFor (record { book = old.book; tables = mid.tables }) order.session.0
       some (Ok x) (ballot, next, of_ballot, stands) =
-          (begins order.session.1.0 slot ballot, stands)
+          (begins order.session.1.0 slot ballot own, stands)
       some (Err faults.RoundsSpent) (none, stands) = (order.session.1.0, stands)
       some (Err faults.Memory) (left, after, stands) = (after, stands)
       some (Err (faults.InvalidBag f)) x = absurd x
@@ -97,14 +98,14 @@ module _ {C : Type 0} (device : C → Device) (old mid : OpenSite C) (slot : Slo
     pub not_issued : (fault : SiteFault) → begun ≡ Err fault
         → IsAnswered device old mid session (effect old session (Proposes slot)) (Err fault)
     not_issued fault is = go fault (subst (λ (r : Result (Record × Answer) SiteFault).
-        Begins old.book.owner mid.tables slot old.book.records session stands.0 r) is
+        Begins old.book.owner mid.tables slot own old.book.records session stands.0 r) is
         (b.begun old.book.records session stands.0 order.of stands.1 deposit))
       where
         keeps : (r : Option Record) → Keeps device r (Err faults.Memory) old.book mid.book
         keeps None = book
         keeps (Some r) = inl (refl, book)
 
-        go : (f : SiteFault) → Begins old.book.owner mid.tables slot old.book.records session
+        go : (f : SiteFault) → Begins old.book.owner mid.tables slot own old.book.records session
             stands.0 (Err f)
             → IsAnswered device old mid session (effect old session (Proposes slot)) (Err f)
         go faults.RoundsSpent (none, s) =
@@ -129,15 +130,15 @@ module _ {C : Type 0} (device : C → Device) (old mid : OpenSite C) (slot : Slo
         → Concludes device mid new (Some x.0) x.1.line (map handed_out x.1.sends.items) result
         → IsAnswered device old new session (effect old session (Proposes slot)) result
     issued new x result is c = go (subst (λ (r : Result (Record × Answer) SiteFault).
-        Begins old.book.owner mid.tables slot old.book.records session stands.0 r) is
+        Begins old.book.owner mid.tables slot own old.book.records session stands.0 r) is
         (b.begun old.book.records session stands.0 order.of stands.1 deposit))
       where
-        go : Begins old.book.owner mid.tables slot old.book.records session stands.0 (Ok x)
+        go : Begins old.book.owner mid.tables slot own old.book.records session stands.0 (Ok x)
             → IsAnswered device old new session (effect old session (Proposes slot)) result
         go (ballot, next, of_ballot, s) =
             subst (λ (e : Effect). IsAnswered device old new session e result)
             (propose_effect (Some ballot) next)
-            (concluded device old mid new session (begins stands.0 slot ballot)
+            (concluded device old mid new session (begins stands.0 slot ballot own)
             (issuing_if (quorums_of old.book.owner.members) slot None (Some own) (Some ballot)
             session) None (map handed_out x.1.sends.items) result
             (subst (λ (r : Record). Concludes device mid new (Some r) None
@@ -145,12 +146,12 @@ module _ {C : Type 0} (device : C → Device) (old mid : OpenSite C) (slot : Slo
             (rw (← of_ballot.line) c))
             book (rw book s) refl of_ballot.sends
             (λ after. (
-              noted_under (begins stands.0 slot ballot)
+              noted_under (begins stands.0 slot ballot own)
                   (record { slot = slot; body = entry.Round ballot.round }),
               subst (λ (o : Option BallotNumber). Stands new (issued_if session slot o)
-                  (noted_under (begins stands.0 slot ballot)
+                  (noted_under (begins stands.0 slot ballot own)
                   (record { slot = slot; body = entry.Round ballot.round })))
-                  (issued_is slot ballot stands.0) after,
+                  (issued_is slot ballot own stands.0) after,
             )))
 
     -- that no round is left is answered
@@ -180,7 +181,7 @@ module _ {C : Type 0} (device : C → Device) (old mid : OpenSite C) (slot : Slo
         left (Some ballot) is some = issues ballot is
 
         go : (r : Result (Record × Answer) SiteFault) → begun ≡ r
-            → Begins old.book.owner mid.tables slot old.book.records session stands.0 r
+            → Begins old.book.owner mid.tables slot own old.book.records session stands.0 r
             → IsRefused (effect old session (Proposes slot)) result
         go (Ok x) is (ballot, next, of_ballot, s) = issues ballot next
         go (Err faults.RoundsSpent) is (none, s) = subst (λ (e : Effect). IsRefused e result)

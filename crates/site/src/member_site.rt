@@ -136,7 +136,7 @@ impl<C: Cell> Site<C> {
         })
     }
 
-    /// Asks a member for the bag that it knows. Who calls sees to it that it is a member.
+    /// Asks a member for the bag that it knows. The caller ensures that it is one.
     pub fn ask(&self, slot: &Slot, to: SiteNo) -> Result<Answer, SiteFault>
         ensures answer { self.now.book.needs_opening ≡ false → (session : Session)
             → StandsFor self.now session

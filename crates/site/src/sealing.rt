@@ -22,12 +22,13 @@ pub(crate) fn to_one(
     ensures { IfOk result (λ sends. map handed_out sends.items
         ≡ map (datagram federation) (to_each message.now.slot message.now.body (to ∷ []))) }
 {
+    let bytes = encoded(alloc, federation, message)?;
     let mut sends = Vec::with_capacity(alloc, 1)?;
-    sends.push(sealed(alloc, federation, message, to)?)?;
+    sends.push(Sealed { to, bytes })?;
     Ok(sends)
 }
 
-/// The message for each member, in ascending order.
+/// The message for each member, in ascending order. It is encoded once: the bytes are the same.
 pub(crate) fn to_all(
     alloc: Global,
     members: Members,
@@ -37,10 +38,11 @@ pub(crate) fn to_all(
         ≡ map (datagram members.federation)
         (to_each message.now.slot message.now.body (members_of members))) }
 {
+    let bytes = encoded(alloc, members.federation(), message)?;
     let mut sends = Vec::with_capacity(alloc, usize::from(members.count()))?;
     for number in 1..=members.count() {
         let to = site(number);
-        sends.push(sealed(alloc, members.federation(), message, to)?)?;
+        sends.push(addressed(alloc, &bytes, to)?)?;
     }
     Ok(sends)
 }
@@ -56,17 +58,19 @@ fn site(number: u8) -> SiteNo
     }
 }
 
-// The message's datagram, for a site.
-fn sealed(
-    alloc: Global,
-    federation: u64,
-    message: &Message,
-    to: SiteNo,
-) -> Result<Sealed, AllocError>
-    ensures { IfOk result (λ sealed. handed_out sealed
-        ≡ (to, datagram_of federation message.now)) }
+// The message's datagram.
+fn encoded(alloc: Global, federation: u64, message: &Message) -> Result<Vec<u8>, AllocError>
+    ensures { IfOk result (λ bytes. bytes.items ≡ datagram_of federation message.now) }
 {
     let mut bytes = Vec::with_capacity(alloc, LONGEST_DATAGRAM)?;
     encode(federation, message, &mut bytes)?;
+    Ok(bytes)
+}
+
+// A copy of a datagram, for a site.
+fn addressed(alloc: Global, bytes: &[u8], to: SiteNo) -> Result<Sealed, AllocError>
+    ensures { IfOk result (λ sealed. handed_out sealed ≡ (to, bytes.now)) }
+{
+    let bytes = bytes.to_vec(alloc)?;
     Ok(Sealed { to, bytes })
 }

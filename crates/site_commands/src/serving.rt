@@ -65,7 +65,7 @@ fn serve_as<C: Cell + Drop, P: Port, F: Folders, W: Write>(
     }
 }
 
-// Serves so many turns, and says why it stopped before them.
+// Serves this many turns, and says why it stopped before them.
 fn serve_on<C: Cell + Drop, P: Port, F: Folders, W: Write>(
     alloc: Global,
     site: &mut Site<C>,

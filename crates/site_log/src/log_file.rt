@@ -11,7 +11,7 @@ pub(crate) struct LogFile {
 }
 
 impl LogFile {
-    /// The file of this path, which is made where it is missing. Where that fails, standard error
+    /// The file of this path, which is created if missing. Where that fails, standard error
     /// says so, and no line is kept.
     pub(crate) fn open(rt: &HostRuntime, path: &str) -> LogFile {
         match appending(rt, path) {

@@ -10,8 +10,8 @@ use std::alloc::{AllocError, Global};
 use std::cell::RefCell;
 use udp_site::Turn;
 
-/// A log of a site that serves, in a file. What can't be noted, for want of memory or of room, is
-/// left out: the site goes on.
+/// A log of a site that serves, in a file. What can't be noted, out of memory or room, is left
+/// out: the site goes on.
 #[derive(Drop)]
 pub struct SiteLog {
     rt: HostRuntime,

@@ -107,6 +107,8 @@ module _ (t : Contents) (records : List Record) (session : Session) (under : Und
   hears_other m no_promise no_refusal no_vote = record {
     proposer = heard_stands t.proposer.rows m records session under no_refusal no_promise
         stands.proposer;
+    begun = stands.begun;
+    current = stands.current;
     learner = learner_hears t.learner.rows records session.heard stands.learner m no_vote;
   }
 
@@ -118,6 +120,8 @@ module _ (t : Contents) (records : List Record) (session : Session) (under : Und
   hears_known slot from vote bag known = record {
     proposer = heard_stands t.proposer.rows (record { slot = slot; body = Accepted from vote })
         records session under refl (λ b. refl) stands.proposer;
+    begun = stands.begun;
+    current = stands.current;
     learner = heard_known t.learner.rows records session.heard slot from vote stands.learner bag
         (stands.learner.known slot ∙ known);
   }

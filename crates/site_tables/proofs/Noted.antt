@@ -14,6 +14,7 @@ use Rattle.proposer.specs.Sessions.{Session, UnderWay, new_session, nothing, iss
 use Rattle.proposer.specs.Sessions.{under_way_if}
 use Rattle.learner.specs.Ledgers as learners
 use Rattle.site_tables.specs.Contents.{Contents, IsOf, StandsFor, with_deposit}
+use Rattle.site_tables.proofs.Begun.{deposits_stay, begun_stays, current_stays}
 use Rattle.site_tables.proofs.Deposited.{deposits-push}
 
 -- a ballot that becomes current changes nothing of what was heard
@@ -61,6 +62,11 @@ module _ (old new : Contents) (r : Record) (notes : Notes old new r) where
       (under_way_if under r.slot (issued_by (under.begun r.slot) r.body))
   noted_stands records session under stands = record {
     proposer = notes.proposer records session under stands.proposer;
+    begun = begun_stays under r.slot (issued_by (under.begun r.slot) r.body) (records ++ r ∷ [])
+        (deposits_stay under.begun_with records r stands.begun);
+    current = current_stays under r.slot (issued_by (under.begun r.slot) r.body)
+        (records ++ r ∷ []) (deposits_stay under.begun_with records r stands.begun)
+        (deposits_stay under.current_with records r stands.current);
     learner = subst (learners.StandsFor new.learner.rows (records ++ r ∷ []))
         (heard_same session r.slot (issued_by (under.begun r.slot) r.body))
         (notes.learner records session.heard stands.learner);

@@ -6,7 +6,7 @@ use Rattle.fed_types.specs.Sites.{Membership}
 use Rattle.fed_types.specs.Slots.{SlotName}
 use Rattle.records.specs.declared.owner.Owner.{Owner}
 use Rattle.records.specs.declared.record.Record.{Record}
-use Rattle.records.specs.Words.{deposit_in}
+use Rattle.records.specs.Words.{deposit_in, deposit_of}
 use Rattle.dgram.specs.declared.message.Message.{Message}
 use Rattle.slot_table.specs.Rows.{Rows, row_at}
 use Rattle.acceptor.specs.declared.row.Row.{Row as acceptor_row}
@@ -54,11 +54,18 @@ pub record IsOf (t : Contents) (owner : Owner) (records : List Record) : Type 0 
   pub proposer_site : t.proposer.site ≡ owner.site
   pub learner_members : t.learner.members ≡ owner.members
 
+-- each of these bags, which ballots were begun with, is its slot's deposit
+abbrev pub AreDeposits : (SlotName → Option BagId) → List Record → Type 0
+AreDeposits bags records =
+    (slot : SlotName) (bag : BagId) → bags slot ≡ Some bag → deposit_of slot records ≡ Some bag
+
 -- they stand for the records, and for what was heard since the site was opened
 pub record StandsFor
     (t : Contents) (records : List Record) (session : Session) (under : UnderWay)
     : Type 0 where
   pub proposer : proposers.StandsFor t.proposer.rows records session under
+  pub begun : AreDeposits under.begun_with records
+  pub current : AreDeposits under.current_with records
   pub learner : learners.StandsFor t.learner.rows records session.heard
 
 -- there is room for a record of this slot

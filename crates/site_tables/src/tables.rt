@@ -134,7 +134,7 @@ impl Tables {
         ensures begun { IfOk result (λ ballot. (records : List declared_record)
             (session : Session) (under : UnderWay) → StandsFor self.old records session under
             → deposit_of slot.now records ≡ Some own
-            → StandsFor self.new records session (begins under slot.now ballot)) }
+            → StandsFor self.new records session (begins under slot.now ballot own)) }
         ensures of { (owner : declared_owner) (records : List declared_record)
             → IsOf self.old owner records → IsOf self.new owner records }
         ensures same { OnErr result (StandsForSame self.old self.new) }

@@ -1,6 +1,6 @@
 -- A site that stops keeps its records, and is opened with them.
 use Rattle.std.specs.Prelude.{◌≡◌, false, List, [], Option, Some, None, Result, Ok, Err}
-use Rattle.std.proofs.Common.{append-nil, arith, inl, inr, refl, ap, sym, subst}
+use Rattle.std.proofs.Common.{append-nil, inl, inr, refl, ap, sym, subst}
 use Rattle.cell_device.specs.declared.fuse.FuseState.{FuseState}
 use Rattle.cell_device.specs.declared.fuse.FuseState.TheVariants.{Clear}
 use Rattle.cell_device.specs.declared.memory_cell.MemoryCell.{MemoryCell}

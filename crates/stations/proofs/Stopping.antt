@@ -1,9 +1,9 @@
 -- A call after which the site stops: what it would have come to had the site run on, and then the
 -- stop.
-use Rattle.std.specs.Prelude.{◌≡◌, ℕ, List, [], ◌++◌, map, take, Option, Some, None}
+use Rattle.std.specs.Prelude.{◌≡◌, ◌⊎◌, ℕ, List, [], ◌++◌, map, take, Option, Some, None}
 use Rattle.std.specs.Option.{option_to_list}
 use Rattle.std.specs.List.{take-map}
-use Rattle.std.proofs.Common.{append-nil, refl, ap, sym, subst, ◌∙◌}
+use Rattle.std.proofs.Common.{append-nil, inl, inr, refl, ap, sym, subst, ◌∙◌}
 use Rattle.fed_types.specs.Quorums.{quorums_of}
 use Rattle.cell_device.specs.declared.memory_cell.MemoryCell.{MemoryCell}
 use Rattle.records.specs.declared.owner.Owner.{Owner}
@@ -11,6 +11,7 @@ use Rattle.records.specs.declared.record.Record.{Record}
 use Rattle.records.specs.Texts.{kept_record}
 use Rattle.proposer.specs.Sessions.{Session, new_session}
 use Rattle.schedule.specs.declared.fate.DeviceCall.{DeviceCall}
+use Rattle.schedule.specs.declared.fate.Fate.{Fate}
 use Rattle.schedule.specs.declared.fate.Fate.TheVariants as fates
 use Rattle.site.specs.declared.answer.Sealed.{Sealed}
 use Rattle.site.specs.declared.fault.SiteFault.TheVariants as faults
@@ -24,6 +25,7 @@ use Rattle.stations.specs.declared.place.Place.{Place}
 use Rattle.stations.specs.declared.place.Place.TheVariants.{Running}
 use Rattle.stations.specs.declared.told.Said.TheVariants as said
 use Rattle.stations.specs.declared.told.Told.{Told}
+use Rattle.stations.specs.Fates.{before_stop}
 use Rattle.stations.specs.Stations.{StandsFor, ComesTo, Undergoes, under_fate, reached}
 use Rattle.stations.proofs.GoingOn.{state}
 
@@ -111,3 +113,16 @@ module _ (owner : Owner) (input : Input) (first : ℕ) (old : OpenSite MemoryCel
             failed_stops (state records session NeedsOpening) (refuses faults.NeedsOpen session)
             None refl (comes (state records session NeedsOpening) stands)
         go records session Down comes stands = absurd stands.1
+
+-- a site that doesn't stop goes on, or its device has failed
+pub goes_on : (owner : Owner) (input : Input) (fate : Fate) (site : OpenSite MemoryCell)
+    (new : Place) (told : Told)
+    → (fate ≡ fates.Whole) ⊎ ((device : DeviceCall) × (k : ℕ) × (fate ≡ fates.FailsIn device k))
+    → Undergoes owner input (before_stop fate) (Running site) new told
+    → Undergoes owner input fate (Running site) new told
+goes_on owner input fate site new told (inl is) comes =
+    subst (λ (f : Fate). Undergoes owner input f (Running site) new told) (sym is)
+    (subst (λ (f : Fate). Undergoes owner input (before_stop f) (Running site) new told) is comes)
+goes_on owner input fate site new told (inr (device, k, is)) comes =
+    subst (λ (f : Fate). Undergoes owner input f (Running site) new told) (sym is)
+    (subst (λ (f : Fate). Undergoes owner input (before_stop f) (Running site) new told) is comes)

@@ -13,7 +13,7 @@ abbrev pub line_said : Option Line → Option Said
 line_said None = None
 line_said (Some line) = Some (said.Says line)
 
--- its line and its datagrams; or its refusal, which isn't for want of memory
+-- its line and its datagrams; or its refusal, which isn't out of memory
 abbrev pub Tells : Result Answer SiteFault → Told → Type 0
 Tells (Ok answer) told = (told.said ≡ line_said answer.line) × (told.sends ≡ answer.sends)
 Tells (Err fault) told =

@@ -1,4 +1,4 @@
-//! What befalls a site in a call, by the fate.
+//! What becomes of a site in a call, by the fate.
 
 ghost use Rattle.std.specs.Prelude.{◌≡◌, IfOk};
 ghost use Rattle.schedule.specs.declared.fate.Fate.TheVariants as fates;

@@ -73,19 +73,52 @@ impl Station {
         }
     }
 
-    /// The site is called, under a fate. `Err`: out of memory, and nothing is promised.
-    pub fn call(&mut self, call: &Call, fate: Fate) -> Result<Told, AllocError>
-        ensures whose { self.new.owner ≡ self.old.owner }
-        ensures comes { IfOk result (λ told. Undergoes self.old.owner
-            (input_of self.old.owner.members.federation call.now) fate self.old.place
-            self.new.place told) }
+    /// Takes the station out of its place among others, until it is put back: a station at rest,
+    /// over a cell with no bytes, is left there.
+    pub fn take(&mut self) -> Station
+        ensures { result ≡ self.old }
     {
-        match &mut self.place {
-            Place::Running(site) => {
-                let told = undergo(self.alloc, site, call, fate)?;
-                Ok(self.ended(fate, told))
+        let Owner { members, site } = self.owner;
+        let left = Station {
+            alloc: self.alloc,
+            owner: Owner { members, site },
+            place: Place::AtRest(MemoryCell::new(self.alloc, Vec::new(self.alloc))),
+        };
+        mem::replace(self, left)
+    }
+
+    /// The site is called, under a fate. `Err`: out of memory, and the station is given up.
+    pub fn call(self, call: &Call, fate: Fate) -> Result<(Station, Told), AllocError>
+        ensures whose { IfOk result (λ done. done.0.owner ≡ self.owner) }
+        ensures comes { IfOk result (λ done. Undergoes self.owner
+            (input_of self.owner.members.federation call.now) fate self.place done.0.place
+            done.1) }
+    {
+        let Station {
+            alloc,
+            owner,
+            place,
+        } = self;
+        match place {
+            Place::Running(mut site) => {
+                let told = undergo(alloc, &mut site, call, fate)?;
+                let place = Place::Running(site);
+                let station = Station {
+                    alloc,
+                    owner,
+                    place,
+                };
+                Ok(station.ended(fate, told))
             }
-            Place::AtRest(_) => Ok(nothing(self.alloc)),
+            Place::AtRest(cell) => {
+                let place = Place::AtRest(cell);
+                let station = Station {
+                    alloc,
+                    owner,
+                    place,
+                };
+                Ok((station, nothing(alloc)))
+            }
         }
     }
 
@@ -101,67 +134,76 @@ impl Station {
     }
 
     /// The site stops between calls.
-    pub fn stop(&mut self)
-        ensures whose { self.new.owner ≡ self.old.owner }
-        ensures stops { (s : SiteState) → StandsFor self.old.owner self.old.place s
-            → StandsFor self.old.owner self.new.place
-            (goes_down self.old.owner.site s None []).site }
+    pub fn stop(self) -> Station
+        ensures whose { result.owner ≡ self.owner }
+        ensures stops { (s : SiteState) → StandsFor self.owner self.place s
+            → StandsFor self.owner result.place (goes_down self.owner.site s None []).site }
     {
-        self.place = Place::AtRest(self.take().closed());
+        let Station {
+            alloc,
+            owner,
+            place,
+        } = self;
+        Station {
+            alloc,
+            owner,
+            place: Place::AtRest(place.closed()),
+        }
     }
 
-    /// The site is opened, with so many records. `Err`: out of memory, and nothing is promised.
-    pub fn start(&mut self) -> Result<usize, AllocError>
-        ensures whose { self.new.owner ≡ self.old.owner }
-        ensures starts { IfOk result (λ count. (s : SiteState)
-            → StandsFor self.old.owner self.old.place s
-            → (StandsFor self.old.owner self.new.place (opened self.old.owner.site s).site)
-            × (count ≡ length s.records)) }
+    /// The site is opened, with so many records. `Err`: out of memory, and the station is given up.
+    pub fn start(self) -> Result<(Station, usize), AllocError>
+        ensures whose { IfOk result (λ done. done.0.owner ≡ self.owner) }
+        ensures starts { IfOk result (λ done. (s : SiteState)
+            → StandsFor self.owner self.place s
+            → (StandsFor self.owner done.0.place (opened self.owner.site s).site)
+            × (done.1 ≡ length s.records)) }
     {
-        let cell = self.take().closed();
-        let site = open(self.alloc, cell, self.owner)?;
-        let count = site.records().len();
-        self.place = Place::Running(site);
-        Ok(count)
+        let Station {
+            alloc,
+            owner,
+            place,
+        } = self;
+        let Owner { members, site } = owner;
+        let running = open(alloc, place.closed(), Owner { members, site })?;
+        let count = running.records().len();
+        let station = Station {
+            alloc,
+            owner: Owner { members, site },
+            place: Place::Running(running),
+        };
+        Ok((station, count))
     }
 
     // The end of a running site's call: the site stops, where that is its fate.
-    fn ended(&mut self, fate: Fate, told: Told) -> Told
-        ensures whose { self.new.owner ≡ self.old.owner }
+    fn ended(self, fate: Fate, told: Told) -> (Station, Told)
+        ensures whose { result.0.owner ≡ self.owner }
         ensures ends { (input : Input) (site : OpenSite MemoryCell)
-            → Undergoes self.old.owner input (before_stop fate) (Running site) self.old.place told
-            → Undergoes self.old.owner input fate (Running site) self.new.place result }
+            → Undergoes self.owner input (before_stop fate) (Running site) self.place told
+            → Undergoes self.owner input fate (Running site) result.0.place result.1 }
     {
         match fate {
-            Fate::Whole | Fate::FailsIn(..) => told,
+            Fate::Whole | Fate::FailsIn(..) => (self, told),
             Fate::StopsAfter(first) => self.stopped(told, first as usize),
             Fate::StopsIn(..) => self.stopped(told, 0),
         }
     }
 
     // The site stops, and the first of the datagrams were sent before that.
-    fn stopped(&mut self, told: Told, first: usize) -> Told
-        ensures whose { self.new.owner ≡ self.old.owner }
-        ensures said { result.said ≡ Some said.GoesDown }
-        ensures sends { result.sends.items ≡ take first told.sends.items }
-        ensures stops { (s : SiteState) → StandsFor self.old.owner self.old.place s
-            → StandsFor self.old.owner self.new.place
-            (goes_down self.old.owner.site s None []).site }
+    fn stopped(self, told: Told, first: usize) -> (Station, Told)
+        ensures whose { result.0.owner ≡ self.owner }
+        ensures said { result.1.said ≡ Some said.GoesDown }
+        ensures sends { result.1.sends.items ≡ take first told.sends.items }
+        ensures stops { (s : SiteState) → StandsFor self.owner self.place s
+            → StandsFor self.owner result.0.place (goes_down self.owner.site s None []).site }
     {
-        self.stop();
+        let station = self.stop();
         let mut sends = told.sends;
         sends.truncate(first);
-        Told {
+        let told = Told {
             said: Some(Said::GoesDown),
             sends,
-        }
-    }
-
-    // Its place. A cell with no bytes is left there.
-    fn take(&mut self) -> Place
-        ensures { (result ≡ self.old.place) × (self.new.owner ≡ self.old.owner) }
-    {
-        let empty = MemoryCell::new(self.alloc, Vec::new(self.alloc));
-        mem::replace(&mut self.place, Place::AtRest(empty))
+        };
+        (station, told)
     }
 }

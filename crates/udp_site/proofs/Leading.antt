@@ -122,28 +122,44 @@ module _ {C : Type 0} (rule : Rule C) where
           → OneTurn rule mid after so_far.0 new idle_then tried_then (Err fault)
           → Ended wanted (Err fault)
       ended faults.Port none = (so_far.0, so_far.1, none.0, (short, between _ none))
-      ended faults.Cell (whole, needs_opening) = (
-        whole.1,
+      ended faults.Cell (last, needs_opening) = (
+        last.1,
         so_far.1,
-        whole.3,
+        last.3,
         (
           short,
           (
             so_far.0,
             so_far.7,
-            whole.0,
-            whole.2,
-            whole.7,
-            shows_more before mid after so_far.1 _ _ so_far.8 whole.8,
+            last.0,
+            last.2,
+            last.4,
+            last.5,
+            shows_more before mid after so_far.1 _ _ so_far.8 last.6,
           ),
-          ap (λ (s : OpenSite C). s.book.needs_opening) whole.3 ∙ needs_opening,
+          ap (λ (s : OpenSite C). s.book.needs_opening) last.3 ∙ needs_opening,
         ),
       )
       ended faults.Memory (inl none) = (so_far.0, so_far.1, none.0, (short, inl (between _ none)))
       ended faults.Memory (inr (count, part)) =
           (part.1, so_far.1, part.3, (short, inr (count, within _ _ part)))
-      ended faults.Output (count, part) =
-          (part.1, so_far.1, part.3, (short, (count, within _ _ part)))
+      ended faults.Output cut = (
+        cut.1,
+        so_far.1,
+        cut.3,
+        (
+          short,
+          (
+            so_far.0,
+            so_far.7,
+            cut.0,
+            cut.2,
+            cut.4,
+            cut.5,
+            shows_more before mid after so_far.1 _ _ so_far.8 cut.6,
+          ),
+        ),
+      )
 
       pub ended_so : (result : Result (Unit {0}) ServeFault) (fault : ServeFault)
           → IsErrAnd result (λ e. e ≡ fault) → Ended wanted (Err fault) → Ended wanted result

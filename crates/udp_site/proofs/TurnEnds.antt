@@ -1,6 +1,6 @@
 -- How one turn ends.
-use Rattle.std.specs.Prelude.{◌≡◌, ◌⊎◌, ℕ, Bool, true, List, [], ◌∷◌, length, take, Option}
-use Rattle.std.specs.Prelude.{Result, Ok, Err, IsErrAnd}
+use Rattle.std.specs.Prelude.{◌≡◌, ◌⊎◌, ℕ, Bool, true, false, List, [], ◌∷◌, length, take, Option}
+use Rattle.std.specs.Prelude.{Result, Ok, Err, IsErrAnd, OnOk, OnErr, IfErr}
 use Rattle.std.specs.List.{flat_map, list_any}
 use Rattle.std.specs.Io.KnownBytes.{Appends}
 use Rattle.std.proofs.Common.{inl, inr, ap, sym, ◌∙◌, subst}
@@ -21,6 +21,11 @@ use Rattle.udp_site.specs.inner.Receiving.{Receives}
 use Rattle.udp_site.specs.inner.Stopping.{line_of_the_cell}
 use Rattle.udp_site.proofs.Growth.{Grows-trans, Appends-none}
 use Rattle.udp_site.proofs.Printed.{one_is_last, text_is}
+
+-- what is so is so where a call succeeds
+pub on_ok : {P : Type 0} (result : Result (Unit {0}) ServeFault) → P → OnOk result P
+on_ok (Ok x) p = p
+on_ok (Err e) p = tt
 
 module _ {C : Type 0} (rule : Rule C) (before after : Outside) (old : Serving C)
     (site : OpenSite C) (idle tried : ℕ) where
@@ -108,23 +113,22 @@ module _ {C : Type 0} (rule : Rule C) (before after : Outside) (old : Serving C)
         )
 
         -- a part of its text was written
-        in_writing : (count : ℕ)
-            → Appends before.written after.written
+        in_writing : (last : Bool) → last ≡ list_any line_of_the_cell lines
+            → (count : ℕ) → Appends before.written after.written
             (take count (flat_map (line_text by_identity) lines))
-            → one.InWriting rule before after old site
+            → one.InWriting rule before after old site last
         unfolding turn
-        in_writing count written = (
+        in_writing last is count written = (
+          turn,
+          comes.1,
+          comes.2.0,
+          comes.3,
+          sym (is ∙ one_is_last start lines comes.0.notices none comes.6),
           count,
           (
-            turn,
-            comes.1,
-            comes.2.0,
-            comes.3,
-            (
-              moved,
-              subst (λ (t : List ℕ). Appends before.written after.written (take count t)) text
-                  written,
-            ),
+            moved,
+            subst (λ (t : List ℕ). Appends before.written after.written (take count t)) text
+                written,
           ),
         )
 
@@ -146,26 +150,74 @@ module _ {C : Type 0} (rule : Rule C) (before after : Outside) (old : Serving C)
           ),
         )
 
-        pub cut : (fault : ServeFault) → (fault ≡ faults.Output) ⊎ (fault ≡ faults.Memory)
-            → (count : ℕ)
+        cut : (fault : ServeFault) → (fault ≡ faults.Output) ⊎ (fault ≡ faults.Memory)
+            → false ≡ list_any line_of_the_cell lines → (count : ℕ)
             → Appends before.written after.written
             (take count (flat_map (line_text by_identity) lines))
             → (fault ≡ faults.Memory → after.written ≡ before.written)
             → OneTurn rule before after old site idle tried (Err fault)
-        cut fault (inl is) count written same =
+        cut fault (inl is) goes_on count written same =
             subst (λ (f : ServeFault). OneTurn rule before after old site idle tried (Err f))
-            (sym is) (in_writing count written)
-        cut fault (inr is) count written same =
+            (sym is) (in_writing false goes_on count written)
+        cut fault (inr is) goes_on count written same =
             subst (λ (f : ServeFault). OneTurn rule before after old site idle tried (Err f))
             (sym is) (inr (unwritten (same is)))
 
+        -- the lines were written, or that failed
+        module _ (result : Result (Unit {0}) ServeFault)
+            (all : OnOk result (Appends before.written after.written
+            (flat_map (line_text by_identity) lines)))
+            (part : OnErr result ((count : ℕ) × Appends before.written after.written
+            (take count (flat_map (line_text by_identity) lines)))) where
+          -- and the site can go on
+          pub went_on : false ≡ list_any line_of_the_cell lines
+              → IfErr result (λ f. f ≡ faults.Memory → after.written ≡ before.written)
+              → IfErr result (λ f. (f ≡ faults.Output) ⊎ (f ≡ faults.Memory))
+              → OneTurn rule before after old site idle tried result
+          went_on is none which = go result all part none which
+            where
+              go : (r : Result (Unit {0}) ServeFault)
+                  → OnOk r (Appends before.written after.written
+                  (flat_map (line_text by_identity) lines))
+                  → OnErr r ((count : ℕ) × Appends before.written after.written
+                  (take count (flat_map (line_text by_identity) lines)))
+                  → IfErr r (λ f. f ≡ faults.Memory → after.written ≡ before.written)
+                  → IfErr r (λ f. (f ≡ faults.Output) ⊎ (f ≡ faults.Memory))
+                  → OneTurn rule before after old site idle tried r
+              go (Ok x) all part none which = whole false is all
+              go (Err f) all part none which = cut f which is part.0 part.1 none
+
+          -- so much of them
+          some_written : (count : ℕ) × Appends before.written after.written
+              (take count (flat_map (line_text by_identity) lines))
+          some_written = go result all part
+            where
+              go : (r : Result (Unit {0}) ServeFault)
+                  → OnOk r (Appends before.written after.written
+                  (flat_map (line_text by_identity) lines))
+                  → OnErr r ((count : ℕ) × Appends before.written after.written
+                  (take count (flat_map (line_text by_identity) lines)))
+                  → (count : ℕ) × Appends before.written after.written
+                  (take count (flat_map (line_text by_identity) lines))
+              go (Ok x) all part = (
+                length (flat_map (line_text by_identity) lines),
+                subst (Appends before.written after.written)
+                    (sym (take-length (flat_map (line_text by_identity) lines))) all,
+              )
+              go (Err f) all part = part
+
+          -- and its cell has failed it
+          pub by_the_cell : true ≡ list_any line_of_the_cell lines
+              → one.InWriting rule before after old site true
+          by_the_cell is = in_writing true is some_written.0 some_written.1
+
   -- a site that its cell failed needs opening
-  pub stopped : one.Whole rule before after old site idle tried true
+  pub stopped : one.InWriting rule before after old site true
       → ((turn : Turned) (next : Serving C) → rule old turn.took turn.done next
       → is_the_last turn ≡ true → next.site.book.needs_opening ≡ true)
       → OneTurn rule before after old site idle tried (Err faults.Cell)
-  stopped whole stops = (
-    whole,
-    sym (ap (λ (s : OpenSite C). s.book.needs_opening) whole.3)
-        ∙ stops whole.0 whole.1 whole.2 whole.7,
+  stopped last stops = (
+    last,
+    sym (ap (λ (s : OpenSite C). s.book.needs_opening) last.3)
+        ∙ stops last.0 last.1 last.2 last.4,
   )

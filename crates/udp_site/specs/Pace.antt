@@ -26,7 +26,8 @@ hears pace signs.Decides = record pace { wait = pace.waits.first; over = true }
 
 -- How long after an idle turn the next one comes, whatever else does: ten first waits, and 250 ms
 -- at least, since a site that is idle sooner outbids its own proposal; or one wait, where none is
--- under way.
+-- under way. First waits, and not those that have grown: site N proposes in each N-th idle turn,
+-- and where clients ask all the time site 3 would else wait for 10, 20 and 40 waits.
 abbrev pub between : Pace → ℕ
 between pace =
     if pace.over then pace.wait else max pace.wait (max (10 * pace.waits.first) 250)

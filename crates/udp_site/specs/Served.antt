@@ -95,21 +95,18 @@ module _ {C : Type 0} (rule : Rule C) (before after : Outside) where
   EndsUnwritten start end turns =
       (count : ℕ) × EndsWithin start end turns (first_moves count) (λ turn. [])
 
-  -- all of the last turn was handed out, and a part of its text was written
-  abbrev pub EndsInWriting : (start end : Serving C) → List Turned → Type 0
-  EndsInWriting start end turns =
-      (count : ℕ) × EndsWithin start end turns moves_of (λ turn. take count (text_of turn))
-
-  -- whole turns, and then a whole turn in which the site's cell failed it
-  abbrev pub EndsByTheCell : (start end : Serving C) → List Turned → Type 0
-  EndsByTheCell start end turns =
+  -- Whole turns, and then one that was handed out, and of whose text a part was written; after it
+  -- the site can go on, or its cell has failed it, and it is the last.
+  abbrev pub EndsInWriting : (last : Bool) → (start end : Serving C) → List Turned → Type 0
+  EndsInWriting last start end turns =
       (mid : Serving C) × Leads rule start turns mid
-      × (turn : Turned) × rule mid turn.took turn.done end × (is_the_last turn ≡ true)
-      × Shows before after turns (moves_of turn) (text_of turn)
+      × (turn : Turned) × rule mid turn.took turn.done end × (is_the_last turn ≡ last)
+      × (count : ℕ) × Shows before after turns (moves_of turn) (take count (text_of turn))
 
   -- Ok: so many turns, all whole. Port: fewer, all whole, and then a receive that failed. Cell: the
-  -- site needs opening, and that is why the last turn was the last. Memory: fewer, all whole, and
-  -- then none or one that is unwritten. Output: the last turn's text failed to be written.
+  -- site needs opening, and that is why the last turn was the last; its text is whole but where that
+  -- couldn't be written either. Memory: fewer, all whole, and then none or one that is unwritten.
+  -- Output: the last turn's text failed to be written, and its cell had not failed it.
   abbrev pub Serves :
       (start end : Serving C) → (wanted : ℕ) → (turns : List Turned)
       → Result (Unit {0}) ServeFault → Type 0
@@ -118,9 +115,9 @@ module _ {C : Type 0} (rule : Rule C) (before after : Outside) where
   Serves start end wanted turns (Err faults.Port) =
       (length turns < wanted) × EndsBetween start end turns (Failed ∷ [])
   Serves start end wanted turns (Err faults.Cell) =
-      (length turns < wanted) × EndsByTheCell start end turns
+      (length turns < wanted) × EndsInWriting true start end turns
       × (end.site.book.needs_opening ≡ true)
   Serves start end wanted turns (Err faults.Memory) =
       (length turns < wanted) × (EndsBetween start end turns [] ⊎ EndsUnwritten start end turns)
   Serves start end wanted turns (Err faults.Output) =
-      (length turns < wanted) × EndsInWriting start end turns
+      (length turns < wanted) × EndsInWriting false start end turns

@@ -6,7 +6,11 @@ use Rattle.dgram.specs.declared.message.Message.{Message}
 use Rattle.udp_site.specs.declared.sign.Sign.{Sign}
 use Rattle.udp_site.specs.declared.sign.Sign.TheVariants.{Still, Moves, Decides}
 
--- a proposal got its promises, or a bag was deposited; a vote, or a known bag; or nothing moves
+-- A proposal got its promises, or a bag was deposited; a vote, or a known bag; or nothing moves.
+-- Promises are none: two of five sites that are up promise each other at each proposal, and would
+-- keep their first wait, and write records, as long as there is no majority. A vote of another site
+-- is taken for the end of a proposal, though it may be the first of several that are needed: the
+-- next idle turn may then outbid it, which costs a round.
 abbrev pub sign_by : Body → Sign
 sign_by (bodies.Accept vote) = Moves
 sign_by (bodies.Deposit path) = Moves

@@ -47,7 +47,7 @@ impl<R: Clock + Drop> PacedSocket<R> {
             return Err(ErrorKind::InvalidInput.into());
         }
         let socket = UdpSocket::bind(net, at(port))?;
-        // Only `poll` waits.
+        // Only `poll` waits: a socket's own timeout is rounded up to the kernel's tick.
         socket.set_nonblocking(true)?;
         Ok(PacedSocket {
             clock: *net,

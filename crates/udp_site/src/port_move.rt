@@ -5,7 +5,8 @@ use crate::turn::Turn;
 pub enum PortMove {
     /// It was waited at for one turn, which brought this.
     Took(Turn),
-    /// It was waited at for one turn, and the receive failed.
+    /// It was waited at for one turn, and the receive failed. The count of failures alone can't say
+    /// so, since it counts sends that failed too.
     Failed,
     /// It was handed these bytes for the port of this number.
     Handed(u16, Vec<u8>),

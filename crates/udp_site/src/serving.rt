@@ -29,7 +29,7 @@ use site::{Site, SiteFault};
 use std::alloc::{AllocError, Global};
 use std::io::Write;
 
-/// Serves so many turns. Each receives once; what came is taken in, its datagrams are handed out to
+/// Serves `turns` turns. Each receives once; what came is taken in, its datagrams are handed out to
 /// the sites' ports, that of site 1 first, and its lines are written.
 pub fn serve<C: Cell, P: Port, F: Folders, W: Write>(
     alloc: Global,
@@ -100,11 +100,12 @@ fn one_turn<C: Cell, P: Port, F: Folders, W: Write>(
         Ok(()) => {}
         Err(_) => return Err(ServeFault::Memory),
     }
-    write_lines(alloc, lines, output)?;
+    let written = write_lines(alloc, lines, output);
+    // A cell that failed is the answer also where that can't be written.
     if is_refused(lines) {
         return Err(ServeFault::Cell);
     }
-    Ok(())
+    written
 }
 
 // Receives once.
@@ -154,7 +155,8 @@ fn text_of(alloc: Global, lines: &[Line]) -> Result<String, AllocError>
     Ok(text)
 }
 
-// Whether a line says that a call was refused since the site's device failed.
+// Whether a line says that a call was refused since the site's device failed. A site that needs
+// opening serves until a call says so: noise, and idle turns without a proposal, pass.
 fn is_refused(lines: &[Line]) -> bool
     ensures { result ≡ list_any line_of_the_cell lines.now }
 {

@@ -18,7 +18,8 @@ pub(crate) enum Sign {
     Decides,
 }
 
-/// What these bytes are a sign of, which came to a port from one.
+/// What these bytes are a sign of, which came to a port from one. They are decoded, so that what
+/// has a wrong checksum or is of another federation moves nothing.
 pub(crate) fn sign_of(
     alloc: Global,
     federation: u64,

@@ -28,23 +28,23 @@ pub record IsOfBallot
       ≡ map (datagram owner.members.federation)
       (to_each slot (Prepare ballot) (members_of owner.members))
 
--- the next ballot is begun; or none is left; or one is, and memory ran out, before it was begun or
+-- the next ballot is begun with this bag; or none is left; or one is, and memory ran out, before it was begun or
 -- after
 abbrev pub Begins :
-    Owner → Contents → SlotName → List Record → Session → UnderWay
+    Owner → Contents → SlotName → (own : BagId) → List Record → Session → UnderWay
     → Result (Record × Answer) SiteFault → Type 0
-Begins owner tables slot records session under (Ok x) =
+Begins owner tables slot own records session under (Ok x) =
     (ballot : BallotNumber)
     × (next_ballot owner.site slot records session.heard ≡ Some ballot)
     × IsOfBallot owner slot ballot x.0 x.1
-    × StandsFor tables records session (begins under slot ballot)
-Begins owner tables slot records session under (Err faults.RoundsSpent) =
+    × StandsFor tables records session (begins under slot ballot own)
+Begins owner tables slot own records session under (Err faults.RoundsSpent) =
     (next_ballot owner.site slot records session.heard ≡ None)
     × StandsFor tables records session under
-Begins owner tables slot records session under (Err faults.Memory) =
+Begins owner tables slot own records session under (Err faults.Memory) =
     IsSome (next_ballot owner.site slot records session.heard)
     × (after : UnderWay) × StandsFor tables records session after
-Begins owner tables slot records session under (Err fault) = ⊥
+Begins owner tables slot own records session under (Err fault) = ⊥
 
 -- so it is of each session that the tables stand for, where this bag is the slot's deposit
 pub record BeginsBallot
@@ -55,4 +55,4 @@ pub record BeginsBallot
   pub begun : (records : List Record) (session : Session) (under : UnderWay)
       → IsOf old owner records → StandsFor old records session under
       → deposit_of slot records ≡ Some own
-      → Begins owner new slot records session under result
+      → Begins owner new slot own records session under result

@@ -34,9 +34,12 @@ module _ {C : Type 0} (rule : Rule C) (before after : Outside) (old : Serving C)
   abbrev pub Unwritten : Type 0
   Unwritten = (count : ℕ) × Part (first_moves count) (λ turn. [])
 
-  -- a turn of whose text a part was written
-  abbrev pub InWriting : Type 0
-  InWriting = (count : ℕ) × Part moves_of (λ turn. take count (text_of turn))
+  -- a turn of whose text a part was written, after which the site can go on, or can't
+  abbrev pub InWriting : (last : Bool) → Type 0
+  InWriting last =
+      (turn : Turned) × (next : Serving C) × rule old turn.took turn.done next
+      × (next.site ≡ site) × (is_the_last turn ≡ last)
+      × (count : ℕ) × Adds before after (moves_of turn) (take count (text_of turn))
 
   -- no turn was begun, but these moves were made
   abbrev pub None : List Move → Type 0
@@ -46,6 +49,6 @@ module _ {C : Type 0} (rule : Rule C) (before after : Outside) (old : Serving C)
   OneTurn idle tried (Ok whole) = Whole idle tried false
   OneTurn idle tried (Err faults.Port) = None (Failed ∷ [])
   OneTurn idle tried (Err faults.Cell) =
-      Whole idle tried true × (site.book.needs_opening ≡ true)
+      InWriting true × (site.book.needs_opening ≡ true)
   OneTurn idle tried (Err faults.Memory) = None [] ⊎ Unwritten
-  OneTurn idle tried (Err faults.Output) = InWriting
+  OneTurn idle tried (Err faults.Output) = InWriting false

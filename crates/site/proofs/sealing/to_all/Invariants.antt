@@ -6,4 +6,5 @@ use Rattle.site.proofs.sealing.to_all.Given as goal
 
 abbrev pub invariant-loop-number : goal.invariant-loop-number
 invariant-loop-number l =
-    map handed_out l.sends.items ≡ sent l.members.federation l.message (sites_to (l.number - 1))
+    map handed_out l.sends.items
+    ≡ sent l.fn.members.federation l.message (sites_to (l.number - 1))

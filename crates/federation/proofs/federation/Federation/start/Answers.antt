@@ -1,9 +1,11 @@
-use Rattle.std.proofs.Common.{refl, sym, ap, subst, ◌∙◌}
+use Rattle.std.proofs.Common.{◌≡◌, refl, sym, ap, subst, get_or}
 use Rattle.lines.specs.declared.line.Line.TheVariants as lines
 use Rattle.world_law.specs.Worlds.{World, mode_of}
 use Rattle.federation.specs.Federations.{StandsFor}
 use Rattle.federation.proofs.Answers.{then_ok}
 use Rattle.federation.proofs.Called.{started, when_up}
+use Rattle.federation.proofs.Places.{put_twice}
+use Rattle.stations.specs.declared.station.Station.{Station}
 use Rattle.federation.proofs.federation.Federation.start.Goals as goal
 
 pub returns-then-is_up : goal.returns-then-is_up
@@ -14,9 +16,14 @@ returns-then-is_up c =
 
 pub returns : goal.returns
 returns c w is =
-    started c.args.self.now _ w c.args.number c.args.place c.index_mut.result.now c.start.new.self
-    c.in_ok-records.records (lines.Up c.site_at-site.result c.in_ok-records.records) is
-    (sym (c.if-is_up.ensures w is)) c.requires c.index_mut.ensures.value c.in_ok-records.ensures.whose
-    c.in_ok-records.ensures.starts
-    (ap (λ n. lines.Up n c.in_ok-records.records) (c.site_at-site.ensures w is)) refl refl refl refl
+    let stations = c.args.self.now.stations.items in
+    started c.args.self.now _ w c.args.number c.args.place c.take-station.result
+    c.in_ok-station.station c.in_ok-station.records
+    (lines.Up c.site_at-site.result c.in_ok-station.records) is
+    (sym (c.if-is_up.ensures w is)) c.requires
+    (subst (λ (s : Station). s ≡ get_or stations c.args.place s) (sym c.take-station.ensures)
+    c.index_mut.ensures.value)
+    c.in_ok-station.ensures.whose c.in_ok-station.ensures.starts
+    (ap (λ n. lines.Up n c.in_ok-station.records) (c.site_at-site.ensures w is)) refl
+    (put_twice stations c.args.place c.take-station.new.self c.in_ok-station.station) refl refl
     refl c.in_ok-push.ensures.items

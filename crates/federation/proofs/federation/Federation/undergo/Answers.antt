@@ -1,20 +1,26 @@
-use Rattle.std.proofs.Common.{ℕ, refl, ap, ◌∙◌, ◌++◌}
+use Rattle.std.proofs.Common.{◌≡◌, ℕ, refl, ap, sym, subst, get_or, ◌∙◌, ◌++◌}
 use Rattle.stations.specs.Calls.{input_of}
+use Rattle.stations.specs.declared.station.Station.{Station}
 use Rattle.federation.specs.Said.{lines_said}
 use Rattle.federation.proofs.Answers.{then_all_ok}
 use Rattle.federation.proofs.Called.{undergone}
+use Rattle.federation.proofs.Places.{put_twice}
 use Rattle.federation.proofs.federation.Federation.undergo.Goals as goal
 
 pub returns : goal.returns
 returns c =
+    let stations = c.args.self.now.stations.items in
     then_all_ok c.send_all.result (λ lines sent named w is up sound.
     undergone c.args.self.now _ w c.args.place
-    (λ (federation : ℕ). input_of federation c.args.call.now) c.args.fate c.index_mut.result.now
-    c.call.new.self c.in_ok-said.field-0 c.tell.new.lines.items is up sound c.requires
-    c.index_mut.ensures.value c.in_ok-said.ensures.whose c.in_ok-said.ensures.comes refl refl refl
-    refl
+    (λ (federation : ℕ). input_of federation c.args.call.now) c.args.fate c.take-station.result
+    c.in_ok-station.station c.in_ok-station.told c.tell.new.lines.items is up sound c.requires
+    (subst (λ (s : Station). s ≡ get_or stations c.args.place s) (sym c.take-station.ensures)
+    c.index_mut.ensures.value)
+    c.in_ok-station.ensures.whose c.in_ok-station.ensures.comes refl
+    (put_twice stations c.args.place c.take-station.new.self c.in_ok-station.station) refl refl
     (c.in_ok-tell.ensures w.members.federation w.seen is.seen
     ∙ ap (λ (site : ℕ). c.args.self.now.lines.items ++ lines_said w.seen site
-    (input_of w.members.federation c.args.call.now) c.in_ok-said.field-0.said) (c.site_at-site.ensures w is))
+    (input_of w.members.federation c.args.call.now) c.in_ok-station.told.said)
+    (c.site_at-site.ensures w is))
     lines sent named)
     c.send_all.ensures.lines c.send_all.ensures.sent c.send_all.ensures.named

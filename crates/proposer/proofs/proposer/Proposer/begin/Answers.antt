@@ -25,14 +25,14 @@ returns-in-Ok-clause-spent g c records session under stands none =
     absurd (cc e)
 
 pub returns-in-Ok-clause-begun : goal.returns-in-Ok-clause-begun
-returns-in-Ok-clause-begun g c records session under stands owns =
+returns-in-Ok-clause-begun g c records session under stands =
     begun_stands c.args.self.now.rows c.begin_round.new.self.rows c.args.slot.now c.in-Some.ballot
     c.args.own
     records session under
     (subst (λ (r : Round). BeginsAt r c.args.self.now.rows c.begin_round.new.self.rows
     c.args.slot.now)
     c.new.ensures c.in-Ok.ensures.begun)
-    stands owns
+    stands
 
 pub returns-in-Err-clause-spent : goal.returns-in-Err-clause-spent
 returns-in-Err-clause-spent g c records session under stands none =

@@ -14,5 +14,7 @@ returns-clause-heard c = if_ok c.accepted.result c.accepted.ensures.heard
       proposer = heard_stands c.self.inside.proposer.rows
           (record { slot = c.args.slot.now; body = Accepted c.args.from c.args.vote })
           records session under refl (λ b. refl) was.proposer;
+      begun = was.begun;
+      current = was.current;
       learner = hears none records session.heard was.learner;
     })

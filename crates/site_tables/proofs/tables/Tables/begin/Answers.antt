@@ -1,7 +1,8 @@
-use Rattle.std.proofs.Common.{ℕ, sym, ap, subst, ◌∙◌}
+use Rattle.std.proofs.Common.{ℕ, Some, sym, ap, subst, ◌∙◌}
 use Rattle.proposer.specs.Faults.{next_or_spent, IsOrMemory}
 use Rattle.proposer.specs.Proposals.{next_ballot}
 use Rattle.site_tables.specs.Contents.{Contents, IsOf, StandsFor}
+use Rattle.site_tables.proofs.Begun.{at_deposits}
 use Rattle.site_tables.proofs.Outcomes.{if_ok}
 use Rattle.site_tables.proofs.tables.Tables.begin.Goals as goal
 
@@ -29,6 +30,9 @@ returns-clause-begun c = if_ok c.begin.result c.begin.ensures.begun
     let was = subst (λ (t : Contents). StandsFor t records session under) (sym c.self.view_is)
     stands in
     record {
-      proposer = begins records session under was.proposer own;
+      proposer = begins records session under was.proposer;
+      begun = at_deposits under.begun_with c.args.slot.now (Some c.args.own) records was.begun
+          (λ bag e. own ∙ e);
+      current = was.current;
       learner = was.learner;
     })

@@ -9,6 +9,8 @@ returns-clause-heard c records session under stands =
     stands in
     record {
       proposer = c.issued.ensures.heard records session under was.proposer;
+      begun = was.begun;
+      current = was.current;
       learner = learner_hears_waiting c.self.inside.learner.rows c.self.inside.proposer.rows
           records session under was.proposer was.learner c.args.slot.now;
     }

@@ -1,5 +1,6 @@
 use Rattle.std.proofs.Common.{[]}
 use Rattle.site_tables.specs.Contents.{deposits_of}
+use Rattle.site_tables.proofs.Begun.{no_deposits}
 use Rattle.site_tables.proofs.tables.Tables.new.Goals as goal
 
 pub returns-clause-of : goal.returns-clause-of
@@ -11,4 +12,12 @@ returns-clause-of c = record {
   proposer_members = c.new-3.ensures.whose.0;
   proposer_site = c.new-3.ensures.whose.1;
   learner_members = c.new-4.ensures.members;
+}
+
+pub returns-clause-stands : goal.returns-clause-stands
+returns-clause-stands c = record {
+  proposer = c.new-3.ensures.stands;
+  begun = no_deposits [];
+  current = no_deposits [];
+  learner = c.new-4.ensures.stands;
 }

@@ -3,7 +3,10 @@ use Rattle.fed_types.specs.Quorums.{quorums_of}
 use Rattle.fed_types.specs.Sites.{Membership}
 use Rattle.records.specs.Words.{deposit_of}
 use Rattle.proposer.specs.Proposals.{ready}
+use Rattle.proposer.specs.Rows.{current_in, row_of}
+use Rattle.proposer.specs.Sessions.{promise_message}
 use Rattle.site_tables.specs.Contents.{Contents, IsOf, StandsFor}
+use Rattle.site_tables.proofs.Begun.{ready_with_deposit, begun_waits, current_waits}
 use Rattle.site_tables.proofs.Heard.{learner_hears_promise}
 use Rattle.site_tables.proofs.tables.Tables.promise.Goals as goal
 
@@ -13,6 +16,12 @@ returns-clause-ready c owner records session under of stands =
     let was = subst (λ (t : Contents). StandsFor t records session under) (sym c.self.view_is)
     stands in
     c.promise.ensures.ready records session under was.proposer
+    ∙ ready_with_deposit (quorums_of c.self.inside.proposer.members) c.args.slot.now
+    (under.current_with c.args.slot.now) (deposit_of c.args.slot.now records) session.heard
+    c.args.ballot (record { site = c.args.from; prior = c.args.prior })
+    (session.current c.args.slot.now)
+    (current_in (row_of c.self.inside.proposer.rows c.args.slot.now))
+    (was.proposer c.args.slot.now).current (was.current c.args.slot.now)
     ∙ ap (λ (m : Membership). ready (quorums_of m) (deposit_of c.args.slot.now records)
     c.args.slot.now (session.current c.args.slot.now) session.heard c.args.ballot
     (record { site = c.args.from; prior = c.args.prior })) is.proposer_members
@@ -23,6 +32,12 @@ returns-clause-heard c records session under stands =
     stands in
     record {
       proposer = c.promise.ensures.heard records session under was.proposer;
+      begun = begun_waits under c.promise.result
+          (promise_message c.args.slot.now c.args.from c.args.ballot c.args.prior) records
+          was.begun;
+      current = current_waits under c.promise.result
+          (promise_message c.args.slot.now c.args.from c.args.ballot c.args.prior) records
+          was.current;
       learner = learner_hears_promise c.self.inside.learner.rows records session was.learner
           c.promise.result c.args.slot.now c.args.from c.args.ballot c.args.prior;
     }

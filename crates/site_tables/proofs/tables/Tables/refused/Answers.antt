@@ -12,6 +12,8 @@ returns-clause-heard c = on_ok c.refused.result c.refused.ensures.heard
     stands in
     record {
       proposer = hears from asked records session under was.proposer;
+      begun = was.begun;
+      current = was.current;
       learner = learner_hears c.self.inside.learner.rows records session.heard was.learner
           (refusal_message c.args.slot.now from asked c.args.standing) (λ v. refl);
     })

@@ -9,7 +9,7 @@ use Rattle.stations.proofs.station.Station.call.Goals as goal
 
 pub returns-in_ok-told-in-Running-clause-comes : goal.returns-in_ok-told-in-Running-clause-comes
 returns-in_ok-told-in-Running-clause-comes c s stands =
-    let owner = c.args.self.now.owner in
+    let owner = c.args.self.owner in
     let old = c.in-Running.site in
     let told = c.in_ok-told-in-Running.told in
     let runs : StandsFor owner (Running old) s =
