@@ -1,14 +1,13 @@
 -- A datagram that arrives, as an input of its addressee.
-use Rattle.std.proofs.Common.{ℕ, ◌+◌, ◌≡◌, true, false, cond, Bool, List, [], ◌∷◌, ◌++◌, length}
-use Rattle.std.proofs.Common.{Option, Some, None, refl, sym, ap, subst, ◌∙◌, append-nil}
+use Rattle.std.proofs.Common.{ℕ, ◌≡◌, false, cond, Bool, [], ◌++◌}
+use Rattle.std.proofs.Common.{Option, Some, None, ap, ◌∙◌}
 use Rattle.fed_types.specs.Lists.{is_in}
 use Rattle.schedule.specs.declared.fate.Fate.{Fate}
 use Rattle.site.specs.Calls.{Arrives}
 use Rattle.site.specs.Effects.{Send}
-use Rattle.lines.specs.declared.line.Line.{Line}
-use Rattle.world_law.specs.Networks.{Network, Happening, Deliver, datagram_at, happens, takes, arrives}
-use Rattle.world_law.specs.Networks.{SiteState, new_site, Mode, Up, reaches}
-use Rattle.world_law.specs.Worlds.{World, quorums, after_event, event_at, unless_down, mode_of}
+use Rattle.world_law.specs.Networks.{Happening, Deliver, datagram_at, happens, takes, arrives}
+use Rattle.world_law.specs.Networks.{SiteState, new_site, Mode, reaches}
+use Rattle.world_law.specs.Worlds.{World, quorums, after_event, event_at, unless_down}
 use Rattle.world_law.specs.Worlds.{sent_lines}
 use Rattle.federation.specs.Inputs.{after, after_input}
 

@@ -33,7 +33,7 @@ use Rattle.lines.specs.declared.line.Line.{Line}
 use Rattle.lines.specs.declared.line.Line.TheVariants as printed
 use Rattle.lines.specs.declared.line.Reason.TheVariants as reasons
 use Rattle.world_law.specs.Networks.{Mode, Up, Down, NeedsOpening, SiteState, Happening, Outcome}
-use Rattle.world_law.specs.Networks.{Event, Stop, Start, happens, takes, happening, goes_down, opened}
+use Rattle.world_law.specs.Networks.{Stop, Start, happens, takes, happening, goes_down, opened}
 use Rattle.world_law.specs.Networks.{stops, starts, replies, Deposit, Ask, Query, Raw}
 use Rattle.world_law.specs.Trees.{tree_at}
 use Rattle.world_tables.specs.Firsts as firsts

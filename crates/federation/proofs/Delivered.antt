@@ -1,23 +1,18 @@
 -- A datagram that is delivered, and bytes that arrive.
-use Rattle.std.proofs.Common.{ℕ, zero, suc, ◌+◌, ◌-◌, ◌<◌, ◌≡◌, true, false, Bool, List, [], ◌∷◌, ◌++◌}
+use Rattle.std.proofs.Common.{ℕ, zero, suc, ◌+◌, ◌<◌, ◌≡◌, false, List, [], ◌∷◌, ◌++◌}
 use Rattle.std.proofs.Common.{length, Option, Some, None, refl, sym, ap, subst, ◌∙◌, append-nil}
 use Rattle.std.specs.Prelude.{slice_get}
 use Rattle.fed_types.specs.Lists.{is_in}
-use Rattle.fed_types.specs.Quorums.{quorums_of}
 use Rattle.schedule.specs.declared.fate.Fate.{Fate}
-use Rattle.schedule.specs.declared.fate.Fate.TheVariants.{Whole}
-use Rattle.dgram.specs.declared.message.Message.{Message}
 use Rattle.dgram.specs.Decoded.{message_of}
 use Rattle.dgram.specs.Encoding.{datagram_of}
-use Rattle.dgram.specs.Messages.{IsMessage}
 use Rattle.site.specs.Calls.{Input, Arrives}
 use Rattle.site.specs.Datagrams.{datagram}
 use Rattle.site.specs.Effects.{Send}
 use Rattle.lines.specs.declared.line.Line.{Line}
-use Rattle.lines.specs.declared.line.Line.TheVariants as lines
 use Rattle.lines.specs.declared.line.Reason.TheVariants as reasons
-use Rattle.world_law.specs.Networks.{Deliver, Happening, datagram_at, takes, happens}
-use Rattle.world_law.specs.Worlds.{World, mode_of, quorums, after_event, event_at, unless_down}
+use Rattle.world_law.specs.Networks.{Deliver, Happening, datagram_at, takes}
+use Rattle.world_law.specs.Worlds.{World, mode_of, quorums, event_at, unless_down}
 use Rattle.world_law.specs.Worlds.{skips, with_named, on_deliver, on_datagram}
 use Rattle.world_law.proofs.Sends.{datagram_is_read, at_number}
 use Rattle.world_tables.specs.Numbers as numbers
@@ -25,7 +20,7 @@ use Rattle.world_tables.specs.Numbers.{numbered}
 use Rattle.federation.specs.declared.delivering.Arrival.{Arrival}
 use Rattle.federation.specs.declared.federation.Federation.{Federation}
 use Rattle.federation.specs.Federations.{StandsFor, IsSound}
-use Rattle.federation.specs.Inputs.{after, after_input, place_in}
+use Rattle.federation.specs.Inputs.{after_input, place_in}
 use Rattle.federation.specs.Sent.{IsArrival, arriving, sent_by}
 use Rattle.federation.proofs.Arriving.{arrives_as, delivers_as, reaches_nobody}
 use Rattle.federation.proofs.Places.{IsPlace, member_at, none_at}

@@ -1,7 +1,7 @@
 -- The stations of the members, each at its place.
-use Rattle.std.proofs.Common.{ℕ, zero, suc, ◌+◌, ◌-◌, ◌<◌, ◌≤◌, ◌≡◌, ◌==◌, eqb, true, false, cond, Bool}
+use Rattle.std.proofs.Common.{ℕ, zero, suc, ◌+◌, ◌-◌, ◌<◌, ◌≡◌, ◌==◌, true, false, cond, Bool}
 use Rattle.std.proofs.Common.{List, [], ◌∷◌, ◌++◌, length, Option, Some, None, refl, sym, ap, subst, ◌∙◌, arith}
-use Rattle.std.proofs.Common.{◌⊎◌, inl, inr, ◌≢◌, ◌&&◌, get_or, if◌then◌else◌}
+use Rattle.std.proofs.Common.{◌⊎◌, inl, inr, ◌≢◌, get_or, if◌then◌else◌}
 use Rattle.std.specs.Prelude.{slice_get, slice_set, nat_le}
 use Rattle.std.proofs.lemmas.Option.{slice_get_read}
 use Rattle.std.proofs.lemmas.Bool.Decides.{eqb_tells, nat_tests}
@@ -187,9 +187,9 @@ are_new members all n so_far is =
     record { count = so_far.count_is ∙ is; each = λ k station at. so_far.each k station at }
 
 -- what was put at a place is gone once something else is put there
-pub put_twice : {X : Type 0} (xs : List X) (place : ℕ) (first second : X)
+pub put_twice : (xs : List Station) (place : ℕ) (first second : Station)
     → slice_set (slice_set xs place first) place second ≡ slice_set xs place second
 put_twice [] place first second = refl
 put_twice (x ∷ xs) zero first second = refl
 put_twice (x ∷ xs) (suc place) first second =
-    ap (λ (ys : List X). x ∷ ys) (put_twice xs place first second)
+    ap (λ (ys : List Station). x ∷ ys) (put_twice xs place first second)

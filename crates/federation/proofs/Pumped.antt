@@ -1,6 +1,6 @@
 -- A pump, turn by turn.
-use Rattle.std.proofs.Common.{ℕ, zero, suc, ◌+◌, ◌-◌, ◌<◌, ◌≤◌, ◌≡◌, List, length, Option, Some, None}
-use Rattle.std.proofs.Common.{refl, sym, ap, subst, ◌∙◌, arith}
+use Rattle.std.proofs.Common.{ℕ, suc, ◌≡◌, List, length, Option, Some, None}
+use Rattle.std.proofs.Common.{sym, ap, subst, ◌∙◌}
 use Rattle.schedule.specs.declared.fate.Fate.TheVariants.{Whole}
 use Rattle.world_law.specs.Worlds.{World, next_unnamed, on_turn, on_deliver, pumped}
 use Rattle.world_law.proofs.Pumps.{idle_pump}

@@ -1,8 +1,7 @@
 -- The lines of datagrams that are sent, found again among all lines.
-use Rattle.std.proofs.Common.{ℕ, zero, suc, ◌+◌, ◌<◌, ◌≡◌, List, [], ◌∷◌, ◌++◌, length, map, get_or}
+use Rattle.std.proofs.Common.{ℕ, zero, suc, ◌+◌, ◌≡◌, List, [], ◌∷◌, ◌++◌, length, map}
 use Rattle.std.proofs.Common.{Option, Some, None, refl, sym, ap, subst, ◌∙◌, arith, append_assoc}
 use Rattle.std.specs.Prelude.{slice_get}
-use Rattle.std.specs.Option.{option_map}
 use Rattle.dgram.specs.Encoding.{datagram_of, body_from, from_byte}
 use Rattle.site.specs.declared.answer.Sealed.{Sealed}
 use Rattle.site.specs.Datagrams.{datagram, handed_out}
@@ -11,7 +10,7 @@ use Rattle.lines.specs.declared.line.Line.{Line}
 use Rattle.lines.specs.declared.line.Line.TheVariants as lines
 use Rattle.world_law.specs.Worlds.{sent_lines}
 use Rattle.world_law.proofs.Sends.{sender_byte}
-use Rattle.federation.specs.Sent.{line_sent, lines_sent, places_from, AreSent, SENDER_PLACE}
+use Rattle.federation.specs.Sent.{line_sent, lines_sent, places_from, AreSent}
 
 -- ---- the lines are those of the definitions
 

@@ -1,9 +1,7 @@
 -- What happens in a sound network leaves it sound.
-use Rattle.std.proofs.Common.{ℕ, ◌≡◌, ◌==◌, true, false, cond, Bool, List, [], ◌∷◌, Option, Some, None}
-use Rattle.std.proofs.Common.{refl, sym, ap, subst, ◌∙◌}
-use Rattle.fed_types.specs.Lists.{is_in}
+use Rattle.std.proofs.Common.{refl, ◌∙◌}
 use Rattle.fed_types.specs.Quorums.{QuorumSystem}
-use Rattle.world_law.specs.Networks.{Network, Event, new_network, new_site, happens}
+use Rattle.world_law.specs.Networks.{Network, Event, new_network, happens}
 use Rattle.world_law.specs.WellFormed.{MembersAreSites, IsWellFormedEvent}
 use Rattle.world_law.proofs.WellFormed.{happens_well_formed, new_is_well_formed}
 use Rattle.world_law.proofs.NonMembers.{non_members_stay_new}

@@ -1,24 +1,21 @@
 -- What a federation stands for, after one of its parts has changed.
 use Rattle.std.proofs.Common.{ℕ, suc, ◌+◌, ◌≡◌, true, false, cond, Bool, List, [], ◌∷◌, ◌++◌, length, map}
-use Rattle.std.proofs.Common.{Option, Some, None, refl, sym, ap, subst, ◌∙◌, arith, append_assoc}
+use Rattle.std.proofs.Common.{None, refl, ap, subst, ◌∙◌, arith, append_assoc}
 use Rattle.fed_types.specs.Lists.{is_in}
 use Rattle.fed_types.specs.Quorums.{QuorumSystem}
 use Rattle.schedule.specs.declared.fate.Fate.{Fate}
 use Rattle.site.specs.Calls.{Input}
-use Rattle.site.specs.Datagrams.{handed_out, datagram}
-use Rattle.site.specs.Effects.{Send}
-use Rattle.stations.specs.declared.station.Station.{Station}
-use Rattle.stations.specs.declared.told.Told.{Told}
+use Rattle.site.specs.Datagrams.{datagram}
 use Rattle.stations.specs.Modes.{is_down}
 use Rattle.stations.specs.Stations.{reached}
 use Rattle.lines.specs.declared.line.Line.{Line}
-use Rattle.world_law.specs.Networks.{Mode, Up, Down, NeedsOpening, Network, SiteState, Happening}
+use Rattle.world_law.specs.Networks.{Mode, Up, Down, NeedsOpening, Network}
 use Rattle.world_law.specs.Networks.{Outcome, takes, reaches, happening}
 use Rattle.world_law.specs.Worlds.{World, quorums, own_lines, sent_lines}
 use Rattle.world_tables.specs.Numbers as numbers
 use Rattle.federation.specs.declared.federation.Federation.{Federation}
 use Rattle.federation.specs.Federations.{StandsFor, AreStations, IsSound}
-use Rattle.federation.specs.Inputs.{after, after_input}
+use Rattle.federation.specs.Inputs.{after}
 use Rattle.federation.specs.Sent.{AreSent, lines_sent, places_from}
 use Rattle.federation.proofs.Places.{with_state}
 use Rattle.federation.proofs.Sent.{lines_are, are_sent_among, are_sent_new, are_sent_append}

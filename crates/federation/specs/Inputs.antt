@@ -1,5 +1,5 @@
 -- What an input that reaches a site makes of the world.
-use Rattle.std.specs.Prelude.{ℕ, ◌+◌, ◌-◌, ◌≡◌, ◌&&◌, nat_le, if◌then◌else◌, ◌++◌, length, Option}
+use Rattle.std.specs.Prelude.{ℕ, ◌+◌, ◌-◌, ◌&&◌, nat_le, if◌then◌else◌, ◌++◌, length, Option}
 use Rattle.std.specs.Prelude.{Some, None}
 use Rattle.schedule.specs.declared.fate.Fate.{Fate}
 use Rattle.site.specs.Calls.{Input}

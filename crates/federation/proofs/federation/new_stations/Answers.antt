@@ -1,6 +1,6 @@
-use Rattle.std.proofs.Common.{ℕ, ◌+◌, List, subst, sym, arith}
+use Rattle.std.proofs.Common.{◌+◌, List, subst, sym, arith}
 use Rattle.stations.specs.declared.station.Station.{Station}
-use Rattle.federation.proofs.Places.{NewSoFar, new_none, new_more, are_new}
+use Rattle.federation.proofs.Places.{NewSoFar, new_more, are_new}
 use Rattle.federation.proofs.federation.new_stations.Goals as goal
 
 pub sites-preserved : goal.sites-preserved

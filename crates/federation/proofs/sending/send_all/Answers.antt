@@ -1,4 +1,4 @@
-use Rattle.std.proofs.Common.{[], refl, sym, append-nil}
+use Rattle.std.proofs.Common.{sym, append-nil}
 use Rattle.federation.specs.Sent.{lines_sent, places_from}
 use Rattle.federation.proofs.Sent.{line_more, place_more}
 use Rattle.federation.proofs.sending.send_all.Goals as goal

@@ -1,4 +1,4 @@
-use Rattle.std.proofs.Common.{◌+◌, ◌∙◌, ap}
+use Rattle.std.proofs.Common.{◌∙◌, ap}
 use Rattle.records.specs.declared.owner.Owner.{Owner}
 use Rattle.federation.proofs.Answers.{then_ok}
 use Rattle.federation.proofs.Called.{asks}

@@ -1,4 +1,4 @@
-use Rattle.std.proofs.Common.{refl, sym, ap, ◌∙◌}
+use Rattle.std.proofs.Common.{refl, sym}
 use Rattle.federation.proofs.Answers.{then_ok}
 use Rattle.federation.proofs.Trees.{tree_declared, tree_was_declared}
 use Rattle.federation.proofs.federation.Federation.declare_tree.Goals as goal

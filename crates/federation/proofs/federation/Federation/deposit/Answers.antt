@@ -1,5 +1,4 @@
-use Rattle.std.proofs.Common.{◌+◌, ap, subst}
-use Rattle.bag_tree.specs.declared.facts.Facts.{Facts}
+use Rattle.std.proofs.Common.{◌+◌, subst}
 use Rattle.bag_check.specs.Check.{check_of}
 use Rattle.world_law.specs.Worlds.{on_checked}
 use Rattle.federation.specs.Federations.{StandsFor}

@@ -1,6 +1,5 @@
-use Rattle.std.proofs.Common.{ℕ, List, ◌≡◌, [], refl, subst, sym, ◌∙◌}
+use Rattle.std.proofs.Common.{refl}
 use Rattle.fed_types.specs.Quorums.{quorums_of}
-use Rattle.lines.specs.declared.line.Line.{Line}
 use Rattle.world_law.specs.Networks.{new_network}
 use Rattle.world_law.specs.Worlds.{new_world}
 use Rattle.world_law.proofs.WellFormed.{members_are_sites}

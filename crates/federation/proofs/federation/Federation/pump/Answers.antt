@@ -1,4 +1,4 @@
-use Rattle.std.proofs.Common.{ℕ, suc, ◌+◌, ◌-◌, ◌≡◌, refl, arith}
+use Rattle.std.proofs.Common.{suc, ◌+◌, ◌-◌, ◌≡◌, refl, arith}
 use Rattle.world_law.specs.Worlds.{pumped}
 use Rattle.federation.proofs.Pumped.{stands_same, pump_idles, pump_ends, pump_turns}
 use Rattle.federation.proofs.federation.Federation.pump.Goals as goal

@@ -1,8 +1,5 @@
-use Rattle.std.proofs.Common.{ℕ, ◌+◌, Option, Result, Some, Ok, Err, ap, sym, subst, ◌∙◌}
+use Rattle.std.proofs.Common.{ℕ, ◌+◌, Some, Ok, Err, ap, sym, subst, ◌∙◌}
 use Rattle.fed_types.specs.Slots.{SlotName}
-use Rattle.site.specs.declared.answer.Reply.{Reply}
-use Rattle.site.specs.declared.fault.SiteFault.{SiteFault}
-use Rattle.lines.specs.declared.line.Line.{Line}
 use Rattle.lines.specs.declared.line.Line.TheVariants as printed
 use Rattle.lines.specs.declared.line.NamedReply.{NamedReply}
 use Rattle.world_law.specs.Worlds.{World, with_line}

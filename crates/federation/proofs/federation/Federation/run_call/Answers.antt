@@ -1,5 +1,5 @@
-use Rattle.std.proofs.Common.{ℕ, ◌+◌}
-use Rattle.world_law.specs.Networks.{Propose, Ask, Query, Stop}
+use Rattle.std.proofs.Common.{ℕ}
+use Rattle.world_law.specs.Networks.{Propose, Ask}
 use Rattle.world_law.specs.Trees.{tree_at}
 use Rattle.world_law.specs.Worlds.{on_call, on_deposit, event_at, at_member}
 use Rattle.federation.proofs.Answers.{then_ok}

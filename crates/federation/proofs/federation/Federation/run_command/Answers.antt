@@ -1,6 +1,5 @@
-use Rattle.std.proofs.Common.{ℕ, ◌+◌}
-use Rattle.world_law.specs.Networks.{Propose, Ask, Query, Stop}
-use Rattle.world_law.specs.Trees.{tree_at}
+use Rattle.std.proofs.Common.{ℕ}
+use Rattle.world_law.specs.Networks.{Query, Stop}
 use Rattle.dgram.specs.Decoded.{message_of}
 use Rattle.world_law.specs.Worlds.{after_command, event_at, on_raw, on_start, mode_of}
 use Rattle.federation.proofs.Answers.{then_ok}
