@@ -1,7 +1,7 @@
 """Makes each allocation of one run of the program fail in turn: the first call for memory, then the
 second, and so on up to a run in which none is left to fail. Each answer has to be the whole one,
-or one of out of memory with status 1, and that last run has to be reached. gdb runs this: see the
-script `allocations` beside it."""
+or one of out of memory with status 1, each of which has to come up, and that last run has to be
+reached. gdb runs this: see the script `allocations` beside it."""
 import os
 import sys
 
@@ -27,7 +27,7 @@ WHAT = " ".join([os.path.basename(gdb.current_progspace().filename), *ARGUMENTS.
 
 prepare()
 Allocation.mark = MARK
-passed, failed, whole, without_memory = 0, 0, 0, 0
+passed, failed, whole, without_memory = 0, 0, 0, dict.fromkeys(WITHOUT_MEMORY, 0)
 failing = 0
 has_failed = True
 while has_failed and failing < TOO_MANY:
@@ -37,7 +37,7 @@ while has_failed and failing < TOO_MANY:
         whole += 1
         passed += 1
     elif has_failed and status == 1 and said in WITHOUT_MEMORY:
-        without_memory += 1
+        without_memory[said] += 1
         passed += 1
     else:
         failed += 1
@@ -45,7 +45,7 @@ while has_failed and failing < TOO_MANY:
         print(f"FAILED {what}: status {status}, and it printed {said!r}")
 print(
     f"allocations of {WHAT} that failed: {failing - 1};"
-    f" answers without memory: {without_memory}, whole ones: {whole}"
+    f" answers without memory: {sum(without_memory.values())}, whole ones: {whole}"
 )
 if has_failed:
     failed += 1
@@ -55,8 +55,8 @@ if MARK and [later - Allocation.marks[0] for later in Allocation.marks] != [0, 1
     failed += 1
     what = f"not two allocations of {MARK} bytes, one after the other: {Allocation.marks}"
     print(f"FAILED {ARGUMENTS}: {what}")
-if without_memory == 0 or whole == 0:
+if whole == 0 or 0 in without_memory.values():
     failed += 1
-    print(f"FAILED {ARGUMENTS}: no answer without memory, or none that is whole")
+    print(f"FAILED {ARGUMENTS}: no whole answer, or none of these: {without_memory}")
 print(f"{passed} passed, {failed} failed")
 gdb.execute(f"quit {1 if failed else 0}")

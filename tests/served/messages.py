@@ -10,6 +10,14 @@ OLD_HEADER_BYTES = 13
 PREPARE, PROMISE, ACCEPT, ACCEPTED, REFUSED, ASK, KNOWN = range(1, 8)
 DEPOSIT, QUERY, DEPOSIT_REPLY, QUERY_REPLY = 16, 17, 32, 33
 DEPOSITED, ROUND, PROMISED, VOTED, LEARNED = range(1, 6)
+# A client deposits the folder `x` as version 1 of the object `a`, or asks for its bag: in hex.
+DEPOSITS_X = "4250021000000000000000070001610000000100017851c96259d5fef935"
+QUERIES = "425002110000000000000007000161000000019a94461badd1ee50"
+# The SHA-512 of no bytes: the identity of the bag without a file.
+EMPTY_BAG = (
+    "cf83e1357eefb8bdf1542850d66d8007d620e4050b5715dc83f4a921d36ce9ce"
+    "47d0d13c5d85f2b0ff8318d2877eec2f63b931bd47417a81a538327af927da3e"
+)
 
 
 class Message(NamedTuple):

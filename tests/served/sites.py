@@ -1,7 +1,6 @@
-"""Sites of the built program in processes of their own, what a client of them is told, and what a
-test counts. No test of itself."""
+"""Sites of the built program in processes of their own, and what a client of them is told. No test
+of itself."""
 import hashlib
-import os
 import pathlib
 import signal
 import socket
@@ -9,50 +8,12 @@ import subprocess
 import sys
 import time
 
-ROOT = pathlib.Path(__file__).resolve().parent.parent.parent
-PROGRAM = pathlib.Path(os.environ.get("BAGPAXOS", ROOT / "crates/bagpaxos/out/bagpaxos"))
+sys.path.insert(0, str(pathlib.Path(__file__).resolve().parent.parent))
+
+from testing import PROGRAM, run
+
 TURNS = "4294967295"
 SITES = (1, 2, 3)
-
-
-class Count:
-    """How many comparisons there were."""
-
-    passed = failed = 0
-
-    def expect(self, what, got, wanted):
-        """Counts a comparison, and prints one that fails."""
-        if got == wanted:
-            self.passed += 1
-        else:
-            self.failed += 1
-            print(f"FAILED {what}: {got!r} and not {wanted!r}")
-
-    def end(self):
-        """Prints the counts, and gives the status."""
-        print(f"{self.passed} passed, {self.failed} failed")
-        return 1 if self.failed or not self.passed else 0
-
-
-def need_the_program():
-    """Ends a test where nothing is built."""
-    if not os.access(PROGRAM, os.X_OK):
-        print("there is no built program: run ./bagpaxos --help, or rt ci, first")
-        print("0 passed, 1 failed")
-        sys.exit(1)
-
-
-def can_trace(count):
-    """Whether strace is here; without it a test fails, unless WITHOUT_STRACE is set."""
-    tried = ["strace", "-o", "/dev/null", "-e", "inject=getpid:error=EIO", "true"]
-    try:
-        if subprocess.run(tried, capture_output=True).returncode == 0:
-            return True
-    except FileNotFoundError:
-        pass
-    print("skipped system calls that fail: strace isn't here, or can't trace")
-    count.expect("strace is here, or WITHOUT_STRACE is set", "WITHOUT_STRACE" in os.environ, True)
-    return False
 
 
 def socket_at(port=0):
@@ -99,12 +60,6 @@ def write_members(file, ports, weights=()):
     return file
 
 
-def run(*words, **how):
-    """What the program prints, and its status."""
-    ran = subprocess.run([PROGRAM, *words], capture_output=True, text=True, timeout=60, **how)
-    return ran.stdout, ran.returncode
-
-
 class Served:
     """A site in a process of its own, on a cell that outlives it."""
 
@@ -126,6 +81,20 @@ class Served:
 
     def lines(self):
         return self.log.read_text().splitlines()
+
+
+class Federation(dict):
+    """Sites that serve in a room, by their numbers; in the end all are killed."""
+
+    def __init__(self, room, members, numbers=SITES, **how):
+        super().__init__({it: Served(room, members, it, **how) for it in numbers})
+
+    def __enter__(self):
+        return self
+
+    def __exit__(self, *_):
+        for site in self.values():
+            site.kill()
 
 
 def send(members, site, *words, wait=500):

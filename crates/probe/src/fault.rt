@@ -13,13 +13,13 @@ use thiserror::Error;
 #[derive(Clone, Copy, Debug, PartialEq, Eq, Error)]
 pub enum Fault {
     /// The arguments are not those of a task.
-    #[error("tasks: encode|decode|decide|arrive N, file|commit|turns PATH SITE, bench|fill PATH N, open PATH, memory, deciding, sites, schedule")]
+    #[error("tasks: encode|decode|decide|arrive N, file|commit|turns PATH SITE, bench|fill PATH N, open PATH, memory, deciding, serving, sites, sites-once, schedule")]
     Arguments,
     /// A line is no comment, no federation with the hex digits of a datagram, and no site with
     /// those of a cell, with or without weights and a call that fails.
     #[error("a line that is neither FEDERATION HEX nor SITE WEIGHT .. | fail|stop CALL KEPT | HEX")]
     Line,
-    /// A script or a schedule has a line that it can't have.
+    /// A script, a schedule or a list of turns has a line that it can't have.
     #[error("a line that no script and no schedule has")]
     Script,
     /// A line asks for no turn.
@@ -37,6 +37,9 @@ pub enum Fault {
     /// An allocation failed.
     #[error("memory")]
     Memory,
+    /// An allocation failed in a call of a site, which changed nothing.
+    #[error("a call without memory")]
+    Unchanged,
     /// A call answered what it must not: it refused what is in range, wrote other bytes, or didn't
     /// leave what it was refused to change.
     #[error("a wrong answer")]
@@ -117,6 +120,7 @@ impl From<ToolFault> for Fault {
             ToolFault::Line => Fault::Script,
             ToolFault::Clock => Fault::Input,
             ToolFault::Memory => Fault::Memory,
+            ToolFault::Unchanged => Fault::Unchanged,
             ToolFault::Wrong => Fault::Wrong,
         }
     }

@@ -9,8 +9,8 @@ use proposer::{ProposeFault, Proposer};
 use records::{Entry, Record, Round};
 use std::alloc::Global;
 
-/// A vector of so many bytes is made just before and just after the calls of the proposer that take
-/// no memory: the test looks for an allocation between the two.
+/// A vector of so many bytes is made just before and just after calls: the test looks for the
+/// allocations between the two, and of the proposer's there are none.
 const MARK: usize = 7777;
 
 /// A proposer of site 1, with three members.
@@ -136,7 +136,7 @@ fn is_promised(proposer: &mut Proposer<Members>, slot: &Slot, ballot: Ballot) ->
 }
 
 /// Makes a vector of `MARK` bytes.
-fn mark(alloc: Global) -> Result<(), Fault> {
+pub fn mark(alloc: Global) -> Result<(), Fault> {
     let mut mark = Vec::with_capacity(alloc, MARK)?;
     mark.extend_from_slice(&[1u8])?;
     check(mark.len() == 1)

@@ -35,8 +35,12 @@ pub enum Task {
     Decide,
     /// Call a site on so many slots, and take the time.
     Arrive,
+    /// Serve the turns on standard input, to have allocations fail.
+    Serving,
     /// Call sites as the script on standard input says.
     Sites,
+    /// The same, up to a call without memory.
+    SitesOnce,
     /// Read the schedule on standard input, and print it.
     Schedule,
 }
@@ -57,7 +61,9 @@ pub fn task_of(name: &str) -> Option<Task> {
         "memory" => Some(Task::Memory),
         "deciding" => Some(Task::Deciding),
         "decide" => Some(Task::Decide),
+        "serving" => Some(Task::Serving),
         "sites" => Some(Task::Sites),
+        "sites-once" => Some(Task::SitesOnce),
         "schedule" => Some(Task::Schedule),
         "arrive" => Some(Task::Arrive),
         _ => None,

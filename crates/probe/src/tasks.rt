@@ -9,10 +9,12 @@ use crate::files::{commit_line, opened_line};
 use crate::journal_times::{commits_line, filled_line, opening_time_line, vote_digests_line};
 use crate::out_of_memory::voted_line;
 use crate::schedule_text::printed_again;
+use crate::serving::served_text;
 use crate::task::{
     CountedFile, SiteFile, Task, last_count, last_counted_file, last_site_file, last_word, no_more,
 };
 use crate::turns::answer_turns;
+use site_tools::Tries;
 use std::env::Args;
 use std::io;
 
@@ -32,7 +34,9 @@ pub fn perform(rt: &HostRuntime, task: Task, words: &mut Args) -> Result<String,
         Task::Deciding => deciding(rt, words),
         Task::Decide => decide(rt, words),
         Task::Arrive => arrive(rt, words),
-        Task::Sites => sites(rt, words),
+        Task::Serving => serving(rt, words),
+        Task::Sites => sites(rt, words, Tries::Twice),
+        Task::SitesOnce => sites(rt, words, Tries::Once),
         Task::Schedule => schedule(rt, words),
     }
 }
@@ -115,10 +119,16 @@ fn arrive(rt: &HostRuntime, words: &mut Args) -> Result<String, Fault> {
     Ok(site_tools::arrivals_text(rt, last_count(words)?)?)
 }
 
-fn sites(rt: &HostRuntime, words: &mut Args) -> Result<String, Fault> {
+fn serving(rt: &HostRuntime, words: &mut Args) -> Result<String, Fault> {
+    no_more(words)?;
+    let turns = input(rt)?;
+    served_text(rt.alloc(), turns.as_str())
+}
+
+fn sites(rt: &HostRuntime, words: &mut Args, tries: Tries) -> Result<String, Fault> {
     no_more(words)?;
     let script = input(rt)?;
-    Ok(site_tools::answers(rt.alloc(), script.as_str())?)
+    Ok(site_tools::answers(rt.alloc(), script.as_str(), tries)?)
 }
 
 fn schedule(rt: &HostRuntime, words: &mut Args) -> Result<String, Fault> {

@@ -1,9 +1,11 @@
 use crate::fault::ToolFault;
+use crate::push::push;
 use bag_tree::Facts;
 use cell_device::MemoryCell;
+use dgram::{DgramFault, decode};
 use fed_types::{SiteNo, Slot};
 use site::{Answer, Reply, Site, SiteFault};
-use std::alloc::{AllocError, Global};
+use std::alloc::Global;
 
 /// A call of a site.
 #[derive(Clone, Copy)]
@@ -29,14 +31,23 @@ impl From<ToolFault> for Failure {
     }
 }
 
-/// Makes a call. One that finds no memory has to leave the records and each slot's reply as they
-/// were; then it is made again, and has to find some.
+/// How often a call is made.
+#[derive(Clone, Copy)]
+pub enum Tries {
+    /// Once: where it finds no memory its site is closed, and the script ends.
+    Once,
+    /// Again where it finds no memory, when it has to find some.
+    Twice,
+}
+
+/// Makes a call. One that finds no memory has to leave the reply as it was of each slot that has a
+/// record, and of its own.
 pub(crate) fn make(
     alloc: Global,
     site: &mut Site<MemoryCell>,
     call: &Call,
 ) -> Result<Answer, Failure> {
-    let before = replies(alloc, site)?;
+    let before = replies(alloc, site, call)?;
     make_from(alloc, site, call, before.as_slice())
 }
 
@@ -46,20 +57,29 @@ fn make_from(
     call: &Call,
     before: &[Result<Reply, SiteFault>],
 ) -> Result<Answer, Failure> {
-    match make_once(site, call) {
+    let made = make_once(site, call);
+    if let Err(SiteFault::Memory) = made {
+        check_replies(alloc, site, call, before)?;
+    }
+    match made {
         Ok(answer) => Ok(answer),
-        Err(SiteFault::Memory) => make_again(alloc, site, call, before),
         Err(fault) => Err(Failure::Refused(fault)),
     }
 }
 
-fn make_again(
+/// Makes a call, and makes it again where it finds no memory.
+pub(crate) fn make_twice(
     alloc: Global,
     site: &mut Site<MemoryCell>,
     call: &Call,
-    before: &[Result<Reply, SiteFault>],
 ) -> Result<Answer, Failure> {
-    check_replies(alloc, site, before)?;
+    match make(alloc, site, call) {
+        Err(Failure::Refused(SiteFault::Memory)) => make_again(site, call),
+        made => made,
+    }
+}
+
+fn make_again(site: &mut Site<MemoryCell>, call: &Call) -> Result<Answer, Failure> {
     match make_once(site, call) {
         Ok(answer) => Ok(answer),
         Err(SiteFault::Memory) => Err(Failure::Faulty(ToolFault::Wrong)),
@@ -80,9 +100,10 @@ fn make_once(site: &mut Site<MemoryCell>, call: &Call) -> Result<Answer, SiteFau
 fn check_replies(
     alloc: Global,
     site: &Site<MemoryCell>,
+    call: &Call,
     before: &[Result<Reply, SiteFault>],
 ) -> Result<(), ToolFault> {
-    let after = replies(alloc, site)?;
+    let after = replies(alloc, site, call)?;
     if after.as_slice() == before {
         Ok(())
     } else {
@@ -90,24 +111,47 @@ fn check_replies(
     }
 }
 
-/// What a query says of the slot of each record, in order.
+/// What a query says of the slot of each record, in order, and of that of the call.
 fn replies(
     alloc: Global,
     site: &Site<MemoryCell>,
+    call: &Call,
 ) -> Result<Vec<Result<Reply, SiteFault>>, ToolFault> {
     let mut replies = Vec::new(alloc);
-    match push_replies(site, &mut replies) {
+    match push_replies(alloc, site, call, &mut replies) {
         Ok(()) => Ok(replies),
-        Err(_) => Err(ToolFault::Memory),
+        Err(fault) => Err(fault),
     }
 }
 
 fn push_replies(
+    alloc: Global,
     site: &Site<MemoryCell>,
+    call: &Call,
     replies: &mut Vec<Result<Reply, SiteFault>>,
-) -> Result<(), AllocError> {
+) -> Result<(), ToolFault> {
     for record in site.records() {
-        replies.push(site.query(&record.slot))?;
+        push(replies, site.query(&record.slot))?;
+    }
+    match *call {
+        Call::Deposit(slot, _) | Call::Propose(slot) | Call::Ask(slot, _) => {
+            push(replies, site.query(slot))?;
+        }
+        Call::Arrive(bytes) => push_reply_of(alloc, site, bytes, replies)?,
     }
     Ok(())
+}
+
+/// Adds the reply of a datagram's slot; of what is none there is nothing to add.
+fn push_reply_of(
+    alloc: Global,
+    site: &Site<MemoryCell>,
+    bytes: &[u8],
+    replies: &mut Vec<Result<Reply, SiteFault>>,
+) -> Result<(), ToolFault> {
+    match decode(alloc, site.members().federation(), bytes) {
+        Ok(message) => push(replies, site.query(&message.slot)),
+        Err(DgramFault::Memory) => Err(ToolFault::Memory),
+        Err(_) => Ok(()),
+    }
 }

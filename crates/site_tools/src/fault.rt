@@ -17,8 +17,11 @@ pub enum ToolFault {
     /// An allocation failed.
     #[error("memory")]
     Memory,
-    /// A call that found no memory changed what a query or the records show, or found none again; or
-    /// a call that is timed was refused.
+    /// A call found no memory, and changed nothing.
+    #[error("a call without memory")]
+    Unchanged,
+    /// A call that found no memory changed what a query, the records or the cell show, or found none
+    /// again; or a call that is timed was refused.
     #[error("a wrong answer")]
     Wrong,
 }

@@ -1,4 +1,4 @@
-use crate::call::{Call, Failure};
+use crate::call::{Call, Failure, Tries};
 use crate::fault::ToolFault;
 use crate::output::Output;
 use crate::place::Place;
@@ -14,6 +14,7 @@ use std::alloc::Global;
 #[derive(Drop)]
 pub(crate) struct Federation {
     alloc: Global,
+    tries: Tries,
     members: Option<Members>,
     places: Vec<Place>,
     trees: Vec<Facts>,
@@ -21,9 +22,10 @@ pub(crate) struct Federation {
 
 impl Federation {
     /// One that has yet to begin.
-    pub(crate) fn new(alloc: Global) -> Federation {
+    pub(crate) fn new(alloc: Global, tries: Tries) -> Federation {
         Federation {
             alloc,
+            tries,
             members: None,
             places: Vec::new(alloc),
             trees: Vec::new(alloc),
@@ -48,7 +50,7 @@ impl Federation {
     }
 
     fn add_site(&mut self, members: Members, site: SiteNo) -> Result<(), ToolFault> {
-        push(&mut self.places, Place::new(self.alloc))?;
+        push(&mut self.places, Place::new(self.alloc, self.tries))?;
         match self.places.get_mut(place_of(site)) {
             Some(place) => open_new(self.alloc, place, members, site),
             None => Err(ToolFault::Wrong),

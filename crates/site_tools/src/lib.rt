@@ -6,6 +6,7 @@
 mod answer_text;
 mod call;
 mod calls;
+mod cell_text;
 mod fault;
 mod federation;
 mod kind;
@@ -17,6 +18,7 @@ mod times;
 mod tree;
 mod words;
 
+pub use call::Tries;
 pub use fault::ToolFault;
 pub use script::answers;
 pub use times::arrivals_text;

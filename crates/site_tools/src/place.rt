@@ -1,4 +1,5 @@
-use crate::call::{Call, Failure, make};
+use crate::call::{Call, Failure, Tries, make, make_twice};
+use crate::cell_text::text_of;
 use crate::fault::ToolFault;
 use book::OpenFault;
 use cell_device::{Fuse, MemoryCell};
@@ -14,22 +15,48 @@ pub(crate) struct Place {
     site: Option<Site<MemoryCell>>,
     /// One without bytes while the site is open.
     cell: MemoryCell,
+    tries: Tries,
 }
 
 impl Place {
     /// A cell without bytes.
-    pub(crate) fn new(alloc: Global) -> Place {
+    pub(crate) fn new(alloc: Global, tries: Tries) -> Place {
         Place {
             site: None,
             cell: empty_cell(alloc),
+            tries,
         }
     }
 
     /// Calls the site.
     pub(crate) fn call(&mut self, alloc: Global, call: &Call) -> Result<Answer, Failure> {
-        match &mut self.site {
-            Some(site) => make(alloc, site, call),
-            None => Err(Failure::Faulty(ToolFault::Line)),
+        match self.tries {
+            Tries::Twice => make_twice(alloc, self.open_site()?, call),
+            Tries::Once => self.call_once(alloc, call),
+        }
+    }
+
+    fn open_site(&mut self) -> Result<&mut Site<MemoryCell>, ToolFault> {
+        self.site.as_mut().ok_or(ToolFault::Line)
+    }
+
+    fn call_once(&mut self, alloc: Global, call: &Call) -> Result<Answer, Failure> {
+        let text = text_of(alloc, self.open_site()?)?;
+        match make(alloc, self.open_site()?, call) {
+            Err(Failure::Refused(SiteFault::Memory)) => {
+                Err(Failure::Faulty(self.close_over(text.as_slice())))
+            }
+            made => made,
+        }
+    }
+
+    /// Closes the site after a call without memory, when its cell has to have these bytes.
+    fn close_over(&mut self, text: &[u8]) -> ToolFault {
+        self.close();
+        if self.cell.bytes() == text {
+            ToolFault::Unchanged
+        } else {
+            ToolFault::Wrong
         }
     }
 

@@ -17,14 +17,15 @@
 //! A call prints what the site says or why it refuses, then a line `K to S HEX` for each datagram,
 //! or `nothing`.
 
+use crate::call::Tries;
 use crate::fault::ToolFault;
 use crate::federation::Federation;
 use crate::output::Output;
 use std::alloc::{AllocError, Global};
 
-/// What a script prints.
-pub fn answers(alloc: Global, script: &str) -> Result<String, ToolFault> {
-    let mut federation = Federation::new(alloc);
+/// What a script prints, whose calls are made so often where they find no memory.
+pub fn answers(alloc: Global, script: &str, tries: Tries) -> Result<String, ToolFault> {
+    let mut federation = Federation::new(alloc, tries);
     let mut output = Output::new(alloc);
     let ran = run_lines(alloc, script, &mut federation, &mut output);
     drop(federation);
