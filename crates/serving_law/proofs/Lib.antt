@@ -1,0 +1,5 @@
+pub mod Spoken
+pub mod Moving
+pub mod Recovering
+pub mod Registering
+pub mod Standing
