@@ -111,3 +111,50 @@ module _ (slot : SlotName) (records : List Record) (session : Session) where
       known_among slot records bag
       (known_by_fault (other_than found (deposit_of slot records)) (known_of slot records) refl
       found bag (other_than found (known_of slot records)) refl e)
+
+  -- a bag that is refused for another deposit
+  deposit_by_fault : (own : Option BagId) → deposit_of slot records ≡ own → (known : Option BagId)
+      (found bag : BagId)
+      → deposit_fault (other_than found own) known ≡ Some (faults.OtherDeposit bag)
+      → HasEntry slot records (entry.Deposit bag)
+  deposit_by_fault None e None found bag f = absurd (cc f)
+  deposit_by_fault None e (Some known) found bag f = absurd (cc f)
+  deposit_by_fault (Some own) e known found bag f = go (same_bag own found) f
+    where
+      none : (known : Option BagId) → deposit_fault None known ≡ Some (faults.OtherDeposit bag) → ⊥
+      none None g = cc
+      none (Some known) g = cc
+
+      go : (t : Bool)
+          → deposit_fault (cond t None (Some own)) known ≡ Some (faults.OtherDeposit bag)
+          → HasEntry slot records (entry.Deposit bag)
+      go true g = absurd (none known g)
+      go false g =
+          let same : own ≡ bag = cc in
+          subst (λ (b : BagId). HasEntry slot records (entry.Deposit b)) same
+          (deposit_among slot records own e)
+
+  deposit_refused_by : (own : Option BagId) (found bag : BagId) (fault : Option SiteFault)
+      → (registering slot own found fault session).says ≡ Err (faults.OtherDeposit bag)
+      → fault ≡ Some (faults.OtherDeposit bag)
+  deposit_refused_by None found bag None says = absurd (cc says)
+  deposit_refused_by (Some own) found bag None says = absurd (cc says)
+  deposit_refused_by own found bag (Some fault) says = cc
+
+  no_deposit : (fault : BagFault) (bag : BagId) → check_fault fault ≡ faults.OtherDeposit bag → ⊥
+  no_deposit checks.Memory bag e = absurd (cc e)
+  no_deposit fault bag e = absurd (cc e)
+
+  pub other_deposit_is : (checked : Result BagId BagFault) (bag : BagId)
+      → (on_deposit records session slot checked).says ≡ Err (faults.OtherDeposit bag)
+      → HasEntry slot records (entry.Deposit bag)
+  unfolding on_deposit
+  other_deposit_is (Err fault) bag says =
+      absurd (no_deposit fault bag (same_fault (check_fault fault) (faults.OtherDeposit bag) says))
+    where
+      same_fault : (f g : SiteFault) → (refuses f session).says ≡ Err g → f ≡ g
+      same_fault f g e = cc
+  other_deposit_is (Ok found) bag says =
+      let e = deposit_refused_by (deposit_of slot records) found bag _ says in
+      deposit_by_fault (deposit_of slot records) refl
+      (other_than found (known_of slot records)) found bag e
