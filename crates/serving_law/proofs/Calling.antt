@@ -91,7 +91,7 @@ module _ {C : Type 0} (device : C → Device) (members : Membership) (w : Networ
 
   -- ---- between turns, where the book is as it was but for a record
 
-  served : (new : Serving C) (o : Option Record) (session : Session)
+  pub served : (new : Serving C) (o : Option Record) (session : Session)
       → IsKept device owner (w.sites n).records o new.site.book → new.session ≡ session
       → IsServed device members n new
       (record { records = (w.sites n).records ++ option_to_list o; session = session; mode = Up })

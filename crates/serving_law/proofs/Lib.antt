@@ -6,3 +6,9 @@ pub mod Standing
 pub mod Calling
 pub mod Replying
 pub mod Turning
+pub mod Depositing
+pub mod Questioning
+pub mod Requesting
+pub mod Taking
+pub mod Befalling
+pub mod Histories

@@ -79,13 +79,13 @@ module _ {C : Type 0} (device : C → Device) (members : Membership)
   abbrev q : QuorumSystem
   q = quorums device members
 
-  laws : AreQuorums q
+  pub laws : AreQuorums q
   laws = are_quorums members
 
-  sites : MembersAreSites q
+  pub sites : MembersAreSites q
   sites = members_are_sites members is_membership
 
-  is_site : IsSiteNumber n
+  pub is_site : IsSiteNumber n
   is_site = sites n member
 
   abbrev owner : Owner
@@ -104,13 +104,13 @@ module _ {C : Type 0} (device : C → Device) (members : Membership)
 
   -- ---- notices that report nothing
 
-  refused_is : (x : Network) (fault : SiteFault) → IsNotice device members w x (Refused n fault)
+  pub refused_is : (x : Network) (fault : SiteFault) → IsNotice device members w x (Refused n fault)
   refused_is x fault = record {
     known = λ r e. absurd (cc e);
     registered = λ k slot bag e. absurd (cc e);
   }
 
-  dropped_is : (x : Network) → IsNotice device members w x (Dropped n)
+  pub dropped_is : (x : Network) → IsNotice device members w x (Dropped n)
   dropped_is x = record {
     known = λ r e. absurd (cc e);
     registered = λ k slot bag e. absurd (cc e);
@@ -128,11 +128,11 @@ module _ {C : Type 0} (device : C → Device) (members : Membership)
       → HasEntry slot (w.sites n).records (entry.Known bag) → IsChosen q w slot bag
   known_chosen slot bag h = inv.records n slot (entry.Known bag) h
 
-  bag_is : (slot : SlotName) (bag : BagId) → HasEntry slot (w.sites n).records (entry.Known bag)
+  pub bag_is : (slot : SlotName) (bag : BagId) → HasEntry slot (w.sites n).records (entry.Known bag)
       → IsBag bag
   bag_is slot bag h = (all_has IsRecord (w.sites n).records (formed.records n) h).1
 
-  deposit_is_bag : (x : Network) → IsWellFormed x → (slot : SlotName) (bag : BagId)
+  pub deposit_is_bag : (x : Network) → IsWellFormed x → (slot : SlotName) (bag : BagId)
       → HasDeposit x n slot bag → IsBag bag
   deposit_is_bag x is slot bag h = (all_has IsRecord (x.sites n).records (is.records n) h).1
 
@@ -186,7 +186,7 @@ module _ {C : Type 0} (device : C → Device) (members : Membership)
             (moves.0, allows device members may moves.1)
 
         -- where it is answered
-        ok_ends : (answer : Answer) (new : Serving C) → IsCalled device old input (Ok answer) new
+        pub ok_ends : (answer : Answer) (new : Serving C) → IsCalled device old input (Ok answer) new
             → (done : Done)
             → ((x : Network) → x ≡ calling.called device members w inv formed n cell tables idle tried recovers input
             → (port : ℕ) (bytes : List ℕ) → Has (port, bytes) done.posts
@@ -211,7 +211,7 @@ module _ {C : Type 0} (device : C → Device) (members : Membership)
         }
 
         -- where it is refused
-        err_ends : (fault : SiteFault) (new : Serving C) → IsCalled device old input (Err fault) new
+        pub err_ends : (fault : SiteFault) (new : Serving C) → IsCalled device old input (Err fault) new
             → (done : Done)
             → ((x : Network) (port : ℕ) (bytes : List ℕ) → Has (port, bytes) done.posts
             → IsPost device members w x bytes)
