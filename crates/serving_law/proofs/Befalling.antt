@@ -3,6 +3,7 @@
 use Rattle.std.proofs.Common.{ℕ, ◌≡◌, ◌≢◌, ◌⊎◌, inl, inr, refl, sym, ap, subst, ◌∙◌, Bool, true, false}
 use Rattle.std.proofs.Common.{List, [], ◌∷◌, ◌++◌, append-nil, take, Option, None, Some, cond}
 use Rattle.std.specs.Bool.{◌==◌}
+use Rattle.std.proofs.lemmas.Bool.{false≢true}
 use Rattle.std.proofs.lemmas.Bool.Decides.{Decides-eqb, not_from_Decides}
 use Rattle.std.specs.Prelude.{Result, Ok, Err}
 use Rattle.fed_types.specs.declared.bag_id.BagId.{BagId}
@@ -14,13 +15,16 @@ use Rattle.fed_types.specs.Values.{IsMembership}
 use Rattle.fed_types.specs.Laws.Lists.{has_cases, has_none, has_right, has_take}
 use Rattle.cell_device.specs.Devices.{Device}
 use Rattle.cell_device.specs.Images.{Image, MayLeave, IfKnown}
+use Rattle.bag_tree.specs.declared.fault.TreeFault.{TreeFault}
+use Rattle.bag_tree.specs.declared.fault.TreeFault.TheVariants as trees
+use Rattle.bag_tree.specs.Facts.{TreeFacts}
+use Rattle.bag_tree.specs.Fault.{IsOrMemory}
 use Rattle.bag_check.specs.declared.fault.BagFault.{BagFault}
 use Rattle.bag_check.specs.Check.{check_of, identity_of}
 use Rattle.bag_check.proofs.ValidLaws.{valid_checked, checked_valid}
 use Rattle.records.specs.declared.entry.Entry.TheVariants as entry
 use Rattle.records.specs.declared.record.Record.{Record}
 use Rattle.records.specs.Bounds.{HasEntry}
-use Rattle.records.specs.Journals.{Says}
 use Rattle.records.proofs.OneReading.{same_records_said}
 use Rattle.book.specs.Volumes.{RecoversTo, ReadSays}
 use Rattle.dgram.specs.declared.answers.DepositAnswer.TheVariants as deposit
@@ -41,10 +45,11 @@ use Rattle.world_law.specs.WellFormed.{IsWellFormed}
 use Rattle.world_law.proofs.Deeds.{some_same, nothing_sent}
 use Rattle.world_law.proofs.Grows.{Grows, grows_itself}
 use Rattle.world_law.proofs.Kept.{Kept}
-use Rattle.world_law.proofs.Step.{moved, kept_moved, nothing_recalled, reports_nothing}
+use Rattle.world_law.proofs.Step.{moved, kept_moved, Next, nothing_recalled, reports_nothing}
 use Rattle.udp_site.specs.Traffic.{Post}
-use Rattle.udp_site.specs.Turns.{Serving, Done, begins, turn_of}
-use Rattle.udp_site.specs.Served.{Turned}
+use Rattle.udp_site.specs.Requests.{Request, Waits, Says, Deposits, Queries, Noise}
+use Rattle.udp_site.specs.Turns.{Serving, Done, begins, turn_of, comes_of}
+use Rattle.udp_site.specs.Served.{Turned, is_the_last}
 use Rattle.serving_law.specs.Federations.{Member, Serves, Down, Federation, Step, Happening}
 use Rattle.serving_law.specs.Federations.{Turns, Fails, Dies, Ends, Renews, Starts, becomes, renewed}
 use Rattle.serving_law.specs.Federations.{after}
@@ -464,8 +469,8 @@ module _ {C : Type 0} (device : C → Device) (members : Membership)
         x : Network
         x = (moved w n None new_session Up [] None).network
 
-        next : _
-        next = kept_moved q w n None new_session Up [] None Nothing any_slot _
+        next : Next q w (Some n) Nothing (moved w n None new_session Up [] None)
+        next = kept_moved q w n None new_session Up [] None Nothing any_slot (bodies.Ask n)
             (nothing_sent q w n Nothing any_slot) stands.kept nothing_recalled reports_nothing
 
         same_records : site.book.records ≡ (w.sites n).records ++ []
@@ -501,3 +506,35 @@ module _ {C : Type 0} (device : C → Device) (members : Membership)
     went (Starts n cell site) (member, (records, down, reads), opens) =
         let moves = starts n cell site records (down_at n records down) reads opens in
         quiet (Starts n cell site) refl n (Serves (begins site new_session)) refl moves.0 moves.1
+
+    -- ---- a turn, whatever is known of folders
+
+    pub goes_on : (n : ℕ) (member : Has n (members_of members)) (old : Serving C)
+        (serves : f.members n ≡ Serves old) (step : Step C) → Takes device members f old step
+        → is_the_last step.turn ≡ false → step.next.site.book.needs_opening ≡ false
+    goes_on n member old serves step takes not_last =
+        by_test step.next.site.book.needs_opening refl
+      where
+        by_test : (t : Bool) → step.next.site.book.needs_opening ≡ t
+            → step.next.site.book.needs_opening ≡ false
+        by_test false e = e
+        by_test true e =
+            absurd (false≢true (sym not_last ∙ (came n member old serves step takes).last e))
+
+-- some folders give what was read
+pub with_folders : {C : Type 0} (device : C → Device) (ports : List ℕ)
+    (gives : Option (List ℕ → Result TreeFacts TreeFault)) (old next : Serving C) (done : Done)
+    (r : Request) → comes_of device ports gives old r done next
+    → (folders : List ℕ → Result TreeFacts TreeFault)
+    × comes_of device ports (Some folders) old r done next
+with_folders device ports gives old next done Waits t = (λ path. Err trees.Memory, t)
+with_folders device ports gives old next done (Says message) t = (λ path. Err trees.Memory, t)
+with_folders device ports gives old next done (Deposits port slot path) (read, given, tree) =
+    (λ path. read, (read, as_read read, tree))
+  where
+    as_read : (read : Result TreeFacts TreeFault) → IsOrMemory read read
+    as_read (Ok facts) = refl
+    as_read (Err trees.Memory) = tt
+    as_read (Err fault) = refl
+with_folders device ports gives old next done (Queries port slot) t = (λ path. Err trees.Memory, t)
+with_folders device ports gives old next done Noise t = (λ path. Err trees.Memory, t)

@@ -72,7 +72,7 @@ has_notice None m h = absurd (has_none h)
 has_notice (Some l) m h = ap Some (has_one h)
 
 -- some slot, for what is of none
-any_slot : SlotName
+pub any_slot : SlotName
 any_slot = record { object = []; version = 0 }
 
 module _ {C : Type 0} (device : C → Device) (members : Membership) (w : Network)

@@ -1,5 +1,6 @@
 -- A turn in which a site that serves is asked to deposit a folder.
-use Rattle.std.proofs.Common.{ℕ, ◌≡◌, inl, inr, refl, sym, ap, subst, List, [], ◌∷◌, Option, None, Some}
+use Rattle.std.proofs.Common.{ℕ, ◌≡◌, inl, inr, refl, sym, ap, subst, true, List, [], ◌∷◌, Option, None}
+use Rattle.std.proofs.Common.{Some}
 use Rattle.std.specs.Prelude.{Result, Ok, Err, IfOk}
 use Rattle.fed_types.specs.declared.bag_id.BagId.{BagId}
 use Rattle.fed_types.specs.Lists.{Has}
@@ -42,6 +43,7 @@ use Rattle.world_law.proofs.WellFormedCalls.{effect_is}
 use Rattle.world_law.proofs.WellFormedEffects.{IsWellFormedEffect}
 use Rattle.udp_site.specs.Replies.{deposit_answer, tree_answer, bag_answer, fault_answer, line_answer}
 use Rattle.udp_site.specs.Turns.{Serving, Done, IsCalled, notices_of, deposit_replies, takes_tree}
+use Rattle.udp_site.specs.Served.{or_one}
 use Rattle.serving_law.specs.Reports.{known_told}
 use Rattle.serving_law.specs.Rules.{owner_of}
 use Rattle.serving_law.proofs.Registering.{other_known_is, other_deposit_is}
@@ -268,6 +270,7 @@ module _ {C : Type 0} (device : C → Device) (members : Membership)
           (λ x to bytes h. reply_posts x port (fault_answer fault)
           (fault_right fault new (c.answered refl).gives x) to bytes h)
           (λ notice h. h)
+          (λ f. subst (λ (f : SiteFault). or_one (notices_of n input (Err f)) ≡ true) (sym f) refl)
 
     -- ---- a folder that was read, or not
 

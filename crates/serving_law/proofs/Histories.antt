@@ -1,5 +1,9 @@
 -- Every history stands for a network, in which all that was reported is chosen.
-use Rattle.std.proofs.Common.{ℕ, ◌≡◌, ◌⊎◌, inl, inr, refl, sym, ap, subst, ◌∙◌, List, [], ◌∷◌, ◌++◌}
+use Rattle.std.proofs.Common.{ℕ, ◌≡◌, ◌⊎◌, inl, inr, refl, sym, ap, subst, ◌∙◌, false}
+use Rattle.std.proofs.Common.{List, [], ◌∷◌, ◌++◌, Option, None, Some}
+use Rattle.std.specs.Prelude.{Result}
+use Rattle.bag_tree.specs.declared.fault.TreeFault.{TreeFault}
+use Rattle.bag_tree.specs.Facts.{TreeFacts}
 use Rattle.fed_types.specs.declared.bag_id.BagId.{BagId}
 use Rattle.fed_types.specs.Lists.{Has, here, there}
 use Rattle.fed_types.specs.Quorums.{QuorumSystem, AreQuorums}
@@ -19,13 +23,16 @@ use Rattle.world_law.proofs.Grows.{Grows, grows_itself, chosen_grows}
 use Rattle.world_law.proofs.Induction.{chosen_once, chosen_came}
 use Rattle.world_law.proofs.Runs.{new_kept}
 use Rattle.world_law.proofs.WellFormed.{new_is_well_formed}
-use Rattle.serving_law.specs.Federations.{Federation, Happening, new_federation, after, after_all}
+use Rattle.udp_site.specs.Turns.{Serving, turn_of}
+use Rattle.udp_site.specs.Served.{Turned, is_the_last}
+use Rattle.serving_law.specs.Federations.{Federation, Step, Happening, new_federation, after}
+use Rattle.serving_law.specs.Federations.{after_all}
 use Rattle.serving_law.specs.Laws.{WasDeposited, ReportsAgree, ReportsWereDeposited}
-use Rattle.serving_law.specs.Laws.{RegisteredStays}
+use Rattle.serving_law.specs.Laws.{RegisteredStays, TurnsMayHappen}
 use Rattle.serving_law.specs.Reports.{Reports, Registers, IsDeposit, records_of}
-use Rattle.serving_law.specs.Rules.{May, MayAll}
+use Rattle.serving_law.specs.Rules.{May, MayAll, MayCome, IsServing, Takes}
 use Rattle.serving_law.proofs.Standing.{quorums, HasDeposit, Stands}
-use Rattle.serving_law.proofs.Befalling.{Went, went, records_are}
+use Rattle.serving_law.proofs.Befalling.{Went, went, records_are, goes_on, with_folders}
 
 grows_then : {w x y : Network} → Grows w x → Grows x y → Grows w y
 grows_then g h = record {
@@ -74,6 +81,60 @@ module _ {C : Type 0} (device : C → Device) (members : Membership)
     deposits : (n : ℕ) (slot : SlotName) (bag : BagId) → HasDeposit x n slot bag
         → HasDeposit w n slot bag ⊎ Made f history slot bag
 
+  -- one happening, and then others
+  module _ (h : Happening C) (history : List (Happening C)) (f : Federation C) (w : Network)
+      (first : Went device members is_membership only_now f h w)
+      (rest : Led (after f h) history first.x) where
+    reported : (g : Happening C) → Has g (h ∷ history) → (slot : SlotName) (bag : BagId)
+        → Reports federation g slot bag → IsChosen q rest.x slot bag
+    reported g (here e) slot bag r =
+        chosen_grows (grows_then first.grows rest.grows)
+        (first.reports slot bag
+        (subst (λ (g : Happening C). Reports federation g slot bag) (sym e) r))
+    reported g (there has) slot bag r = rest.reports g has slot bag r
+
+    registered : (g : Happening C) → Has g (h ∷ history) → (n : ℕ) (slot : SlotName) (bag : BagId)
+        → Registers federation g n slot bag → HasDeposit rest.x n slot bag
+    registered g (here e) n slot bag r =
+        rest.grows.kept n slot (entry.Deposit bag)
+        (first.registers n slot bag
+        (subst (λ (g : Happening C). Registers federation g n slot bag) (sym e) r))
+    registered g (there has) n slot bag r = rest.registers g has n slot bag r
+
+    made_now : (slot : SlotName) (bag : BagId) → IsDeposit federation f h slot bag
+        → Made f (h ∷ history) slot bag
+    unfolding after_all
+    made_now slot bag d =
+        record { before = []; happening = h; later = history; split = refl; is = d }
+
+    made_later : (slot : SlotName) (bag : BagId) → Made (after f h) history slot bag
+        → Made f (h ∷ history) slot bag
+    unfolding after_all
+    made_later slot bag m = record {
+      before = h ∷ m.before;
+      happening = m.happening;
+      later = m.later;
+      split = ap (λ (hs : List (Happening C)). h ∷ hs) m.split;
+      is = m.is;
+    }
+
+    led_more : Led f (h ∷ history) w
+    unfolding after_all
+    led_more = record {
+      x = rest.x;
+      stands = rest.stands;
+      grows = grows_then first.grows rest.grows;
+      reports = reported;
+      registers = registered;
+      deposits = λ n slot bag d. elim (rest.deposits n slot bag d) [
+        | inl then ↦ elim (first.deposits n slot bag then) [
+          | inl before ↦ inl before
+          | inr made ↦ inr (made_now slot bag made)
+        ]
+        | inr made ↦ inr (made_later slot bag made)
+      ];
+    }
+
   led : (history : List (Happening C)) (f : Federation C) (w : Network)
       → Stands device members f w → MayAll device members f history → Led f history w
   unfolding after_all MayAll
@@ -85,57 +146,9 @@ module _ {C : Type 0} (device : C → Device) (members : Membership)
     registers = λ h has. absurd (has_none has);
     deposits = λ n slot bag d. inl d;
   }
-  led (h ∷ history) f w stands may = record {
-    x = rest.x;
-    stands = rest.stands;
-    grows = grows_then first.grows rest.grows;
-    reports = reported;
-    registers = registered;
-    deposits = λ n slot bag d. elim (rest.deposits n slot bag d) [
-      | inl then ↦ elim (first.deposits n slot bag then) [
-        | inl before ↦ inl before
-        | inr made ↦ inr (now slot bag made)
-      ]
-      | inr made ↦ inr (later slot bag made)
-    ];
-  }
-    where
-      first : Went device members is_membership only_now f h w
-      first = went device members is_membership only_now f w stands h may.0
-
-      rest : Led (after f h) history first.x
-      rest = led history (after f h) first.x first.stands may.1
-
-      reported : (g : Happening C) → Has g (h ∷ history) → (slot : SlotName) (bag : BagId)
-          → Reports federation g slot bag → IsChosen q rest.x slot bag
-      reported g (here e) slot bag r =
-          chosen_grows (grows_then first.grows rest.grows)
-          (first.reports slot bag
-          (subst (λ (g : Happening C). Reports federation g slot bag) (sym e) r))
-      reported g (there has) slot bag r = rest.reports g has slot bag r
-
-      registered : (g : Happening C) → Has g (h ∷ history) → (n : ℕ) (slot : SlotName) (bag : BagId)
-          → Registers federation g n slot bag → HasDeposit rest.x n slot bag
-      registered g (here e) n slot bag r =
-          rest.grows.kept n slot (entry.Deposit bag)
-          (first.registers n slot bag
-          (subst (λ (g : Happening C). Registers federation g n slot bag) (sym e) r))
-      registered g (there has) n slot bag r = rest.registers g has n slot bag r
-
-      now : (slot : SlotName) (bag : BagId) → IsDeposit federation f h slot bag
-          → Made f (h ∷ history) slot bag
-      now slot bag d =
-          record { before = []; happening = h; later = history; split = refl; is = d }
-
-      later : (slot : SlotName) (bag : BagId) → Made (after f h) history slot bag
-          → Made f (h ∷ history) slot bag
-      later slot bag m = record {
-        before = h ∷ m.before;
-        happening = m.happening;
-        later = m.later;
-        split = ap (λ (hs : List (Happening C)). h ∷ hs) m.split;
-        is = m.is;
-      }
+  led (h ∷ history) f w stands may =
+      let first = went device members is_membership only_now f w stands h may.0 in
+      led_more h history f w first (led history (after f h) first.x first.stands may.1)
 
   -- ---- from new cells
 
@@ -199,6 +212,33 @@ module _ {C : Type 0} (device : C → Device) (members : Membership)
         }
       ]
 
+  taken : (history : List (Happening C)) (n : ℕ) (old next : Serving C) (ports : List ℕ)
+      (gives : Option (List ℕ → Result TreeFacts TreeFault)) (turn : Turned)
+      → MayAll device members new_federation history
+      → IsServing device members (after_all new_federation history) n old
+      → MayCome members.federation (after_all new_federation history).handed turn.took
+      → turn_of device ports gives old turn.took turn.done next
+      → (step : Step C) × (step.turn ≡ turn) × (step.next ≡ next)
+      × Takes device members (after_all new_federation history) old step
+      × (is_the_last turn ≡ false → next.site.book.needs_opening ≡ false)
+  taken history n old next ports gives turn may serving come comes =
+      (step, refl, refl, takes, λ not_last.
+      goes_on device members is_membership only_now (after_all new_federation history) l.x l.stands
+      n serving.0 old serving.1 step takes not_last)
+    where
+      l : Led new_federation history new_network
+      l = from_new history may
+
+      folders : (folders : List ℕ → Result TreeFacts TreeFault)
+          × turn_of device ports (Some folders) old turn.took turn.done next
+      folders = with_folders device ports gives old next turn.done _ comes
+
+      step : Step C
+      step = record { ports = ports; folders = folders.0; turn = turn; next = next }
+
+      takes : Takes device members (after_all new_federation history) old step
+      takes = record { may_come = come; comes = folders.1 }
+
   stays : (before later : List (Happening C)) (h : Happening C) (n : ℕ) (slot : SlotName)
       (bag : BagId) → MayAll device members new_federation (before ++ h ∷ later)
       → Registers federation h n slot bag
@@ -224,6 +264,10 @@ module _ {C : Type 0} (device : C → Device) (members : Membership)
   pub reports_were_deposited : ReportsWereDeposited device members
   reports_were_deposited before later h slot bag is may r =
       deposited device members is only_now before later h slot bag may r
+
+  pub turns_may_happen : TurnsMayHappen device members
+  turns_may_happen history n old next ports gives turn is may serving come comes =
+      taken device members is only_now history n old next ports gives turn may serving come comes
 
   pub registered_stays : RegisteredStays device members
   registered_stays before later h n slot bag is may r =

@@ -52,12 +52,13 @@ use Rattle.serving_law.proofs.Turning as turning
 has_filter : {X : Type 0} (test : X → Bool) {x : X} (xs : List X) → Has x (filter test xs)
     → Has x xs
 has_filter test [] h = absurd (has_none h)
-has_filter test {x} (y ∷ ys) h = go (test y) h
+has_filter test {x = x} (y ∷ ys) h = go (λ k. has_filter test ys k) (test y) h
   where
-    go : (t : Bool) → Has x (cond t (y ∷ filter test ys) (filter test ys)) → Has x (y ∷ ys)
-    go true (here e) = here e
-    go true (there k) = there (has_filter test ys k)
-    go false k = there (has_filter test ys k)
+    go : (Has x (filter test ys) → Has x ys) → (t : Bool)
+        → Has x (cond t (y ∷ filter test ys) (filter test ys)) → Has x (y ∷ ys)
+    go rest true (here e) = here e
+    go rest true (there k) = there (rest k)
+    go rest false k = there (rest k)
 
 -- what a reply to a query names as known
 named : (n : ℕ) (reply : Reply) (bag : BagId)
@@ -96,7 +97,7 @@ module _ {C : Type 0} (device : C → Device) (members : Membership)
     asking all = (moved w n None (w.sites n).session Up (to_each slot (Ask n) all) None).network
 
     step : (D : May) (all : List ℕ)
-        → Next q w _ D (moved w n None (w.sites n).session Up (to_each slot (Ask n) all) None)
+        → Next q w (Some n) D (moved w n None (w.sites n).session Up (to_each slot (Ask n) all) None)
     step D all =
         kept_moved q w n None (w.sites n).session Up (to_each slot (Ask n) all) None D slot (Ask n)
         (only_sends q w n D slot (Ask n) (to_each slot (Ask n) all) (carries_each slot (Ask n) all)
@@ -272,6 +273,7 @@ module _ {C : Type 0} (device : C → Device) (members : Membership)
               D records
               (recovered_now device (owner_of device members n) old.site.book refl refl recovers
               only_now records m);
+          last = λ needs. absurd (cc needs);
         })
       where
         all : List ℕ

@@ -48,6 +48,7 @@ use Rattle.udp_site.specs.Turns.{Serving, Done, notices_of, proposal_notices, he
 use Rattle.udp_site.specs.Turns.{proposes, idles_if, idles, one_more_idle, comes_of, drops}
 use Rattle.udp_site.specs.Turns.{proposes_next, slot_of}
 use Rattle.udp_site.specs.Rounds.{next_waiting}
+use Rattle.udp_site.specs.Served.{or_one}
 use Rattle.serving_law.specs.Rules.{owner_of, MayCome}
 use Rattle.serving_law.proofs.Requesting.{IsAsked, deposit_is_slot, query_is_slot, says_was_sent}
 use Rattle.serving_law.proofs.Standing.{quorums, Means, May, IsNotice}
@@ -113,7 +114,9 @@ module _ {C : Type 0} (device : C → Device) (members : Membership)
       (w.sites n).records (formed.records n) (w.sites n).session (formed.heard n)
       (Arrives (Some message)) is)
       D (λ slot bag none. absurd none) result new called ports
-      (notices_of n (Arrives (Some message)) result) (λ notice h. h))
+      (notices_of n (Arrives (Some message)) result) (λ notice h. h)
+      (λ e. subst (λ (r : Result Answer SiteFault).
+      or_one (notices_of n (Arrives (Some message)) r) ≡ true) (sym e) refl))
 
   -- ---- a proposal
 
@@ -172,7 +175,9 @@ module _ {C : Type 0} (device : C → Device) (members : Membership)
       recovers)
       w inv n slot)
       (propose_formed slot) D (λ s bag none. absurd none) result new called ports
-      (proposal_notices n (Proposes slot) result) (proposal_among n (Proposes slot) result))
+      (proposal_notices n (Proposes slot) result) (proposal_among n (Proposes slot) result)
+      (λ e. subst (λ (r : Result Answer SiteFault).
+      or_one (proposal_notices n (Proposes slot) r) ≡ true) (sym e) refl))
 
   if_ends : (idle tried : ℕ) (ports : List ℕ) (D : May) (done : Done) (new : Serving C) (t : Bool)
       → idles_if t device ports (at idle tried) done new → Ends done new D

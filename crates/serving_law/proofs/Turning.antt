@@ -56,7 +56,7 @@ use Rattle.world_law.proofs.WellFormedWords.{all_has}
 use Rattle.udp_site.specs.Traffic.{Post}
 use Rattle.udp_site.specs.Replies.{deposit_answer, tree_answer}
 use Rattle.udp_site.specs.Turns.{Serving, Done, IsCalled, posts_of, notices_of, deposit_replies}
-use Rattle.udp_site.specs.Turns as turns
+use Rattle.udp_site.specs.Served.{or_one}
 use Rattle.serving_law.specs.Federations.{Member, Serves, Down}
 use Rattle.serving_law.specs.Rules.{owner_of, MayRecoverTo}
 use Rattle.serving_law.proofs.Recovering.{IsKept, as_it_was, recovered_now, recovered_within}
@@ -67,6 +67,10 @@ use Rattle.serving_law.proofs.Standing.{IsPost, IsReply, SaysRightly, HasDeposit
 use Rattle.serving_law.proofs.Standing.{allows}
 use Rattle.serving_law.proofs.Calling as calling
 use Rattle.serving_law.proofs.Calling.{has_notice}
+
+-- a call's result
+abbrev answered : Result Answer SiteFault → Result Answer SiteFault
+answered result = result
 
 module _ {C : Type 0} (device : C → Device) (members : Membership)
     (is_membership : IsMembership members)
@@ -92,7 +96,7 @@ module _ {C : Type 0} (device : C → Device) (members : Membership)
   owner = owner_of device members n
 
   -- What comes of a turn, in which this may be deposited: where the site can go on; where it needs
-  -- opening, and its process ends; and where its process is killed in it.
+  -- opening, and its process ends, which a line says; and where its process is killed in it.
   pub record Ends (done : Done) (new : Serving C) (D : May) : Type 0 where
     pub goes : new.site.book.needs_opening ≡ false → Goes device members w n done (Serves new) D
     pub fails : new.site.book.needs_opening ≡ true → (records : List Record)
@@ -101,6 +105,7 @@ module _ {C : Type 0} (device : C → Device) (members : Membership)
     pub dies : (records : List Record)
         → MayRecoverTo owner (device cell) (device new.site.book.cell) records
         → (x : Network) × Moves device members w x n (Down records) D
+    pub last : new.site.book.needs_opening ≡ true → or_one done.notices ≡ true
 
   -- ---- notices that report nothing
 
@@ -164,6 +169,7 @@ module _ {C : Type 0} (device : C → Device) (members : Membership)
               calling.stops_as_it_was device members w inv formed n cell tables idle tried recovers D
               records
               (recovered_now device owner old.site.book refl refl recovers only_now records m);
+          last = λ needs. absurd (cc needs);
         })
 
     -- ---- a turn with a call
@@ -208,6 +214,8 @@ module _ {C : Type 0} (device : C → Device) (members : Membership)
           fails = λ needs. absurd (cc (calling.failed_by_device device members w inv formed n cell
               tables idle tried recovers input (Ok answer) new c needs));
           dies = call_dies (Ok answer) new c;
+          last = λ needs. absurd (cc (calling.failed_by_device device members w inv formed n cell
+              tables idle tried recovers input (Ok answer) new c needs));
         }
 
         -- where it is refused
@@ -217,8 +225,9 @@ module _ {C : Type 0} (device : C → Device) (members : Membership)
             → IsPost device members w x bytes)
             → ((notice : Notice) → Has notice done.notices
             → Has notice (notices_of n input (Err fault)))
+            → (fault ≡ faults.Device → or_one done.notices ≡ true)
             → Ends done new D
-        err_ends fault new c done posts among = record {
+        err_ends fault new c done posts among said = record {
           goes = λ opened. record {
             x = w;
             moves = calling.err_stays device members w inv formed n cell tables idle tried recovers
@@ -235,19 +244,26 @@ module _ {C : Type 0} (device : C → Device) (members : Membership)
                 notices = λ notice h. err_notices moves.0 input fault notice (among notice h);
               };
           dies = call_dies (Err fault) new c;
+          last = λ needs. said (same_fault (calling.failed_by_device device members w inv formed n
+              cell tables idle tried recovers input (Err fault) new c needs));
         }
+          where
+            same_fault : {f g : SiteFault} → answered (Err f) ≡ answered (Err g) → f ≡ g
+            same_fault e = cc
 
         -- where what is handed out is the call's datagrams
         pub speaks_ends : (result : Result Answer SiteFault) (new : Serving C)
             → IsCalled device old input result new → (ports : List ℕ) (notices : List Notice)
             → ((notice : Notice) → Has notice notices → Has notice (notices_of n input result))
+            → (result ≡ Err faults.Device → or_one notices ≡ true)
             → Ends (record { posts = posts_of ports result; notices = notices }) new D
-        speaks_ends (Ok answer) new c ports notices among =
+        speaks_ends (Ok answer) new c ports notices among said =
             ok_ends answer new c _
             (λ x same port bytes h. subst (λ (x : Network). IsPost device members w x bytes)
             (sym same)
             (inl (calling.ok_posts device members w inv formed n cell tables idle tried recovers
             input deed is answer (c.answered refl).gives.1 ports port bytes h)))
             among
-        speaks_ends (Err fault) new c ports notices among =
+        speaks_ends (Err fault) new c ports notices among said =
             err_ends fault new c _ (λ x port bytes h. absurd (has_none h)) among
+            (λ e. said (ap Err e))

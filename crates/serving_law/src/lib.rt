@@ -5,4 +5,4 @@
 
 mod law;
 
-pub use law::{registered_stays, reports_agree, reports_were_deposited};
+pub use law::{registered_stays, reports_agree, reports_were_deposited, turns_may_happen};
