@@ -61,6 +61,7 @@ use Rattle.serving_law.proofs.Spoken.{IsSiteBody}
 use Rattle.serving_law.proofs.Moving.{moved_site, others_stay, moved_formed}
 use Rattle.serving_law.proofs.Recovering.{recovered_now}
 use Rattle.serving_law.proofs.Requesting.{IsAsked}
+use Rattle.serving_law.proofs.Scene.{Scene, OnlyNow}
 use Rattle.serving_law.proofs.Standing.{quorums, serving, is_serving, IsServed, IsMember, IsSent}
 use Rattle.serving_law.proofs.Standing.{IsReply, SaysRightly, IsPost, IsNotice, Means, HasDeposit}
 use Rattle.serving_law.proofs.Standing.{Moves, Goes, Stands}
@@ -90,8 +91,7 @@ site_tells_nothing (bodies.QueryReply from answer) bag is e = absurd is
 
 module _ {C : Type 0} (device : C → Device) (members : Membership)
     (is_membership : IsMembership members)
-    (only_now : (cell : C) (bytes : List ℕ)
-    → (device cell).left_since (device cell).moment bytes → MayLeave (device cell).image bytes)
+    (only_now : OnlyNow device)
     where
   abbrev q : QuorumSystem
   q = quorums device members
@@ -280,6 +280,22 @@ module _ {C : Type 0} (device : C → Device) (members : Membership)
     down_at n records e =
         subst (λ (m : Member C). IsMember device members n m (w.sites n)) e (stands.is n)
 
+    -- member n serves, in this network
+    abbrev scene : (n : ℕ) → Has n (members_of members) → (old : Serving C)
+        → IsServed device members n old (w.sites n) → Scene device members
+    scene n member old is = record {
+      is_membership = is_membership;
+      only_now = only_now;
+      w = w;
+      inv = stands.kept;
+      formed = stands.formed;
+      n = n;
+      member = member;
+      cell = old.site.book.cell;
+      tables = old.site.tables;
+      recovers = is.recovers;
+    }
+
     -- ---- a turn
 
     abbrev Deposited : Step C → standing.May
@@ -318,14 +334,12 @@ module _ {C : Type 0} (device : C → Device) (members : Membership)
       is = served_at n old serves
 
       abbrev Came : Done → Serving C → standing.May → Type 0
-      Came = turning.Ends device members is_membership only_now w stands.kept stands.formed n member
-          old.site.book.cell old.site.tables is.recovers
+      Came = turning.Ends device members (scene n member old is)
 
       came : (step : Step C) → Takes device members f old step
           → Came step.turn.done step.next (Deposited step)
       came step t =
-          turn_ends device members is_membership only_now w stands.kept stands.formed n member
-          old.site.book.cell old.site.tables is.recovers f.handed stands.handed step.ports
+          turn_ends device members (scene n member old is) f.handed stands.handed step.ports
           step.folders step.turn.took t.may_come old.idle old.tried step.turn.done step.next
           (subst (λ (s : Serving C). turn_of device step.ports (Some step.folders) s step.turn.took
           step.turn.done step.next)
@@ -406,14 +420,14 @@ module _ {C : Type 0} (device : C → Device) (members : Membership)
       ];
     }
 
-    ends : (n : ℕ) (old : Serving C) → IsServed device members n old (w.sites n)
+    ends : (n : ℕ) → Has n (members_of members) → (old : Serving C)
+        → IsServed device members n old (w.sites n)
         → (records : List Record)
         → MayRecoverTo (owner_of device members n) (device old.site.book.cell)
         (device old.site.book.cell) records
         → (x : Network) × Moves device members w x n (Down records) Nothing
-    ends n old is records m =
-        stops_as_it_was device members w stands.kept stands.formed n old.site.book.cell
-        old.site.tables old.idle old.tried is.recovers Nothing records
+    ends n member old is records m =
+        stops_as_it_was device members (scene n member old is) old.idle old.tried Nothing records
         (recovered_now device (owner_of device members n)
         (serving device members n (w.sites n).records (w.sites n).session old.site.book.cell
         old.site.tables old.idle old.tried).site.book
@@ -497,7 +511,7 @@ module _ {C : Type 0} (device : C → Device) (members : Membership)
         unshown n serves.0 old serves.1 (Dies n step records) step refl refl (Down records) refl
         moves.0 moves.1
     went (Ends n records) (old, serves, recovers) =
-        let moves = ends n old (served_at n old serves.1) records recovers in
+        let moves = ends n serves.0 old (served_at n old serves.1) records recovers in
         quiet (Ends n records) refl n (Down records) refl moves.0 moves.1
     went (Renews n) (old, serves) =
         quiet (Renews n) refl n (Serves (begins old.site old.session))

@@ -52,6 +52,7 @@ use Rattle.serving_law.proofs.Spoken.{IsSiteBody, effect_speaks}
 use Rattle.serving_law.proofs.Moving.{moved_site, others_stay, moved_formed}
 use Rattle.serving_law.proofs.Recovering.{Recovered, IsKept, kept_ok, kept_err, device_needs}
 use Rattle.serving_law.proofs.Registering.{registered_is_kept}
+use Rattle.serving_law.proofs.Scene.{Scene}
 use Rattle.serving_law.proofs.Standing.{quorums, serving, IsServed, IsMember, IsSent, IsNotice}
 use Rattle.serving_law.proofs.Standing.{HasDeposit, May, Moves}
 
@@ -75,11 +76,10 @@ has_notice (Some l) m h = ap Some (has_one h)
 pub any_slot : SlotName
 any_slot = record { object = []; version = 0 }
 
-module _ {C : Type 0} (device : C → Device) (members : Membership) (w : Network)
-    (inv : Kept (quorums device members) w) (formed : IsWellFormed w) (n : ℕ) (cell : C)
-    (tables : Contents) (idle tried : ℕ)
-    (recovers : RecoversTo (owner_of device members n) (w.sites n).records (device cell).image)
-    where
+module _ {C : Type 0} (device : C → Device) (members : Membership) (s : Scene device members)
+    (idle tried : ℕ) where
+  open s use {w, inv, formed, n, cell, tables, recovers}
+
   abbrev pub q : QuorumSystem
   q = quorums device members
 

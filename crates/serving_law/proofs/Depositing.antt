@@ -48,6 +48,7 @@ use Rattle.serving_law.specs.Reports.{known_told}
 use Rattle.serving_law.specs.Rules.{owner_of}
 use Rattle.serving_law.proofs.Registering.{other_known_is, other_deposit_is}
 use Rattle.serving_law.proofs.Replying.{tree_answer_is, bag_answer_is, checked_is}
+use Rattle.serving_law.proofs.Scene.{Scene}
 use Rattle.serving_law.proofs.Standing.{quorums, IsPost, HasDeposit, May}
 use Rattle.serving_law.proofs.Calling as calling
 use Rattle.serving_law.proofs.Turning as turning
@@ -67,14 +68,8 @@ told n deposit.NeedsOpen bag e = absurd (cc e)
 told n (deposit.Tree fault) bag e = absurd (cc e)
 told n (deposit.Bag fault) bag e = absurd (cc e)
 
-module _ {C : Type 0} (device : C → Device) (members : Membership)
-    (is_membership : IsMembership members)
-    (only_now : (cell : C) (bytes : List ℕ)
-    → (device cell).left_since (device cell).moment bytes → MayLeave (device cell).image bytes)
-    (w : Network) (inv : Kept (quorums device members) w) (formed : IsWellFormed w)
-    (n : ℕ) (member : Has n (members_of members)) (cell : C) (tables : Contents)
-    (recovers : RecoversTo (owner_of device members n) (w.sites n).records (device cell).image)
-    where
+module _ {C : Type 0} (device : C → Device) (members : Membership) (s : Scene device members) where
+  open s use {w, inv, formed, n, member, cell, tables, recovers, is_membership, only_now}
   abbrev q : QuorumSystem
   q = quorums device members
 
@@ -100,8 +95,7 @@ module _ {C : Type 0} (device : C → Device) (members : Membership)
 
   module _ (slot : SlotName) (is_slot : IsSlot slot) where
     site_number : IsSiteNumber n
-    site_number = turning.is_site device members is_membership only_now w inv formed n member cell
-        tables recovers
+    site_number = turning.is_site device members s
 
     reply_posts : (x : Network) (port : ℕ) (o : Option DepositAnswer)
         → ((answer : DepositAnswer) → o ≡ Some answer → IsRight x slot answer)
@@ -145,8 +139,7 @@ module _ {C : Type 0} (device : C → Device) (members : Membership)
     module _ (idle tried : ℕ) (facts : TreeFacts) (D : May)
         (may : (bag : BagId) → check_of facts ≡ Ok bag → D slot bag) where
       abbrev old : Serving C
-      old = turning.old device members is_membership only_now w inv formed n member cell tables
-          recovers idle tried
+      old = turning.old device members s idle tried
 
       abbrev input : Input
       input = Deposits slot (check_of facts)
@@ -156,14 +149,12 @@ module _ {C : Type 0} (device : C → Device) (members : Membership)
 
       deed : Deed q w n input e
       deed = deposit_deed q
-          (turning.laws device members is_membership only_now w inv formed n member cell tables
-          recovers)
+          (turning.laws device members s)
           w inv n slot (check_of facts)
 
       effect_formed : IsWellFormedEffect e
       effect_formed = effect_is q
-          (turning.sites device members is_membership only_now w inv formed n member cell tables
-          recovers)
+          (turning.sites device members s)
           n site_number (w.sites n).records (formed.records n) (w.sites n).session
           (formed.heard n) input
           (is_slot, if_ok IsBag (check_of facts) (λ bag f. checked_is facts bag f))
@@ -172,7 +163,7 @@ module _ {C : Type 0} (device : C → Device) (members : Membership)
       allowed s bag m = subst (λ (s : SlotName). D s bag) m.0 (may bag m.1)
 
       abbrev called : Network
-      called = calling.called device members w inv formed n cell tables idle tried recovers input
+      called = calling.called device members s idle tried input
 
       line_right : IsWellFormed called → (line : Option Line) → e.says ≡ Ok line
           → (answer : DepositAnswer) → line_answer line ≡ Some answer → IsRight called slot answer
@@ -181,15 +172,13 @@ module _ {C : Type 0} (device : C → Device) (members : Membership)
       line_right is (Some lines.Dropped) says answer f = absurd (cc f)
       line_right is (Some (lines.Registered bag)) says answer f =
           subst (IsRight called slot) (some_same f) (record {
-            is = turning.deposit_is_bag device members is_membership only_now w inv formed n member
-                cell tables recovers called is slot bag on_record;
+            is = turning.deposit_is_bag device members s called is slot bag on_record;
             known = λ b g. absurd (cc g);
             registered = λ b g. at b g;
           })
         where
           on_record : HasDeposit called n slot bag
-          on_record = calling.deposit_kept device members w inv formed n cell tables idle tried
-              recovers input deed effect_formed slot (check_of facts) bag refl says
+          on_record = calling.deposit_kept device members s idle tried input deed effect_formed slot (check_of facts) bag refl says
 
           at : (b : BagId) → deposit.Registered bag ≡ deposit.Registered b
               → HasDeposit called n slot b
@@ -203,10 +192,8 @@ module _ {C : Type 0} (device : C → Device) (members : Membership)
           let on_record = other_known_is slot (w.sites n).records (w.sites n).session
           (check_of facts) bag says in
           record {
-            is = turning.bag_is device members is_membership only_now w inv formed n member cell
-                tables recovers slot bag on_record;
-            known = λ b g. at b g (turning.known_chosen device members is_membership only_now w inv
-                formed n member cell tables recovers slot bag on_record);
+            is = turning.bag_is device members s slot bag on_record;
+            known = λ b g. at b g (turning.known_chosen device members s slot bag on_record);
             registered = λ b g. absurd (cc g);
           }
         where
@@ -220,8 +207,7 @@ module _ {C : Type 0} (device : C → Device) (members : Membership)
           → IsRight x slot (deposit.OtherDeposit bag)
       other_deposit x bag says =
           neither_right x slot (deposit.OtherDeposit bag)
-          (turning.deposit_is_bag device members is_membership only_now w inv formed n member cell
-          tables recovers w formed slot bag
+          (turning.deposit_is_bag device members s w formed slot bag
           (other_deposit_is slot (w.sites n).records (w.sites n).session (check_of facts) bag says))
           tt
 
@@ -248,25 +234,22 @@ module _ {C : Type 0} (device : C → Device) (members : Membership)
 
       call_ends : (result : Result Answer SiteFault) (new : Serving C)
           → IsCalled device old input result new → (port : ℕ)
-          → turning.Ends device members is_membership only_now w inv formed n member cell tables
-          recovers (record {
+          → turning.Ends device members s (record {
             posts = deposit_replies members.federation n port slot (deposit_answer result);
             notices = notices_of n input result;
           }) new D
       call_ends (Ok answer) new c port =
-          turning.ok_ends device members is_membership only_now w inv formed n member cell tables
-          recovers idle tried input deed effect_formed D allowed answer new c _
+          turning.ok_ends device members s idle tried input deed effect_formed D allowed answer new c _
           (λ x same to bytes h. subst (λ (x : Network). IsPost device members w x bytes) (sym same)
           (reply_posts called port (line_answer answer.line)
           (line_right moved answer.line (c.answered refl).gives.0) to bytes h))
           (λ notice h. h)
         where
           moved : IsWellFormed called
-          moved = (calling.ok_moves device members w inv formed n cell tables idle tried recovers
+          moved = (calling.ok_moves device members s idle tried
               input deed effect_formed answer new c).formed
       call_ends (Err fault) new c port =
-          turning.err_ends device members is_membership only_now w inv formed n member cell tables
-          recovers idle tried input deed effect_formed D allowed fault new c _
+          turning.err_ends device members s idle tried input deed effect_formed D allowed fault new c _
           (λ x to bytes h. reply_posts x port (fault_answer fault)
           (fault_right fault new (c.answered refl).gives x) to bytes h)
           (λ notice h. h)
@@ -279,18 +262,13 @@ module _ {C : Type 0} (device : C → Device) (members : Membership)
         → D slot bag)
         → (done : Done) (new : Serving C)
         → takes_tree device
-        (turning.old device members is_membership only_now w inv formed n member cell tables
-        recovers idle tried) port slot read done new
-        → turning.Ends device members is_membership only_now w inv formed n member cell tables
-        recovers done new D
+        (turning.old device members s idle tried) port slot read done new
+        → turning.Ends device members s done new D
     tree_ends idle tried port (Err fault) D may done new t =
-        subst (λ (d : Done). turning.Ends device members is_membership only_now w inv formed n
-        member cell tables recovers d new D) (sym t.0)
-        (turning.quiet_ends device members is_membership only_now w inv formed n member cell tables
-        recovers idle tried new t.1 _ D
+        subst (λ (d : Done). turning.Ends device members s d new D) (sym t.0)
+        (turning.quiet_ends device members s idle tried new t.1 _ D
         (λ to bytes h. reply_posts w port (tree_answer fault) (tree_right fault w) to bytes h)
         (λ notice h. absurd (has_none h)))
     tree_ends idle tried port (Ok facts) D may done new t =
-        subst (λ (d : Done). turning.Ends device members is_membership only_now w inv formed n
-        member cell tables recovers d new D) (sym t.2)
+        subst (λ (d : Done). turning.Ends device members s d new D) (sym t.2)
         (call_ends idle tried facts D (λ bag e. may facts bag refl e) t.0 new t.1 port)

@@ -31,6 +31,7 @@ use Rattle.serving_law.specs.Laws.{WasDeposited, ReportsAgree, ReportsWereDeposi
 use Rattle.serving_law.specs.Laws.{RegisteredStays, TurnsMayHappen}
 use Rattle.serving_law.specs.Reports.{Reports, Registers, IsDeposit, records_of}
 use Rattle.serving_law.specs.Rules.{May, MayAll, MayCome, IsServing, Takes}
+use Rattle.serving_law.proofs.Scene.{OnlyNow}
 use Rattle.serving_law.proofs.Standing.{quorums, HasDeposit, Stands}
 use Rattle.serving_law.proofs.Befalling.{Went, went, records_are, goes_on, with_folders}
 
@@ -51,8 +52,7 @@ none_new n slot bag d = has_none d
 
 module _ {C : Type 0} (device : C → Device) (members : Membership)
     (is_membership : IsMembership members)
-    (only_now : (cell : C) (bytes : List ℕ)
-    → (device cell).left_since (device cell).moment bytes → MayLeave (device cell).image bytes)
+    (only_now : OnlyNow device)
     where
   abbrev q : QuorumSystem
   q = quorums device members
@@ -254,8 +254,7 @@ module _ {C : Type 0} (device : C → Device) (members : Membership)
 -- ---- the laws
 
 module _ {C : Type 0} (device : C → Device) (members : Membership)
-    (only_now : (cell : C) (bytes : List ℕ)
-    → (device cell).left_since (device cell).moment bytes → MayLeave (device cell).image bytes)
+    (only_now : OnlyNow device)
     where
   pub reports_agree : ReportsAgree device members
   reports_agree history g h slot u v is may i j r s =

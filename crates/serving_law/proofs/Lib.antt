@@ -3,6 +3,7 @@ pub mod Moving
 pub mod Recovering
 pub mod Registering
 pub mod Standing
+pub mod Scene
 pub mod Calling
 pub mod Replying
 pub mod Turning
@@ -12,3 +13,6 @@ pub mod Requesting
 pub mod Taking
 pub mod Befalling
 pub mod Histories
+pub mod Disks
+pub mod Killing
+pub mod Fooling

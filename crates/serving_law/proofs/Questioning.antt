@@ -43,6 +43,7 @@ use Rattle.serving_law.specs.Rules.{owner_of}
 use Rattle.serving_law.proofs.Moving.{moved_site, others_stay, moved_formed}
 use Rattle.serving_law.proofs.Recovering.{as_it_was, recovered_now}
 use Rattle.serving_law.proofs.Replying.{query_answer_is, replied_is_known}
+use Rattle.serving_law.proofs.Scene.{Scene}
 use Rattle.serving_law.proofs.Standing.{quorums, IsServed, IsPost, IsNotice, IsSent, HasDeposit, May}
 use Rattle.serving_law.proofs.Standing.{Moves}
 use Rattle.serving_law.proofs.Calling as calling
@@ -76,21 +77,14 @@ reported n slot (replies.Known b) r e =
 reported n slot (replies.Pending b) r e = absurd (cc e)
 reported n slot replies.Nothing r e = absurd (cc e)
 
-module _ {C : Type 0} (device : C → Device) (members : Membership)
-    (is_membership : IsMembership members)
-    (only_now : (cell : C) (bytes : List ℕ)
-    → (device cell).left_since (device cell).moment bytes → MayLeave (device cell).image bytes)
-    (w : Network) (inv : Kept (quorums device members) w) (formed : IsWellFormed w)
-    (n : ℕ) (member : Has n (members_of members)) (cell : C) (tables : Contents)
-    (recovers : RecoversTo (owner_of device members n) (w.sites n).records (device cell).image)
-    where
+module _ {C : Type 0} (device : C → Device) (members : Membership) (s : Scene device members) where
+  open s use {w, inv, formed, n, member, cell, tables, recovers, is_membership, only_now}
   abbrev q : QuorumSystem
   q = quorums device members
 
   module _ (idle tried : ℕ) (slot : SlotName) (is_slot : IsSlot slot) where
     abbrev old : Serving C
-    old = turning.old device members is_membership only_now w inv formed n member cell tables
-        recovers idle tried
+    old = turning.old device members s idle tried
 
     -- the network in which these members are asked
     abbrev asking : List ℕ → Network
@@ -118,18 +112,16 @@ module _ {C : Type 0} (device : C → Device) (members : Membership)
           moved_formed w n None (w.sites n).session Up (to_each slot (Ask n) all) None formed tt
           (formed.heard n)
           (sends_are slot is_slot None tt (Ask n)
-          (turning.is_site device members is_membership only_now w inv formed n member cell tables
-          recovers)
+          (turning.is_site device members s)
           all
-          (λ k h. turning.sites device members is_membership only_now w inv formed n member cell
-          tables recovers k (are k h))
+          (λ k h. turning.sites device members s k (are k h))
           (w.sites n).session (formed.heard n)).sends;
       grows = (step D all).grows;
       others = others_stay w n None (w.sites n).session Up (to_each slot (Ask n) all) None;
       is =
           subst (IsServed device members n old)
           (sym (moved_site w n None (w.sites n).session Up (to_each slot (Ask n) all) None))
-          (calling.served device members w inv formed n cell tables idle tried recovers old None
+          (calling.served device members s idle tried old None
           (w.sites n).session
           (as_it_was device (owner_of device members n) old.site.book refl refl recovers) refl);
       deposits = λ k s bag h. elim ((step D all).deposits k s bag h) [
@@ -197,8 +189,7 @@ module _ {C : Type 0} (device : C → Device) (members : Membership)
 
     chosen : (bag : BagId) → reply ≡ replies.Known bag → IsChosen q w slot bag
     chosen bag e =
-        turning.known_chosen device members is_membership only_now w inv formed n member cell tables
-        recovers slot bag (replied_is_known slot (w.sites n).records bag e)
+        turning.known_chosen device members s slot bag (replied_is_known slot (w.sites n).records bag e)
 
     reply_post : (x : Network) (bytes : List ℕ)
         → datagram_of members.federation
@@ -210,8 +201,7 @@ module _ {C : Type 0} (device : C → Device) (members : Membership)
         is = (
           is_slot,
           (
-            turning.is_site device members is_membership only_now w inv formed n member cell
-                tables recovers,
+            turning.is_site device members s,
             query_answer_is slot (w.sites n).records (formed.records n),
           ),
         );
@@ -236,11 +226,9 @@ module _ {C : Type 0} (device : C → Device) (members : Membership)
 
     pub query_ends : (ports : List ℕ) (port : ℕ) (D : May) (done : Done) (new : Serving C)
         → queries ports old port slot done new
-        → turning.Ends device members is_membership only_now w inv formed n member cell tables
-        recovers done new D
+        → turning.Ends device members s done new D
     query_ends ports port D done new (asks, asks_are, done_is, same) =
-        subst (λ (v : Serving C). turning.Ends device members is_membership only_now w inv formed n
-        member cell tables recovers done v D) (sym same) (record {
+        subst (λ (v : Serving C). turning.Ends device members s done v D) (sym same) (record {
           goes = λ opened. record {
             x = asking all;
             moves = moves D all (asked_are (Ok reply));
@@ -263,13 +251,12 @@ module _ {C : Type 0} (device : C → Device) (members : Membership)
                   | inr later ↦
                       subst (IsNotice device members w (asking all))
                       (asks_notices ports all asks asks_are notice later)
-                      (turning.refused_is device members is_membership only_now w inv formed n
-                      member cell tables recovers (asking all) faults.Memory)
+                      (turning.refused_is device members s (asking all) faults.Memory)
                 ];
           };
           fails = λ needs. absurd (cc needs);
           dies = λ records m.
-              calling.stops_as_it_was device members w inv formed n cell tables idle tried recovers
+              calling.stops_as_it_was device members s idle tried
               D records
               (recovered_now device (owner_of device members n) old.site.book refl refl recovers
               only_now records m);

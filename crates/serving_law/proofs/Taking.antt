@@ -51,6 +51,7 @@ use Rattle.udp_site.specs.Rounds.{next_waiting}
 use Rattle.udp_site.specs.Served.{or_one}
 use Rattle.serving_law.specs.Rules.{owner_of, MayCome}
 use Rattle.serving_law.proofs.Requesting.{IsAsked, deposit_is_slot, query_is_slot, says_was_sent}
+use Rattle.serving_law.proofs.Scene.{Scene}
 use Rattle.serving_law.proofs.Standing.{quorums, Means, May, IsNotice}
 use Rattle.serving_law.proofs.Depositing.{tree_ends}
 use Rattle.serving_law.proofs.Questioning.{query_ends}
@@ -63,23 +64,16 @@ proposal_among n input (Err faults.RoundsSpent) notice h = absurd (has_none h)
 proposal_among n input (Err fault) notice h = h
 proposal_among n input (Ok answer) notice h = h
 
-module _ {C : Type 0} (device : C → Device) (members : Membership)
-    (is_membership : IsMembership members)
-    (only_now : (cell : C) (bytes : List ℕ)
-    → (device cell).left_since (device cell).moment bytes → MayLeave (device cell).image bytes)
-    (w : Network) (inv : Kept (quorums device members) w) (formed : IsWellFormed w)
-    (n : ℕ) (member : Has n (members_of members)) (cell : C) (tables : Contents)
-    (recovers : RecoversTo (owner_of device members n) (w.sites n).records (device cell).image)
-    where
+module _ {C : Type 0} (device : C → Device) (members : Membership) (s : Scene device members) where
+  open s use {w, inv, formed, n, member, cell, tables, recovers, is_membership, only_now}
   abbrev q : QuorumSystem
   q = quorums device members
 
   abbrev Ends : Done → Serving C → May → Type 0
-  Ends = turning.Ends device members is_membership only_now w inv formed n member cell tables
-      recovers
+  Ends = turning.Ends device members s
 
   abbrev at : (idle tried : ℕ) → Serving C
-  at = turning.old device members is_membership only_now w inv formed n member cell tables recovers
+  at = turning.old device members s
 
   -- ---- nothing to do
 
@@ -87,8 +81,7 @@ module _ {C : Type 0} (device : C → Device) (members : Membership)
       → done ≡ record { posts = []; notices = [] } → new ≡ at idle tried → Ends done new D
   idle_ends idle tried D done new done_is same =
       subst (λ (d : Done). Ends d new D) (sym done_is)
-      (turning.quiet_ends device members is_membership only_now w inv formed n member cell tables
-      recovers idle tried new same _ D (λ port bytes h. absurd (has_none h))
+      (turning.quiet_ends device members s idle tried new same _ D (λ port bytes h. absurd (has_none h))
       (λ notice h. absurd (has_none h)))
 
   -- ---- a site's message
@@ -98,19 +91,15 @@ module _ {C : Type 0} (device : C → Device) (members : Membership)
       (new : Serving C) → hears device ports (at idle tried) message done new → Ends done new D
   hears_ends idle tried ports message sent is D done new (result, called, done_is) =
       subst (λ (d : Done). Ends d new D) (sym done_is)
-      (turning.speaks_ends device members is_membership only_now w inv formed n member cell tables
-      recovers idle tried (Arrives (Some message))
+      (turning.speaks_ends device members s idle tried (Arrives (Some message))
       (arrival_deed q
-      (turning.laws device members is_membership only_now w inv formed n member cell tables
-      recovers)
+      (turning.laws device members s)
       w inv n (Some message)
       (λ m e. subst (λ (m : Message). WasSent w m.slot m.body) (some_same e) sent))
       (effect_is q
-      (turning.sites device members is_membership only_now w inv formed n member cell tables
-      recovers)
+      (turning.sites device members s)
       n
-      (turning.is_site device members is_membership only_now w inv formed n member cell tables
-      recovers)
+      (turning.is_site device members s)
       (w.sites n).records (formed.records n) (w.sites n).session (formed.heard n)
       (Arrives (Some message)) is)
       D (λ slot bag none. absurd none) result new called ports
@@ -131,11 +120,9 @@ module _ {C : Type 0} (device : C → Device) (members : Membership)
           (effect_of q n (w.sites n).records (w.sites n).session (Proposes slot))
       by_slot is_slot =
           effect_is q
-          (turning.sites device members is_membership only_now w inv formed n member cell tables
-          recovers)
+          (turning.sites device members s)
           n
-          (turning.is_site device members is_membership only_now w inv formed n member cell tables
-          recovers)
+          (turning.is_site device members s)
           (w.sites n).records (formed.records n) (w.sites n).session (formed.heard n)
           (Proposes slot) is_slot
 
@@ -168,11 +155,9 @@ module _ {C : Type 0} (device : C → Device) (members : Membership)
   proposes_ends idle tried ports D done new (Some place) (Some slot)
       (result, called, refuses, done_is) =
       subst (λ (d : Done). Ends d new D) (sym done_is)
-      (turning.speaks_ends device members is_membership only_now w inv formed n member cell tables
-      recovers idle (place + 1) (Proposes slot)
+      (turning.speaks_ends device members s idle (place + 1) (Proposes slot)
       (propose_deed q
-      (turning.laws device members is_membership only_now w inv formed n member cell tables
-      recovers)
+      (turning.laws device members s)
       w inv n slot)
       (propose_formed slot) D (λ s bag none. absurd none) result new called ports
       (proposal_notices n (Proposes slot) result) (proposal_among n (Proposes slot) result)
@@ -203,7 +188,7 @@ module _ {C : Type 0} (device : C → Device) (members : Membership)
         → request_of members.federation took ≡ Deposits port slot path
         → deposits device (Some folders) (at idle tried) port slot path done new → Ends done new D
     deposit_ends port slot path e (read, gives, tree) =
-        tree_ends device members is_membership only_now w inv formed n member cell tables recovers
+        tree_ends device members s
         slot (deposit_is_slot members handed took may port slot path e) idle tried port read D
         (λ facts bag is checked. record {
           port = port;
@@ -229,15 +214,13 @@ module _ {C : Type 0} (device : C → Device) (members : Membership)
         hears_ends idle tried ports message heard.0 heard.1 D done new t
     by_request (Deposits port slot path) e t = deposit_ends port slot path e t
     by_request (Queries port slot) e t =
-        query_ends device members is_membership only_now w inv formed n member cell tables recovers
+        query_ends device members s
         idle tried slot (query_is_slot members handed took may port slot e) ports port D done new t
     by_request Noise e (done_is, same) =
         subst (λ (d : Done). Ends d new D) (sym done_is)
-        (turning.quiet_ends device members is_membership only_now w inv formed n member cell tables
-        recovers idle tried new same _ D (λ port bytes h. absurd (has_none h))
+        (turning.quiet_ends device members s idle tried new same _ D (λ port bytes h. absurd (has_none h))
         (λ notice h. subst (IsNotice device members w w) (has_one h)
-        (turning.dropped_is device members is_membership only_now w inv formed n member cell tables
-        recovers w)))
+        (turning.dropped_is device members s w)))
 
     pub turn_ends : comes_of device ports (Some folders) (at idle tried)
         (request_of members.federation took) done new → Ends done new D

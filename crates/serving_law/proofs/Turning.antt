@@ -62,6 +62,7 @@ use Rattle.serving_law.specs.Rules.{owner_of, MayRecoverTo}
 use Rattle.serving_law.proofs.Recovering.{IsKept, as_it_was, recovered_now, recovered_within}
 use Rattle.serving_law.proofs.Registering.{other_known_is, other_deposit_is}
 use Rattle.serving_law.proofs.Replying.{tree_answer_is, bag_answer_is}
+use Rattle.serving_law.proofs.Scene.{Scene}
 use Rattle.serving_law.proofs.Standing.{quorums, serving, IsServed, IsMember, IsSent, IsNotice}
 use Rattle.serving_law.proofs.Standing.{IsPost, IsReply, SaysRightly, HasDeposit, May, Moves, Goes}
 use Rattle.serving_law.proofs.Standing.{allows}
@@ -72,14 +73,8 @@ use Rattle.serving_law.proofs.Calling.{has_notice}
 abbrev answered : Result Answer SiteFault → Result Answer SiteFault
 answered result = result
 
-module _ {C : Type 0} (device : C → Device) (members : Membership)
-    (is_membership : IsMembership members)
-    (only_now : (cell : C) (bytes : List ℕ)
-    → (device cell).left_since (device cell).moment bytes → MayLeave (device cell).image bytes)
-    (w : Network) (inv : Kept (quorums device members) w) (formed : IsWellFormed w)
-    (n : ℕ) (member : Has n (members_of members)) (cell : C) (tables : Contents)
-    (recovers : RecoversTo (owner_of device members n) (w.sites n).records (device cell).image)
-    where
+module _ {C : Type 0} (device : C → Device) (members : Membership) (s : Scene device members) where
+  open s use {w, inv, formed, n, member, cell, tables, recovers, is_membership, only_now}
   abbrev q : QuorumSystem
   q = quorums device members
 
@@ -159,14 +154,14 @@ module _ {C : Type 0} (device : C → Device) (members : Membership)
           goes = λ opened. record {
             x = w;
             moves =
-                calling.stays device members w inv formed n cell tables idle tried recovers old
+                calling.stays device members s idle tried old
                 (as_it_was device owner old.site.book refl refl recovers) refl D;
             posts = posts;
             notices = notices;
           };
           fails = λ needs. absurd (cc needs);
           dies = λ records m.
-              calling.stops_as_it_was device members w inv formed n cell tables idle tried recovers D
+              calling.stops_as_it_was device members s idle tried D
               records
               (recovered_now device owner old.site.book refl refl recovers only_now records m);
           last = λ needs. absurd (cc needs);
@@ -185,8 +180,7 @@ module _ {C : Type 0} (device : C → Device) (members : Membership)
             → MayRecoverTo owner (device cell) (device new.site.book.cell) records
             → (x : Network) × Moves device members w x n (Down records) D
         call_dies result new c records m =
-            let moves = calling.stopped_moves device members w inv formed n cell tables idle tried
-            recovers input deed is records
+            let moves = calling.stopped_moves device members s idle tried input deed is records
             (recovered_within device owner old.site.book refl refl recovers only_now e.commits
             result new.site.book (c.answered refl).keeps records m) in
             (moves.0, allows device members may moves.1)
@@ -194,7 +188,7 @@ module _ {C : Type 0} (device : C → Device) (members : Membership)
         -- where it is answered
         pub ok_ends : (answer : Answer) (new : Serving C) → IsCalled device old input (Ok answer) new
             → (done : Done)
-            → ((x : Network) → x ≡ calling.called device members w inv formed n cell tables idle tried recovers input
+            → ((x : Network) → x ≡ calling.called device members s idle tried input
             → (port : ℕ) (bytes : List ℕ) → Has (port, bytes) done.posts
             → IsPost device members w x bytes)
             → ((notice : Notice) → Has notice done.notices
@@ -204,18 +198,16 @@ module _ {C : Type 0} (device : C → Device) (members : Membership)
           goes = λ opened. record {
             x = _;
             moves = allows device members may
-                (calling.ok_moves device members w inv formed n cell tables idle tried recovers input
+                (calling.ok_moves device members s idle tried input
                 deed is answer new c);
             posts = λ port bytes h. posts _ refl port bytes h;
             notices = λ notice h.
-                calling.ok_notices device members w inv formed n cell tables idle tried recovers
+                calling.ok_notices device members s idle tried
                 input deed is answer (c.answered refl).gives.0 notice (among notice h);
           };
-          fails = λ needs. absurd (cc (calling.failed_by_device device members w inv formed n cell
-              tables idle tried recovers input (Ok answer) new c needs));
+          fails = λ needs. absurd (cc (calling.failed_by_device device members s idle tried input (Ok answer) new c needs));
           dies = call_dies (Ok answer) new c;
-          last = λ needs. absurd (cc (calling.failed_by_device device members w inv formed n cell
-              tables idle tried recovers input (Ok answer) new c needs));
+          last = λ needs. absurd (cc (calling.failed_by_device device members s idle tried input (Ok answer) new c needs));
         }
 
         -- where it is refused
@@ -230,7 +222,7 @@ module _ {C : Type 0} (device : C → Device) (members : Membership)
         err_ends fault new c done posts among said = record {
           goes = λ opened. record {
             x = w;
-            moves = calling.err_stays device members w inv formed n cell tables idle tried recovers
+            moves = calling.err_stays device members s idle tried
                 input fault new c opened D;
             posts = posts w;
             notices = λ notice h. err_notices w input fault notice (among notice h);
@@ -244,8 +236,7 @@ module _ {C : Type 0} (device : C → Device) (members : Membership)
                 notices = λ notice h. err_notices moves.0 input fault notice (among notice h);
               };
           dies = call_dies (Err fault) new c;
-          last = λ needs. said (same_fault (calling.failed_by_device device members w inv formed n
-              cell tables idle tried recovers input (Err fault) new c needs));
+          last = λ needs. said (same_fault (calling.failed_by_device device members s idle tried input (Err fault) new c needs));
         }
           where
             same_fault : {f g : SiteFault} → answered (Err f) ≡ answered (Err g) → f ≡ g
@@ -261,7 +252,7 @@ module _ {C : Type 0} (device : C → Device) (members : Membership)
             ok_ends answer new c _
             (λ x same port bytes h. subst (λ (x : Network). IsPost device members w x bytes)
             (sym same)
-            (inl (calling.ok_posts device members w inv formed n cell tables idle tried recovers
+            (inl (calling.ok_posts device members s idle tried
             input deed is answer (c.answered refl).gives.1 ports port bytes h)))
             among
         speaks_ends (Err fault) new c ports notices among said =
