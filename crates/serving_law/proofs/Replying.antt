@@ -1,0 +1,107 @@
+-- Replies to clients are well-formed, and a bag that one calls known was chosen.
+use Rattle.std.proofs.Common.{ℕ, ◌≡◌, ◌⊎◌, ◌≤◌, inl, inr, refl, sym, ap, subst, ◌∙◌, arith}
+use Rattle.std.proofs.Common.{List, [], ◌∷◌, ◌++◌, length, length-append, Option, None, Some}
+use Rattle.std.specs.Prelude.{Result, Ok, Err}
+use Rattle.std.specs.Option.{IfSome}
+use Rattle.std.specs.Int.{w64, to_be_bytes}
+use Rattle.sha2.specs.Sha512.{sha512, digest_bytes}
+use Rattle.fed_types.specs.declared.bag_id.BagId.{BagId}
+use Rattle.fed_types.specs.Lists.{Has}
+use Rattle.fed_types.specs.Sites.{Membership, IsSiteNumber}
+use Rattle.fed_types.specs.Slots.{SlotName}
+use Rattle.fed_types.specs.Values.{IsBag, IsSlot}
+use Rattle.fed_types.specs.Laws.Lists.{has_one}
+use Rattle.bag_tree.specs.declared.fault.TreeFault.{TreeFault}
+use Rattle.bag_tree.specs.declared.fault.TreeFault.TheVariants as trees
+use Rattle.bag_tree.specs.Facts.{TreeFacts}
+use Rattle.bag_check.specs.declared.fault.BagFault.{BagFault}
+use Rattle.bag_check.specs.declared.fault.BagFault.TheVariants as bags
+use Rattle.bag_check.specs.Check.{check_of, identity_of, first_fault, answer}
+use Rattle.records.specs.declared.entry.Entry.TheVariants as entry
+use Rattle.records.specs.declared.record.Record.{Record}
+use Rattle.records.specs.Bounds.{HasEntry}
+use Rattle.records.specs.Records.{IsRecord, AreRecords}
+use Rattle.records.specs.Words.{deposit_of, known_of}
+use Rattle.records.proofs.Bounds.{known_among}
+use Rattle.dgram.specs.declared.answers.DepositAnswer.{DepositAnswer}
+use Rattle.dgram.specs.declared.answers.DepositAnswer.TheVariants as deposit
+use Rattle.dgram.specs.declared.answers.QueryAnswer.{QueryAnswer}
+use Rattle.dgram.specs.declared.answers.QueryAnswer.TheVariants as query
+use Rattle.dgram.specs.declared.body.Body.TheVariants.{DepositReply, QueryReply}
+use Rattle.dgram.specs.declared.message.Message.{Message}
+use Rattle.dgram.specs.Messages.{IsMessage, IsDepositAnswer, IsQueryAnswer}
+use Rattle.site.specs.declared.answer.Answer.{Answer}
+use Rattle.site.specs.declared.answer.Line.{Line}
+use Rattle.site.specs.declared.answer.Line.TheVariants as lines
+use Rattle.site.specs.declared.answer.Reply.{Reply}
+use Rattle.site.specs.declared.answer.Reply.TheVariants as replies
+use Rattle.site.specs.declared.fault.SiteFault.{SiteFault}
+use Rattle.site.specs.declared.fault.SiteFault.TheVariants as faults
+use Rattle.site.specs.Calls.{reply_of, reply_by}
+use Rattle.udp_site.specs.Replies.{deposit_answer, tree_answer, query_answer, bag_answer}
+use Rattle.world_law.proofs.WellFormedWords.{all_has, deposit_is, known_is}
+
+-- ---- bags
+
+pub sixty_four : (bytes : List ℕ) → length (sha512 bytes) ≡ 64
+unfolding sha512 digest_bytes
+sixty_four bytes = refl
+
+-- the bag that a check finds has all its bytes
+pub checked_is : (facts : TreeFacts) (bag : BagId) → check_of facts ≡ Ok bag → IsBag bag
+unfolding check_of
+checked_is facts bag = go (first_fault facts)
+  where
+    go : (o : Option BagFault) → answer facts o ≡ Ok bag → IsBag bag
+    go None e = subst IsBag (same e) (sixty_four _)
+      where
+        same : answer facts None ≡ Ok bag → identity_of facts ≡ bag
+        same e = cc
+    go (Some fault) e = absurd (cc e)
+
+-- ---- answers to deposits
+
+pub tree_answer_is : (fault : TreeFault) → IfSome (tree_answer fault) IsDepositAnswer
+tree_answer_is trees.Memory = tt
+tree_answer_is trees.BadPath = tt
+tree_answer_is trees.Listing = (omega arith, omega arith)
+tree_answer_is trees.NotAFile = (omega arith, omega arith)
+tree_answer_is trees.TooDeep = (omega arith, omega arith)
+tree_answer_is trees.TooMany = (omega arith, omega arith)
+tree_answer_is trees.TextTooLong = (omega arith, omega arith)
+tree_answer_is trees.Device = (omega arith, omega arith)
+
+pub bag_answer_is : (fault : BagFault) → IfSome (bag_answer fault) IsDepositAnswer
+bag_answer_is bags.Memory = tt
+bag_answer_is fault = (omega arith, omega arith)
+
+-- ---- answers to queries
+
+pub query_answer_is : (slot : SlotName) (records : List Record) → AreRecords records
+    → IsQueryAnswer (query_answer (Ok (reply_of slot records)))
+unfolding reply_of
+query_answer_is slot records are =
+    go (known_of slot records) (deposit_of slot records) (known_is slot records are)
+    (deposit_is slot records are)
+  where
+    go : (known own : Option BagId) → IfSome known IsBag → IfSome own IsBag
+        → IsQueryAnswer (query_answer (Ok (reply_by known own)))
+    go (Some bag) own h k = h
+    go None (Some bag) h k = k
+    go None None h k = tt
+
+-- what is replied as known is on record
+pub replied_is_known : (slot : SlotName) (records : List Record) (bag : BagId)
+    → reply_of slot records ≡ replies.Known bag → HasEntry slot records (entry.Known bag)
+unfolding reply_of
+replied_is_known slot records bag =
+    go (known_of slot records) refl (deposit_of slot records)
+  where
+    go : (known : Option BagId) → known_of slot records ≡ known → (own : Option BagId)
+        → reply_by known own ≡ replies.Known bag → HasEntry slot records (entry.Known bag)
+    go (Some known) e own f =
+        let same : known ≡ bag = cc in
+        subst (λ (b : BagId). HasEntry slot records (entry.Known b)) same
+        (known_among slot records known e)
+    go None e (Some own) f = absurd (cc f)
+    go None e None f = absurd (cc f)

@@ -1,0 +1,5 @@
+use Rattle.serving_law.proofs.Fooling.{fooled_by_a_forged_known}
+use Rattle.serving_law.proofs.examples.fooled_by_a_forged_known.Goals as goal
+
+pub returns : goal.returns
+returns c = fooled_by_a_forged_known

@@ -1,0 +1,5 @@
+use Rattle.serving_law.proofs.Killing.{killed_in_a_deposit}
+use Rattle.serving_law.proofs.examples.killed_in_a_deposit.Goals as goal
+
+pub returns : goal.returns
+returns c = killed_in_a_deposit

@@ -1,0 +1,66 @@
+-- What is promised of every history of a federation of sites that serve.
+use Rattle.std.specs.Prelude.{◌≡◌, ℕ, List, ◌∷◌, ◌++◌, Option, Result, false}
+use Rattle.fed_types.specs.declared.bag_id.BagId.{BagId}
+use Rattle.fed_types.specs.Lists.{Has}
+use Rattle.fed_types.specs.Sites.{Membership}
+use Rattle.fed_types.specs.Slots.{SlotName}
+use Rattle.fed_types.specs.Values.{IsMembership}
+use Rattle.bag_tree.specs.declared.fault.TreeFault.{TreeFault}
+use Rattle.bag_tree.specs.Facts.{TreeFacts}
+use Rattle.cell_device.specs.Devices.{Device}
+use Rattle.udp_site.specs.Turns.{Serving, turn_of}
+use Rattle.udp_site.specs.Served.{Turned, is_the_last}
+use Rattle.serving_law.specs.Federations.{Step, Happening, new_federation, after_all}
+use Rattle.serving_law.specs.Rules.{MayCome, IsServing, Takes, IsHistory}
+use Rattle.serving_law.specs.Reports.{Reports, Registers, OnRecord, IsDeposit}
+
+-- one of these happenings is a deposit of the bag for the slot
+pub record WasDeposited {C : Type 0} (federation : ℕ) (history : List (Happening C))
+    (slot : SlotName) (bag : BagId) : Type 0 where
+  pub before : List (Happening C)
+  pub happening : Happening C
+  pub later : List (Happening C)
+  pub split : history ≡ before ++ happening ∷ later
+  pub is : IsDeposit federation (after_all new_federation before) happening slot bag
+
+module _ {C : Type 0} (device : C → Device) (members : Membership) where
+  -- Each turn of which `serve` tells is one that may happen, where what it took may come: whatever
+  -- it knows of folders, and to whichever ports it hands out. And it goes on only where its site
+  -- needs no opening. So whole turns are `Turns`; the last one, of which a part was done, is `Turns`
+  -- or `Fails`.
+  abbrev pub TurnsMayHappen : Type 0
+  TurnsMayHappen =
+      (history : List (Happening C)) (n : ℕ) (old next : Serving C) (ports : List ℕ)
+      (gives : Option (List ℕ → Result TreeFacts TreeFault)) (turn : Turned)
+      → IsMembership members → IsHistory device members history
+      → IsServing device members (after_all new_federation history) n old
+      → MayCome members.federation (after_all new_federation history).handed turn.took
+      → turn_of device ports gives old turn.took turn.done next
+      → (step : Step C) × (step.turn ≡ turn) × (step.next ≡ next)
+      × Takes device members (after_all new_federation history) old step
+      × (is_the_last turn ≡ false → next.site.book.needs_opening ≡ false)
+
+  -- agreement: no two reports, of any members at any times, name different bags for one slot
+  abbrev pub ReportsAgree : Type 0
+  ReportsAgree =
+      (history : List (Happening C)) (g h : Happening C) (slot : SlotName) (u v : BagId)
+      → IsMembership members → IsHistory device members history → Has g history → Has h history
+      → Reports members.federation g slot u → Reports members.federation h slot v
+      → u ≡ v
+
+  -- validity: what is reported was deposited for the slot before, at some member
+  abbrev pub ReportsWereDeposited : Type 0
+  ReportsWereDeposited =
+      (before later : List (Happening C)) (h : Happening C) (slot : SlotName) (bag : BagId)
+      → IsMembership members → IsHistory device members (before ++ h ∷ later)
+      → Reports members.federation h slot bag
+      → WasDeposited members.federation before slot bag
+
+  -- what a member says it has registered is on its record from then on, whatever befalls it
+  abbrev pub RegisteredStays : Type 0
+  RegisteredStays =
+      (before later : List (Happening C)) (h : Happening C) (n : ℕ) (slot : SlotName)
+      (bag : BagId)
+      → IsMembership members → IsHistory device members (before ++ h ∷ later)
+      → Registers members.federation h n slot bag
+      → OnRecord (after_all new_federation (before ++ h ∷ later)) n slot bag

@@ -1,0 +1,10 @@
+//! What is promised of sites that serve, each a process with a cell of its own: agreement and
+//! validity of all that they print and reply, over the rules by which `udp_site::serve` takes its
+//! turns. The definitions stand in specs/; a function here does nothing, and its contract is a law.
+#![tactic(auto)]
+
+mod examples;
+mod law;
+
+pub use examples::{fooled_by_a_forged_known, killed_in_a_deposit};
+pub use law::{registered_stays, reports_agree, reports_were_deposited, turns_may_happen};
