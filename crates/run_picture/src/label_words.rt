@@ -47,8 +47,8 @@ fn push_arrival(
 
 fn push_stop(text: &mut String, event: &Event) -> Result<(), AllocError> {
     match event.record {
-        Some(_) => text.push_str(" · stops, recorded"),
-        None => text.push_str(" · stops"),
+        Some(_) => text.push_str(" · recorded, stops"),
+        None => text.push_str(" · stops, no record"),
     }
 }
 
@@ -92,12 +92,10 @@ fn has_refused(story: &Story, event: &Event) -> bool {
 
 fn push_count(text: &mut String, count: Option<Count>) -> Result<(), AllocError> {
     match count {
-        Some(count) => {
-            let heard = count.heard;
-            let needed = count.needed;
+        Some(Count { heard, needed, .. }) if heard <= needed => {
             write!(text, " · {heard} of {needed}")
         }
-        None => Ok(()),
+        _ => Ok(()),
     }
 }
 

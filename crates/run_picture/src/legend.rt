@@ -1,9 +1,10 @@
 //! What marks, lines and colours mean.
 
+use crate::arrows::push_cross;
 use crate::layout::Layout;
 use crate::marks::{Mark, push_mark};
 use crate::paint::Paint;
-use run_story::{Story};
+use run_story::Story;
 use std::alloc::{AllocError, Global};
 
 /// How wide and how high an entry of the legend is.
@@ -60,7 +61,7 @@ pub(crate) fn push_legend(
         entry = entry.saturating_add(1);
     }
     let (x, at) = place_of(layout, entry, y);
-    push_mark(text, x, at, Mark::Stop, Paint::Plain)?;
+    push_broken(text, x, at)?;
     push_words(text, x, at, "never delivered")?;
     for tree in trees {
         entry = entry.saturating_add(1);
@@ -68,6 +69,13 @@ pub(crate) fn push_legend(
         push_tree(text, x, at, *tree)?;
     }
     Ok(())
+}
+
+// An arrow that breaks off.
+fn push_broken(text: &mut String, x: usize, y: usize) -> Result<(), AllocError> {
+    let left = x.saturating_sub(14);
+    write!(text, "<path class=\"a b sp\" d=\"M{left} {y}H{x}\"/>")?;
+    push_cross(text, x.saturating_add(2), y, Paint::Plain)
 }
 
 fn push_tree(text: &mut String, x: usize, y: usize, tree: u32) -> Result<(), AllocError> {

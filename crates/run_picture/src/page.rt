@@ -11,15 +11,15 @@ use crate::paint::{push_classes, push_heads};
 use run_story::Story;
 use std::alloc::{AllocError, Global};
 
-const STYLE: &str = "text{font:12px Inter,'Segoe UI','Helvetica Neue',Helvetica,Arial,'DejaVu Sans',sans-serif;paint-order:stroke;stroke:#fff;stroke-width:4px;stroke-linejoin:round}
+const STYLE: &str = "text{font:12px Inter,'Segoe UI','Helvetica Neue',Helvetica,Arial,'DejaVu Sans',sans-serif;paint-order:stroke;stroke:#fff;stroke-width:7px;stroke-linejoin:round}
 .l{text-anchor:end}
 .n{fill:#a3adb8;font-size:10px}
 .g{fill:#475569}
 .name{text-anchor:middle;font-size:13px;font-weight:600;fill:#334155;stroke:none}
 .site{fill:#eef2f6;stroke:#cbd5e1}
-.up{stroke-width:2;stroke:#cbd5e1}
+.up{stroke-width:2.5;stroke:#cfd8e3}
 .knows{stroke-width:6;stroke-linecap:round;opacity:.55}
-.down{stroke-width:2;stroke:#cbd5e1;stroke-dasharray:1 7;stroke-linecap:round}
+.down{stroke-width:2.5;stroke:#cfd8e3;stroke-dasharray:1 7;stroke-linecap:round}
 .failed{stroke-width:2;stroke:#b4483c;stroke-dasharray:5 4;opacity:.6}
 path.a{fill:none;stroke-width:1.4;opacity:.85}
 path.b{stroke-dasharray:5 3;opacity:.7}
@@ -56,8 +56,8 @@ fn push_opening(text: &mut String, width: usize, height: usize) -> Result<(), Al
         "<svg xmlns=\"http://www.w3.org/2000/svg\" viewBox=\"0 0 {width} {height}\" width=\"{width}\" height=\"{height}\">\n"
     )?;
     text.push_str("<style>\n")?;
-    text.push_str(STYLE)?;
     push_classes(text)?;
+    text.push_str(STYLE)?;
     text.push_str("</style>\n<defs>\n")?;
     push_heads(text)?;
     text.push_str("</defs>\n<rect width=\"100%\" height=\"100%\" fill=\"#fff\"/>\n")

@@ -69,25 +69,27 @@ impl Story {
         }
         for (place, event) in self.events.iter().enumerate() {
             if let Deed::Deliver(number) = event.deed {
-                let is_lost = self.reason_of(event).is_some();
-                note(&mut passages, number, place, is_lost);
+                match self.reason_of(event) {
+                    None => note(&mut passages, number, Passage::Arrived(place)),
+                    Some(Reason::Down) => note(&mut passages, number, Passage::ToNobody(place)),
+                    Some(_) => {}
+                }
             }
         }
         Ok(passages)
     }
 }
 
-// The datagram of this number came, in the event at this place.
-fn note(passages: &mut Vec<Passage>, number: usize, place: usize, is_lost: bool) {
+// The datagram of this number came so.
+fn note(passages: &mut Vec<Passage>, number: usize, came: Passage) {
     let Some(index) = number.checked_sub(1) else {
         return;
     };
     if let Some(passage) = passages.get_mut(index) {
-        *passage = match *passage {
-            Passage::Never if is_lost => Passage::ToNobody(place),
-            Passage::Never => Passage::Arrived(place),
-            Passage::ToNobody(_) if !is_lost => Passage::Arrived(place),
-            before => before,
+        *passage = match (*passage, came) {
+            (Passage::Never, came) => came,
+            (Passage::ToNobody(_), Passage::Arrived(place)) => Passage::Arrived(place),
+            (before, _) => before,
         };
     }
 }

@@ -98,10 +98,10 @@ fn push_promised(text: &mut String, story: &Story, event: &Event) -> Result<(), 
     }
     match count.highest {
         Some(ballot) => {
-            text.push_str(", so it proposes the bag of the highest vote, that of ")?;
+            text.push_str(": it proposes the bag of the highest vote, ")?;
             push_ballot(text, ballot)
         }
-        None => text.push_str(", none with a vote, so it proposes its own deposit"),
+        None => text.push_str(", none with a vote: it proposes its own deposit"),
     }
 }
 
@@ -115,16 +115,20 @@ fn push_voted(text: &mut String, story: &Story, event: &Event) -> Result<(), All
 fn push_count(text: &mut String, count: Count, what: &str) -> Result<(), AllocError> {
     let heard = count.heard;
     let needed = count.needed;
-    write!(text, "; {heard} of {needed} {what}")
+    if heard <= needed {
+        write!(text, "; {heard} of {needed} {what}")
+    } else {
+        write!(text, "; {heard} {what}, where {needed} suffice")
+    }
 }
 
 // What the site knows since.
 fn push_learned(text: &mut String, story: &Story, event: &Event) -> Result<(), AllocError> {
     match story.line_of(event) {
         Some(Line::Known { site, bag, .. }) => {
-            write!(text, ", so site {site} knows that ")?;
+            write!(text, ": site {site} knows that ")?;
             push_bag(text, bag.tree)?;
-            text.push_str(" is chosen")
+            text.push_str(" was chosen")
         }
         _ => Ok(()),
     }
