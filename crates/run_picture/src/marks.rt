@@ -5,7 +5,7 @@ use crate::layout::Layout;
 use crate::paint::Paint;
 use lines::Line;
 use records::Entry;
-use run_story::{Event, Story};
+use run_story::{Deed, Event, Story};
 use site::SiteFault;
 use std::alloc::AllocError;
 
@@ -51,7 +51,7 @@ fn push_event(
     let x = layout.column(event.site);
     let paint = Paint::of_tree(event.tree);
     if let Some(mark) = record_mark(event) {
-        push_mark(text, x, row, mark, paint)?;
+        push_mark(text, x, row.saturating_add(lower_for(event)), mark, paint)?;
     }
     match story.line_of(event) {
         Some(Line::Down { .. }) => push_mark(text, x, row.saturating_add(8), Mark::Stop, paint),
@@ -62,6 +62,14 @@ fn push_event(
         Some(Line::Skip { .. }) => Ok(()),
         _ if event.record.is_none() => push_mark(text, x, row, Mark::Nothing, paint),
         _ => Ok(()),
+    }
+}
+
+// How much lower a record is drawn that shows only as the site starts: below the start.
+fn lower_for(event: &Event) -> usize {
+    match event.deed {
+        Deed::Start => 14,
+        _ => 0,
     }
 }
 

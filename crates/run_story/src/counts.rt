@@ -58,6 +58,15 @@ impl Counts {
         })
     }
 
+    /// An event is about the slot.
+    pub(crate) fn note(&mut self, slot: &Slot) -> Result<(), AllocError> {
+        if self.slots.contains(slot) {
+            return Ok(());
+        }
+        self.slots.insert(slot.copy(self.alloc)?)?;
+        Ok(())
+    }
+
     /// How many slots there are.
     pub(crate) fn slots(&self) -> usize {
         self.slots.len()

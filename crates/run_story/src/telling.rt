@@ -102,6 +102,7 @@ impl Telling {
         command: &Option<Command>,
     ) -> Result<(), AllocError> {
         let plan = self.looked_up(plan)?;
+        self.note_slot(&plan)?;
         let lines_before = self.federation.lines().len();
         let sent_before = self.datagrams.len();
         self.federation.run_line(number, command)?;
@@ -146,6 +147,14 @@ impl Telling {
                 slot: Some(datagram.message.slot.copy(self.alloc)?),
             }),
             None => Ok(plan),
+        }
+    }
+
+    // Notes what an event is about.
+    fn note_slot(&mut self, plan: &Plan) -> Result<(), AllocError> {
+        match &plan.slot {
+            Some(slot) => self.counts.note(slot),
+            None => Ok(()),
         }
     }
 
