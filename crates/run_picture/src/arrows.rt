@@ -86,7 +86,10 @@ fn push_path(
     let y = layout.start(number);
     let end = layout.row(place);
     let letter = Paint::of(datagram).letter();
-    write!(text, "<path class=\"{class} s{letter}\" marker-end=\"url(#h{letter})\" d=\"M{x} {y}")?;
+    write!(
+        text,
+        "<path class=\"{class} s{letter}\" marker-end=\"url(#h{letter})\" d=\"M{x} {y}"
+    )?;
     if datagram.from == datagram.to {
         return push_loop(text, x, y, end);
     }
@@ -116,7 +119,10 @@ fn push_broken(
     let y = layout.start(number);
     let to = beside(x, BROKEN, side_to(datagram.from, datagram.to));
     let end = layout.stub(number);
-    write!(text, "<path class=\"a b s{letter}\" d=\"M{x} {y}L{to} {end}\"/>")?;
+    write!(
+        text,
+        "<path class=\"a b s{letter}\" d=\"M{x} {y}L{to} {end}\"/>"
+    )?;
     push_cross(text, to, end, paint)
 }
 
@@ -130,7 +136,10 @@ pub(crate) fn push_cross(
     let letter = paint.letter();
     let left = x.saturating_sub(4);
     let top = y.saturating_sub(4);
-    write!(text, "<path class=\"x s{letter}\" d=\"M{left} {top}l8 8m0 -8l-8 8\"/>")
+    write!(
+        text,
+        "<path class=\"x s{letter}\" d=\"M{left} {top}l8 8m0 -8l-8 8\"/>"
+    )
 }
 
 // A dotted arrow, where a datagram has arrived before.

@@ -1,8 +1,8 @@
 //! The names of the sites, above and below their columns.
 
 use crate::layout::Layout;
-use run_story::Story;
 use fed_types::SiteNo;
+use run_story::Story;
 use std::alloc::AllocError;
 
 /// Appends the names of the sites at this height.
@@ -28,21 +28,26 @@ fn push_name(
     let x = layout.column(site);
     let left = x.saturating_sub(62);
     let middle = y.saturating_add(19);
-    write!(text, "<rect class=\"site\" x=\"{left}\" y=\"{y}\" width=\"124\" height=\"28\" rx=\"14\"/>")?;
-    write!(text, "<text class=\"name\" x=\"{x}\" y=\"{middle}\">site {site}")?;
+    write!(
+        text,
+        "<rect class=\"site\" x=\"{left}\" y=\"{y}\" width=\"124\" height=\"28\" rx=\"14\"/>"
+    )?;
+    write!(
+        text,
+        "<text class=\"name\" x=\"{x}\" y=\"{middle}\">site {site}"
+    )?;
     push_weight(text, story, site)?;
     text.push_str("</text>\n")
 }
 
 // The weight of a site, where not all are 1.
 fn push_weight(text: &mut String, story: &Story, site: u8) -> Result<(), AllocError> {
-    let members = story.members;
-    if members.total_weight() == u16::from(members.count()) {
+    if !story.has_weights() {
         return Ok(());
     }
     match SiteNo::new(site) {
         Ok(number) => {
-            let weight = members.weight(number);
+            let weight = story.members.weight(number);
             write!(text, ", weight {weight}")
         }
         Err(_) => Ok(()),

@@ -2,7 +2,9 @@
 
 use dgram::Body;
 use lines::{Line, NamedReply};
-use run_story::{Count, Datagram, Deed, Event, Story, push_bag, push_ballot, push_message, push_slot};
+use run_story::{
+    Count, Datagram, Deed, Event, Story, push_bag, push_ballot, push_message, push_slot,
+};
 use site::SiteFault;
 use std::alloc::{AllocError, Global};
 
@@ -75,7 +77,7 @@ fn push_note(
                 Ok(())
             }
         }
-        Body::Promise { .. } | Body::Accepted { .. } => push_count(text, event.count),
+        Body::Promise { .. } | Body::Accepted { .. } => push_count(text, story, event.count),
         _ => Ok(()),
     }
 }
@@ -90,8 +92,12 @@ fn has_refused(story: &Story, event: &Event) -> bool {
     }
 }
 
-fn push_count(text: &mut String, count: Option<Count>) -> Result<(), AllocError> {
+// How much was heard: where each weight is 1, as long as that is no more than what is needed.
+fn push_count(text: &mut String, story: &Story, count: Option<Count>) -> Result<(), AllocError> {
     match count {
+        Some(Count { heard, needed, .. }) if story.has_weights() => {
+            write!(text, " · weight {heard}, {needed} needed")
+        }
         Some(Count { heard, needed, .. }) if heard <= needed => {
             write!(text, " · {heard} of {needed}")
         }

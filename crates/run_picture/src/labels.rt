@@ -40,7 +40,10 @@ pub(crate) fn push_labels(
 
 fn push_line_number(text: &mut String, row: usize, line: usize) -> Result<(), AllocError> {
     let y = row.saturating_add(4);
-    write!(text, "<text class=\"n\" x=\"14\" y=\"{y}\">line {line}</text>\n")
+    write!(
+        text,
+        "<text class=\"n\" x=\"14\" y=\"{y}\">line {line}</text>\n"
+    )
 }
 
 fn push_label(
@@ -106,7 +109,10 @@ fn push_words(
         Side::Right => "w",
     };
     let letter = paint.letter();
-    write!(text, "<text class=\"{class} f{letter}\" x=\"{x}\" y=\"{y}\">")?;
+    write!(
+        text,
+        "<text class=\"{class} f{letter}\" x=\"{x}\" y=\"{y}\">"
+    )?;
     push_xml(text, words)?;
     text.push_str("</text>\n")
 }

@@ -96,12 +96,18 @@ impl Layout {
 
     /// The row from which the datagram of this number goes out.
     pub(crate) fn start(&self, number: usize) -> usize {
-        self.starts.get(number.saturating_sub(1)).copied().unwrap_or(0)
+        self.starts
+            .get(number.saturating_sub(1))
+            .copied()
+            .unwrap_or(0)
     }
 
     /// Where the datagram of this number breaks off, 0 where it doesn't.
     pub(crate) fn stub(&self, number: usize) -> usize {
-        self.stubs.get(number.saturating_sub(1)).copied().unwrap_or(0)
+        self.stubs
+            .get(number.saturating_sub(1))
+            .copied()
+            .unwrap_or(0)
     }
 
     /// What became of the datagram of this number.

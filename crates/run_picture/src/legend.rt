@@ -9,6 +9,7 @@ use std::alloc::{AllocError, Global};
 
 /// How wide and how high an entry of the legend is.
 const WIDE: usize = 150;
+
 const HIGH: usize = 24;
 
 /// How many entries say what marks mean.
@@ -82,16 +83,25 @@ fn push_tree(text: &mut String, x: usize, y: usize, tree: u32) -> Result<(), All
     let letter = Paint::of_tree(tree).letter();
     let left = x.saturating_sub(9);
     let top = y.saturating_sub(4);
-    write!(text, "<rect class=\"f{letter}\" x=\"{left}\" y=\"{top}\" width=\"18\" height=\"8\" rx=\"4\"/>")?;
+    write!(
+        text,
+        "<rect class=\"f{letter}\" x=\"{left}\" y=\"{top}\" width=\"18\" height=\"8\" rx=\"4\"/>"
+    )?;
     let at = x.saturating_add(16);
     let base = y.saturating_add(4);
-    write!(text, "<text class=\"g\" x=\"{at}\" y=\"{base}\">bag {tree}</text>\n")
+    write!(
+        text,
+        "<text class=\"g\" x=\"{at}\" y=\"{base}\">bag {tree}</text>\n"
+    )
 }
 
 fn push_words(text: &mut String, x: usize, y: usize, words: &str) -> Result<(), AllocError> {
     let at = x.saturating_add(16);
     let base = y.saturating_add(4);
-    write!(text, "<text class=\"g\" x=\"{at}\" y=\"{base}\">{words}</text>\n")
+    write!(
+        text,
+        "<text class=\"g\" x=\"{at}\" y=\"{base}\">{words}</text>\n"
+    )
 }
 
 // The place of an entry.

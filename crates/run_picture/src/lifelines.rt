@@ -105,5 +105,8 @@ fn push_piece(text: &mut String, x: usize, piece: Piece, to: usize) -> Result<()
         State::Up if piece.tree == 0 => "up",
         State::Up => "knows",
     };
-    write!(text, "<path class=\"{class} s{letter}\" d=\"M{x} {from}V{to}\"/>\n")
+    write!(
+        text,
+        "<path class=\"{class} s{letter}\" d=\"M{x} {from}V{to}\"/>\n"
+    )
 }

@@ -101,12 +101,18 @@ pub(crate) fn push_mark(
     write!(text, "<g transform=\"translate({x} {y})\">")?;
     match mark {
         Mark::Deposit => {
-            write!(text, "<path class=\"m f{letter}\" d=\"M-5 -7h7l4 4v10h-11z\"/>")?;
+            write!(
+                text,
+                "<path class=\"m f{letter}\" d=\"M-5 -7h7l4 4v10h-11z\"/>"
+            )?;
         }
         Mark::Round => text.push_str("<path class=\"m fp\" d=\"M0 -6L6 5H-6z\"/>")?,
         Mark::Promise => text.push_str("<circle class=\"o\" r=\"5\"/>")?,
         Mark::Vote => {
-            write!(text, "<rect class=\"m f{letter}\" x=\"-6\" y=\"-6\" width=\"12\" height=\"12\" rx=\"2\"/>")?;
+            write!(
+                text,
+                "<rect class=\"m f{letter}\" x=\"-6\" y=\"-6\" width=\"12\" height=\"12\" rx=\"2\"/>"
+            )?;
         }
         Mark::Known => {
             write!(text, "<circle class=\"m f{letter}\" r=\"8\"/>")?;

@@ -11,7 +11,8 @@ use crate::paint::{push_classes, push_heads};
 use run_story::Story;
 use std::alloc::{AllocError, Global};
 
-const STYLE: &str = "text{font:12px Inter,'Segoe UI','Helvetica Neue',Helvetica,Arial,'DejaVu Sans',sans-serif;paint-order:stroke;stroke:#fff;stroke-width:7px;stroke-linejoin:round}
+const STYLE: &str =
+    "text{font:12px Inter,'Segoe UI','Helvetica Neue',Helvetica,Arial,'DejaVu Sans',sans-serif;paint-order:stroke;stroke:#fff;stroke-width:7px;stroke-linejoin:round}
 .l{text-anchor:end}
 .n{fill:#a3adb8;font-size:10px}
 .g{fill:#475569}

@@ -25,7 +25,11 @@ pub(crate) enum Paint {
 impl Paint {
     /// That of a bag, if there is one.
     pub(crate) fn of_tree(tree: u32) -> Paint {
-        if tree == 0 { Paint::Plain } else { Paint::Bag(tree) }
+        if tree == 0 {
+            Paint::Plain
+        } else {
+            Paint::Bag(tree)
+        }
     }
 
     /// That of a message.
@@ -66,7 +70,10 @@ pub(crate) fn push_classes(text: &mut String) -> Result<(), AllocError> {
 }
 
 fn push_class(text: &mut String, letter: char, colour: &str) -> Result<(), AllocError> {
-    write!(text, ".s{letter}{{stroke:{colour}}}.f{letter}{{fill:{colour}}}\n")
+    write!(
+        text,
+        ".s{letter}{{stroke:{colour}}}.f{letter}{{fill:{colour}}}\n"
+    )
 }
 
 /// Appends an arrowhead of each colour.

@@ -14,7 +14,5 @@ mod telling;
 
 pub use datagram::Datagram;
 pub use event::{Count, Deed, Event};
-pub use naming::{
-    kind_word, push_ballot, push_bag, push_head, push_message, push_slot, push_tail,
-};
+pub use naming::{kind_word, push_bag, push_ballot, push_head, push_message, push_slot, push_tail};
 pub use story::{Passage, Story, tell};

@@ -75,7 +75,8 @@ pub fn push_tail(text: &mut String, datagram: &Datagram) -> Result<(), AllocErro
     match &datagram.message.body {
         Body::Promise { prior: None, .. } => text.push_str(", no vote"),
         Body::Promise {
-            prior: Some(vote), ..
+            prior: Some(vote),
+            ..
         } => {
             text.push_str(", vote ")?;
             push_ballot(text, vote.ballot)?;
@@ -95,11 +96,7 @@ pub fn push_tail(text: &mut String, datagram: &Datagram) -> Result<(), AllocErro
 }
 
 /// Appends all that a datagram says: `Accept (2, 1), bag 1`.
-pub fn push_message(
-    text: &mut String,
-    datagram: &Datagram,
-    slot: bool,
-) -> Result<(), AllocError> {
+pub fn push_message(text: &mut String, datagram: &Datagram, slot: bool) -> Result<(), AllocError> {
     push_head(text, &datagram.message, slot)?;
     push_tail(text, datagram)
 }

@@ -45,6 +45,11 @@ impl Story {
         1 < self.slots
     }
 
+    /// Whether sites have other weights than 1.
+    pub fn has_weights(&self) -> bool {
+        self.members.total_weight() != u16::from(self.members.count())
+    }
+
     /// The line that an event printed.
     pub fn line_of(&self, event: &Event) -> Option<&Line> {
         match event.said {

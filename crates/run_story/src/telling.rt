@@ -7,8 +7,8 @@ use crate::planning::Plan;
 use crate::recorded::{Recorded, bag_on};
 use crate::story::Story;
 use dgram::Body;
-use federation::Federation;
 use fed_types::{Ballot, Members};
+use federation::Federation;
 use lines::Line;
 use records::Record;
 use schedule::{Command, Fate};
@@ -183,11 +183,7 @@ impl Telling {
     }
 
     // The record that the site has since, if it has one more than before.
-    fn note_record(
-        &mut self,
-        site: u8,
-        said: Option<usize>,
-    ) -> Result<Option<Record>, AllocError> {
+    fn note_record(&mut self, site: u8, said: Option<usize>) -> Result<Option<Record>, AllocError> {
         if let Some(Line::Skip { .. }) = self.line_at(said) {
             return Ok(None);
         }
@@ -223,7 +219,8 @@ impl Telling {
         sent_before: usize,
     ) -> Result<Option<Count>, AllocError> {
         if self.has_forgotten(said) {
-            self.counts.forget(plan.site, self.events.len().saturating_add(1));
+            self.counts
+                .forget(plan.site, self.events.len().saturating_add(1));
             return Ok(None);
         }
         if !self.is_heard(said) {

@@ -5,7 +5,7 @@ use crate::faults::push_refusal;
 use dgram::Body;
 use fed_types::Ballot;
 use lines::Line;
-use run_story::{Count, Datagram, Event, Story, push_ballot, push_bag, push_head, push_tail};
+use run_story::{Count, Datagram, Event, Story, push_bag, push_ballot, push_head, push_tail};
 use std::alloc::AllocError;
 
 /// Appends what a site took in, and what it did.
@@ -82,7 +82,11 @@ fn refused_for(story: &Story, event: &Event) -> Option<Ballot> {
     if event.sent_after == event.sent_before {
         return None;
     }
-    match &story.datagram(event.sent_before.saturating_add(1))?.message.body {
+    match &story
+        .datagram(event.sent_before.saturating_add(1))?
+        .message
+        .body
+    {
         Body::Refused { standing, .. } => Some(*standing),
         _ => None,
     }
@@ -92,7 +96,7 @@ fn push_promised(text: &mut String, story: &Story, event: &Event) -> Result<(), 
     let Some(count) = event.count else {
         return text.push_str("; not of a ballot that the site has issued last since it was opened");
     };
-    push_count(text, count, "promised")?;
+    push_count(text, story, count, "promised")?;
     if event.sent_before == event.sent_after {
         return Ok(());
     }
@@ -101,24 +105,30 @@ fn push_promised(text: &mut String, story: &Story, event: &Event) -> Result<(), 
             text.push_str(": it proposes the bag of the highest vote, ")?;
             push_ballot(text, ballot)
         }
-        None => text.push_str(", none with a vote: it proposes its own deposit"),
+        None => text.push_str(", no vote named: it proposes its own deposit"),
     }
 }
 
 fn push_voted(text: &mut String, story: &Story, event: &Event) -> Result<(), AllocError> {
     if let Some(count) = event.count {
-        push_count(text, count, "voted so")?;
+        push_count(text, story, count, "voted so")?;
     }
     push_learned(text, story, event)
 }
 
-fn push_count(text: &mut String, count: Count, what: &str) -> Result<(), AllocError> {
-    let heard = count.heard;
-    let needed = count.needed;
-    if heard <= needed {
+fn push_count(
+    text: &mut String,
+    story: &Story,
+    count: Count,
+    what: &str,
+) -> Result<(), AllocError> {
+    let Count { heard, needed, .. } = count;
+    if story.has_weights() {
+        write!(text, "; weight {heard} {what}, {needed} needed")
+    } else if heard <= needed {
         write!(text, "; {heard} of {needed} {what}")
     } else {
-        write!(text, "; {heard} {what}, where {needed} suffice")
+        write!(text, "; {heard} {what}, {needed} needed")
     }
 }
 

@@ -3,9 +3,9 @@
 use crate::arrivals::push_arrival;
 use crate::endings::push_stop;
 use crate::faults::push_refusal;
+use dgram::Body;
 use lines::{Line, NamedBag, NamedReply};
 use run_story::{Deed, Event, Story, push_bag, push_ballot};
-use dgram::Body;
 use std::alloc::AllocError;
 
 /// Appends what an event did that could apply, but for the record and the datagrams.
@@ -27,7 +27,10 @@ fn push_outcome(text: &mut String, story: &Story, event: &Event) -> Result<(), A
         Some(Line::Replied { reply, .. }) => push_reply(text, site, *reply),
         Some(Line::Refused { fault, .. }) => push_refusal(text, site, *fault),
         Some(Line::Dropped { .. }) => {
-            write!(text, "site {site} drops these bytes, which are no message of the federation")
+            write!(
+                text,
+                "site {site} drops these bytes, which are no message of the federation"
+            )
         }
         Some(Line::Down { .. }) => push_stop(text, event),
         Some(Line::Up { records, .. }) => push_start(text, event, *records),
@@ -52,7 +55,10 @@ fn push_reply(text: &mut String, site: u8, reply: NamedReply) -> Result<(), Allo
         }
         NamedReply::Pending(bag) => {
             let tree = bag.tree;
-            write!(text, "site {site} knows of none; bag {tree} is its own deposit")
+            write!(
+                text,
+                "site {site} knows of none; bag {tree} is its own deposit"
+            )
         }
         NamedReply::Nothing => write!(text, "site {site} knows of none, and has no deposit"),
     }
@@ -61,7 +67,10 @@ fn push_reply(text: &mut String, site: u8, reply: NamedReply) -> Result<(), Allo
 fn push_start(text: &mut String, event: &Event, records: usize) -> Result<(), AllocError> {
     let site = event.site;
     let noun = if records == 1 { "record" } else { "records" };
-    write!(text, "site {site} is up again, with {records} {noun}; what it had heard is forgotten")
+    write!(
+        text,
+        "site {site} is up again, with {records} {noun}; what it had heard is forgotten"
+    )
 }
 
 // A call that prints nothing: a proposal, or a question.

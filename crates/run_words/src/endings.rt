@@ -58,20 +58,27 @@ fn push_down(text: &mut String, event: &Event) -> Result<(), AllocError> {
 /// Appends how a site stopped.
 pub(crate) fn push_stop(text: &mut String, event: &Event) -> Result<(), AllocError> {
     let site = event.site;
+    write!(text, "site {site} stops")?;
     match event.fate {
-        Fate::StopsIn(device, kept) => {
-            let doing = match device {
-                DeviceCall::Append => "writes its record",
-                DeviceCall::Sync => "syncs its record",
-            };
-            let bytes = if kept == 1 { "byte is" } else { "bytes are" };
-            write!(text, "site {site} stops as it {doing}, of which {kept} {bytes} kept at most")
-        }
-        Fate::StopsAfter(_) => {
-            let sent = event.sent_after.saturating_sub(event.sent_before);
-            let noun = if sent == 1 { "datagram" } else { "datagrams" };
-            write!(text, "site {site} stops once {sent} {noun} of it went out")
-        }
-        Fate::Whole | Fate::FailsIn(..) => write!(text, "site {site} stops"),
+        Fate::StopsIn(device, _) => push_stop_in(text, event, device),
+        Fate::StopsAfter(_) => push_stop_after(text, event),
+        Fate::Whole | Fate::FailsIn(..) => Ok(()),
+    }
+}
+
+// In a device call, if there was one.
+fn push_stop_in(text: &mut String, event: &Event, device: DeviceCall) -> Result<(), AllocError> {
+    match (&event.record, device) {
+        (Some(_), DeviceCall::Append) => text.push_str(" as it writes its record, which is kept"),
+        (Some(_), DeviceCall::Sync) => text.push_str(" as it syncs its record, which is kept"),
+        (None, _) => text.push_str(" before it is done, with nothing of it on record"),
+    }
+}
+
+fn push_stop_after(text: &mut String, event: &Event) -> Result<(), AllocError> {
+    match event.sent_after.saturating_sub(event.sent_before) {
+        0 => text.push_str(" before any datagram of it went out"),
+        1 => text.push_str(" once a datagram of it went out"),
+        sent => write!(text, " once {sent} datagrams of it went out"),
     }
 }

@@ -2,14 +2,19 @@ use fed_types::Members;
 use std::alloc::AllocError;
 
 /// Appends what a reader has to know of the words.
-pub fn push_heading(text: &mut String, members: Members) -> Result<(), AllocError> {
-    text.push_str("#1 is the first datagram that was sent, and bag 1 the bag of tree 1. The ballot (2, 1) is that of\n")?;
+pub(crate) fn push_heading(text: &mut String, members: Members) -> Result<(), AllocError> {
+    text.push_str(
+        "#1 is the first datagram that was sent, and bag 1 the bag of tree 1. The ballot (2, 1) is that of\n",
+    )?;
     text.push_str("round 2 of site 1. ")?;
     let needed = members.total_weight() / 2 + 1;
     let total = members.total_weight();
     if total == u16::from(members.count()) {
         write!(text, "A quorum is {needed} of {total} sites.\n\n")
     } else {
-        write!(text, "A quorum has {needed} of all weight, which is {total}.\n\n")
+        write!(
+            text,
+            "A quorum has {needed} of all weight, which is {total}.\n\n"
+        )
     }
 }

@@ -12,5 +12,4 @@ mod printing;
 mod records;
 mod sends;
 
-pub use heading::push_heading;
 pub use printing::words_of;

@@ -2,30 +2,21 @@
 
 use records::{Entry, Record};
 use run_story::{Event, push_bag, push_ballot};
-use schedule::Fate;
 use std::alloc::AllocError;
 
-/// Appends which record is in the cell since, where the words before don't say so, or that there is
-/// none after a stop in a call.
+/// Appends which record is in the cell since, if there is one more.
 pub(crate) fn push_kept(text: &mut String, event: &Event) -> Result<(), AllocError> {
     match &event.record {
         Some(record) => {
             text.push_str("; on record: ")?;
             push_record(text, record, event.tree)
         }
-        None => match event.fate {
-            Fate::StopsIn(..) | Fate::StopsAfter(_) => text.push_str("; nothing of it is on record"),
-            Fate::Whole | Fate::FailsIn(..) => Ok(()),
-        },
+        None => Ok(()),
     }
 }
 
-/// Appends what a record says.
-pub(crate) fn push_record(
-    text: &mut String,
-    record: &Record,
-    tree: u32,
-) -> Result<(), AllocError> {
+// What a record says.
+fn push_record(text: &mut String, record: &Record, tree: u32) -> Result<(), AllocError> {
     match &record.body {
         Entry::Deposit(_) => {
             text.push_str("deposit of ")?;
