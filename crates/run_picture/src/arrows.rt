@@ -1,9 +1,9 @@
 //! An arrow for each datagram that was sent.
 
 use crate::label_words::push_datagram;
-use crate::labels::{Side, beside, side_to};
 use crate::layout::Layout;
 use crate::paint::Paint;
+use crate::sides::{beside, side_to};
 use crate::xml::push_xml;
 use run_story::{Datagram, Deed, Passage, Story};
 use std::alloc::{AllocError, Global};

@@ -3,16 +3,10 @@
 use crate::label_words::{label_of, push_datagram};
 use crate::layout::Layout;
 use crate::paint::Paint;
+use crate::sides::{Side, beside, side_of, side_to};
 use crate::xml::push_xml;
 use run_story::{Deed, Event, Passage, Story};
 use std::alloc::{AllocError, Global};
-
-/// On which side of a place words stand.
-#[derive(Clone, Copy, Debug, PartialEq, Eq)]
-pub(crate) enum Side {
-    Left,
-    Right,
-}
 
 /// Appends all words of events.
 pub(crate) fn push_labels(
@@ -55,26 +49,10 @@ fn push_label(
     row: usize,
 ) -> Result<(), AllocError> {
     let words = label_of(alloc, story, event)?;
-    let side = side_of(story, layout, event);
+    let side = side_of(story, event);
     let x = beside(layout.column(event.site), 13, side);
     let paint = paint_of(story, event);
     push_words(text, x, row.saturating_sub(5), side, paint, words.as_str())
-}
-
-// An arrow comes from the other side; that of a site to itself from the right.
-fn side_of(story: &Story, layout: &Layout, event: &Event) -> Side {
-    if let Deed::Deliver(number) = event.deed {
-        if let Some(datagram) = story.datagram(number) {
-            if datagram.from < datagram.to {
-                return Side::Right;
-            }
-            return Side::Left;
-        }
-    }
-    if 1 < layout.sites && event.site == layout.sites {
-        return Side::Right;
-    }
-    Side::Left
 }
 
 fn paint_of(story: &Story, event: &Event) -> Paint {
@@ -84,14 +62,6 @@ fn paint_of(story: &Story, event: &Event) -> Paint {
             None => Paint::Plain,
         },
         _ => Paint::of_tree(event.tree),
-    }
-}
-
-/// So far from a place.
-pub(crate) fn beside(x: usize, far: usize, side: Side) -> usize {
-    match side {
-        Side::Left => x.saturating_sub(far),
-        Side::Right => x.saturating_add(far),
     }
 }
 
@@ -137,9 +107,4 @@ fn push_lost(
     let x = beside(layout.column(datagram.from), 74, side);
     let y = layout.stub(number).saturating_add(4);
     push_words(text, x, y, side, Paint::of(datagram), words.as_str())
-}
-
-/// On which side of a site another is; itself on the right.
-pub(crate) fn side_to(from: u8, to: u8) -> Side {
-    if to < from { Side::Left } else { Side::Right }
 }

@@ -1,6 +1,7 @@
 //! Where everything is, in units of the picture.
 
 use crate::label_words::label_of;
+use crate::sides::{Side, side_of};
 use lines::Reason;
 use run_story::{Deed, Event, Passage, Story};
 use std::alloc::{AllocError, Global};
@@ -13,13 +14,16 @@ const ROW: usize = 26;
 const STUB: usize = 18;
 /// Room for the numbers of the schedule's lines.
 const GUTTER: usize = 56;
+/// How far columns are apart at least, and how wide the margins are.
+const LEAST_SPACING: usize = 250;
+
+const LEAST_MARGIN: usize = 84;
 
 /// Where everything is.
 #[derive(Drop)]
 pub(crate) struct Layout {
     pub(crate) sites: u8,
-    /// How far columns are apart.
-    pub(crate) spacing: usize,
+    widths: Widths,
     // The row of each event, 0 where it isn't drawn.
     rows: Vec<usize>,
     // Of each datagram, the row of the event that sent it, and where it ends if it was lost.
@@ -35,7 +39,7 @@ impl Layout {
     pub(crate) fn of(alloc: Global, story: &Story) -> Result<Layout, AllocError> {
         let mut layout = Layout {
             sites: story.members.count(),
-            spacing: spacing_for(longest_label(alloc, story)?),
+            widths: Widths::of(alloc, story)?,
             rows: Vec::new(alloc),
             starts: Vec::new(alloc),
             stubs: Vec::new(alloc),
@@ -80,13 +84,13 @@ impl Layout {
     pub(crate) fn column(&self, site: u8) -> usize {
         let before = usize::from(site.saturating_sub(1));
         GUTTER
-            .saturating_add(self.spacing)
-            .saturating_add(before.saturating_mul(self.spacing))
+            .saturating_add(self.widths.left)
+            .saturating_add(before.saturating_mul(self.widths.spacing))
     }
 
     /// How wide the picture is.
     pub(crate) fn width(&self) -> usize {
-        self.column(self.sites).saturating_add(self.spacing)
+        self.column(self.sites).saturating_add(self.widths.right)
     }
 
     /// The row of the event at this place, 0 where it isn't drawn.
@@ -128,18 +132,64 @@ pub(crate) fn is_drawn(story: &Story, event: &Event) -> bool {
     }
 }
 
-// How many bytes the longest label has.
-fn longest_label(alloc: Global, story: &Story) -> Result<usize, AllocError> {
-    let mut longest: usize = 0;
-    for event in story.events.iter() {
-        if is_drawn(story, event) {
-            longest = longest.max(label_of(alloc, story, event)?.len());
-        }
-    }
-    Ok(longest)
+/// How far columns are apart, and how wide the margins beside them are.
+#[derive(Clone, Copy, Debug)]
+struct Widths {
+    left: usize,
+    spacing: usize,
+    right: usize,
 }
 
-// How far columns are apart, so that labels of so many bytes lie between them.
-fn spacing_for(longest: usize) -> usize {
-    longest.min(60).saturating_mul(13) / 2 + 40
+impl Widths {
+    // So that the words beside the events have room.
+    fn of(alloc: Global, story: &Story) -> Result<Widths, AllocError> {
+        let mut widths = Widths {
+            left: LEAST_MARGIN,
+            spacing: LEAST_SPACING,
+            right: LEAST_MARGIN,
+        };
+        for event in story.events.iter() {
+            if is_drawn(story, event) {
+                let room = room_for(label_of(alloc, story, event)?.len());
+                widths.allow(story, event, room);
+            }
+        }
+        if has_lost_to_itself(story, &story.passages(alloc)?) {
+            widths.right = widths.right.max(LEAST_SPACING);
+        }
+        Ok(widths)
+    }
+
+    // Leaves so much room beside an event.
+    fn allow(&mut self, story: &Story, event: &Event, room: usize) {
+        let side = side_of(story, event);
+        if event.site == 1 && side == Side::Left {
+            self.left = self.left.max(room);
+        } else if event.site == story.members.count() && side == Side::Right {
+            self.right = self.right.max(room);
+        } else {
+            self.spacing = self.spacing.max(room);
+        }
+    }
+}
+
+// Whether the last site has sent a datagram to itself that was never delivered: it breaks off to
+// the right.
+fn has_lost_to_itself(story: &Story, passages: &[Passage]) -> bool {
+    for (before, passage) in passages.iter().enumerate() {
+        if let (Passage::Never, Some(datagram)) = (
+            *passage,
+            story.datagram(before.saturating_add(1)),
+        ) {
+            if datagram.from == datagram.to && datagram.from == story.members.count() {
+                return true;
+            }
+        }
+    }
+    false
+}
+
+// How much room a label of so many bytes takes, at most 60 of which are seen.
+fn room_for(bytes: usize) -> usize {
+    bytes.min(60).saturating_mul(13) / 2 + 36
 }

@@ -11,6 +11,7 @@ mod lifelines;
 mod marks;
 mod page;
 mod paint;
+mod sides;
 mod xml;
 
 pub use page::picture_of;

@@ -94,7 +94,9 @@ fn refused_for(story: &Story, event: &Event) -> Option<Ballot> {
 
 fn push_promised(text: &mut String, story: &Story, event: &Event) -> Result<(), AllocError> {
     let Some(count) = event.count else {
-        return text.push_str("; not of a ballot that the site has issued last since it was opened");
+        return text.push_str(
+            "; not counted: the ballot isn't the last that the site has issued since it was opened",
+        );
     };
     push_count(text, story, count, "promised")?;
     if event.sent_before == event.sent_after {

@@ -3,10 +3,8 @@ use std::alloc::AllocError;
 
 /// Appends what a reader has to know of the words.
 pub(crate) fn push_heading(text: &mut String, members: Members) -> Result<(), AllocError> {
-    text.push_str(
-        "#1 is the first datagram that was sent, and bag 1 the bag of tree 1. The ballot (2, 1) is that of\n",
-    )?;
-    text.push_str("round 2 of site 1. ")?;
+    text.push_str("#1 is the first datagram that was sent, and bag 1 is the bag of tree 1;\n")?;
+    text.push_str("(2, 1) is the ballot of round 2 of site 1. ")?;
     let needed = members.total_weight() / 2 + 1;
     let total = members.total_weight();
     if total == u16::from(members.count()) {
