@@ -1,14 +1,14 @@
 //! What the program's arguments ask for.
 
+use crate::run_arguments::{RunTask, run_command, run_task};
 use audit_command::{AuditTask, audit_command, audit_task};
 use catch_up::{CatchUpTask, catch_up_command, catch_up_task};
 use clap::error::ErrorKind;
-use clap::{Arg, ArgAction, ArgMatches, Command, Error};
+use clap::{ArgMatches, Command, Error};
 use folder_checks::{CheckTask, check_command, check_task};
 use ledger_commands::{
     JournalTask, LedgerTask, journal_command, journal_task, ledger_command, ledger_task,
 };
-use lines::Options;
 use site_commands::{
     MembersTask, SendTask, SiteTask, members_command, members_task, send_command, send_task,
     site_command, site_task,
@@ -20,43 +20,11 @@ const ABOUT: &str =
 
 const EXAMPLE: &str = "Example:\n  bagpaxos run < examples/first.schedule";
 
-const RUN_ABOUT: &str =
-    "Runs a schedule, which is read from standard input, and prints what the sites say";
-
-const RUN_EXAMPLE: &str = "A schedule is a text of commands, one a line:
-  federation F N        the sites 1 to N of federation F; this command comes first, once
-  federation F N W1 .. WN
-                        the same, with the weights of the sites; else each has the weight 1
-  tree T                declares an empty tree of files
-  folder T              adds the tree's payload folder `data`
-  file T PATH HEX       adds a file, its bytes in hex (`-` for none)
-  deposit S T OBJ V     deposits the tree at site S, as version V of the object OBJ
-  propose S OBJ V       site S proposes its deposit to all
-  deliver K             the K-th datagram that was sent arrives
-  pump N                N times: the first datagram arrives that none of these has named
-  ask S TO OBJ V        site S asks site TO which bag it knows
-  query S OBJ V         asks site S which bag is version V of OBJ
-  raw S HEX             bytes that no site sent arrive at site S
-  stop S                stops site S between calls
-  start S               opens its cell again
-A deposit, propose, deliver or ask may end in a fate:
-  stop 1 K, stop 2 K    the site stops as it writes its record, or syncs it; of it K bytes are kept
-  stop 3 J              the site stops when the first J of its datagrams were sent
-  fail 1 K, fail 2 K    the write, or the sync, fails; the site has to be started again
-Lines that are blank, or begin with `#`, are skipped.
-
-The exit status is 0; 1 where the text is no schedule (`schedule line N`), memory runs out
-(`memory`), standard input can't be read (`input unread`) or standard output can't be written; and
-2 for a mistake in the arguments.
-
-Example:
-  printf 'federation 7 3\\nquery 1 a 1\\n' | bagpaxos run";
-
 /// What the program is asked to do.
 #[derive(Debug, Drop)]
 pub enum Task<'a> {
     /// Run a schedule.
-    Run(Options),
+    Run(RunTask<'a>),
     /// Check folders.
     Check(CheckTask<'a>),
     /// Serve as a site.
@@ -128,10 +96,7 @@ fn task_in<'a>(alloc: Global, matches: &ArgMatches<'a>) -> Result<Option<Task<'a
 
 fn other_task_in<'a>(matches: &ArgMatches<'a>) -> Option<Task<'a>> {
     if let Some(run) = matches.subcommand_matches("run") {
-        return Some(Task::Run(Options {
-            sent: run.get_flag("sent"),
-            identities: run.get_flag("identities"),
-        }));
+        return Some(Task::Run(run_task(run)));
     }
     if let Some(site) = matches.subcommand_matches("site") {
         return match site_task(site) {
@@ -187,32 +152,4 @@ fn with_subcommand<'a>(
     subcommand: Result<Command<'a>, AllocError>,
 ) -> Result<Command<'a>, AllocError> {
     command?.subcommand(subcommand?)
-}
-
-fn run_command<'a>(alloc: Global) -> Result<Command<'a>, AllocError> {
-    let run = Command::new(alloc, "run")
-        .about(RUN_ABOUT)
-        .after_help(RUN_EXAMPLE);
-    with_argument(run.arg(sent_argument(alloc)), identities_argument(alloc))
-}
-
-fn with_argument<'a>(
-    command: Result<Command<'a>, AllocError>,
-    argument: Arg<'a>,
-) -> Result<Command<'a>, AllocError> {
-    command?.arg(argument)
-}
-
-fn sent_argument<'a>(alloc: Global) -> Arg<'a> {
-    Arg::new(alloc, "sent")
-        .long("sent")
-        .action(ArgAction::SetTrue)
-        .help("Print a line for each datagram that is sent")
-}
-
-fn identities_argument<'a>(alloc: Global) -> Arg<'a> {
-    Arg::new(alloc, "identities")
-        .long("identities")
-        .action(ArgAction::SetTrue)
-        .help("Name a bag by the 128 hex digits of its identity, not by its tree")
 }

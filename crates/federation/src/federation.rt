@@ -44,6 +44,27 @@ impl Federation {
         })
     }
 
+    /// What was said so far, in order.
+    pub fn lines(&self) -> &[Line]
+        ensures { result.now ≡ self.now.lines.items }
+    {
+        self.lines.as_slice()
+    }
+
+    /// The sites, site 1 first.
+    pub fn stations(&self) -> &[Station]
+        ensures { result.now ≡ self.now.stations.items }
+    {
+        self.stations.as_slice()
+    }
+
+    /// The bags that were seen in deposits so far.
+    pub fn seen(&self) -> &SeenBags
+        ensures { result.now ≡ self.now.seen }
+    {
+        &self.seen
+    }
+
     /// What was said, in order.
     pub fn into_lines(self) -> Vec<Line>
         ensures { result.items ≡ self.lines.items }

@@ -54,6 +54,13 @@ impl Station {
         self.owner.site
     }
 
+    /// Where it is.
+    pub fn place(&self) -> &Place
+        ensures { result.now ≡ self.now.place }
+    {
+        &self.place
+    }
+
     /// It isn't running.
     pub fn is_down(&self) -> bool
         ensures { (s : SiteState) → StandsFor self.now.owner self.now.place s

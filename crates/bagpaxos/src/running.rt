@@ -1,0 +1,107 @@
+//! The command `run`: a schedule from standard input or from a file.
+
+use crate::run_arguments::RunTask;
+use crate::run_on::run_on;
+use outcomes::{ProgramFault, ReadFault, read_all, write_all, write_answer};
+use run_picture::picture_of;
+use run_story::{Story, tell};
+use run_words::words_of;
+use schedule::{ParseFault, parse};
+use std::alloc::AllocError;
+use std::fs::{self, File};
+use std::io;
+use std::io::{ErrorKind, Read};
+
+/// Runs the schedule that the task names. What it prints doesn't depend on whether it is also put
+/// into words or drawn.
+pub(crate) fn run_schedule(rt: &HostRuntime, task: &RunTask<'_>) -> Result<u8, ProgramFault> {
+    let mut output = io::writer(rt);
+    match run_source(rt, task) {
+        Err(ProgramFault::Input) => {
+            let _ = write_all(&mut output, b"input unread\n");
+            Ok(1)
+        }
+        answer => answer,
+    }
+}
+
+fn run_source(rt: &HostRuntime, task: &RunTask<'_>) -> Result<u8, ProgramFault> {
+    match task.file {
+        None => run_input(rt, task, &mut rt.reader()),
+        Some(path) => match File::open(rt, path) {
+            Ok(mut file) => run_input(rt, task, &mut file),
+            Err(error) if error.kind() == ErrorKind::OutOfMemory => {
+                write_answer(&mut io::writer(rt), 1, "memory\n")
+            }
+            Err(_) => Err(ProgramFault::Input),
+        },
+    }
+}
+
+fn run_input<R: Read>(
+    rt: &HostRuntime,
+    task: &RunTask<'_>,
+    input: &mut R,
+) -> Result<u8, ProgramFault> {
+    let mut output = io::writer(rt);
+    if !task.words && task.drawing.is_none() {
+        return run_on(rt.alloc(), input, &mut output, task.options);
+    }
+    match read_all(rt.alloc(), input) {
+        Ok(bytes) => run_bytes(rt, task, bytes.as_slice()),
+        Err(ReadFault::Input) => Err(ProgramFault::Input),
+        Err(ReadFault::Memory) => write_answer(&mut output, 1, "memory\n"),
+    }
+}
+
+// The lines come first, as they would without words and picture.
+fn run_bytes(rt: &HostRuntime, task: &RunTask<'_>, bytes: &[u8]) -> Result<u8, ProgramFault> {
+    let mut rest = bytes;
+    let status = run_on(rt.alloc(), &mut rest, &mut io::writer(rt), task.options)?;
+    if status != 0 {
+        return Ok(status);
+    }
+    match story_of(rt, bytes) {
+        Ok(story) => match show(rt, task, &story) {
+            Ok(status) => Ok(status),
+            Err(AllocError) => Ok(no_memory(rt)),
+        },
+        Err(AllocError) => Ok(no_memory(rt)),
+    }
+}
+
+// A schedule that was run has no line at fault.
+fn story_of(rt: &HostRuntime, bytes: &[u8]) -> Result<Story, AllocError> {
+    match parse(rt.alloc(), bytes) {
+        Ok(schedule) => tell(rt.alloc(), &schedule),
+        Err(ParseFault::Memory | ParseFault::Line(_)) => Err(AllocError),
+    }
+}
+
+fn no_memory(rt: &HostRuntime) -> u8 {
+    let _ = rt.eprint("error: no memory for words or picture\n");
+    1
+}
+
+// Words and picture, and the exit status.
+fn show(rt: &HostRuntime, task: &RunTask<'_>, story: &Story) -> Result<u8, AllocError> {
+    if task.words {
+        let words = words_of(rt.alloc(), story, task.options)?;
+        let _ = rt.eprint(words.as_str());
+    }
+    match task.drawing {
+        Some(path) => draw(rt, story, path),
+        None => Ok(0),
+    }
+}
+
+fn draw(rt: &HostRuntime, story: &Story, path: &str) -> Result<u8, AllocError> {
+    let picture = picture_of(rt.alloc(), story)?;
+    match fs::write(rt, path, picture.as_str()) {
+        Ok(()) => Ok(0),
+        Err(error) => {
+            let _ = eprintln!(rt; "error: the picture can't be written to {path}: {error}");
+            Ok(1)
+        }
+    }
+}

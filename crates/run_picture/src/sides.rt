@@ -1,0 +1,40 @@
+//! Left and right of a column.
+
+use run_story::{Deed, Event, Story};
+
+/// On which side of a place something stands.
+#[derive(Clone, Copy, Debug, PartialEq, Eq)]
+pub(crate) enum Side {
+    Left,
+    Right,
+}
+
+/// On which side of its column the words of an event stand. An arrow comes from the other side;
+/// that of a site to itself from the right.
+pub(crate) fn side_of(story: &Story, event: &Event) -> Side {
+    if let Deed::Deliver(number) = event.deed {
+        if let Some(datagram) = story.datagram(number) {
+            if datagram.from < datagram.to {
+                return Side::Right;
+            }
+            return Side::Left;
+        }
+    }
+    if event.site != 1 && event.site == story.members.count() {
+        return Side::Right;
+    }
+    Side::Left
+}
+
+/// On which side of a site another is; itself on the right.
+pub(crate) fn side_to(from: u8, to: u8) -> Side {
+    if to < from { Side::Left } else { Side::Right }
+}
+
+/// So far from a place.
+pub(crate) fn beside(x: usize, far: usize, side: Side) -> usize {
+    match side {
+        Side::Left => x.saturating_sub(far),
+        Side::Right => x.saturating_add(far),
+    }
+}
