@@ -18,7 +18,11 @@ use std::alloc::{AllocError, Global};
 const ABOUT: &str =
     "Several repositories, each with copies of one collection, agree which bag is a version of an object, with no master site.";
 
-const EXAMPLE: &str = "Example:\n  bagpaxos run < examples/first.schedule";
+const EXAMPLE: &str =
+    "`bagpaxos help codes` lists what it prints by a number or a word, and what each says.
+
+Example:
+  bagpaxos run < examples/first.schedule";
 
 const RUN_ABOUT: &str =
     "Runs a schedule, which is read from standard input, and prints what the sites say";
@@ -55,8 +59,8 @@ Example:
 /// What the program is asked to do.
 #[derive(Debug, Drop)]
 pub enum Task<'a> {
-    /// Run a schedule.
-    Run(Options),
+    /// Run a schedule; with words where they are asked for.
+    Run(Options, bool),
     /// Check folders.
     Check(CheckTask<'a>),
     /// Serve as a site.
@@ -128,10 +132,11 @@ fn task_in<'a>(alloc: Global, matches: &ArgMatches<'a>) -> Result<Option<Task<'a
 
 fn other_task_in<'a>(matches: &ArgMatches<'a>) -> Option<Task<'a>> {
     if let Some(run) = matches.subcommand_matches("run") {
-        return Some(Task::Run(Options {
+        let options = Options {
             sent: run.get_flag("sent"),
             identities: run.get_flag("identities"),
-        }));
+        };
+        return Some(Task::Run(options, run.get_flag("words")));
     }
     if let Some(site) = matches.subcommand_matches("site") {
         return match site_task(site) {
@@ -193,7 +198,15 @@ fn run_command<'a>(alloc: Global) -> Result<Command<'a>, AllocError> {
     let run = Command::new(alloc, "run")
         .about(RUN_ABOUT)
         .after_help(RUN_EXAMPLE);
-    with_argument(run.arg(sent_argument(alloc)), identities_argument(alloc))
+    let run = with_argument(run.arg(sent_argument(alloc)), identities_argument(alloc));
+    with_argument(run, words_argument(alloc))
+}
+
+fn words_argument<'a>(alloc: Global) -> Arg<'a> {
+    Arg::new(alloc, "words")
+        .long("words")
+        .action(ArgAction::SetTrue)
+        .help("Say on standard error in words what is wrong with a line of the schedule")
 }
 
 fn with_argument<'a>(
