@@ -58,29 +58,37 @@ pub(crate) fn push_unread_words(
     }
 }
 
-fn push_facts_words(
-    rt: &HostRuntime,
+fn push_facts_words<'a>(
+    rt: &'a HostRuntime,
     text: &mut String,
-    folder: &str,
-    facts: &Facts,
+    folder: &'a str,
+    facts: &'a Facts,
     unread: &UnreadPaths<'_>,
     counts: Counts,
 ) -> Result<(), AllocError> {
-    let mut counts = counts;
-    let alloc = rt.alloc();
-    let files = FilesByPath::new(alloc, facts.files())?;
+    let files = FilesByPath::new(rt.alloc(), facts.files())?;
     let bag = Bag {
         rt,
         folder,
         facts,
         files: &files,
     };
-    let lines = explain(alloc, facts)?;
-    let findings = findings_in(alloc, lines.as_str(), unread)?;
-    push_findings(text, &bag, findings.as_slice(), &mut counts)?;
-    push_rfc(text, &bag, findings.as_slice())?;
-    push_warnings(text, &bag, &mut counts)?;
-    push_counts(text, &bag, &counts)
+    push_bag_words(text, &bag, unread, counts)
+}
+
+fn push_bag_words(
+    text: &mut String,
+    bag: &Bag<'_>,
+    unread: &UnreadPaths<'_>,
+    counts: Counts,
+) -> Result<(), AllocError> {
+    let mut counts = counts;
+    let lines = explain(bag.rt.alloc(), bag.facts)?;
+    let findings = findings_in(bag.rt.alloc(), lines.as_str(), unread)?;
+    push_findings(text, bag, findings.as_slice(), &mut counts)?;
+    push_rfc(text, bag, findings.as_slice())?;
+    push_warnings(text, bag, &mut counts)?;
+    push_counts(text, bag, &counts)
 }
 
 // Appends each place, those of a fault below what it says.

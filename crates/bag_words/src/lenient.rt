@@ -31,7 +31,7 @@ struct Walk<'a> {
 }
 
 /// What can be read in this folder and below it. No link is followed but the folder's own path.
-pub(crate) fn gather(rt: &HostRuntime, folder: &str) -> Result<Gathered, AllocError> {
+pub(crate) fn gather<'a>(rt: &'a HostRuntime, folder: &'a str) -> Result<Gathered, AllocError> {
     let alloc = rt.alloc();
     let mut walk = Walk {
         rt,
@@ -135,7 +135,8 @@ impl Walk<'_> {
     // Reads the files that were found.
     fn hash(self) -> Result<Gathered, AllocError> {
         let mut walk = self;
-        let files = std::mem::replace(&mut walk.files, Vec::new(walk.rt.alloc()));
+        let none = Vec::new(walk.rt.alloc());
+        let files = std::mem::replace(&mut walk.files, none);
         let wanted = wanted_of(files.as_slice());
         let mut known = Vec::new(walk.rt.alloc());
         for path in files {

@@ -19,17 +19,14 @@ const UNLISTED: u8 = 13;
 /// Listed files that aren't there, and files that aren't listed, each by what is left of its name
 /// once all that may be mistaken is alike.
 #[derive(Drop)]
-pub(crate) struct NearNames<'a> {
-    missing: BTreeMap<String, &'a str>,
-    unlisted: BTreeMap<String, &'a str>,
+pub(crate) struct NearNames {
+    missing: BTreeMap<String, String>,
+    unlisted: BTreeMap<String, String>,
 }
 
-impl<'a> NearNames<'a> {
+impl NearNames {
     /// Those among these findings; none, where it isn't both.
-    pub(crate) fn of(
-        bag: &Bag<'a>,
-        findings: &'a [Finding<'_>],
-    ) -> Result<NearNames<'a>, AllocError> {
+    pub(crate) fn of(bag: &Bag<'_>, findings: &[Finding<'_>]) -> Result<NearNames, AllocError> {
         let alloc = bag.rt.alloc();
         let mut near = NearNames {
             missing: BTreeMap::new(alloc),
@@ -45,23 +42,22 @@ impl<'a> NearNames<'a> {
         Ok(near)
     }
 
-    fn take(&mut self, alloc: Global, finding: &'a Finding<'_>) -> Result<(), AllocError> {
+    fn take(&mut self, alloc: Global, finding: &Finding<'_>) -> Result<(), AllocError> {
         let path = finding.path.as_str();
         if finding.number == MISSING {
-            self.missing.insert(key_of(alloc, path)?, path)?;
+            put(alloc, &mut self.missing, path)?;
         } else if finding.number == UNLISTED {
-            self.unlisted.insert(key_of(alloc, path)?, path)?;
+            put(alloc, &mut self.unlisted, path)?;
         }
         Ok(())
     }
 
     // Files beside the payload may be meant too.
-    fn take_tag_files(&mut self, bag: &Bag<'a>) -> Result<(), AllocError> {
+    fn take_tag_files(&mut self, bag: &Bag<'_>) -> Result<(), AllocError> {
         let alloc = bag.rt.alloc();
         for file in bag.facts.files() {
             if !is_payload(file.path().as_bytes()) {
-                self.unlisted
-                    .insert(key_of(alloc, file.path())?, file.path())?;
+                put(alloc, &mut self.unlisted, file.path())?;
             }
         }
         Ok(())
@@ -78,13 +74,13 @@ impl<'a> NearNames<'a> {
         let Some(other) = self.unlisted.get(key.as_str()) else {
             return Ok(());
         };
-        if *other == path {
+        if other.as_str() == path {
             return Ok(());
         }
         text.push_str("; ")?;
-        push_name(text, other)?;
+        push_name(text, other.as_str())?;
         text.push_str(" is, and differs only by ")?;
-        push_difference(alloc, text, path, other)
+        push_difference(alloc, text, path, other.as_str())
     }
 
     /// Appends which file is listed in place of the one of this path, if one may be meant.
@@ -98,14 +94,20 @@ impl<'a> NearNames<'a> {
         let Some(other) = self.missing.get(key.as_str()) else {
             return Ok(());
         };
-        if *other == path {
+        if other.as_str() == path {
             return Ok(());
         }
         text.push_str("; it lists ")?;
-        push_name(text, other)?;
+        push_name(text, other.as_str())?;
         text.push_str(", which differs only by ")?;
-        push_difference(alloc, text, other, path)
+        push_difference(alloc, text, other.as_str(), path)
     }
+}
+
+fn put(alloc: Global, names: &mut BTreeMap<String, String>, path: &str) -> Result<(), AllocError> {
+    let key = key_of(alloc, path)?;
+    names.insert(key, String::from_str(alloc, path)?)?;
+    Ok(())
 }
 
 // Appends by what the names differ.

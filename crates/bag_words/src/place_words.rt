@@ -15,7 +15,7 @@ use std::alloc::AllocError;
 pub(crate) fn push_place<'a>(
     text: &mut String,
     bag: &Bag<'a>,
-    near: &NearNames<'_>,
+    near: &NearNames,
     texts: &mut TextLines<'a>,
     finding: &Finding<'_>,
 ) -> Result<(), AllocError> {
@@ -114,7 +114,7 @@ fn push_payload_of(text: &mut String, bag: &Bag<'_>, path: &str) -> Result<(), A
 fn push_missing(
     text: &mut String,
     bag: &Bag<'_>,
-    near: &NearNames<'_>,
+    near: &NearNames,
     finding: &Finding<'_>,
 ) -> Result<(), AllocError> {
     push_entry(text, finding, ", which isn't there")?;
@@ -124,7 +124,7 @@ fn push_missing(
 fn push_unlisted(
     text: &mut String,
     bag: &Bag<'_>,
-    near: &NearNames<'_>,
+    near: &NearNames,
     finding: &Finding<'_>,
 ) -> Result<(), AllocError> {
     push_path(text, finding.path.as_str())?;

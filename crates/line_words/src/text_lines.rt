@@ -6,15 +6,16 @@ use words::{first_line, split_words};
 /// The line of this number, counted from 1; empty where there is none.
 pub(crate) fn line_at(text: &[u8], number: usize) -> &[u8] {
     let mut rest = text;
-    let mut left = number;
-    while let Some((line, after)) = first_line(rest) {
-        if left <= 1 {
-            return line;
+    for _ in 1..number {
+        match first_line(rest) {
+            Some((_, after)) => rest = after,
+            None => return &[],
         }
-        left -= 1;
-        rest = after;
     }
-    &[]
+    match first_line(rest) {
+        Some((line, _)) => line,
+        None => &[],
+    }
 }
 
 /// Whether one of the lines before this number is a schedule's command, or is to be one: it isn't
@@ -25,16 +26,12 @@ pub(crate) fn has_command_before(
     number: usize,
 ) -> Result<bool, AllocError> {
     let mut rest = text;
-    let mut left = number;
-    while let Some((line, after)) = first_line(rest) {
-        if left <= 1 {
-            return Ok(false);
+    for _ in 1..number {
+        match first_line(rest) {
+            Some((line, _)) if !is_skipped(alloc, line)? => return Ok(true),
+            Some((_, after)) => rest = after,
+            None => return Ok(false),
         }
-        if !is_skipped(alloc, line)? {
-            return Ok(true);
-        }
-        left -= 1;
-        rest = after;
     }
     Ok(false)
 }

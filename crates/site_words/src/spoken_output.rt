@@ -9,10 +9,16 @@ use std::io::{Result, Write};
 /// isn't asked for, or memory or standard error fails, nothing. It is the output otherwise.
 #[derive(Drop)]
 pub struct SpokenOutput<'a, W> {
+    output: W,
+    speaker: Speaker<'a>,
+}
+
+/// What says lines in words.
+#[derive(Drop)]
+struct Speaker<'a> {
     rt: &'a HostRuntime,
     /// What words may speak of, where they are asked for.
     asked: Option<Asked<'a>>,
-    output: W,
     /// The beginning of a line that isn't ended.
     begun: String,
 }
@@ -20,23 +26,10 @@ pub struct SpokenOutput<'a, W> {
 impl<'a, W: Write> SpokenOutput<'a, W> {
     /// This output, with words where something is given of which they may speak.
     pub fn new(rt: &'a HostRuntime, asked: Option<Asked<'a>>, output: W) -> SpokenOutput<'a, W> {
+        let begun = String::new(rt.alloc());
         SpokenOutput {
-            rt,
-            asked,
             output,
-            begun: String::new(rt.alloc()),
-        }
-    }
-
-    // At the end of each line it is said.
-    fn take(&mut self, asked: &Asked<'a>, written: &[u8]) {
-        for byte in written {
-            if *byte == b'\n' {
-                let _ = say(self.rt, asked, self.begun.as_str());
-                self.begun.clear();
-            } else {
-                let _ = self.begun.push(char::from(*byte));
-            }
+            speaker: Speaker { rt, asked, begun },
         }
     }
 }
@@ -46,14 +39,29 @@ impl<W: Write> Write for SpokenOutput<'_, W> {
 
     fn write(&mut self, buf: &[u8]) -> Result<usize> {
         let count = self.output.write(buf)?;
-        if let Some(asked) = self.asked {
-            self.take(&asked, &buf[..count]);
-        }
+        self.speaker.take(&buf[..count]);
         Ok(count)
     }
 
     fn flush(&mut self) -> Result<()> {
         self.output.flush()
+    }
+}
+
+impl Speaker<'_> {
+    // At the end of each line that was written it is said.
+    fn take(&mut self, written: &[u8]) {
+        let Some(asked) = self.asked else {
+            return;
+        };
+        for byte in written {
+            if *byte == b'\n' {
+                let _ = say(self.rt, &asked, self.begun.as_str());
+                self.begun.clear();
+            } else {
+                let _ = self.begun.push(char::from(*byte));
+            }
+        }
     }
 }
 
