@@ -14,9 +14,9 @@ pub(crate) const ALGORITHMS: [Algorithm; 4] = [
 
 /// A folder that was read: its path, what is known of it, and its files by their paths.
 #[derive(Clone, Copy)]
-pub(crate) struct Bag<'a> {
+pub(crate) struct Bag<'a, 'f> {
     pub(crate) rt: &'a HostRuntime,
     pub(crate) folder: &'a str,
     pub(crate) facts: &'a Facts,
-    pub(crate) files: &'a FilesByPath<'a>,
+    pub(crate) files: &'f FilesByPath<'a>,
 }

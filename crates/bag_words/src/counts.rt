@@ -24,7 +24,7 @@ impl Counts {
 /// Appends the line of counts.
 pub(crate) fn push_counts(
     text: &mut String,
-    bag: &Bag<'_>,
+    bag: &Bag<'_, '_>,
     counts: &Counts,
 ) -> Result<(), AllocError> {
     let all = bag.facts.files();

@@ -9,7 +9,7 @@ use std::alloc::AllocError;
 /// Appends what the line of bagit.txt is, and what it has to be.
 pub(crate) fn push_declared<'a>(
     text: &mut String,
-    bag: &Bag<'a>,
+    bag: &Bag<'a, '_>,
     texts: &mut TextLines<'a>,
     finding: &Finding<'_>,
 ) -> Result<(), AllocError> {

@@ -11,7 +11,7 @@ use std::fs;
 /// Appends a warning for each folder that has no file, nor a folder with one.
 pub(crate) fn push_empty_folders(
     text: &mut String,
-    bag: &Bag<'_>,
+    bag: &Bag<'_, '_>,
     counts: &mut Counts,
 ) -> Result<(), AllocError> {
     let folders = folders_of(bag)?;
@@ -22,7 +22,7 @@ pub(crate) fn push_empty_folders(
 }
 
 // The folders that have files, or folders with files; the bag's own is the empty path.
-fn folders_of<'a>(bag: &Bag<'a>) -> Result<BTreeSet<&'a str>, AllocError> {
+fn folders_of<'a>(bag: &Bag<'a, '_>) -> Result<BTreeSet<&'a str>, AllocError> {
     let mut folders = BTreeSet::new(bag.rt.alloc());
     folders.insert("")?;
     let mut last = "";
@@ -53,7 +53,7 @@ fn folder_of(path: &str) -> &str {
 // Appends a warning for each entry of a folder that is none of its files, nor one of these folders.
 fn push_empty_in(
     text: &mut String,
-    bag: &Bag<'_>,
+    bag: &Bag<'_, '_>,
     counts: &mut Counts,
     folders: &BTreeSet<&str>,
     below: &str,
@@ -80,11 +80,11 @@ fn push_empty_in(
 }
 
 // An empty payload is a payload.
-fn is_known(bag: &Bag<'_>, folders: &BTreeSet<&str>, path: &str) -> bool {
+fn is_known(bag: &Bag<'_, '_>, folders: &BTreeSet<&str>, path: &str) -> bool {
     path == PAYLOAD_FOLDER || folders.contains(path) || bag.files.has_file(path)
 }
 
-fn joined(bag: &Bag<'_>, folder: &str, below: &str) -> Result<String, AllocError> {
+fn joined(bag: &Bag<'_, '_>, folder: &str, below: &str) -> Result<String, AllocError> {
     if folder.is_empty() || below.is_empty() {
         return format!(in bag.rt.alloc(); "{folder}{below}");
     }

@@ -78,7 +78,7 @@ fn push_facts_words<'a>(
 
 fn push_bag_words(
     text: &mut String,
-    bag: &Bag<'_>,
+    bag: &Bag<'_, '_>,
     unread: &UnreadPaths<'_>,
     counts: Counts,
 ) -> Result<(), AllocError> {
@@ -94,7 +94,7 @@ fn push_bag_words(
 // Appends each place, those of a fault below what it says.
 fn push_findings(
     text: &mut String,
-    bag: &Bag<'_>,
+    bag: &Bag<'_, '_>,
     findings: &[Finding<'_>],
     counts: &mut Counts,
 ) -> Result<(), AllocError> {
@@ -123,7 +123,11 @@ fn push_heading(text: &mut String, number: u8) -> Result<(), AllocError> {
     text.push('\n')
 }
 
-fn push_warnings(text: &mut String, bag: &Bag<'_>, counts: &mut Counts) -> Result<(), AllocError> {
+fn push_warnings(
+    text: &mut String,
+    bag: &Bag<'_, '_>,
+    counts: &mut Counts,
+) -> Result<(), AllocError> {
     push_oxum(text, bag, counts)?;
     push_twins(text, bag, counts)?;
     push_empty_folders(text, bag, counts)?;

@@ -18,7 +18,7 @@ const PIECE: usize = 65536;
 /// Appends the file, and both digests.
 pub(crate) fn push_digests<'a>(
     text: &mut String,
-    bag: &Bag<'a>,
+    bag: &Bag<'a, '_>,
     texts: &mut TextLines<'a>,
     finding: &Finding<'_>,
 ) -> Result<(), AllocError> {
@@ -54,7 +54,7 @@ fn push_digits(text: &mut String, line: &[u8]) -> Result<(), AllocError> {
 }
 
 // The digest of the file, which is read anew; none where it is too long or can't be read.
-fn digest_of(bag: &Bag<'_>, path: &str, algorithm: &str) -> Option<Vec<u8>> {
+fn digest_of(bag: &Bag<'_, '_>, path: &str, algorithm: &str) -> Option<Vec<u8>> {
     let algorithm = ALGORITHMS.into_iter().find(|it| it.name() == algorithm)?;
     let folder = bag.folder;
     let Ok(path) = format!(in bag.rt.alloc(); "{folder}/{path}") else {
@@ -66,7 +66,7 @@ fn digest_of(bag: &Bag<'_>, path: &str, algorithm: &str) -> Option<Vec<u8>> {
     digest_in(bag, &mut file, algorithm)
 }
 
-fn digest_in(bag: &Bag<'_>, file: &mut File, algorithm: Algorithm) -> Option<Vec<u8>> {
+fn digest_in(bag: &Bag<'_, '_>, file: &mut File, algorithm: Algorithm) -> Option<Vec<u8>> {
     let mut digester = Digester::new(only(algorithm));
     let mut piece = Vec::from_elem(bag.rt.alloc(), 0u8, PIECE).ok()?;
     for _ in 0..MOST_PIECES {

@@ -13,7 +13,7 @@ pub(crate) struct TextLines<'a> {
 
 impl<'a> TextLines<'a> {
     /// Of no text yet.
-    pub(crate) fn new(bag: &Bag<'a>) -> TextLines<'a> {
+    pub(crate) fn new(bag: &Bag<'a, '_>) -> TextLines<'a> {
         TextLines {
             name: String::new(bag.rt.alloc()),
             lines: Vec::new(bag.rt.alloc()),
@@ -23,7 +23,7 @@ impl<'a> TextLines<'a> {
     /// The line of this number, counted from 1, of the text of this name; empty where there is none.
     pub(crate) fn line(
         &mut self,
-        bag: &Bag<'a>,
+        bag: &Bag<'a, '_>,
         name: &str,
         number: usize,
     ) -> Result<&'a [u8], AllocError> {
@@ -39,7 +39,7 @@ impl<'a> TextLines<'a> {
     }
 }
 
-fn lines_of<'a>(bag: &Bag<'a>, name: &str) -> Result<Vec<&'a [u8]>, AllocError> {
+fn lines_of<'a>(bag: &Bag<'a, '_>, name: &str) -> Result<Vec<&'a [u8]>, AllocError> {
     let alloc = bag.rt.alloc();
     let Some(text) = bag.files.text_at(name) else {
         return Ok(Vec::new(alloc));

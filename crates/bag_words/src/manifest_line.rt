@@ -15,7 +15,7 @@ const MARK: &[u8] = b"\xef\xbb\xbf";
 /// Appends the line, and what is wrong with it.
 pub(crate) fn push_malformed<'a>(
     text: &mut String,
-    bag: &Bag<'a>,
+    bag: &Bag<'a, '_>,
     texts: &mut TextLines<'a>,
     finding: &Finding<'_>,
 ) -> Result<(), AllocError> {

@@ -26,7 +26,7 @@ pub(crate) struct NearNames {
 
 impl NearNames {
     /// Those among these findings; none, where it isn't both.
-    pub(crate) fn of(bag: &Bag<'_>, findings: &[Finding<'_>]) -> Result<NearNames, AllocError> {
+    pub(crate) fn of(bag: &Bag<'_, '_>, findings: &[Finding<'_>]) -> Result<NearNames, AllocError> {
         let alloc = bag.rt.alloc();
         let mut near = NearNames {
             missing: BTreeMap::new(alloc),
@@ -53,7 +53,7 @@ impl NearNames {
     }
 
     // Files beside the payload may be meant too.
-    fn take_tag_files(&mut self, bag: &Bag<'_>) -> Result<(), AllocError> {
+    fn take_tag_files(&mut self, bag: &Bag<'_, '_>) -> Result<(), AllocError> {
         let alloc = bag.rt.alloc();
         for file in bag.facts.files() {
             if !is_payload(file.path().as_bytes()) {

@@ -19,7 +19,7 @@ const PIECE: usize = 4096;
 /// Appends a warning where bag-info.txt says another Payload-Oxum than the files of the payload have.
 pub(crate) fn push_oxum(
     text: &mut String,
-    bag: &Bag<'_>,
+    bag: &Bag<'_, '_>,
     counts: &mut Counts,
 ) -> Result<(), AllocError> {
     if !bag.files.has_file("bag-info.txt") {
@@ -43,7 +43,7 @@ pub(crate) fn push_oxum(
 }
 
 // The first bytes of bag-info.txt.
-fn info_of(bag: &Bag<'_>) -> Result<Vec<u8>, AllocError> {
+fn info_of(bag: &Bag<'_, '_>) -> Result<Vec<u8>, AllocError> {
     let folder = bag.folder;
     let path = format!(in bag.rt.alloc(); "{folder}/bag-info.txt")?;
     let mut bytes = Vec::new(bag.rt.alloc());
@@ -61,7 +61,7 @@ fn info_of(bag: &Bag<'_>) -> Result<Vec<u8>, AllocError> {
 }
 
 // What the first line of this label says, if there is one.
-fn oxum_in(bag: &Bag<'_>, info: &[u8]) -> Result<Option<String>, AllocError> {
+fn oxum_in(bag: &Bag<'_, '_>, info: &[u8]) -> Result<Option<String>, AllocError> {
     let alloc = bag.rt.alloc();
     let Ok(found) = lines(alloc, info) else {
         return Err(AllocError);
@@ -79,7 +79,7 @@ fn oxum_in(bag: &Bag<'_>, info: &[u8]) -> Result<Option<String>, AllocError> {
 }
 
 // How many bytes the payload's files have, and how many they are; none where a file isn't there.
-fn payload_of(bag: &Bag<'_>) -> Result<Option<(u64, usize)>, AllocError> {
+fn payload_of(bag: &Bag<'_, '_>) -> Result<Option<(u64, usize)>, AllocError> {
     let mut path = String::new(bag.rt.alloc());
     let mut bytes = 0u64;
     let mut files = 0usize;

@@ -14,7 +14,7 @@ use std::alloc::AllocError;
 /// Appends the sentence of a place, ended by LF.
 pub(crate) fn push_place<'a>(
     text: &mut String,
-    bag: &Bag<'a>,
+    bag: &Bag<'a, '_>,
     near: &NearNames,
     texts: &mut TextLines<'a>,
     finding: &Finding<'_>,
@@ -36,7 +36,7 @@ pub(crate) fn push_place<'a>(
 }
 
 // There is no bagit.txt here, but maybe in a folder below.
-fn push_no_declaration(text: &mut String, bag: &Bag<'_>) -> Result<(), AllocError> {
+fn push_no_declaration(text: &mut String, bag: &Bag<'_, '_>) -> Result<(), AllocError> {
     text.push_str("bagit.txt isn't there")?;
     for file in bag.facts.files() {
         if let Some(folder) = file.path().strip_suffix("/bagit.txt") {
@@ -49,7 +49,7 @@ fn push_no_declaration(text: &mut String, bag: &Bag<'_>) -> Result<(), AllocErro
 }
 
 // Which manifests there are in place of the one that is needed.
-fn push_no_manifest(text: &mut String, bag: &Bag<'_>) -> Result<(), AllocError> {
+fn push_no_manifest(text: &mut String, bag: &Bag<'_, '_>) -> Result<(), AllocError> {
     text.push_str("manifest-sha512.txt isn't there")?;
     let mut separator = "; there is ";
     for file in bag.facts.files() {
@@ -80,7 +80,11 @@ fn push_path(text: &mut String, path: &str) -> Result<(), AllocError> {
     push_name(text, path)
 }
 
-fn push_astray(text: &mut String, bag: &Bag<'_>, finding: &Finding<'_>) -> Result<(), AllocError> {
+fn push_astray(
+    text: &mut String,
+    bag: &Bag<'_, '_>,
+    finding: &Finding<'_>,
+) -> Result<(), AllocError> {
     let path = finding.path.as_str();
     if has_unsafe_part(path.as_bytes()) {
         return push_entry(
@@ -101,7 +105,7 @@ fn push_astray(text: &mut String, bag: &Bag<'_>, finding: &Finding<'_>) -> Resul
 }
 
 // Appends that there is such a file below data/, where that is so.
-fn push_payload_of(text: &mut String, bag: &Bag<'_>, path: &str) -> Result<(), AllocError> {
+fn push_payload_of(text: &mut String, bag: &Bag<'_, '_>, path: &str) -> Result<(), AllocError> {
     let meant = format!(in bag.rt.alloc(); "data/{path}")?;
     if !bag.files.has_file(meant.as_str()) {
         return Ok(());
@@ -113,7 +117,7 @@ fn push_payload_of(text: &mut String, bag: &Bag<'_>, path: &str) -> Result<(), A
 
 fn push_missing(
     text: &mut String,
-    bag: &Bag<'_>,
+    bag: &Bag<'_, '_>,
     near: &NearNames,
     finding: &Finding<'_>,
 ) -> Result<(), AllocError> {
@@ -123,7 +127,7 @@ fn push_missing(
 
 fn push_unlisted(
     text: &mut String,
-    bag: &Bag<'_>,
+    bag: &Bag<'_, '_>,
     near: &NearNames,
     finding: &Finding<'_>,
 ) -> Result<(), AllocError> {

@@ -9,7 +9,7 @@ use std::alloc::AllocError;
 /// since it has a fetch.txt, no manifest-sha512.txt, or manifests that aren't read.
 pub(crate) fn push_rfc(
     text: &mut String,
-    bag: &Bag<'_>,
+    bag: &Bag<'_, '_>,
     findings: &[Finding<'_>],
 ) -> Result<(), AllocError> {
     if findings.is_empty()

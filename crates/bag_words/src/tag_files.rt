@@ -13,7 +13,7 @@ use std::collections::BTreeSet;
 /// tag manifest; and for what RFC 8493 wants of tag manifests and isn't asked for here.
 pub(crate) fn push_tag_files(
     text: &mut String,
-    bag: &Bag<'_>,
+    bag: &Bag<'_, '_>,
     counts: &mut Counts,
 ) -> Result<(), AllocError> {
     let Some(listed) = listed_by_tags(bag)? else {
@@ -35,7 +35,7 @@ pub(crate) fn push_tag_files(
 }
 
 /// The paths that tag manifests list; none where there is no tag manifest.
-fn listed_by_tags(bag: &Bag<'_>) -> Result<Option<BTreeSet<String>>, AllocError> {
+fn listed_by_tags(bag: &Bag<'_, '_>) -> Result<Option<BTreeSet<String>>, AllocError> {
     let alloc = bag.rt.alloc();
     let mut listed = BTreeSet::new(alloc);
     let mut is_there = false;

@@ -10,7 +10,7 @@ use unicode_normalization::to_nfc;
 /// Appends a warning for each file whose name is another's in another Unicode form.
 pub(crate) fn push_twins(
     text: &mut String,
-    bag: &Bag<'_>,
+    bag: &Bag<'_, '_>,
     counts: &mut Counts,
 ) -> Result<(), AllocError> {
     let alloc = bag.rt.alloc();
