@@ -18,7 +18,11 @@ use std::alloc::{AllocError, Global};
 const ABOUT: &str =
     "Several repositories, each with copies of one collection, agree which bag is a version of an object, with no master site.";
 
-const EXAMPLE: &str = "Example:\n  bagpaxos run < examples/first.schedule";
+const EXAMPLE: &str =
+    "`bagpaxos help codes` lists what it prints by a number or a word, and what each says.
+
+Example:
+  bagpaxos run < examples/first.schedule";
 
 /// What the program is asked to do.
 #[derive(Debug, Drop)]

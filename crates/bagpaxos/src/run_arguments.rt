@@ -29,7 +29,8 @@ A deposit, propose, deliver or ask may end in a fate:
 Lines that are blank, or begin with `#`, are skipped.
 
 With `--words` standard error says, once the lines are printed, what each command did, with its own
-line below it, and which datagrams were never delivered. With `--draw` a picture of the run is
+line below it, and which datagrams were never delivered; or, where the text is no schedule, what is
+wrong with its first line at fault. With `--draw` a picture of the run is
 written to a file, in place of what is there: a column a site, an arrow a datagram.
 
 The exit status is 0; 1 where the text is no schedule (`schedule line N`), memory runs out

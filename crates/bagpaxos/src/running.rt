@@ -2,6 +2,7 @@
 
 use crate::run_arguments::RunTask;
 use crate::run_on::run_on;
+use crate::schedule_fault::say_schedule_fault;
 use outcomes::{ProgramFault, ReadFault, read_all, write_all, write_answer};
 use run_picture::picture_of;
 use run_story::{Story, tell};
@@ -59,6 +60,9 @@ fn run_bytes(rt: &HostRuntime, task: &RunTask<'_>, bytes: &[u8]) -> Result<u8, P
     let mut rest = bytes;
     let status = run_on(rt.alloc(), &mut rest, &mut io::writer(rt), task.options)?;
     if status != 0 {
+        if task.words {
+            say_schedule_fault(rt, bytes);
+        }
         return Ok(status);
     }
     match story_of(rt, bytes) {

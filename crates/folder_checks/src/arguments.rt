@@ -37,8 +37,14 @@ where it is, a space as %20:
 Of several folders, each of these lines but `memory` has the folder before it, as in
   path/to/bag invalid 14
 
-With --progress, or where standard error is a terminal and a check takes its time, lines there say
-how far it is: 1000 of 2500 files, 4096000 of 10240000 bytes, 300 MB/s
+With --words standard error says in words what is wrong, of all that can be read, with names as they
+are: digests beside those that are listed, names that are nearly alike, warnings that change no
+answer, and counts. `bagpaxos help codes` lists what each number says.
+
+With --progress lines on standard error say how far it is:
+  1000 of 2500 files, 4096000 of 10240000 bytes, 300 MB/s
+On a terminal it is one line, also without --progress, which is renewed once a second at most; with
+--quiet there is none.
 
 With --registered FILE, a site's cell or a list that `ledger` printed, lines there say which of the
 known bags the folders are, once all are checked:
@@ -64,8 +70,12 @@ pub struct CheckTask<'a> {
     /// Their paths, of which there is one or more.
     pub paths: Vec<&'a str>,
     pub report: Report,
+    /// Whether to say in words what is wrong.
+    pub words: bool,
     /// Whether to say how far it is.
     pub progress: bool,
+    /// Whether not to say it, on a terminal too.
+    pub quiet: bool,
     /// The path of what knows the registered bags, if the folders are compared with it.
     pub registered: Option<&'a str>,
 }
@@ -87,7 +97,9 @@ pub fn check_task<'a>(
     Ok(CheckTask {
         paths,
         report,
+        words: matches.get_flag("words"),
         progress: matches.get_flag("progress"),
+        quiet: matches.get_flag("quiet"),
         registered: matches.get_str("registered"),
     })
 }
@@ -113,14 +125,30 @@ pub fn check_command<'a>(alloc: Global) -> Result<Command<'a>, AllocError> {
     let command = Command::new(alloc, "check")
         .about(ABOUT)
         .after_help(EXAMPLE);
-    let command = with_flags(command, explain, progress)?;
+    let command = with_flags(command, explain, words_argument(alloc))?;
+    let command = with_flags(command, progress, quiet_argument(alloc)?)?;
     command.arg(registered)?.arg(folders)
+}
+
+fn words_argument<'a>(alloc: Global) -> Arg<'a> {
+    Arg::new(alloc, "words")
+        .long("words")
+        .action(ArgAction::SetTrue)
+        .help("Say on standard error in words what is wrong")
+}
+
+fn quiet_argument<'a>(alloc: Global) -> Result<Arg<'a>, AllocError> {
+    Arg::new(alloc, "quiet")
+        .long("quiet")
+        .action(ArgAction::SetTrue)
+        .help("Don't say how far it is, on a terminal either")
+        .conflicts_with("progress")
 }
 
 fn with_flags<'a>(
     command: Command<'a>,
-    explain: Arg<'a>,
-    progress: Arg<'a>,
+    first: Arg<'a>,
+    second: Arg<'a>,
 ) -> Result<Command<'a>, AllocError> {
-    command.arg(explain)?.arg(progress)
+    command.arg(first)?.arg(second)
 }

@@ -3,7 +3,8 @@
 use crate::arguments::CheckTask;
 use crate::checking_all::check_all_on;
 use crate::progress::{Progress, Saying};
-use bag_folders::DiskFolders;
+use bag_folders::{DiskFolders, Folders};
+use bag_words::SpokenFolders;
 use outcomes::{ProgramFault, write_answer};
 use std::alloc::AllocError;
 use std::io;
@@ -13,26 +14,42 @@ use std::io::{IsTerminal, Stderr};
 /// standard error.
 pub fn check_folders(rt: &HostRuntime, task: &CheckTask<'_>) -> Result<u8, ProgramFault> {
     let mut output = io::writer(rt);
-    match watched_folders(rt, task.progress) {
-        Ok(mut folders) => {
+    match watched_folders(rt, task) {
+        Ok(folders) => {
+            let mut folders = spoken_folders(rt, task, folders);
             let paths = task.paths.as_slice();
-            check_all_on(rt.alloc(), &mut folders, paths, task.report, &mut output)
+            let status = check_all_on(rt.alloc(), &mut folders, paths, task.report, &mut output)?;
+            folders.say();
+            Ok(status)
         }
         Err(AllocError) => write_answer(&mut output, 1, "memory\n"),
     }
+}
+
+/// These folders; on standard error it is said in words what each check finds, where that is asked
+/// for: after the line of its folder, of the last folder by `say`.
+pub fn spoken_folders<'a, F: Folders>(
+    rt: &'a HostRuntime,
+    task: &CheckTask<'_>,
+    folders: F,
+) -> SpokenFolders<'a, F> {
+    let are_named = task.paths.len() != 1;
+    SpokenFolders::new(rt, task.words, are_named, folders)
 }
 
 /// The folders of the file system; on standard error it is said how far each check is, where that
 /// is asked for or a person may read it.
 pub fn watched_folders(
     rt: &HostRuntime,
-    progress: bool,
+    task: &CheckTask<'_>,
 ) -> Result<DiskFolders<HostRuntime, Progress<HostRuntime, Stderr>>, AllocError> {
     let errors = rt.stderr();
-    let saying = if progress {
-        Saying::All
+    let saying = if task.quiet {
+        Saying::Never
     } else if errors.is_terminal() {
-        Saying::Steps
+        Saying::Line
+    } else if task.progress {
+        Saying::All
     } else {
         Saying::Never
     };

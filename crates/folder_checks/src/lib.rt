@@ -16,7 +16,7 @@ pub use arguments::{CheckTask, check_command, check_task};
 pub use checking::{Verdict, check_on};
 pub use checking_all::check_all_on;
 pub use checking_each::check_each_on;
-pub use command::{check_folders, watched_folders};
+pub use command::{check_folders, spoken_folders, watched_folders};
 pub use explaining::explain_on;
 pub use progress::{Progress, Saying};
 pub use report::Report;

@@ -4,20 +4,31 @@ use bag_folders::Watcher;
 use outcomes::write_all;
 use std::alloc::{AllocError, Global};
 use std::io::Write;
-use std::time::{Clock, Instant};
+use std::time::{Clock, Duration, Instant};
 
 /// How many bytes are hashed between two lines, and how many files.
 const STEP_BYTES: u64 = 67_108_864;
 
 const STEP_FILES: u64 = 1000;
 
+/// How many there are between two looks at the clock, where a line is renewed.
+const LOOK_BYTES: u64 = 1_048_576;
+
+const LOOK_FILES: u64 = 32;
+
+/// How many milliseconds a line stays as it is.
+const PAUSE: u64 = 1000;
+
+/// What takes a line away: back to its beginning, and all behind that is cleared.
+const CLEAR: &str = "\r\x1b[K";
+
 /// When words are said.
 #[derive(Clone, Copy, Debug, PartialEq, Eq)]
 pub enum Saying {
     /// Never.
     Never,
-    /// After each step, and at the end of what took a step or more.
-    Steps,
+    /// In one line of a terminal, which is renewed once a second at most, and gone at the end.
+    Line,
     /// After each step, and at the end.
     All,
 }
@@ -31,6 +42,8 @@ pub struct Progress<C: Clock + Drop, W: Write + Drop> {
     output: W,
     saying: Saying,
     start: Option<Instant>,
+    /// When the line of a terminal was renewed, if it was.
+    renewed: Option<Instant>,
     files: u64,
     bytes: u64,
     files_done: u64,
@@ -48,12 +61,13 @@ impl<C: Clock + Drop, W: Write + Drop> Progress<C, W> {
             output,
             saying,
             start: None,
+            renewed: None,
             files: 0,
             bytes: 0,
             files_done: 0,
             bytes_done: 0,
-            next_bytes: STEP_BYTES,
-            next_files: STEP_FILES,
+            next_bytes: 0,
+            next_files: 0,
         }
     }
 
@@ -62,11 +76,52 @@ impl<C: Clock + Drop, W: Write + Drop> Progress<C, W> {
         &self.output
     }
 
-    // Writes a line, and puts off the next.
+    // Writes a line where one is due, and puts off the next.
     fn step(&mut self) {
-        self.say();
-        self.next_bytes = self.bytes_done.saturating_add(STEP_BYTES);
-        self.next_files = self.files_done.saturating_add(STEP_FILES);
+        match self.saying {
+            Saying::Never => {}
+            Saying::All => self.say(),
+            Saying::Line => self.renew(),
+        }
+        self.put_off();
+    }
+
+    fn put_off(&mut self) {
+        let (bytes, files) = match self.saying {
+            Saying::Line => (LOOK_BYTES, LOOK_FILES),
+            Saying::Never | Saying::All => (STEP_BYTES, STEP_FILES),
+        };
+        self.next_bytes = self.bytes_done.saturating_add(bytes);
+        self.next_files = self.files_done.saturating_add(files);
+    }
+
+    // Writes the line of a terminal anew, where it has stayed for a second.
+    fn renew(&mut self) {
+        let Some(since) = self.renewed.or(self.start) else {
+            return;
+        };
+        match since.elapsed(&self.clock) {
+            Ok(passed) if passed >= Duration::from_millis(PAUSE) => {}
+            _ => return,
+        }
+        self.renewed = Instant::now(&self.clock).ok();
+        if let Ok(line) = self.line() {
+            self.write(CLEAR);
+            self.write(line.as_str().trim_end());
+        }
+    }
+
+    fn write(&mut self, text: &str) {
+        let _ = write_all(&mut self.output, text.as_bytes());
+    }
+
+    // Takes away the line of a terminal, if it is there; or says the end of all files.
+    fn end(&mut self) {
+        if self.saying == Saying::All {
+            self.say();
+        } else if self.renewed.is_some() {
+            self.write(CLEAR);
+        }
     }
 
     fn say(&mut self) {
@@ -99,15 +154,6 @@ impl<C: Clock + Drop, W: Write + Drop> Progress<C, W> {
             .ok()
             .and_then(|micros| self.bytes_done.checked_div(micros))
     }
-
-    // Whether the end of all files has a line: in `Steps` where a step had one.
-    fn ends(&self) -> bool {
-        match self.saying {
-            Saying::Never => false,
-            Saying::Steps => self.next_bytes != STEP_BYTES || self.next_files != STEP_FILES,
-            Saying::All => true,
-        }
-    }
 }
 
 impl<C: Clock + Drop, W: Write + Drop> Watcher for Progress<C, W> {
@@ -116,14 +162,14 @@ impl<C: Clock + Drop, W: Write + Drop> Watcher for Progress<C, W> {
             return;
         }
         self.start = Instant::now(&self.clock).ok();
+        self.renewed = None;
         self.files = files;
         self.bytes = bytes;
         self.files_done = 0;
         self.bytes_done = 0;
-        self.next_bytes = STEP_BYTES;
-        self.next_files = STEP_FILES;
-        if files == 0 && self.ends() {
-            self.say();
+        self.put_off();
+        if files == 0 {
+            self.end();
         }
     }
 
@@ -137,9 +183,7 @@ impl<C: Clock + Drop, W: Write + Drop> Watcher for Progress<C, W> {
     fn file_done(&mut self) {
         self.files_done = self.files_done.saturating_add(1);
         if self.files_done == self.files {
-            if self.ends() {
-                self.say();
-            }
+            self.end();
         } else if self.files_done >= self.next_files && self.saying != Saying::Never {
             self.step();
         }

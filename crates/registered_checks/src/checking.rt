@@ -3,7 +3,7 @@
 use crate::noting::NotedFolders;
 use crate::words_for::compare;
 use bag_folders::DiskFolders;
-use folder_checks::{CheckTask, check_all_on, watched_folders};
+use folder_checks::{CheckTask, check_all_on, spoken_folders, watched_folders};
 use known_bags::{KnownBag, SourceFault, push_source};
 use outcomes::{ProgramFault, write_answer};
 use std::alloc::{AllocError, Global};
@@ -33,13 +33,14 @@ fn check_against<W: Write>(
     output: &mut W,
 ) -> Result<u8, ProgramFault> {
     let alloc = rt.alloc();
-    let Ok(folders) = watched_folders(rt, task.progress) else {
+    let Ok(folders) = watched_folders(rt, task) else {
         return write_answer(output, 1, "memory\n");
     };
-    let mut folders = NotedFolders::new(alloc, folders);
+    let mut folders = spoken_folders(rt, task, NotedFolders::new(alloc, folders));
     let paths = task.paths.as_slice();
     let status = check_all_on(alloc, &mut folders, paths, task.report, output)?;
-    let Some(held) = folders.held() else {
+    folders.say();
+    let Some(held) = folders.folders().held() else {
         return write_answer(output, 1, "memory\n");
     };
     match compare(alloc, held, known) {

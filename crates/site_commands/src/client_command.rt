@@ -9,18 +9,36 @@ use crate::until_known::send_until_known;
 use dgram::FolderPath;
 use fed_types::Slot;
 use outcomes::ProgramFault;
+use site_words::{Asked, SpokenOutput};
 use std::alloc::{AllocError, Global};
 use std::io;
-use std::io::Write;
+use std::io::{Printer, Write};
 use udp_site::Waits;
 
 /// Asks as the arguments say. The answer is written to standard output.
 pub fn send_to_site(rt: &HostRuntime, task: &SendTask<'_>) -> Result<u8, ProgramFault> {
-    let mut output = io::writer(rt);
+    let mut output = output_of(rt, task);
     match try_to_send(rt, task, &mut output) {
         Ok(answer) => answer,
         Err(stop) => write_stop(rt.alloc(), &mut output, stop),
     }
+}
+
+// Standard output; after its line words on standard error, where they are asked for.
+fn output_of<'a>(
+    rt: &'a HostRuntime,
+    task: &SendTask<'a>,
+) -> SpokenOutput<'a, Printer<'a, HostRuntime>> {
+    let asked = Asked {
+        members: task.members,
+        site: task.to.number(),
+        cell: None,
+        bags: None,
+        path: task.path,
+        wait: task.wait,
+    };
+    let asked = if task.words { Some(asked) } else { None };
+    SpokenOutput::new(rt, asked, io::writer(rt))
 }
 
 // What came of it, or why nothing was sent.

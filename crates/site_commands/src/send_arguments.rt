@@ -1,6 +1,6 @@
 //! The arguments of the command `send`.
 
-use crate::site_arguments::{members_argument, wait_argument};
+use crate::site_arguments::{members_argument, wait_argument, words_argument};
 use clap::{Arg, ArgMatches, Command, value_parser};
 use dgram::LONGEST_PATH;
 use fed_types::{GREATEST_SITE, LONGEST_OBJECT, SiteNo};
@@ -27,6 +27,9 @@ With --until-known it asks until the bag is known, and with PATH deposits it fir
 ms, then twice as long each time, and a second at most. After SECONDS, or where the deposit is
 refused, it prints the last line that there was.
 
+With --words standard error says in words what a line says that isn't `registered` or `reply`.
+`bagpaxos help codes` lists what each says.
+
 The exit status is 0 for `registered` and `reply`, with --until-known for `reply .. known` alone; 1
 for all else, and 2 for a mistake in the arguments.
 
@@ -41,6 +44,8 @@ pub struct SendTask<'a> {
     pub wait: u32,
     /// For how many seconds it asks until the bag is known.
     pub until_known: Option<u32>,
+    /// Whether to say in words what the line says.
+    pub words: bool,
     /// 1 to 200 bytes.
     pub object: &'a str,
     /// 1 or more.
@@ -71,6 +76,7 @@ pub fn send_task<'a>(matches: &ArgMatches<'a>) -> Option<SendTask<'a>> {
         to: SiteNo::new(matches.get_one::<u8>("to")?).ok()?,
         wait: matches.get_one::<u32>("wait")?,
         until_known: matches.get_one::<u32>("until-known"),
+        words: matches.get_flag("words"),
         object: matches.get_str("OBJ")?,
         version: matches.get_one::<u32>("V")?,
         path: matches.get_str("PATH"),
@@ -89,7 +95,8 @@ fn with_options<'a>(alloc: Global, command: Command<'a>) -> Result<Command<'a>, 
         .arg(members_argument(alloc))?
         .arg(to_argument(alloc))?
         .arg(wait_argument(alloc))?
-        .arg(until_argument(alloc))
+        .arg(until_argument(alloc))?
+        .arg(words_argument(alloc))
 }
 
 // With what it is asked for.

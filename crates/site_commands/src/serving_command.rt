@@ -10,19 +10,38 @@ use cell_device::{CellFault, FileCell};
 use fed_types::Members;
 use outcomes::ProgramFault;
 use site_log::{LoggedFolders, LoggedOutput, LoggedPort, SiteLog};
+use site_words::{Asked, SpokenOutput};
 use std::alloc::AllocError;
 use std::fs::{self, File};
 use std::io;
-use std::io::{ErrorKind, Write};
+use std::io::{ErrorKind, Printer, Write};
 use udp_site::{PortFault, UdpPort, Waits};
 
 /// Serves as the arguments say. The lines are written to standard output.
 pub fn serve_site(rt: &HostRuntime, task: &SiteTask<'_>) -> Result<u8, ProgramFault> {
-    let mut output = io::writer(rt);
+    let mut output = output_of(rt, task);
     match equip(rt, task) {
         Ok(means) => serve_with(rt, task, means, &mut output),
         Err(stop) => write_stop(rt.alloc(), &mut output, stop),
     }
+}
+
+// Standard output; after each line that has a code words on standard error, where they are asked
+// for.
+fn output_of<'a>(
+    rt: &'a HostRuntime,
+    task: &SiteTask<'a>,
+) -> SpokenOutput<'a, Printer<'a, HostRuntime>> {
+    let asked = Asked {
+        members: task.members,
+        site: task.number.number(),
+        cell: Some(task.cell),
+        bags: task.bags,
+        path: None,
+        wait: task.waits.first,
+    };
+    let asked = if task.words { Some(asked) } else { None };
+    SpokenOutput::new(rt, asked, io::writer(rt))
 }
 
 /// What a site serves with.
@@ -128,7 +147,7 @@ fn serve_logged(
         &mut LoggedPort::new(log, port),
         &mut LoggedFolders::new(log, folders),
         service,
-        &mut LoggedOutput::new(log, io::writer(rt)),
+        &mut LoggedOutput::new(log, output_of(rt, task)),
     )
 }
 

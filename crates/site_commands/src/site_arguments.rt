@@ -38,6 +38,9 @@ was asked for, and a folder that can't be read has a line of its own:
   TIME 51234 unread 1 21 deposit OBJ V PATH PLACE
 Where the log can't be written, standard error says so once, and the site goes on.
 
+With --words standard error has a line after each line that says what is refused, dropped or why it
+stopped: in words, with names. `bagpaxos help codes` lists what each says.
+
 The exit status is 0 after the last turn; 1 where a last line says why it stopped:
   members unread    the members file can't be read
   members line N    line N of the members file is at fault
@@ -73,6 +76,8 @@ pub struct SiteTask<'a> {
     pub bags: Option<&'a str>,
     /// The path of the log, if there is one.
     pub log: Option<&'a str>,
+    /// Whether to say in words what lines say.
+    pub words: bool,
     pub turns: Turns,
     pub waits: Waits,
 }
@@ -105,6 +110,7 @@ pub fn site_task<'a>(matches: &ArgMatches<'a>) -> Option<SiteTask<'a>> {
         existing: matches.get_flag("existing"),
         bags: matches.get_str("bags"),
         log: matches.get_str("log"),
+        words: matches.get_flag("words"),
         turns: turns_in(matches)?,
         waits: Waits {
             first: matches.get_one::<u32>("wait")?,
@@ -143,7 +149,8 @@ fn with_place<'a>(alloc: Global, command: Command<'a>) -> Result<Command<'a>, Al
 
 // With those that say where bags are read, and where a log is written.
 fn with_paths<'a>(alloc: Global, command: Command<'a>) -> Result<Command<'a>, AllocError> {
-    command.arg(bags_argument(alloc))?.arg(log_argument(alloc))
+    let command = command.arg(bags_argument(alloc))?;
+    command.arg(log_argument(alloc))?.arg(words_argument(alloc))
 }
 
 // With those that say how many turns it serves.
@@ -201,6 +208,14 @@ fn log_argument<'a>(alloc: Global) -> Arg<'a> {
     Arg::new(alloc, "log").long("log").value_name("FILE").help(
         "Append what it prints to this file, with the time and who asked",
     )
+}
+
+/// The option that asks for words.
+pub(crate) fn words_argument<'a>(alloc: Global) -> Arg<'a> {
+    Arg::new(alloc, "words")
+        .long("words")
+        .action(ArgAction::SetTrue)
+        .help("Say on standard error in words what a line with a code says")
 }
 
 fn turns_argument<'a>(alloc: Global) -> Result<Arg<'a>, AllocError> {

@@ -1,0 +1,24 @@
+//! What a check of a folder found, in words: each place with the names as they are, what was wanted
+//! and what was found, and what is no fault but worth knowing.
+#![tactic(auto)]
+
+mod bag;
+mod counts;
+mod declared;
+mod empty_folders;
+mod finding;
+mod folder_words;
+mod found_digest;
+mod lenient;
+mod listed;
+mod manifest_line;
+mod near_names;
+mod oxum;
+mod place_words;
+mod rfc;
+mod spoken_folders;
+mod tag_files;
+mod twins;
+mod unread;
+
+pub use spoken_folders::SpokenFolders;

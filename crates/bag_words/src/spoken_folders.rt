@@ -1,0 +1,127 @@
+//! Folders of which it is said in words what a check finds.
+
+use crate::folder_words::{push_read_words, push_unread_words};
+use bag_folders::Folders;
+use bag_tree::{Facts, TreeFault};
+use code_words::push_name;
+use std::alloc::AllocError;
+use std::io::IsTerminal;
+
+/// Folders that say on standard error what a check of each finds, where that is asked for: of a
+/// folder that was read when the next one is, or at the end, so that its words come after its line.
+/// They are the folders otherwise.
+#[derive(Drop)]
+pub struct SpokenFolders<'a, F> {
+    folders: F,
+    words: Words<'a>,
+}
+
+/// The words on the folder that was read last.
+#[derive(Drop)]
+struct Words<'a> {
+    rt: &'a HostRuntime,
+    /// Whether there are any.
+    are_wanted: bool,
+    /// Whether each line has the folder before it.
+    are_named: bool,
+    folder: String,
+    text: String,
+}
+
+impl<'a, F: Folders> SpokenFolders<'a, F> {
+    /// These folders, with words where they are wanted, and the folder before each line where these
+    /// are named.
+    pub fn new(
+        rt: &'a HostRuntime,
+        are_wanted: bool,
+        are_named: bool,
+        folders: F,
+    ) -> SpokenFolders<'a, F> {
+        let words = Words {
+            rt,
+            are_wanted,
+            are_named,
+            folder: String::new(rt.alloc()),
+            text: String::new(rt.alloc()),
+        };
+        SpokenFolders { folders, words }
+    }
+
+    /// The folders.
+    pub fn folders(&self) -> &F {
+        &self.folders
+    }
+
+    /// Says what is left to say.
+    pub fn say(&mut self) {
+        self.words.say();
+    }
+}
+
+impl<F: Folders> Folders for SpokenFolders<'_, F> {
+    ghost gives = { λ f. F.gives f.folders };
+
+    ghost fails_at = { λ f. F.fails_at f.folders };
+
+    fn read(&mut self, path: &str) -> Result<Facts, TreeFault> {
+        self.words.say();
+        match self.folders.read(path) {
+            Ok(facts) => {
+                self.words.note_read(path, &facts);
+                Ok(facts)
+            }
+            Err(fault) => {
+                self.words.clear_line();
+                self.words.note_unread(path, fault);
+                Err(fault)
+            }
+        }
+    }
+
+    fn failed_at(&self) -> Option<&str> {
+        self.folders.failed_at()
+    }
+}
+
+impl Words<'_> {
+    // Notes what is to be said of a folder that was read. Without memory that is less.
+    fn note_read(&mut self, path: &str, facts: &Facts) {
+        if self.are_wanted && self.folder.push_str(path).is_ok() {
+            let _ = push_read_words(self.rt, &mut self.text, path, facts);
+        }
+    }
+
+    // Notes what is to be said of one that can't be read.
+    fn note_unread(&mut self, path: &str, fault: TreeFault) {
+        if self.are_wanted && self.folder.push_str(path).is_ok() {
+            let _ = push_unread_words(self.rt, &mut self.text, path, fault);
+        }
+    }
+
+    // Takes away a line of a terminal that said how far the read was, which is over.
+    fn clear_line(&self) {
+        if self.rt.stderr().is_terminal() {
+            let _ = self.rt.eprint("\r\x1b[K");
+        }
+    }
+
+    // Says what was noted. Where standard error can't be written nobody is told.
+    fn say(&mut self) {
+        if self.are_named {
+            let _ = self.say_named();
+        } else {
+            let _ = self.rt.eprint(self.text.as_str());
+        }
+        self.text.clear();
+        self.folder.clear();
+    }
+
+    fn say_named(&self) -> Result<(), AllocError> {
+        let mut name = String::new(self.rt.alloc());
+        push_name(&mut name, self.folder.as_str())?;
+        for line in self.text.as_str().lines() {
+            let _ = eprintln!(self.rt; "{name}: {line}");
+        }
+        Ok(())
+    }
+}

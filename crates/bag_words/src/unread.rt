@@ -1,0 +1,129 @@
+//! Places of a folder that can't be read.
+
+use bag_tree::TreeFault;
+use code_words::push_name;
+use std::alloc::{AllocError, Global};
+use std::collections::BTreeSet;
+use std::fs::Metadata;
+use std::io::{self, ErrorKind};
+
+/// A place that can't be read: its path below the folder, or `.` for the folder itself, and why not.
+#[derive(Drop)]
+pub(crate) struct Unread {
+    pub(crate) path: String,
+    pub(crate) reason: Reason,
+}
+
+/// Why a place can't be read.
+#[derive(Clone, Copy, Debug, PartialEq, Eq)]
+pub(crate) enum Reason {
+    Absent,
+    NoRight,
+    NoFolder,
+    NotUtf8,
+    Link,
+    Special,
+    TooDeep,
+    TooMany,
+    TooLong,
+    Failing,
+}
+
+impl Reason {
+    /// Why what this error says can't be read.
+    pub(crate) fn of_error(error: &io::Error) -> Reason {
+        match error.kind() {
+            ErrorKind::NotFound => Reason::Absent,
+            ErrorKind::PermissionDenied => Reason::NoRight,
+            ErrorKind::NotADirectory => Reason::NoFolder,
+            ErrorKind::InvalidFilename => Reason::NotUtf8,
+            _ => Reason::Failing,
+        }
+    }
+
+    /// Why what is neither a file nor a folder isn't read.
+    pub(crate) fn of_entry(metadata: &Metadata) -> Reason {
+        if metadata.is_symlink() {
+            Reason::Link
+        } else {
+            Reason::Special
+        }
+    }
+
+    /// Why a file isn't read.
+    pub(crate) fn of_fault(fault: TreeFault) -> Reason {
+        if fault == TreeFault::TextTooLong {
+            Reason::TooLong
+        } else {
+            Reason::Failing
+        }
+    }
+
+    fn words(self) -> &'static str {
+        match self {
+            Reason::Absent => "isn't there",
+            Reason::NoRight => "may not be read by this user",
+            Reason::NoFolder => "isn't a folder",
+            Reason::NotUtf8 => "has an entry whose name isn't UTF-8; rename that",
+            Reason::Link => "is a link; put a copy of what it leads to in its place",
+            Reason::Special => "is a pipe, a socket or a device, and a bag has files and folders",
+            Reason::TooDeep => "has more than 32 parts",
+            Reason::TooMany => "has more than 100,000 files and folders",
+            Reason::TooLong => "has more than 64 MiB",
+            Reason::Failing => "can't be read: the disk fails, or it is exchanged meanwhile",
+        }
+    }
+}
+
+/// Appends a sentence for each place.
+pub(crate) fn push_unread_places(
+    text: &mut String,
+    folder: &str,
+    places: &[Unread],
+) -> Result<(), AllocError> {
+    for place in places {
+        text.push_str("  ")?;
+        if place.path.as_str() == "." {
+            push_name(text, folder)?;
+        } else {
+            push_name(text, place.path.as_str())?;
+        }
+        let words = place.reason.words();
+        writeln!(text, " {words}")?;
+    }
+    Ok(())
+}
+
+/// The paths of places.
+#[derive(Drop)]
+pub(crate) struct UnreadPaths<'a> {
+    paths: BTreeSet<&'a str>,
+}
+
+impl<'a> UnreadPaths<'a> {
+    pub(crate) fn of(alloc: Global, places: &'a [Unread]) -> Result<UnreadPaths<'a>, AllocError> {
+        let mut paths = BTreeSet::new(alloc);
+        for place in places {
+            paths.insert(place.path.as_str())?;
+        }
+        Ok(UnreadPaths { paths })
+    }
+
+    /// Whether the file of this path is one of these, or below one.
+    pub(crate) fn have(&self, path: &str) -> bool {
+        if self.paths.contains(path) {
+            return true;
+        }
+        let mut front = path;
+        for _ in 0..path.len() {
+            match front.rsplit_once('/') {
+                Some((folder, _)) => front = folder,
+                None => return false,
+            }
+            if self.paths.contains(front) {
+                return true;
+            }
+        }
+        false
+    }
+}

@@ -1,0 +1,24 @@
+//! The help on what the program prints by a number or a word.
+
+use code_words::push_table;
+use outcomes::{ProgramFault, write_answer};
+use std::alloc::AllocError;
+use std::io;
+
+/// Whether these words, the program's own name being the first of them, are `help codes`.
+pub fn ask_for_codes(words: &[String]) -> bool {
+    match words {
+        [_, help, codes] => help.as_str() == "help" && codes.as_str() == "codes",
+        _ => false,
+    }
+}
+
+/// Prints each code, what it says and what to do.
+pub fn print_codes(rt: &HostRuntime) -> Result<u8, ProgramFault> {
+    let mut output = io::writer(rt);
+    let mut text = String::new(rt.alloc());
+    match push_table(&mut text) {
+        Ok(()) => write_answer(&mut output, 0, text.as_str()),
+        Err(AllocError) => write_answer(&mut output, 1, "memory\n"),
+    }
+}

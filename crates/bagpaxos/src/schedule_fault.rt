@@ -1,0 +1,20 @@
+//! The first line at fault of a text that is no schedule, in words.
+
+use line_words::push_schedule_words;
+use schedule::{ParseFault, parse};
+use std::alloc::AllocError;
+
+/// Says on standard error what is wrong with the first line at fault, where these bytes are no
+/// schedule. Where memory or standard error fails, nobody is told.
+pub(crate) fn say_schedule_fault(rt: &HostRuntime, bytes: &[u8]) {
+    if let Err(ParseFault::Line(line)) = parse(rt.alloc(), bytes) {
+        let _ = say_line(rt, bytes, line);
+    }
+}
+
+fn say_line(rt: &HostRuntime, bytes: &[u8], line: usize) -> Result<(), AllocError> {
+    let mut text = String::new(rt.alloc());
+    push_schedule_words(rt.alloc(), &mut text, bytes, line)?;
+    let _ = rt.eprintln(text.as_str());
+    Ok(())
+}

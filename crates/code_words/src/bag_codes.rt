@@ -1,0 +1,131 @@
+//! The codes of folders that are no valid bags, or can't be read.
+
+use crate::meaning::Meaning;
+
+/// What `invalid N` says, N from 1 on.
+pub static INVALID: [Meaning; 15] = [
+    Meaning {
+        code: "invalid 1",
+        words: "there is no bagit.txt",
+        advice: "name the bag's own folder, or give it the two lines of a declaration",
+    },
+    Meaning {
+        code: "invalid 2",
+        words: "bagit.txt isn't the two lines of a declaration",
+        advice: "write `BagIt-Version: 1.0` and `Tag-File-Character-Encoding: UTF-8`",
+    },
+    Meaning {
+        code: "invalid 3",
+        words: "bagit.txt declares another version than 1.0 and 0.97",
+        advice: "bring the bag to version 1.0, and declare that",
+    },
+    Meaning {
+        code: "invalid 4",
+        words: "bagit.txt declares another encoding than UTF-8",
+        advice: "write the tag files anew in UTF-8, and declare that",
+    },
+    Meaning {
+        code: "invalid 5",
+        words: "there is a fetch.txt",
+        advice: "fetch the files that it lists, and take it out of the bag",
+    },
+    Meaning {
+        code: "invalid 6",
+        words: "there is no folder data",
+        advice: "make it, also for a bag without files",
+    },
+    Meaning {
+        code: "invalid 7",
+        words: "there is no manifest-sha512.txt, from which a bag has its identity",
+        advice: "add one, as docs/MIGRATION.md says",
+    },
+    Meaning {
+        code: "invalid 8",
+        words: "there is a manifest of another algorithm than md5, sha1, sha256 and sha512",
+        advice: "take it out of the bag: manifest-sha512.txt is what counts here",
+    },
+    Meaning {
+        code: "invalid 9",
+        words: "a line of a manifest isn't a digest, blanks and a path",
+        advice: "write the line anew",
+    },
+    Meaning {
+        code: "invalid 10",
+        words: "a manifest lists an unsafe path, or one on the wrong side of data/",
+        advice: "list payload files by paths that begin with data/, and only in payload manifests",
+    },
+    Meaning {
+        code: "invalid 11",
+        words: "a payload manifest lists a path twice",
+        advice: "remove the line that is too many",
+    },
+    Meaning {
+        code: "invalid 12",
+        words: "a listed file isn't there",
+        advice: "put it back, or list what is there",
+    },
+    Meaning {
+        code: "invalid 13",
+        words: "a file below data/ is in the bag, but not in every payload manifest",
+        advice: "list it, or take it out of the bag",
+    },
+    Meaning {
+        code: "invalid 14",
+        words: "a file isn't the one that was listed: it has another digest",
+        advice: "put back the right one from a copy, or find out who changed it",
+    },
+    Meaning {
+        code: "invalid 15",
+        words: "memory ran out, and nothing is known of the bag",
+        advice: "try again with more memory",
+    },
+];
+
+/// What `unread N` says, N from 1 on.
+pub static UNREAD: [Meaning; 7] = [
+    Meaning {
+        code: "unread 1",
+        words: "a folder isn't there or can't be listed, or a name in it isn't UTF-8",
+        advice: "look at the path, the rights and the names",
+    },
+    Meaning {
+        code: "unread 2",
+        words: "an entry is neither a file nor a folder, as a link or a pipe",
+        advice: "put a copy of the file in its place, or take it out of the bag",
+    },
+    Meaning {
+        code: "unread 3",
+        words: "a path has more than 32 parts",
+        advice: "pack the deepest folders into files",
+    },
+    Meaning {
+        code: "unread 4",
+        words: "there are more than 100,000 files and folders",
+        advice: "make several bags of it",
+    },
+    Meaning {
+        code: "unread 5",
+        words: "bagit.txt or a manifest has more than 64 MiB",
+        advice: "make several bags of it",
+    },
+    Meaning {
+        code: "unread 6",
+        words: "a file can't be read, or was exchanged meanwhile",
+        advice: "look at its rights and the disk, and let nobody write meanwhile",
+    },
+    Meaning {
+        code: "unread 7",
+        words: "memory ran out, and nothing is known of the folder",
+        advice: "try again with more memory",
+    },
+];
+
+/// What `invalid` with this number says, if there is such a number.
+pub fn invalid(number: u8) -> Option<&'static Meaning> {
+    INVALID.get(usize::from(number).checked_sub(1)?)
+}
+
+/// What `unread` with this number says, if there is such a number.
+pub fn unread(number: u8) -> Option<&'static Meaning> {
+    UNREAD.get(usize::from(number).checked_sub(1)?)
+}

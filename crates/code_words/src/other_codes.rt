@@ -1,0 +1,102 @@
+//! Lines that say why a command did nothing, or went no further.
+
+use crate::meaning::Meaning;
+
+/// What these lines say.
+pub static OTHERS: [Meaning; 19] = [
+    Meaning {
+        code: "memory",
+        words: "memory ran out",
+        advice: "try again with more memory",
+    },
+    Meaning {
+        code: "input unread",
+        words: "standard input can't be read",
+        advice: "say where the schedule comes from: `bagpaxos run < FILE`",
+    },
+    Meaning {
+        code: "schedule line N",
+        words: "the line is neither blank, a comment nor a command in its place",
+        advice: "`bagpaxos run --help` lists the commands",
+    },
+    Meaning {
+        code: "dropped S",
+        words: "what came was no message of the federation",
+        advice: "",
+    },
+    Meaning {
+        code: "down S",
+        words: "the site has stopped, and what it would have printed isn't printed",
+        advice: "",
+    },
+    Meaning {
+        code: "no answer",
+        words: "the site didn't answer in time: it is down, or busy with a bag",
+        advice: "see whether it runs, and ask again; don't deposit again",
+    },
+    Meaning {
+        code: "members unread",
+        words: "the members file can't be read",
+        advice: "look at the path and the rights",
+    },
+    Meaning {
+        code: "members line N",
+        words: "the line of the members file isn't what it has to be",
+        advice: "compare the file with those of the other sites",
+    },
+    Meaning {
+        code: "members other list",
+        words: "the federation's number doesn't come from this list of sites",
+        advice: "the file was cut or changed: compare it with those of the other sites",
+    },
+    Meaning {
+        code: "not a member",
+        words: "the members file has no site of this number",
+        advice: "give the site its own number",
+    },
+    Meaning {
+        code: "bags unread",
+        words: "what --bags names isn't a folder that can be read",
+        advice: "look at the path and the mount",
+    },
+    Meaning {
+        code: "socket",
+        words: "the port can't be had: another process has it",
+        advice: "find that one: `ss -lunp`",
+    },
+    Meaning {
+        code: "torn BYTES",
+        words: "the cell ends with so many bytes of a record that was cut short",
+        advice: "",
+    },
+    Meaning {
+        code: "damaged OFFSET",
+        words: "from this byte on the cell holds no record",
+        advice: "keep the file; the site is lost, and the others go on",
+    },
+    Meaning {
+        code: "ledger line N",
+        words: "the line of the list is none that `ledger` prints",
+        advice: "make the list anew from a cell",
+    },
+    Meaning {
+        code: "unread CELL",
+        words: "the cell can't be read, or begins with no header",
+        advice: "look at the path and the rights",
+    },
+    Meaning {
+        code: "foreign CELL",
+        words: "the cell is of another federation, of no member, or of other weights",
+        advice: "compare the members file with those of the sites",
+    },
+    Meaning {
+        code: "damaged CELL OFFSET",
+        words: "from this byte on the cell holds no record; what comes before is used",
+        advice: "keep the file; the site is lost, and the others go on",
+    },
+    Meaning {
+        code: "conflict OBJ V HEX HEX",
+        words: "two bags are known as one version",
+        advice: "a site has lost its cell or was run on a copy: see docs/AUDIT.md",
+    },
+];

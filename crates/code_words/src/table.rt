@@ -1,0 +1,73 @@
+//! The table of all codes, as a text.
+
+use crate::bag_codes::{INVALID, UNREAD};
+use crate::cell_codes::{OPEN, STOPPED};
+use crate::meaning::Meaning;
+use crate::other_codes::OTHERS;
+use crate::refusal_codes::REFUSED;
+use crate::schedule_codes::SKIPPED;
+use std::alloc::AllocError;
+
+const HEADING: &str = "What bagpaxos prints by a number or a word, what it says, and what to do.
+With --words, check, run, send and site say it on standard error, with names and places.
+";
+
+const CHECKS: &str = "
+check: no valid bag. Of a deposit send and site add 40 to N, and run writes `refused S 10 N`
+";
+
+const FOLDERS: &str = "
+check: a folder that can't be read. Of a deposit send and site add 20 to N
+";
+
+const REFUSALS: &str = "
+run, send, site: what site S refused
+";
+
+const CELLS: &str = "
+site, and other commands that read a cell
+";
+
+const ENDINGS: &str = "
+site: why it stopped serving
+";
+
+const SKIPS: &str = "
+run: why the command of line L couldn't apply, and changed nothing
+";
+
+const REST: &str = "
+what else is printed of what went wrong
+";
+
+/// Appends the table: below a heading for each kind its codes, a line of words for each, and one of
+/// what to do, where something is.
+pub fn push_table(text: &mut String) -> Result<(), AllocError> {
+    text.push_str(HEADING)?;
+    push_part(text, CHECKS, INVALID.as_slice())?;
+    push_part(text, FOLDERS, UNREAD.as_slice())?;
+    push_part(text, REFUSALS, REFUSED.as_slice())?;
+    push_part(text, CELLS, OPEN.as_slice())?;
+    push_part(text, ENDINGS, STOPPED.as_slice())?;
+    push_part(text, SKIPS, SKIPPED.as_slice())?;
+    push_part(text, REST, OTHERS.as_slice())
+}
+
+fn push_part(text: &mut String, heading: &str, meanings: &[Meaning]) -> Result<(), AllocError> {
+    text.push_str(heading)?;
+    for meaning in meanings {
+        push_row(text, meaning)?;
+    }
+    Ok(())
+}
+
+fn push_row(text: &mut String, meaning: &Meaning) -> Result<(), AllocError> {
+    let code = meaning.code;
+    let words = meaning.words;
+    writeln!(text, "  {code:<23} {words}")?;
+    if meaning.advice.is_empty() {
+        return Ok(());
+    }
+    let advice = meaning.advice;
+    writeln!(text, "  {:<23} to do: {advice}", "")
+}

@@ -1,0 +1,15 @@
+//! What is wrong with a line of a schedule or of a members file, in words: what was wanted, and what
+//! was found.
+#![tactic(auto)]
+
+mod command_line;
+mod federation_line;
+mod form;
+mod kind;
+mod members_line;
+mod schedule_line;
+mod text_lines;
+mod word_text;
+
+pub use members_line::push_members_words;
+pub use schedule_line::push_schedule_words;

@@ -1,0 +1,125 @@
+//! What is wrong with a line of a members file.
+
+use crate::command_line::{push_comment_words, push_first_fault, push_wrong};
+use crate::kind::Kind;
+use crate::schedule_line::push_tab_words;
+use crate::text_lines::line_at;
+use crate::word_text::push_found;
+use std::alloc::{AllocError, Global};
+use words::{parse_number, split_words};
+
+/// Appends what is wrong with the line of this number, counted from 1, which is the first at fault
+/// of a text that is no members file: `line 3: "b:5002" isn't a port, 1 to 65535 ..`.
+pub fn push_members_words(
+    alloc: Global,
+    text: &mut String,
+    file: &[u8],
+    number: usize,
+) -> Result<(), AllocError> {
+    write!(text, "line {number}: ")?;
+    let line = line_at(file, number);
+    let words = split_words(alloc, line)?;
+    if number <= 1 {
+        push_federation_words(text, words.as_slice())?;
+    } else {
+        push_site_words(alloc, text, file, number, words.as_slice())?;
+    }
+    push_tab_words(text, line)
+}
+
+fn push_federation_words(text: &mut String, words: &[&[u8]]) -> Result<(), AllocError> {
+    text.push_str(
+        "the first line has to be federation F, F being 0 to 18446744073709551615; found ",
+    )?;
+    push_found(text, words)?;
+    push_comment_words(text, words)
+}
+
+fn push_site_words(
+    alloc: Global,
+    text: &mut String,
+    file: &[u8],
+    number: usize,
+    words: &[&[u8]],
+) -> Result<(), AllocError> {
+    let site = number.saturating_sub(1);
+    write!(
+        text,
+        "here comes site {site} PORT, or that and a weight; found "
+    )?;
+    push_found(text, words)?;
+    let [name, arguments @ ..] = words else {
+        return text.push_str(": there is no site, or a blank line before the last");
+    };
+    if *name != b"site".as_slice() {
+        return push_comment_words(text, words);
+    }
+    text.push_str(": ")?;
+    push_argument_words(alloc, text, file, number, arguments)
+}
+
+// Appends what is wrong with the words after `site`.
+fn push_argument_words(
+    alloc: Global,
+    text: &mut String,
+    file: &[u8],
+    number: usize,
+    arguments: &[&[u8]],
+) -> Result<(), AllocError> {
+    if push_first_fault(alloc, text, &[Kind::Number, Kind::Port], arguments)? {
+        return Ok(());
+    }
+    match arguments {
+        [_, _, weight, ..] if !Kind::Weight.takes(alloc, weight)? => {
+            push_wrong(text, Kind::Weight, weight)?;
+            push_comment_words(text, &[*weight])
+        }
+        [_, _, _, left @ ..] if !left.is_empty() => {
+            push_found(text, left)?;
+            text.push_str(" is too much")?;
+            push_comment_words(text, left)
+        }
+        [site, port, ..] => push_order_words(alloc, text, file, number, site, port),
+        _ => Ok(()),
+    }
+}
+
+// Appends that the site isn't the next, or that its port is another's.
+fn push_order_words(
+    alloc: Global,
+    text: &mut String,
+    file: &[u8],
+    number: usize,
+    site: &[u8],
+    port: &[u8],
+) -> Result<(), AllocError> {
+    let next = number.saturating_sub(1);
+    if next > 63 {
+        return text.push_str("there are 63 sites at most");
+    }
+    if parse_number(0, 4294967295, site) != Some(next as u64) {
+        return write!(
+            text,
+            "the sites are numbered from 1 on, one after the other"
+        );
+    }
+    for earlier in 2..number {
+        if has_port(alloc, line_at(file, earlier), port)? {
+            let owner = earlier.saturating_sub(1);
+            return write!(
+                text,
+                "that is the port of site {owner}, and each has its own"
+            );
+        }
+    }
+    Ok(())
+}
+
+// Whether the line of a site names this port.
+fn has_port(alloc: Global, line: &[u8], port: &[u8]) -> Result<bool, AllocError> {
+    let words = split_words(alloc, line)?;
+    Ok(match words.get(2) {
+        Some(other) => parse_number(1, 65535, other) == parse_number(1, 65535, port),
+        None => false,
+    })
+}

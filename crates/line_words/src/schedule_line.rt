@@ -1,0 +1,35 @@
+//! What is wrong with a line of a schedule.
+
+use crate::command_line::push_command_words;
+use crate::federation_line::push_first_words;
+use crate::text_lines::{has_command_before, line_at};
+use std::alloc::{AllocError, Global};
+use words::split_words;
+
+/// Appends what is wrong with the line of this number, counted from 1, which is the first at fault
+/// of a text that is no schedule: `line 4: deliver takes a number; found ..`.
+pub fn push_schedule_words(
+    alloc: Global,
+    text: &mut String,
+    schedule: &[u8],
+    number: usize,
+) -> Result<(), AllocError> {
+    write!(text, "line {number}: ")?;
+    let line = line_at(schedule, number);
+    let words = split_words(alloc, line)?;
+    match words.as_slice() {
+        [name, arguments @ ..] if has_command_before(alloc, schedule, number)? => {
+            push_command_words(alloc, text, name, arguments)?;
+        }
+        words => push_first_words(alloc, text, words)?,
+    }
+    push_tab_words(text, line)
+}
+
+/// Appends that tabs separate no words, where the line has one.
+pub(crate) fn push_tab_words(text: &mut String, line: &[u8]) -> Result<(), AllocError> {
+    if line.contains(&b'\t') {
+        return text.push_str("; a tab separates no words: write a space");
+    }
+    Ok(())
+}

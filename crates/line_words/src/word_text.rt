@@ -1,0 +1,47 @@
+//! Words of a line, as a person reads them.
+
+use code_words::push_name;
+use std::alloc::AllocError;
+
+/// How many bytes of a word are shown.
+const LONGEST: usize = 100;
+
+/// Appends words between quotes, one space between them.
+pub(crate) fn push_found(text: &mut String, words: &[&[u8]]) -> Result<(), AllocError> {
+    text.push('"')?;
+    let mut is_first = true;
+    for word in words {
+        if !is_first {
+            text.push(' ')?;
+        }
+        push_word(text, word)?;
+        is_first = false;
+    }
+    text.push('"')
+}
+
+// Appends a word; of a long one its beginning.
+fn push_word(text: &mut String, word: &[u8]) -> Result<(), AllocError> {
+    match word.get(..LONGEST) {
+        Some(front) if front.len() < word.len() => {
+            push_bytes(text, front)?;
+            text.push_str("..")
+        }
+        _ => push_bytes(text, word),
+    }
+}
+
+// Appends bytes: text as it is, and of what is no text each byte in hex.
+fn push_bytes(text: &mut String, bytes: &[u8]) -> Result<(), AllocError> {
+    if let Ok(name) = str::from_utf8(bytes) {
+        return push_name(text, name);
+    }
+    for byte in bytes {
+        if byte.is_ascii_graphic() {
+            text.push(char::from(*byte))?;
+        } else {
+            write!(text, "\\x{byte:02x}")?;
+        }
+    }
+    Ok(())
+}

@@ -1,0 +1,18 @@
+//! What a command was asked.
+
+/// What words may speak of.
+#[derive(Clone, Copy, Debug)]
+pub struct Asked<'a> {
+    /// The path of the members file.
+    pub members: &'a str,
+    /// The number of the site that serves, or that is asked.
+    pub site: u8,
+    /// The path of the cell, of a site that serves.
+    pub cell: Option<&'a str>,
+    /// The folder below which bags are read, if one is named.
+    pub bags: Option<&'a str>,
+    /// The folder to deposit, if one is.
+    pub path: Option<&'a str>,
+    /// How many milliseconds an answer is waited for.
+    pub wait: u32,
+}

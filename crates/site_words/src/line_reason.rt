@@ -1,0 +1,129 @@
+//! What a line of `site` or `send` says.
+
+use crate::asked::Asked;
+use crate::cell_reason::push_cell_reason;
+use crate::file_reason::push_file_reason;
+use crate::members_reason::{port_of, push_line_reason, push_stranger};
+use code_words::{Meaning, meaning_of_line, push_name};
+use std::alloc::AllocError;
+
+/// Appends what a line says, if it has a code.
+pub(crate) fn push_reason(
+    rt: &HostRuntime,
+    text: &mut String,
+    asked: &Asked<'_>,
+    line: &str,
+) -> Result<(), AllocError> {
+    if let Some(number) = line.strip_prefix("members line ") {
+        return push_line_reason(rt, text, asked, number);
+    }
+    match line {
+        "members unread" => push_file_reason(rt, text, asked.members),
+        "not a member" => push_stranger(text, asked),
+        "bags unread" => push_bags(rt, text, asked),
+        "no answer" => push_silence(rt, text, asked),
+        "socket" => push_socket(rt, text, asked),
+        "open 4" => push_cell(rt, text, asked),
+        _ => push_meaning(rt, text, asked, line),
+    }
+}
+
+// Appends what the line's code says, after the name of what it is about, if it has one.
+fn push_meaning(
+    rt: &HostRuntime,
+    text: &mut String,
+    asked: &Asked<'_>,
+    line: &str,
+) -> Result<(), AllocError> {
+    let Some(meaning) = meaning_of_line(rt.alloc(), line)? else {
+        return Ok(());
+    };
+    push_subject(text, asked, line, meaning)?;
+    meaning.push(text)
+}
+
+// Appends the name of the cell, or of the folder, and a colon.
+fn push_subject(
+    text: &mut String,
+    asked: &Asked<'_>,
+    line: &str,
+    meaning: &Meaning,
+) -> Result<(), AllocError> {
+    if line.starts_with("open ") || line.starts_with("stopped 2") {
+        return push_named(text, asked.cell.unwrap_or("the cell"));
+    }
+    if line.starts_with("members ") {
+        return push_named(text, asked.members);
+    }
+    match asked.path {
+        Some(path) if is_of_folder(meaning) => push_folder(text, asked, path),
+        _ => Ok(()),
+    }
+}
+
+fn is_of_folder(meaning: &Meaning) -> bool {
+    meaning.code.starts_with("invalid ") || meaning.code.starts_with("unread ")
+}
+
+fn push_named(text: &mut String, name: &str) -> Result<(), AllocError> {
+    push_name(text, name)?;
+    text.push_str(": ")
+}
+
+// Appends the folder as the site finds it.
+fn push_folder(text: &mut String, asked: &Asked<'_>, path: &str) -> Result<(), AllocError> {
+    push_name(text, path)?;
+    let site = asked.site;
+    if path.starts_with('/') {
+        write!(text, ", as site {site} reads it: ")
+    } else {
+        write!(text, ", as site {site} reads it from its own folder: ")
+    }
+}
+
+fn push_bags(rt: &HostRuntime, text: &mut String, asked: &Asked<'_>) -> Result<(), AllocError> {
+    let Some(bags) = asked.bags else {
+        return Ok(());
+    };
+    match std::fs::metadata(rt, bags) {
+        Ok(found) if !found.is_dir() => {
+            push_name(text, bags)?;
+            text.push_str(" isn't a folder")
+        }
+        _ => push_file_reason(rt, text, bags),
+    }
+}
+
+fn push_silence(rt: &HostRuntime, text: &mut String, asked: &Asked<'_>) -> Result<(), AllocError> {
+    let site = asked.site;
+    let wait = asked.wait;
+    write!(text, "site {site} didn't answer in {wait} ms")?;
+    if let Some(port) = port_of(rt, asked) {
+        write!(text, " at port {port}")?;
+    }
+    if asked.path.is_some() {
+        return text.push_str(
+            "; it is down, or the site may still be reading the bag: ask, don't deposit again",
+        );
+    }
+    text.push_str("; it is down, or may be reading a large bag: see whether it runs, and ask again")
+}
+
+fn push_socket(rt: &HostRuntime, text: &mut String, asked: &Asked<'_>) -> Result<(), AllocError> {
+    let port = port_of(rt, asked);
+    match (asked.cell, port) {
+        (Some(_), Some(port)) => write!(
+            text,
+            "port {port} can't be had: another process has it, or the system refuses it; \
+            `ss -lunp` says which"
+        ),
+        _ => text.push_str("the system gives no port for the answer"),
+    }
+}
+
+fn push_cell(rt: &HostRuntime, text: &mut String, asked: &Asked<'_>) -> Result<(), AllocError> {
+    match asked.cell {
+        Some(cell) => push_cell_reason(rt, text, cell),
+        None => Ok(()),
+    }
+}

@@ -1,0 +1,45 @@
+//! What is wrong with a members file, and what it says of a site.
+
+use crate::asked::Asked;
+use crate::file_reason::bytes_at;
+use code_words::push_name;
+use line_words::push_members_words;
+use members_file::read_members;
+use std::alloc::AllocError;
+
+/// Appends what is wrong with the line of this number of the members file.
+pub(crate) fn push_line_reason(
+    rt: &HostRuntime,
+    text: &mut String,
+    asked: &Asked<'_>,
+    number: &str,
+) -> Result<(), AllocError> {
+    push_name(text, asked.members)?;
+    text.push_str(", ")?;
+    let bytes = bytes_at(rt, asked.members);
+    let number = number.parse::<usize>().unwrap_or(1);
+    push_members_words(rt.alloc(), text, bytes.as_slice(), number)
+}
+
+/// Appends that the site isn't in the members file.
+pub(crate) fn push_stranger(text: &mut String, asked: &Asked<'_>) -> Result<(), AllocError> {
+    push_name(text, asked.members)?;
+    let site = asked.site;
+    write!(
+        text,
+        " has no site {site}; give the number of one that it has"
+    )
+}
+
+/// The port of the site by the members file, if that can be read.
+pub(crate) fn port_of(rt: &HostRuntime, asked: &Asked<'_>) -> Option<u16> {
+    let bytes = bytes_at(rt, asked.members);
+    let Ok(members) = read_members(rt.alloc(), bytes.as_slice()) else {
+        return None;
+    };
+    let place = usize::from(asked.site).checked_sub(1)?;
+    match members.sites().get(place) {
+        Some(site) => Some(site.port),
+        None => None,
+    }
+}
