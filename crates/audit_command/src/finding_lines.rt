@@ -1,44 +1,53 @@
 //! The line of a version, and that of a cell that can't be used as it is.
 
-use crate::reading::CellFault;
+ghost use Rattle.std.specs.Prelude.{◌≡◌, ◌∷◌};
+ghost use Rattle.std.specs.List.{flat_map};
+ghost use Rattle.words.specs.Pushes.{Pushes};
+ghost use Rattle.ledger.specs.Lines.{ballot_text};
+ghost use Rattle.audit_command.specs.Lines.{fault_word, place_text, fault_line, finding_word};
+ghost use Rattle.audit_command.specs.Lines.{slot_text, bag_text, finding_text, version_line};
+
+use crate::cell_fault::CellFault;
+use crate::version::Version;
 use audit::Finding;
-use fed_types::{BagId, Slot};
+use fed_types::{BagId, Ballot, Slot, Vote};
 use std::alloc::{AllocError, Global};
 use words::push_escaped;
 
-/// The line of what the cells say of a version.
-pub(crate) fn finding_line(
-    alloc: Global,
-    slot: &Slot,
-    finding: &Finding,
-) -> Result<String, AllocError> {
-    let mut line = String::new(alloc);
-    line.push_str(word_for(finding))?;
-    push_slot(&mut line, slot)?;
-    push_finding(alloc, &mut line, finding)?;
-    line.push('\n')?;
-    Ok(line)
-}
-
-// The bags of what was found, and the ballot.
-fn push_finding(alloc: Global, line: &mut String, finding: &Finding) -> Result<(), AllocError> {
-    match finding {
-        Finding::Chosen(vote) => {
-            push_bag(alloc, line, vote.bag)?;
-            let round = vote.ballot.round();
-            let site = vote.ballot.site().number();
-            write!(line, " {round} {site}")
-        }
-        Finding::Known(bag) => push_bag(alloc, line, *bag),
-        Finding::Open => Ok(()),
-        Finding::Conflict(one, other) => {
-            push_bag(alloc, line, *one)?;
-            push_bag(alloc, line, *other)
-        }
+fn fault_word(fault: CellFault) -> &'static str
+    ensures { result.now ≡ fault_word fault }
+{
+    match fault {
+        CellFault::Unread => "unread ",
+        CellFault::Foreign => "foreign ",
+        CellFault::Damaged(_) => "damaged ",
     }
 }
 
-fn word_for(finding: &Finding) -> &'static str {
+// Where the damage begins.
+fn push_place(text: &mut String, fault: CellFault) -> Result<(), AllocError>
+    ensures { Pushes result text.old text.new (place_text fault) }
+{
+    match fault {
+        CellFault::Unread | CellFault::Foreign => Ok(()),
+        CellFault::Damaged(place) => write!(text, " {place}"),
+    }
+}
+
+/// Appends the line of what is amiss with the cell of this path.
+#[tactic(auto, unfolding(crate::specs::Lines::fault_line), using(std::proofs::Common::append_assoc))]
+pub(crate) fn push_fault(text: &mut String, path: &str, fault: CellFault) -> Result<(), AllocError>
+    ensures { Pushes result text.old text.new (fault_line path.now fault) }
+{
+    text.push_str(fault_word(fault))?;
+    push_escaped(text, path)?;
+    push_place(text, fault)?;
+    text.push('\n')
+}
+
+fn finding_word(finding: &Finding) -> &'static str
+    ensures { result.now ≡ finding_word finding.now }
+{
     match finding {
         Finding::Chosen(_) => "chosen ",
         Finding::Known(_) => "known ",
@@ -47,34 +56,87 @@ fn word_for(finding: &Finding) -> &'static str {
     }
 }
 
-/// The line of what is amiss with the cell of this path.
-pub(crate) fn fault_line(
-    alloc: Global,
-    path: &str,
-    fault: CellFault,
-) -> Result<String, AllocError> {
-    let mut line = String::new(alloc);
-    line.push_str(match fault {
-        CellFault::Unread => "unread ",
-        CellFault::Foreign => "foreign ",
-        CellFault::Damaged(_) => "damaged ",
-    })?;
-    push_escaped(&mut line, path)?;
-    if let CellFault::Damaged(offset) = fault {
-        write!(line, " {offset}")?;
-    }
-    line.push('\n')?;
-    Ok(line)
-}
-
-fn push_slot(line: &mut String, slot: &Slot) -> Result<(), AllocError> {
-    push_escaped(line, slot.object())?;
+// A slot's object and its version.
+#[tactic(auto, using(std::proofs::Common::append_assoc))]
+fn push_slot(text: &mut String, slot: &Slot) -> Result<(), AllocError>
+    ensures { Pushes result text.old text.new (slot_text slot.now) }
+{
+    push_escaped(text, slot.object())?;
     let version = slot.version();
-    write!(line, " {version}")
+    write!(text, " {version}")
 }
 
-fn push_bag(alloc: Global, line: &mut String, bag: BagId) -> Result<(), AllocError> {
+// A space and a bag.
+#[tactic(auto, using(std::proofs::Common::append_assoc))]
+fn push_bag(alloc: Global, text: &mut String, bag: BagId) -> Result<(), AllocError>
+    ensures { Pushes result text.old text.new (bag_text bag) }
+{
     let digits = hex::encode(alloc, bag.0)?;
-    line.push(' ')?;
-    line.push_str(digits.as_str())
+    text.push(' ')?;
+    text.push_str(digits.as_str())
+}
+
+// A space, and a ballot's round and site.
+#[tactic(auto, using(std::proofs::Common::append_assoc))]
+fn push_ballot(text: &mut String, ballot: Ballot) -> Result<(), AllocError>
+    ensures { Pushes result text.old text.new (32 ∷ ballot_text ballot) }
+{
+    let round = ballot.round();
+    let site = ballot.site().number();
+    write!(text, " {round} {site}")
+}
+
+// The chosen bag, and its ballot.
+#[tactic(auto, using(std::proofs::Common::append_assoc))]
+fn push_vote(alloc: Global, text: &mut String, vote: Vote) -> Result<(), AllocError>
+    ensures { Pushes result text.old text.new (finding_text (Finding.Chosen vote)) }
+{
+    push_bag(alloc, text, vote.bag)?;
+    push_ballot(text, vote.ballot)
+}
+
+// The two bags of a conflict.
+#[tactic(auto, using(std::proofs::Common::append_assoc))]
+fn push_both(alloc: Global, text: &mut String, one: BagId, other: BagId) -> Result<(), AllocError>
+    ensures { Pushes result text.old text.new (finding_text (Finding.Conflict one other)) }
+{
+    push_bag(alloc, text, one)?;
+    push_bag(alloc, text, other)
+}
+
+// The bags of what was found, and the ballot.
+fn push_finding(alloc: Global, text: &mut String, finding: &Finding) -> Result<(), AllocError>
+    ensures { Pushes result text.old text.new (finding_text finding.now) }
+{
+    match finding {
+        Finding::Chosen(vote) => push_vote(alloc, text, *vote),
+        Finding::Known(bag) => push_bag(alloc, text, *bag),
+        Finding::Open => Ok(()),
+        Finding::Conflict(one, other) => push_both(alloc, text, *one, *other),
+    }
+}
+
+// Appends the line of what the cells say of a version.
+#[tactic(auto, unfolding(crate::specs::Lines::version_line), using(std::proofs::Common::append_assoc))]
+fn push_version(alloc: Global, text: &mut String, version: &Version) -> Result<(), AllocError>
+    ensures { Pushes result text.old text.new (version_line version.now) }
+{
+    text.push_str(finding_word(&version.finding))?;
+    push_slot(text, &version.slot)?;
+    push_finding(alloc, text, &version.finding)?;
+    text.push('\n')
+}
+
+/// Appends the lines of what the cells say of these versions.
+pub(crate) fn push_versions(
+    alloc: Global,
+    text: &mut String,
+    versions: &[Version],
+) -> Result<(), AllocError>
+    ensures { Pushes result text.old text.new (flat_map version_line versions.now) }
+{
+    for version in versions {
+        push_version(alloc, text, version)?;
+    }
+    Ok(())
 }

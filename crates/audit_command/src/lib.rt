@@ -2,11 +2,19 @@
 #![tactic(auto)]
 
 mod arguments;
+mod auditing;
+mod cell_fault;
+mod cell_files;
+mod counts;
+mod disk_cells;
 mod evidence;
 mod finding_lines;
+mod gathered;
 mod printing;
 mod reading;
-mod totals;
+mod version;
 
 pub use arguments::{AuditTask, audit_command, audit_task};
+pub use auditing::audit_on;
+pub use cell_files::CellFiles;
 pub use printing::print_audit;

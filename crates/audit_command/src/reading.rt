@@ -1,77 +1,90 @@
-//! The cells of an audit, in their files.
+//! What a cell is good for.
 
-use crate::evidence::Evidence;
+ghost use Rattle.std.specs.Prelude.{◌≡◌, ◌↔◌, IfOk, IsTrue, option_map};
+ghost use Rattle.audit_command.specs.Readings.{IsMembers, IsWorth, IsReadingOf, damage_of};
+ghost use Rattle.audit_command.specs.inner.Gathered.{given_in};
+
+use crate::cell_fault::CellFault;
 use fed_types::Members;
 use ledger::{Contents, Ending, read_contents};
-use outcomes::{ReadFault, read_all};
-use std::alloc::AllocError;
-use std::fs::{self, File};
-use std::io::ErrorKind;
+use std::alloc::{AllocError, Global};
 
-/// What is amiss with a cell.
-#[derive(Clone, Copy, Debug)]
-pub(crate) enum CellFault {
-    /// It can't be read, or begins with no header.
-    Unread,
-    /// It is of another federation, of no member, or of other weights.
-    Foreign,
-    /// From this byte on it is damaged.
-    Damaged(usize),
+/// What is amiss with a cell, and what it says, if it is used.
+#[derive(Debug, Drop)]
+pub(crate) struct CellReading {
+    pub(crate) fault: Option<CellFault>,
+    pub(crate) contents: Option<Contents>,
 }
 
-/// Adds the records of the cell in the file of this path, and says what is amiss with it, if
-/// anything is.
-pub(crate) fn add_cell(
-    rt: &HostRuntime,
-    members: &Members,
-    evidence: &mut Evidence,
-    path: &str,
-) -> Result<Option<CellFault>, AllocError> {
-    let Some(bytes) = bytes_of(rt, path)? else {
-        return Ok(Some(CellFault::Unread));
-    };
-    let Some(contents) = read_contents(rt.alloc(), bytes.as_slice())? else {
-        return Ok(Some(CellFault::Unread));
-    };
-    if is_foreign(members, &contents) {
-        return Ok(Some(CellFault::Foreign));
-    }
-    evidence.add(contents.owner.site, contents.records.as_slice())?;
-    match contents.ending {
-        Ending::Damaged(offset) => Ok(Some(CellFault::Damaged(offset))),
-        Ending::Whole | Ending::Torn(_) => Ok(None),
-    }
-}
-
-fn is_foreign(members: &Members, contents: &Contents) -> bool {
+// Whether the cell is one of the federation's.
+fn is_members(members: &Members, contents: &Contents) -> bool
+    ensures { IsTrue result ↔ IsMembers members.now contents.now }
+{
     let owner = &contents.owner;
-    owner.members.federation() != members.federation()
-        || !members.has(owner.site)
-        || (contents.names_weights && owner.members.weights() != members.weights())
+    owner.members.federation() == members.federation()
+        && members.has(owner.site)
+        && (!contents.names_weights || owner.members.weights() == members.weights())
 }
 
-// The bytes of the file; none where it can't be read. What isn't a file isn't opened: opening a pipe
-// would wait.
-fn bytes_of(rt: &HostRuntime, path: &str) -> Result<Option<Vec<u8>>, AllocError> {
-    match fs::metadata(rt, path) {
-        Ok(found) if found.is_file() => {}
-        Ok(_) => return Ok(None),
-        Err(error) => return none_unless_memory(error.kind()),
-    }
-    match File::open(rt, path) {
-        Ok(mut file) => match read_all(rt.alloc(), &mut file) {
-            Ok(bytes) => Ok(Some(bytes)),
-            Err(ReadFault::Input) => Ok(None),
-            Err(ReadFault::Memory) => Err(AllocError),
-        },
-        Err(error) => none_unless_memory(error.kind()),
+// Where a cell that ends so is damaged, if it is.
+fn damage_of(ending: Ending) -> Option<CellFault>
+    ensures { result ≡ damage_of ending }
+{
+    match ending {
+        Ending::Damaged(place) => Some(CellFault::Damaged(place)),
+        Ending::Whole | Ending::Torn(_) => None,
     }
 }
 
-fn none_unless_memory(kind: ErrorKind) -> Result<Option<Vec<u8>>, AllocError> {
-    if kind == ErrorKind::OutOfMemory {
-        Err(AllocError)
+// What a cell of these contents is good for.
+fn worth_of(members: &Members, contents: Contents) -> CellReading
+    ensures { IsWorth members.now contents result.fault (given_in result.contents) }
+{
+    if is_members(members, &contents) {
+        CellReading {
+            fault: damage_of(contents.ending),
+            contents: Some(contents),
+        }
     } else {
-        Ok(None)
+        CellReading {
+            fault: Some(CellFault::Foreign),
+            contents: None,
+        }
+    }
+}
+
+// Of a cell of which nothing can be said.
+fn nothing_read() -> CellReading
+    ensures { (result.fault ≡ Some CellFault.Unread) × (result.contents ≡ None) }
+{
+    CellReading {
+        fault: Some(CellFault::Unread),
+        contents: None,
+    }
+}
+
+// What a cell of these bytes is good for.
+fn reading_in(alloc: Global, members: &Members, bytes: &[u8]) -> Result<CellReading, AllocError>
+    ensures { IfOk result (λ r. IsReadingOf members.now (Some bytes.now)
+        r.fault (given_in r.contents)) }
+{
+    match read_contents(alloc, bytes)? {
+        Some(contents) => Ok(worth_of(members, contents)),
+        None => Ok(nothing_read()),
+    }
+}
+
+/// What a cell of these bytes is good for, none if it can't be read.
+pub(crate) fn reading_of(
+    alloc: Global,
+    members: &Members,
+    bytes: Option<Vec<u8>>,
+) -> Result<CellReading, AllocError>
+    ensures { IfOk result (λ r. IsReadingOf members.now (option_map (λ b. b.items) bytes)
+        r.fault (given_in r.contents)) }
+{
+    match bytes {
+        Some(bytes) => reading_in(alloc, members, bytes.as_slice()),
+        None => Ok(nothing_read()),
     }
 }

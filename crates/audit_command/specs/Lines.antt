@@ -1,0 +1,84 @@
+-- The text of an audit: a line for each cell that can't be used as it is, one for each version, and
+-- how many there are of each kind.
+use Rattle.std.specs.Prelude.{ℕ, List, [], ◌∷◌, ◌++◌, codes, Option, Some, None}
+use Rattle.std.specs.List.{flat_map}
+use Rattle.std.specs.Fmt.{decimal}
+use Rattle.hex.specs.Hex.{encode_lower}
+use Rattle.fed_types.specs.declared.bag_id.BagId.{BagId}
+use Rattle.fed_types.specs.Slots.{SlotName}
+use Rattle.words.specs.Escapes.{escaped_text}
+use Rattle.ledger.specs.Lines.{ballot_text}
+use Rattle.audit.specs.declared.finding.Finding.{Finding}
+use Rattle.audit.specs.declared.finding.Finding.TheVariants.{Chosen, Known, Open, Conflict}
+use Rattle.audit_command.specs.declared.cell_fault.CellFault.{CellFault}
+use Rattle.audit_command.specs.declared.cell_fault.CellFault.TheVariants as faults
+use Rattle.audit_command.specs.declared.version.Version.{Version}
+use Rattle.audit_command.specs.Readings.{Reading}
+use Rattle.audit_command.specs.Versions.{is_chosen, is_known, is_open, is_conflict, count_of}
+
+-- ---- cells
+
+abbrev pub fault_word : CellFault → List ℕ
+fault_word faults.Unread = codes "unread "
+fault_word faults.Foreign = codes "foreign "
+fault_word (faults.Damaged place) = codes "damaged "
+
+-- where the damage begins
+abbrev pub place_text : CellFault → List ℕ
+place_text faults.Unread = []
+place_text faults.Foreign = []
+place_text (faults.Damaged place) = 32 ∷ decimal place
+
+-- what is amiss with the cell of this path
+unfoldable pub fault_line : List ℕ → CellFault → List ℕ
+fault_line path fault = fault_word fault ++ (escaped_text path ++ (place_text fault ++ 10 ∷ []))
+
+-- of a cell that is used as it is nothing is said
+abbrev pub line_if : List ℕ → Option CellFault → List ℕ
+line_if path None = []
+line_if path (Some fault) = fault_line path fault
+
+abbrev pub reading_line : Reading → List ℕ
+reading_line r = line_if r.path r.fault
+
+-- ---- versions
+
+abbrev pub finding_word : Finding → List ℕ
+finding_word (Chosen vote) = codes "chosen "
+finding_word (Known bag) = codes "known "
+finding_word Open = codes "open "
+finding_word (Conflict u v) = codes "conflict "
+
+-- a slot's object and its version
+abbrev pub slot_text : SlotName → List ℕ
+slot_text slot = escaped_text slot.object ++ (32 ∷ decimal slot.version)
+
+-- a space and a bag
+abbrev pub bag_text : BagId → List ℕ
+bag_text bag = 32 ∷ encode_lower bag.0
+
+-- the chosen bag, and the ballot in which it was chosen; the known one; two
+abbrev pub finding_text : Finding → List ℕ
+finding_text (Chosen vote) = bag_text vote.bag ++ (32 ∷ ballot_text vote.ballot)
+finding_text (Known bag) = bag_text bag
+finding_text Open = []
+finding_text (Conflict u v) = bag_text u ++ bag_text v
+
+unfoldable pub version_line : Version → List ℕ
+version_line v =
+    finding_word v.finding ++ (slot_text v.slot ++ (finding_text v.finding ++ 10 ∷ []))
+
+-- ---- counts
+
+unfoldable pub counts_line : List Version → List ℕ
+counts_line versions =
+    decimal (count_of is_chosen versions) ++ (codes " chosen, "
+    ++ (decimal (count_of is_known versions) ++ (codes " known, "
+    ++ (decimal (count_of is_open versions) ++ (codes " open, "
+    ++ (decimal (count_of is_conflict versions) ++ (codes " conflicts" ++ 10 ∷ [])))))))
+
+-- ---- all of it
+
+unfoldable pub audit_text : List Reading → List Version → List ℕ
+audit_text readings versions =
+    flat_map reading_line readings ++ (flat_map version_line versions ++ counts_line versions)
