@@ -104,7 +104,7 @@ pub fn tell(alloc: Global, schedule: &Schedule) -> Result<Story, AllocError> {
     let mut telling = Telling::new(alloc, schedule.members())?;
     let first = schedule.first_line();
     for (index, line) in schedule.lines().iter().enumerate() {
-        telling.tell_line(first.saturating_add(index), line)?;
+        telling = telling.tell_line(first.saturating_add(index), line)?;
     }
     Ok(telling.end())
 }

@@ -68,12 +68,12 @@ impl Telling {
 
     /// Runs the line of this number.
     pub(crate) fn tell_line(
-        &mut self,
+        self,
         number: usize,
         line: &Option<Command>,
-    ) -> Result<(), AllocError> {
+    ) -> Result<Telling, AllocError> {
         match line {
-            None => Ok(()),
+            None => Ok(self),
             Some(Command::Pump { turns }) => self.pump(number, *turns),
             Some(command) => {
                 let plan = Plan::of(self.alloc, command)?;
@@ -83,41 +83,43 @@ impl Telling {
     }
 
     // Each turn is an event.
-    fn pump(&mut self, number: usize, turns: u32) -> Result<(), AllocError> {
+    fn pump(self, number: usize, turns: u32) -> Result<Telling, AllocError> {
+        let mut telling = self;
         let turn = Some(Command::Pump { turns: 1 });
         for _ in 0..turns {
-            let Some(datagram) = self.datagrams.next_unnamed() else {
-                return Ok(());
+            let Some(datagram) = telling.datagrams.next_unnamed() else {
+                return Ok(telling);
             };
-            self.step(number, Plan::delivery(datagram, Fate::Whole), &turn)?;
+            telling = telling.step(number, Plan::delivery(datagram, Fate::Whole), &turn)?;
         }
-        Ok(())
+        Ok(telling)
     }
 
     // Runs a command that is one event.
     fn step(
-        &mut self,
+        self,
         number: usize,
         plan: Plan,
         command: &Option<Command>,
-    ) -> Result<(), AllocError> {
-        let plan = self.looked_up(plan)?;
-        self.note_slot(&plan)?;
-        let lines_before = self.federation.lines().len();
-        let sent_before = self.datagrams.len();
-        self.federation.run_line(number, command)?;
-        let said = self.note_lines(lines_before)?;
-        let sent_after = self.datagrams.len();
-        let count = self.note_heard(&plan, said, sent_before)?;
-        let record = self.note_record(plan.site, said)?;
-        let tree = self.tree_on(&record);
+    ) -> Result<Telling, AllocError> {
+        let mut telling = self;
+        let plan = telling.looked_up(plan)?;
+        telling.note_slot(&plan)?;
+        let lines_before = telling.federation.lines().len();
+        let sent_before = telling.datagrams.len();
+        telling = telling.run_line(number, command)?;
+        let said = telling.note_lines(lines_before)?;
+        let sent_after = telling.datagrams.len();
+        let count = telling.note_heard(&plan, said, sent_before)?;
+        let record = telling.note_record(plan.site, said)?;
+        let tree = telling.tree_on(&record);
         let Plan {
             deed,
             fate,
             site,
             slot,
         } = plan;
-        self.events.push(Event {
+        telling.events.push(Event {
             line: number,
             deed,
             fate,
@@ -130,7 +132,30 @@ impl Telling {
             tree,
             count,
         })?;
-        Ok(())
+        Ok(telling)
+    }
+
+    // The federation runs a line, and is given up where memory runs out.
+    fn run_line(self, number: usize, line: &Option<Command>) -> Result<Telling, AllocError> {
+        let Telling {
+            alloc,
+            members,
+            federation,
+            datagrams,
+            counts,
+            records,
+            events,
+        } = self;
+        let federation = federation.run_line(number, line)?;
+        Ok(Telling {
+            alloc,
+            members,
+            federation,
+            datagrams,
+            counts,
+            records,
+            events,
+        })
     }
 
     // The plan with the site that a datagram goes to, and what it is about; its number is named.
