@@ -68,9 +68,7 @@ pub(crate) fn run_task<'a>(matches: &ArgMatches<'a>) -> RunTask<'a> {
 
 /// The command, with its help.
 pub(crate) fn run_command<'a>(alloc: Global) -> Result<Command<'a>, AllocError> {
-    let run = Command::new(alloc, "run")
-        .about(ABOUT)
-        .after_help(EXAMPLE);
+    let run = Command::new(alloc, "run").about(ABOUT).after_help(EXAMPLE);
     let run = with_argument(run.arg(sent_argument(alloc)), identities_argument(alloc));
     let run = with_argument(run, words_argument(alloc));
     let run = with_argument(run, draw_argument(alloc));

@@ -267,11 +267,22 @@ module _ (members : Membership) (is_membership : IsMembership members) (two : 2 
   unfolding MayAll new_federation after_all
   fooled = record {
     before = Starts 1 Blank before_it ∷ [];
-    happen = ((one, ([], refl, record {
-      image = at_rest [];
-      told = refl;
-      says = nothing_says owner;
-    }), disks.opens members is_membership), tt);
+    happen = (
+      (
+        one,
+        (
+          [],
+          refl,
+          record {
+            image = at_rest [];
+            told = refl;
+            says = nothing_says owner;
+          },
+        ),
+        disks.opens members is_membership,
+      ),
+      tt,
+    );
     old = old;
     serves = refl;
     nothing = refl;

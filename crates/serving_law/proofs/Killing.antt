@@ -229,12 +229,15 @@ module _ (members : Membership) (is_membership : IsMembership members) where
     comes =
         subst (λ (r : requests.Request).
         comes_of device [] (Some step.folders) (old slot bag) r done (new slot bag))
-        (sym request.asked)
-        (Ok request.facts, refl, (
-          Ok answer,
-          called slot bag is_record request.facts request.checked answer says,
+        (sym request.asked) (
+          Ok request.facts,
           refl,
-        ))
+          (
+            Ok answer,
+            called slot bag is_record request.facts request.checked answer says,
+            refl,
+          ),
+        )
 
     one : Has 1 (members_of members)
     one = sites_to_has (count_of members) 1 (omega arith) is_membership.1.0.0
@@ -256,18 +259,31 @@ module _ (members : Membership) (is_membership : IsMembership members) where
       before = before;
       step = step;
       happen = (
-        (one, ([], refl, record {
-          image = at_rest [];
-          told = refl;
-          says = nothing_says owner;
-        }), disks.opens members is_membership),
         (
-          (old slot bag, (one, refl), record { may_come = come; comes = comes }, record {
-            told = refl;
-            bytes = bytes;
-            left = left;
-            says = found;
-          }),
+          one,
+          (
+            [],
+            refl,
+            record {
+              image = at_rest [];
+              told = refl;
+              says = nothing_says owner;
+            },
+          ),
+          disks.opens members is_membership,
+        ),
+        (
+          (
+            old slot bag,
+            (one, refl),
+            record { may_come = come; comes = comes },
+            record {
+              told = refl;
+              bytes = bytes;
+              left = left;
+              says = found;
+            },
+          ),
           tt,
         ),
       );

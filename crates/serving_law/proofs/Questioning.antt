@@ -79,6 +79,7 @@ reported n slot replies.Nothing r e = absurd (cc e)
 
 module _ {C : Type 0} (device : C → Device) (members : Membership) (s : Scene device members) where
   open s use {w, inv, formed, n, member, cell, tables, recovers, is_membership, only_now}
+
   abbrev q : QuorumSystem
   q = quorums device members
 

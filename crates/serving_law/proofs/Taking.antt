@@ -66,6 +66,7 @@ proposal_among n input (Ok answer) notice h = h
 
 module _ {C : Type 0} (device : C → Device) (members : Membership) (s : Scene device members) where
   open s use {w, inv, formed, n, member, cell, tables, recovers, is_membership, only_now}
+
   abbrev q : QuorumSystem
   q = quorums device members
 
