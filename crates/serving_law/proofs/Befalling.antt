@@ -37,7 +37,7 @@ use Rattle.dgram.specs.Encoding.{datagram_of}
 use Rattle.dgram.proofs.MessageOf.{message_of-again}
 use Rattle.proposer.specs.Sessions.{Session, new_session}
 use Rattle.site.specs.Opened.{Opens}
-use Rattle.site.specs.Sites.{OpenSite}
+use Rattle.site.specs.Sites.{OpenSite, StandsFor}
 use Rattle.lines.specs.Notices.{Notice, Registered}
 use Rattle.world_law.specs.Laws.{Report, report_of, IsChosen}
 use Rattle.world_law.specs.Networks.{Network, SiteState, Up}
@@ -48,6 +48,7 @@ use Rattle.world_law.proofs.Kept.{Kept}
 use Rattle.world_law.proofs.Step.{moved, kept_moved, Next, nothing_recalled, reports_nothing}
 use Rattle.udp_site.specs.Traffic.{Post}
 use Rattle.udp_site.specs.Requests.{Request, Waits, Says, Deposits, Queries, Noise}
+use Rattle.udp_site.specs.Turns as turns
 use Rattle.udp_site.specs.Turns.{Serving, Done, begins, turn_of, comes_of}
 use Rattle.udp_site.specs.Served.{Turned, is_the_last}
 use Rattle.serving_law.specs.Federations.{Member, Serves, Down, Federation, Step, Happening}
@@ -534,6 +535,17 @@ module _ {C : Type 0} (device : C → Device) (members : Membership)
         by_test false e = e
         by_test true e =
             absurd (false≢true (sym not_last ∙ (came n member old serves step takes).last e))
+
+    -- a site that stands for what it has heard does so after the turn
+    pub stands_then : (n : ℕ) (member : Has n (members_of members)) (old : Serving C)
+        (serves : f.members n ≡ Serves old) (step : Step C) → Takes device members f old step
+        → turns.IsServing old → turns.IsServing step.next
+    stands_then n member old serves step takes before opened =
+        (came n member old serves step takes).stands
+        (subst (λ (s : Serving C). StandsFor s.site s.session)
+        (is_serving device members n old (w.sites n) (served_at n old serves))
+        (before (served_at n old serves).opened))
+        opened
 
 -- some folders give what was read
 pub with_folders : {C : Type 0} (device : C → Device) (ports : List ℕ)

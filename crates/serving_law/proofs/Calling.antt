@@ -33,6 +33,7 @@ use Rattle.site.specs.Answered.{Keeps, Gives}
 use Rattle.site.specs.Calls.{Input, Deposits, Proposes, Asks, Arrives, effect_of}
 use Rattle.site.specs.Datagrams.{handed_out, datagram}
 use Rattle.site.specs.Effects.{Effect, Send}
+use Rattle.site.specs.Sites.{StandsFor}
 use Rattle.site_tables.specs.Contents.{Contents}
 use Rattle.lines.specs.Notices.{Notice, Registered, Learned, Dropped, notice_of, line_notice}
 use Rattle.world_law.specs.Laws.{Report, report_of}
@@ -344,6 +345,24 @@ module _ {C : Type 0} (device : C → Device) (members : Membership) (s : Scene 
             → Gives old.site new.site old.session e (Err fault) → ⊥
         unopened fault f gives =
             subst (λ (f : SiteFault). Gives old.site new.site old.session e (Err f)) f gives
+
+    -- a site that refuses stands for what it stood for
+    pub err_stands : (fault : SiteFault) (new : Serving C)
+        → Keeps device e.commits (Err fault) old.site.book new.site.book
+        → Gives old.site new.site old.session e (Err fault) → new.site.book.needs_opening ≡ false
+        → StandsFor new.site old.session
+    err_stands faults.Memory new keeps gives opened = gives
+    err_stands faults.Device new keeps gives opened =
+        absurd (false≢true (sym opened
+        ∙ device_needs device owner old.site.book refl refl recovers e.commits new.site.book gives
+        keeps))
+    err_stands faults.NeedsOpen new keeps gives opened = absurd gives
+    err_stands (faults.InvalidBag fault) new keeps gives opened = gives.1
+    err_stands (faults.OtherDeposit bag) new keeps gives opened = gives.1
+    err_stands (faults.OtherKnown bag) new keeps gives opened = gives.1
+    err_stands faults.NoDeposit new keeps gives opened = gives.1
+    err_stands faults.RoundsSpent new keeps gives opened = gives.1
+    err_stands faults.AlreadyKnown new keeps gives opened = gives.1
 
     -- a call after which the site needs opening met a failing device
     pub failed_by_device : (result : Result Answer SiteFault) (new : Serving C)

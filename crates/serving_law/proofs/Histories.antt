@@ -23,6 +23,7 @@ use Rattle.world_law.proofs.Grows.{Grows, grows_itself, chosen_grows}
 use Rattle.world_law.proofs.Induction.{chosen_once, chosen_came}
 use Rattle.world_law.proofs.Runs.{new_kept}
 use Rattle.world_law.proofs.WellFormed.{new_is_well_formed}
+use Rattle.udp_site.specs.Turns as turns
 use Rattle.udp_site.specs.Turns.{Serving, turn_of}
 use Rattle.udp_site.specs.Served.{Turned, is_the_last}
 use Rattle.serving_law.specs.Federations.{Federation, Step, Happening, new_federation, after}
@@ -33,7 +34,7 @@ use Rattle.serving_law.specs.Reports.{Reports, Registers, IsDeposit, records_of}
 use Rattle.serving_law.specs.Rules.{May, MayAll, MayCome, IsServing, Takes}
 use Rattle.serving_law.proofs.Scene.{OnlyNow}
 use Rattle.serving_law.proofs.Standing.{quorums, HasDeposit, Stands}
-use Rattle.serving_law.proofs.Befalling.{Went, went, records_are, goes_on, with_folders}
+use Rattle.serving_law.proofs.Befalling.{Went, went, records_are, goes_on, stands_then, with_folders}
 
 grows_then : {w x y : Network} → Grows w x → Grows x y → Grows w y
 grows_then g h = record {
@@ -221,10 +222,14 @@ module _ {C : Type 0} (device : C → Device) (members : Membership)
       → (step : Step C) × (step.turn ≡ turn) × (step.next ≡ next)
       × Takes device members (after_all new_federation history) old step
       × (is_the_last turn ≡ false → next.site.book.needs_opening ≡ false)
+      × (turns.IsServing old → turns.IsServing next)
   taken history n old next ports gives turn may serving come comes =
       (step, refl, refl, takes, λ not_last.
       goes_on device members is_membership only_now (after_all new_federation history) l.x l.stands
-      n serving.0 old serving.1 step takes not_last)
+      n serving.0 old serving.1 step takes not_last,
+      λ before.
+      stands_then device members is_membership only_now (after_all new_federation history) l.x
+      l.stands n serving.0 old serving.1 step takes before)
     where
       l : Led new_federation history new_network
       l = from_new history may

@@ -261,6 +261,7 @@ module _ {C : Type 0} (device : C → Device) (members : Membership) (s : Scene 
               (recovered_now device (owner_of device members n) old.site.book refl refl recovers
               only_now records m);
           last = λ needs. absurd (cc needs);
+          stands = λ before opened. before;
         })
       where
         all : List ℕ

@@ -40,6 +40,7 @@ use Rattle.site.specs.declared.fault.SiteFault.{SiteFault}
 use Rattle.site.specs.declared.fault.SiteFault.TheVariants as faults
 use Rattle.site.specs.Calls.{Input, Deposits, Proposes, Asks, Arrives, effect_of, reply_of}
 use Rattle.site.specs.Effects.{Effect}
+use Rattle.site.specs.Sites.{StandsFor}
 use Rattle.site_tables.specs.Contents.{Contents}
 use Rattle.lines.specs.Notices.{Notice, Registered, Replied, Refused, Dropped}
 use Rattle.world_law.specs.Laws.{Report, report_of, WasSent, IsChosen}
@@ -91,7 +92,8 @@ module _ {C : Type 0} (device : C → Device) (members : Membership) (s : Scene 
   owner = owner_of device members n
 
   -- What comes of a turn, in which this may be deposited: where the site can go on; where it needs
-  -- opening, and its process ends, which a line says; and where its process is killed in it.
+  -- opening, and its process ends, which a line says; and where its process is killed in it. A site
+  -- that stood for its session does so then.
   pub record Ends (done : Done) (new : Serving C) (D : May) : Type 0 where
     pub goes : new.site.book.needs_opening ≡ false → Goes device members w n done (Serves new) D
     pub fails : new.site.book.needs_opening ≡ true → (records : List Record)
@@ -101,6 +103,9 @@ module _ {C : Type 0} (device : C → Device) (members : Membership) (s : Scene 
         → MayRecoverTo owner (device cell) (device new.site.book.cell) records
         → (x : Network) × Moves device members w x n (Down records) D
     pub last : new.site.book.needs_opening ≡ true → or_one done.notices ≡ true
+    pub stands : StandsFor (serving device members n (w.sites n).records (w.sites n).session cell
+        tables 0 0).site (w.sites n).session
+        → new.site.book.needs_opening ≡ false → StandsFor new.site new.session
 
   -- ---- notices that report nothing
 
@@ -165,6 +170,7 @@ module _ {C : Type 0} (device : C → Device) (members : Membership) (s : Scene 
               records
               (recovered_now device owner old.site.book refl refl recovers only_now records m);
           last = λ needs. absurd (cc needs);
+          stands = λ before opened. before;
         })
 
     -- ---- a turn with a call
@@ -208,6 +214,9 @@ module _ {C : Type 0} (device : C → Device) (members : Membership) (s : Scene 
           fails = λ needs. absurd (cc (calling.failed_by_device device members s idle tried input (Ok answer) new c needs));
           dies = call_dies (Ok answer) new c;
           last = λ needs. absurd (cc (calling.failed_by_device device members s idle tried input (Ok answer) new c needs));
+          stands = λ before opened.
+              subst (λ (h : Session). StandsFor new.site h) (sym c.session)
+              (c.answered refl).gives.2;
         }
 
         -- where it is refused
@@ -237,6 +246,10 @@ module _ {C : Type 0} (device : C → Device) (members : Membership) (s : Scene 
               };
           dies = call_dies (Err fault) new c;
           last = λ needs. said (same_fault (calling.failed_by_device device members s idle tried input (Err fault) new c needs));
+          stands = λ before opened.
+              subst (λ (h : Session). StandsFor new.site h) (sym c.session)
+              (calling.err_stands device members s idle tried input fault new
+              (c.answered refl).keeps (c.answered refl).gives opened);
         }
           where
             same_fault : {f g : SiteFault} → answered (Err f) ≡ answered (Err g) → f ≡ g
