@@ -1,5 +1,5 @@
 -- A call of a site that serves is a move of its site in a network.
-use Rattle.std.proofs.Common.{ℕ, ◌≡◌, ◌≢◌, ◌⊎◌, inl, inr, refl, sym, ap, subst, ◌∙◌, true, false}
+use Rattle.std.proofs.Common.{ℕ, ◌≡◌, inl, inr, refl, sym, ap, subst, ◌∙◌, true, false}
 use Rattle.std.proofs.Common.{List, [], ◌∷◌, ◌++◌, append-nil, map, Option, None, Some}
 use Rattle.std.specs.Prelude.{Result, Ok, Err, IsSome}
 use Rattle.std.specs.List.{flat_map}
@@ -7,13 +7,12 @@ use Rattle.std.specs.Option.{option_to_list, IfSome}
 use Rattle.fed_types.specs.declared.bag_id.BagId.{BagId}
 use Rattle.fed_types.specs.Lists.{Has, here, there}
 use Rattle.fed_types.specs.Quorums.{QuorumSystem}
-use Rattle.fed_types.specs.Sites.{Membership, IsSiteNumber}
+use Rattle.fed_types.specs.Sites.{Membership}
 use Rattle.fed_types.specs.Slots.{SlotName}
 use Rattle.fed_types.specs.Laws.Lists.{has_map, map_has, has_none, has_right, has_one}
 use Rattle.fed_types.specs.Laws.Lists.{has_cases}
 use Rattle.std.proofs.lemmas.Bool.{false≢true}
 use Rattle.cell_device.specs.Devices.{Device}
-use Rattle.cell_device.specs.Images.{MayLeave}
 use Rattle.bag_check.specs.declared.fault.BagFault.{BagFault}
 use Rattle.records.specs.declared.entry.Entry.TheVariants as entry
 use Rattle.records.specs.declared.owner.Owner.{Owner}
@@ -22,39 +21,33 @@ use Rattle.records.specs.Bounds.{HasEntry}
 use Rattle.records.specs.Records.{IsRecord}
 use Rattle.book.specs.Volumes.{RecoversTo}
 use Rattle.proposer.specs.Sessions.{Session, new_session}
-use Rattle.dgram.specs.Encoding.{datagram_of}
 use Rattle.site.specs.declared.answer.Answer.{Answer}
 use Rattle.site.specs.declared.answer.Line.{Line}
 use Rattle.site.specs.declared.answer.Line.TheVariants as lines
-use Rattle.site.specs.declared.answer.Sealed.{Sealed}
 use Rattle.site.specs.declared.fault.SiteFault.{SiteFault}
 use Rattle.site.specs.declared.fault.SiteFault.TheVariants as faults
 use Rattle.site.specs.Answered.{Keeps, Gives}
 use Rattle.site.specs.Calls.{Input, Deposits, Proposes, Asks, Arrives, effect_of}
 use Rattle.site.specs.Datagrams.{handed_out, datagram}
-use Rattle.site.specs.Effects.{Effect, Send}
+use Rattle.site.specs.Effects.{Effect}
 use Rattle.site.specs.Sites.{StandsFor}
-use Rattle.site_tables.specs.Contents.{Contents}
-use Rattle.lines.specs.Notices.{Notice, Registered, Learned, Dropped, notice_of, line_notice}
-use Rattle.world_law.specs.Laws.{Report, report_of}
+use Rattle.lines.specs.Notices.{Notice, Registered, notice_of}
 use Rattle.world_law.specs.Networks.{Network, SiteState, Up, Down}
-use Rattle.world_law.specs.WellFormed.{IsWellFormed}
 use Rattle.world_law.proofs.Deeds.{Deed, MayDeposit, some_same}
 use Rattle.world_law.proofs.Grows.{grows_itself}
-use Rattle.world_law.proofs.Kept.{Kept}
 use Rattle.world_law.proofs.Step.{moved, kept_moved, Next, Sound, nothing_recalled, reports_nothing}
 use Rattle.world_law.proofs.Deeds.{nothing_sent}
 use Rattle.world_law.proofs.WellFormedEffects.{IsWellFormedEffect}
 use Rattle.udp_site.specs.Turns.{Serving, IsCalled, posts_of, sealed_posts, notices_of}
 use Rattle.serving_law.specs.Federations.{Member, Serves}
 use Rattle.serving_law.specs.Federations as federations
-use Rattle.serving_law.specs.Rules.{owner_of, MayRecoverTo}
-use Rattle.serving_law.proofs.Spoken.{IsSiteBody, effect_speaks}
+use Rattle.serving_law.specs.Rules.{owner_of}
+use Rattle.serving_law.proofs.Spoken.{effect_speaks}
 use Rattle.serving_law.proofs.Moving.{moved_site, others_stay, moved_formed}
 use Rattle.serving_law.proofs.Recovering.{Recovered, IsKept, kept_ok, kept_err, device_needs}
 use Rattle.serving_law.proofs.Registering.{registered_is_kept}
 use Rattle.serving_law.proofs.Scene.{Scene}
-use Rattle.serving_law.proofs.Standing.{quorums, serving, IsServed, IsMember, IsSent, IsNotice}
+use Rattle.serving_law.proofs.Standing.{quorums, serving, IsServed, IsSent, IsNotice}
 use Rattle.serving_law.proofs.Standing.{HasDeposit, May, Moves}
 
 -- what stands in one of these lists

@@ -1,6 +1,6 @@
 -- Every history stands for a network, in which all that was reported is chosen.
-use Rattle.std.proofs.Common.{ℕ, ◌≡◌, ◌⊎◌, inl, inr, refl, sym, ap, subst, ◌∙◌, false}
-use Rattle.std.proofs.Common.{List, [], ◌∷◌, ◌++◌, Option, None, Some}
+use Rattle.std.proofs.Common.{ℕ, ◌≡◌, ◌⊎◌, inl, inr, refl, sym, ap, subst, false}
+use Rattle.std.proofs.Common.{List, [], ◌∷◌, ◌++◌, Option, Some}
 use Rattle.std.specs.Prelude.{Result}
 use Rattle.bag_tree.specs.declared.fault.TreeFault.{TreeFault}
 use Rattle.bag_tree.specs.Facts.{TreeFacts}
@@ -13,7 +13,6 @@ use Rattle.fed_types.specs.Values.{IsMembership}
 use Rattle.fed_types.specs.Laws.Lists.{has_none, has_right}
 use Rattle.fed_types.specs.Laws.Quorums.{are_quorums}
 use Rattle.cell_device.specs.Devices.{Device}
-use Rattle.cell_device.specs.Images.{MayLeave}
 use Rattle.records.specs.declared.entry.Entry.TheVariants as entry
 use Rattle.records.specs.declared.record.Record.{Record}
 use Rattle.records.specs.Bounds.{HasEntry}
@@ -54,225 +53,230 @@ none_new n slot bag d = has_none d
 module _ {C : Type 0} (device : C → Device) (members : Membership)
     (is_membership : IsMembership members)
     (only_now : OnlyNow device)
-    where
-  abbrev q : QuorumSystem
-  q = quorums device members
+  where
+    abbrev q : QuorumSystem
+    q = quorums device members
 
-  abbrev federation : ℕ
-  federation = members.federation
+    abbrev federation : ℕ
+    federation = members.federation
 
-  -- one of these happenings, from a federation on, is a deposit of the bag for the slot
-  record Made (f : Federation C) (history : List (Happening C)) (slot : SlotName) (bag : BagId)
-      : Type 0 where
-    before : List (Happening C)
-    happening : Happening C
-    later : List (Happening C)
-    split : history ≡ before ++ happening ∷ later
-    is : IsDeposit federation (after_all f before) happening slot bag
+    -- one of these happenings, from a federation on, is a deposit of the bag for the slot
+    record Made (f : Federation C) (history : List (Happening C)) (slot : SlotName) (bag : BagId)
+        : Type 0 where
+      before : List (Happening C)
+      happening : Happening C
+      later : List (Happening C)
+      split : history ≡ before ++ happening ∷ later
+      is : IsDeposit federation (after_all f before) happening slot bag
 
-  -- what a history leads to
-  record Led (f : Federation C) (history : List (Happening C)) (w : Network) : Type 0 where
-    x : Network
-    stands : Stands device members (after_all f history) x
-    grows : Grows w x
-    reports : (h : Happening C) → Has h history → (slot : SlotName) (bag : BagId)
-        → Reports federation h slot bag → IsChosen q x slot bag
-    registers : (h : Happening C) → Has h history → (n : ℕ) (slot : SlotName) (bag : BagId)
-        → Registers federation h n slot bag → HasDeposit x n slot bag
-    deposits : (n : ℕ) (slot : SlotName) (bag : BagId) → HasDeposit x n slot bag
-        → HasDeposit w n slot bag ⊎ Made f history slot bag
+    -- what a history leads to
+    record Led (f : Federation C) (history : List (Happening C)) (w : Network) : Type 0 where
+      x : Network
+      stands : Stands device members (after_all f history) x
+      grows : Grows w x
+      reports : (h : Happening C) → Has h history → (slot : SlotName) (bag : BagId)
+          → Reports federation h slot bag → IsChosen q x slot bag
+      registers : (h : Happening C) → Has h history → (n : ℕ) (slot : SlotName) (bag : BagId)
+          → Registers federation h n slot bag → HasDeposit x n slot bag
+      deposits : (n : ℕ) (slot : SlotName) (bag : BagId) → HasDeposit x n slot bag
+          → HasDeposit w n slot bag ⊎ Made f history slot bag
 
-  -- one happening, and then others
-  module _ (h : Happening C) (history : List (Happening C)) (f : Federation C) (w : Network)
-      (first : Went device members is_membership only_now f h w)
-      (rest : Led (after f h) history first.x) where
-    reported : (g : Happening C) → Has g (h ∷ history) → (slot : SlotName) (bag : BagId)
-        → Reports federation g slot bag → IsChosen q rest.x slot bag
-    reported g (here e) slot bag r =
-        chosen_grows (grows_then first.grows rest.grows)
-        (first.reports slot bag
-        (subst (λ (g : Happening C). Reports federation g slot bag) (sym e) r))
-    reported g (there has) slot bag r = rest.reports g has slot bag r
+    -- one happening, and then others
+    module _ (h : Happening C) (history : List (Happening C)) (f : Federation C) (w : Network)
+        (first : Went device members is_membership only_now f h w)
+        (rest : Led (after f h) history first.x) where
+      reported : (g : Happening C) → Has g (h ∷ history) → (slot : SlotName) (bag : BagId)
+          → Reports federation g slot bag → IsChosen q rest.x slot bag
+      reported g (here e) slot bag r =
+          chosen_grows (grows_then first.grows rest.grows)
+          (first.reports slot bag
+          (subst (λ (g : Happening C). Reports federation g slot bag) (sym e) r))
+      reported g (there has) slot bag r = rest.reports g has slot bag r
 
-    registered : (g : Happening C) → Has g (h ∷ history) → (n : ℕ) (slot : SlotName) (bag : BagId)
-        → Registers federation g n slot bag → HasDeposit rest.x n slot bag
-    registered g (here e) n slot bag r =
-        rest.grows.kept n slot (entry.Deposit bag)
-        (first.registers n slot bag
-        (subst (λ (g : Happening C). Registers federation g n slot bag) (sym e) r))
-    registered g (there has) n slot bag r = rest.registers g has n slot bag r
+      registered : (g : Happening C) → Has g (h ∷ history) → (n : ℕ) (slot : SlotName) (bag : BagId)
+          → Registers federation g n slot bag → HasDeposit rest.x n slot bag
+      registered g (here e) n slot bag r =
+          rest.grows.kept n slot (entry.Deposit bag)
+          (first.registers n slot bag
+          (subst (λ (g : Happening C). Registers federation g n slot bag) (sym e) r))
+      registered g (there has) n slot bag r = rest.registers g has n slot bag r
 
-    made_now : (slot : SlotName) (bag : BagId) → IsDeposit federation f h slot bag
-        → Made f (h ∷ history) slot bag
-    unfolding after_all
-    made_now slot bag d =
-        record { before = []; happening = h; later = history; split = refl; is = d }
+      made_now : (slot : SlotName) (bag : BagId) → IsDeposit federation f h slot bag
+          → Made f (h ∷ history) slot bag
+      unfolding after_all
+      made_now slot bag d =
+          record { before = []; happening = h; later = history; split = refl; is = d }
 
-    made_later : (slot : SlotName) (bag : BagId) → Made (after f h) history slot bag
-        → Made f (h ∷ history) slot bag
-    unfolding after_all
-    made_later slot bag m = record {
-      before = h ∷ m.before;
-      happening = m.happening;
-      later = m.later;
-      split = ap (λ (hs : List (Happening C)). h ∷ hs) m.split;
-      is = m.is;
+      made_later : (slot : SlotName) (bag : BagId) → Made (after f h) history slot bag
+          → Made f (h ∷ history) slot bag
+      unfolding after_all
+      made_later slot bag m = record {
+        before = h ∷ m.before;
+        happening = m.happening;
+        later = m.later;
+        split = ap (λ (hs : List (Happening C)). h ∷ hs) m.split;
+        is = m.is;
+      }
+
+      led_more : Led f (h ∷ history) w
+      unfolding after_all
+      led_more = record {
+        x = rest.x;
+        stands = rest.stands;
+        grows = grows_then first.grows rest.grows;
+        reports = reported;
+        registers = registered;
+        deposits = λ n slot bag d. elim (rest.deposits n slot bag d) [
+          | inl then ↦ elim (first.deposits n slot bag then) [
+            | inl before ↦ inl before
+            | inr made ↦ inr (made_now slot bag made)
+          ]
+          | inr made ↦ inr (made_later slot bag made)
+        ];
+      }
+
+    led : (history : List (Happening C)) (f : Federation C) (w : Network)
+        → Stands device members f w → MayAll device members f history → Led f history w
+    unfolding after_all MayAll
+    led [] f w stands may = record {
+      x = w;
+      stands = stands;
+      grows = grows_itself;
+      reports = λ h has. absurd (has_none has);
+      registers = λ h has. absurd (has_none has);
+      deposits = λ n slot bag d. inl d;
+    }
+    led (h ∷ history) f w stands may =
+        let first = went device members is_membership only_now f w stands h may.0 in
+        led_more h history f w first (led history (after f h) first.x first.stands may.1)
+
+    -- ---- from new cells
+
+    new_stands : Stands device members new_federation new_network
+    unfolding new_federation new_network new_site
+    new_stands = record {
+      kept = new_kept q;
+      formed = new_is_well_formed;
+      is = λ n. refl;
+      handed = λ port bytes h. absurd (has_none h);
     }
 
-    led_more : Led f (h ∷ history) w
-    unfolding after_all
-    led_more = record {
-      x = rest.x;
-      stands = rest.stands;
-      grows = grows_then first.grows rest.grows;
-      reports = reported;
-      registers = registered;
-      deposits = λ n slot bag d. elim (rest.deposits n slot bag d) [
-        | inl then ↦ elim (first.deposits n slot bag then) [
-          | inl before ↦ inl before
-          | inr made ↦ inr (made_now slot bag made)
+    from_new : (history : List (Happening C)) → MayAll device members new_federation history
+        → Led new_federation history new_network
+    from_new history may = led history new_federation new_network new_stands may
+
+    laws : AreQuorums q
+    laws = are_quorums members
+
+    -- a history, and one happening after it
+    may_split : (before : List (Happening C)) (h : Happening C) (later : List (Happening C))
+        (f : Federation C) → MayAll device members f (before ++ h ∷ later)
+        → MayAll device members f before × May device members (after_all f before) h
+    unfolding after_all MayAll
+    may_split [] h later f may = (tt, may.0)
+    may_split (g ∷ before) h later f may =
+        let rest = may_split before h later (after f g) may.1 in
+        ((may.0, rest.0), rest.1)
+
+    agree : (history : List (Happening C)) (g h : Happening C) (slot : SlotName) (u v : BagId)
+        → MayAll device members new_federation history → Has g history → Has h history
+        → Reports federation g slot u → Reports federation h slot v → u ≡ v
+    agree history g h slot u v may i j r s =
+        let l = from_new history may in
+        chosen_once q l.x laws l.stands.kept slot u v (l.reports g i slot u r) (l.reports h j slot v s)
+
+    deposited : (before later : List (Happening C)) (h : Happening C) (slot : SlotName) (bag : BagId)
+        → MayAll device members new_federation (before ++ h ∷ later)
+        → Reports federation h slot bag → WasDeposited federation before slot bag
+    deposited before later h slot bag may r =
+        chosen_came q laws l.x l.stands.kept (WasDeposited federation before) made slot bag
+        (next.reports slot bag r)
+      where
+        l : Led new_federation before new_network
+        l = from_new before (may_split before h later new_federation may).0
+
+        next : Went device members is_membership only_now (after_all new_federation before) h l.x
+        next = went device members is_membership only_now (after_all new_federation before) l.x l.stands
+            h (may_split before h later new_federation may).1
+
+        made : (n : ℕ) (slot : SlotName) (bag : BagId) → HasDeposit l.x n slot bag
+            → WasDeposited federation before slot bag
+        made n slot bag d = elim (l.deposits n slot bag d) [
+          | inl old ↦ absurd (none_new n slot bag old)
+          | inr m ↦ record {
+            before = m.before;
+            happening = m.happening;
+            later = m.later;
+            split = m.split;
+            is = m.is;
+          }
         ]
-        | inr made ↦ inr (made_later slot bag made)
-      ];
-    }
 
-  led : (history : List (Happening C)) (f : Federation C) (w : Network)
-      → Stands device members f w → MayAll device members f history → Led f history w
-  unfolding after_all MayAll
-  led [] f w stands may = record {
-    x = w;
-    stands = stands;
-    grows = grows_itself;
-    reports = λ h has. absurd (has_none has);
-    registers = λ h has. absurd (has_none has);
-    deposits = λ n slot bag d. inl d;
-  }
-  led (h ∷ history) f w stands may =
-      let first = went device members is_membership only_now f w stands h may.0 in
-      led_more h history f w first (led history (after f h) first.x first.stands may.1)
-
-  -- ---- from new cells
-
-  new_stands : Stands device members new_federation new_network
-  unfolding new_federation new_network new_site
-  new_stands = record {
-    kept = new_kept q;
-    formed = new_is_well_formed;
-    is = λ n. refl;
-    handed = λ port bytes h. absurd (has_none h);
-  }
-
-  from_new : (history : List (Happening C)) → MayAll device members new_federation history
-      → Led new_federation history new_network
-  from_new history may = led history new_federation new_network new_stands may
-
-  laws : AreQuorums q
-  laws = are_quorums members
-
-  -- a history, and one happening after it
-  may_split : (before : List (Happening C)) (h : Happening C) (later : List (Happening C))
-      (f : Federation C) → MayAll device members f (before ++ h ∷ later)
-      → MayAll device members f before × May device members (after_all f before) h
-  unfolding after_all MayAll
-  may_split [] h later f may = (tt, may.0)
-  may_split (g ∷ before) h later f may =
-      let rest = may_split before h later (after f g) may.1 in
-      ((may.0, rest.0), rest.1)
-
-  agree : (history : List (Happening C)) (g h : Happening C) (slot : SlotName) (u v : BagId)
-      → MayAll device members new_federation history → Has g history → Has h history
-      → Reports federation g slot u → Reports federation h slot v → u ≡ v
-  agree history g h slot u v may i j r s =
-      let l = from_new history may in
-      chosen_once q l.x laws l.stands.kept slot u v (l.reports g i slot u r) (l.reports h j slot v s)
-
-  deposited : (before later : List (Happening C)) (h : Happening C) (slot : SlotName) (bag : BagId)
-      → MayAll device members new_federation (before ++ h ∷ later)
-      → Reports federation h slot bag → WasDeposited federation before slot bag
-  deposited before later h slot bag may r =
-      chosen_came q laws l.x l.stands.kept (WasDeposited federation before) made slot bag
-      (next.reports slot bag r)
-    where
-      l : Led new_federation before new_network
-      l = from_new before (may_split before h later new_federation may).0
-
-      next : Went device members is_membership only_now (after_all new_federation before) h l.x
-      next = went device members is_membership only_now (after_all new_federation before) l.x l.stands
-          h (may_split before h later new_federation may).1
-
-      made : (n : ℕ) (slot : SlotName) (bag : BagId) → HasDeposit l.x n slot bag
-          → WasDeposited federation before slot bag
-      made n slot bag d = elim (l.deposits n slot bag d) [
-        | inl old ↦ absurd (none_new n slot bag old)
-        | inr m ↦ record {
-          before = m.before;
-          happening = m.happening;
-          later = m.later;
-          split = m.split;
-          is = m.is;
-        }
-      ]
-
-  taken : (history : List (Happening C)) (n : ℕ) (old next : Serving C) (ports : List ℕ)
-      (gives : Option (List ℕ → Result TreeFacts TreeFault)) (turn : Turned)
-      → MayAll device members new_federation history
-      → IsServing device members (after_all new_federation history) n old
-      → MayCome members.federation (after_all new_federation history).handed turn.took
-      → turn_of device ports gives old turn.took turn.done next
-      → (step : Step C) × (step.turn ≡ turn) × (step.next ≡ next)
-      × Takes device members (after_all new_federation history) old step
-      × (is_the_last turn ≡ false → next.site.book.needs_opening ≡ false)
-      × (turns.IsServing old → turns.IsServing next)
-  taken history n old next ports gives turn may serving come comes =
-      (step, refl, refl, takes, λ not_last.
-      goes_on device members is_membership only_now (after_all new_federation history) l.x l.stands
-      n serving.0 old serving.1 step takes not_last,
+    taken : (history : List (Happening C)) (n : ℕ) (old next : Serving C) (ports : List ℕ)
+        (gives : Option (List ℕ → Result TreeFacts TreeFault)) (turn : Turned)
+        → MayAll device members new_federation history
+        → IsServing device members (after_all new_federation history) n old
+        → MayCome members.federation (after_all new_federation history).handed turn.took
+        → turn_of device ports gives old turn.took turn.done next
+        → (step : Step C) × (step.turn ≡ turn) × (step.next ≡ next)
+        × Takes device members (after_all new_federation history) old step
+        × (is_the_last turn ≡ false → next.site.book.needs_opening ≡ false)
+        × (turns.IsServing old → turns.IsServing next)
+    taken history n old next ports gives turn may serving come comes = (
+      step,
+      refl,
+      refl,
+      takes,
+      λ not_last.
+          goes_on device members is_membership only_now (after_all new_federation history) l.x l.stands
+          n serving.0 old serving.1 step takes not_last,
       λ before.
-      stands_then device members is_membership only_now (after_all new_federation history) l.x
-      l.stands n serving.0 old serving.1 step takes before)
-    where
-      l : Led new_federation history new_network
-      l = from_new history may
+          stands_then device members is_membership only_now (after_all new_federation history) l.x
+          l.stands n serving.0 old serving.1 step takes before,
+    )
+      where
+        l : Led new_federation history new_network
+        l = from_new history may
 
-      folders : (folders : List ℕ → Result TreeFacts TreeFault)
-          × turn_of device ports (Some folders) old turn.took turn.done next
-      folders = with_folders device ports gives old next turn.done _ comes
+        folders : (folders : List ℕ → Result TreeFacts TreeFault)
+            × turn_of device ports (Some folders) old turn.took turn.done next
+        folders = with_folders device ports gives old next turn.done _ comes
 
-      step : Step C
-      step = record { ports = ports; folders = folders.0; turn = turn; next = next }
+        step : Step C
+        step = record { ports = ports; folders = folders.0; turn = turn; next = next }
 
-      takes : Takes device members (after_all new_federation history) old step
-      takes = record { may_come = come; comes = folders.1 }
+        takes : Takes device members (after_all new_federation history) old step
+        takes = record { may_come = come; comes = folders.1 }
 
-  stays : (before later : List (Happening C)) (h : Happening C) (n : ℕ) (slot : SlotName)
-      (bag : BagId) → MayAll device members new_federation (before ++ h ∷ later)
-      → Registers federation h n slot bag
-      → HasEntry slot
-      (records_of ((after_all new_federation (before ++ h ∷ later)).members n)) (entry.Deposit bag)
-  stays before later h n slot bag may r =
-      let l = from_new (before ++ h ∷ later) may in
-      subst (λ (rs : List Record). HasEntry slot rs (entry.Deposit bag))
-      (sym (records_are device members is_membership only_now n
-      ((after_all new_federation (before ++ h ∷ later)).members n) (l.x.sites n) (l.stands.is n)))
-      (l.registers h (has_right before (here refl)) n slot bag r)
+    stays : (before later : List (Happening C)) (h : Happening C) (n : ℕ) (slot : SlotName)
+        (bag : BagId) → MayAll device members new_federation (before ++ h ∷ later)
+        → Registers federation h n slot bag
+        → HasEntry slot
+        (records_of ((after_all new_federation (before ++ h ∷ later)).members n)) (entry.Deposit bag)
+    stays before later h n slot bag may r =
+        let l = from_new (before ++ h ∷ later) may in
+        subst (λ (rs : List Record). HasEntry slot rs (entry.Deposit bag))
+        (sym (records_are device members is_membership only_now n
+        ((after_all new_federation (before ++ h ∷ later)).members n) (l.x.sites n) (l.stands.is n)))
+        (l.registers h (has_right before (here refl)) n slot bag r)
 
 -- ---- the laws
 
 module _ {C : Type 0} (device : C → Device) (members : Membership)
     (only_now : OnlyNow device)
-    where
-  pub reports_agree : ReportsAgree device members
-  reports_agree history g h slot u v is may i j r s =
-      agree device members is only_now history g h slot u v may i j r s
+  where
+    pub reports_agree : ReportsAgree device members
+    reports_agree history g h slot u v is may i j r s =
+        agree device members is only_now history g h slot u v may i j r s
 
-  pub reports_were_deposited : ReportsWereDeposited device members
-  reports_were_deposited before later h slot bag is may r =
-      deposited device members is only_now before later h slot bag may r
+    pub reports_were_deposited : ReportsWereDeposited device members
+    reports_were_deposited before later h slot bag is may r =
+        deposited device members is only_now before later h slot bag may r
 
-  pub turns_may_happen : TurnsMayHappen device members
-  turns_may_happen history n old next ports gives turn is may serving come comes =
-      taken device members is only_now history n old next ports gives turn may serving come comes
+    pub turns_may_happen : TurnsMayHappen device members
+    turns_may_happen history n old next ports gives turn is may serving come comes =
+        taken device members is only_now history n old next ports gives turn may serving come comes
 
-  pub registered_stays : RegisteredStays device members
-  registered_stays before later h n slot bag is may r =
-      stays device members is only_now before later h n slot bag may r
+    pub registered_stays : RegisteredStays device members
+    registered_stays before later h n slot bag is may r =
+        stays device members is only_now before later h n slot bag may r

@@ -1,71 +1,44 @@
 -- A turn of a site that serves is a move of its site in a network, whole or not.
-use Rattle.std.proofs.Common.{ℕ, ◌≡◌, ◌≢◌, ◌⊎◌, inl, inr, refl, sym, ap, subst, ◌∙◌, true, false, Bool}
-use Rattle.std.proofs.Common.{List, [], ◌∷◌, ◌++◌, append-nil, map, Option, None, Some}
-use Rattle.std.proofs.lemmas.Bool.{false≢true}
-use Rattle.std.specs.Prelude.{Result, Ok, Err, IsSome}
-use Rattle.std.specs.Option.{option_to_list, IfSome}
+use Rattle.std.proofs.Common.{ℕ, ◌≡◌, inl, refl, sym, ap, subst, true, false}
+use Rattle.std.proofs.Common.{List}
+use Rattle.std.specs.Prelude.{Result, Ok, Err}
 use Rattle.fed_types.specs.declared.bag_id.BagId.{BagId}
-use Rattle.fed_types.specs.Lists.{Has, here, there}
+use Rattle.fed_types.specs.Lists.{Has}
 use Rattle.fed_types.specs.Quorums.{QuorumSystem, AreQuorums}
-use Rattle.fed_types.specs.Sites.{Membership, IsSiteNumber, members_of}
+use Rattle.fed_types.specs.Sites.{Membership, IsSiteNumber}
 use Rattle.fed_types.specs.Slots.{SlotName}
-use Rattle.fed_types.specs.Values.{IsMembership, IsSlot, IsBag}
-use Rattle.fed_types.specs.Laws.Lists.{has_map, map_has, has_none, has_right, has_one, has_cases}
+use Rattle.fed_types.specs.Values.{IsBag}
+use Rattle.fed_types.specs.Laws.Lists.{has_none, has_one}
 use Rattle.fed_types.specs.Laws.Quorums.{are_quorums}
 use Rattle.cell_device.specs.Devices.{Device}
-use Rattle.cell_device.specs.Images.{MayLeave}
-use Rattle.bag_tree.specs.declared.fault.TreeFault.{TreeFault}
-use Rattle.bag_tree.specs.Facts.{TreeFacts}
-use Rattle.bag_check.specs.declared.fault.BagFault.{BagFault}
-use Rattle.bag_check.specs.Check.{check_of}
 use Rattle.records.specs.declared.entry.Entry.TheVariants as entry
 use Rattle.records.specs.declared.owner.Owner.{Owner}
 use Rattle.records.specs.declared.record.Record.{Record}
 use Rattle.records.specs.Bounds.{HasEntry}
-use Rattle.records.specs.Records.{IsRecord, AreRecords}
-use Rattle.book.specs.Volumes.{Volume, RecoversTo}
+use Rattle.records.specs.Records.{IsRecord}
 use Rattle.proposer.specs.Sessions.{Session}
-use Rattle.dgram.specs.declared.answers.DepositAnswer.{DepositAnswer}
-use Rattle.dgram.specs.declared.answers.DepositAnswer.TheVariants as deposit
-use Rattle.dgram.specs.declared.body.Body.TheVariants.{Ask, DepositReply, QueryReply}
-use Rattle.dgram.specs.declared.message.Message.{Message}
-use Rattle.dgram.specs.Encoding.{datagram_of}
-use Rattle.dgram.specs.Messages.{IsMessage, IsDepositAnswer}
 use Rattle.site.specs.declared.answer.Answer.{Answer}
-use Rattle.site.specs.declared.answer.Line.{Line}
-use Rattle.site.specs.declared.answer.Line.TheVariants as lines
-use Rattle.site.specs.declared.answer.Reply.{Reply}
-use Rattle.site.specs.declared.answer.Reply.TheVariants as replies
 use Rattle.site.specs.declared.fault.SiteFault.{SiteFault}
 use Rattle.site.specs.declared.fault.SiteFault.TheVariants as faults
-use Rattle.site.specs.Calls.{Input, Deposits, Proposes, Asks, Arrives, effect_of, reply_of}
+use Rattle.site.specs.Calls.{Input, effect_of}
 use Rattle.site.specs.Effects.{Effect}
 use Rattle.site.specs.Sites.{StandsFor}
-use Rattle.site_tables.specs.Contents.{Contents}
-use Rattle.lines.specs.Notices.{Notice, Registered, Replied, Refused, Dropped}
-use Rattle.world_law.specs.Laws.{Report, report_of, WasSent, IsChosen}
+use Rattle.lines.specs.Notices.{Notice, Refused, Dropped}
+use Rattle.world_law.specs.Laws.{IsChosen}
 use Rattle.world_law.specs.Networks.{Network}
 use Rattle.world_law.specs.WellFormed.{IsWellFormed, MembersAreSites}
-use Rattle.world_law.proofs.Arriving.{arrival_deed}
-use Rattle.world_law.proofs.Calls.{deposit_deed, propose_deed}
-use Rattle.world_law.proofs.Deeds.{Deed, MayDeposit, some_same}
-use Rattle.world_law.proofs.Kept.{Kept}
+use Rattle.world_law.proofs.Deeds.{Deed, MayDeposit}
 use Rattle.world_law.proofs.WellFormed.{members_are_sites}
-use Rattle.world_law.proofs.WellFormedCalls.{effect_is}
 use Rattle.world_law.proofs.WellFormedEffects.{IsWellFormedEffect}
 use Rattle.world_law.proofs.WellFormedWords.{all_has}
-use Rattle.udp_site.specs.Traffic.{Post}
-use Rattle.udp_site.specs.Replies.{deposit_answer, tree_answer}
-use Rattle.udp_site.specs.Turns.{Serving, Done, IsCalled, posts_of, notices_of, deposit_replies}
+use Rattle.udp_site.specs.Turns.{Serving, Done, IsCalled, posts_of, notices_of}
 use Rattle.udp_site.specs.Served.{or_one}
-use Rattle.serving_law.specs.Federations.{Member, Serves, Down}
+use Rattle.serving_law.specs.Federations.{Serves, Down}
 use Rattle.serving_law.specs.Rules.{owner_of, MayRecoverTo}
-use Rattle.serving_law.proofs.Recovering.{IsKept, as_it_was, recovered_now, recovered_within}
-use Rattle.serving_law.proofs.Registering.{other_known_is, other_deposit_is}
-use Rattle.serving_law.proofs.Replying.{tree_answer_is, bag_answer_is}
+use Rattle.serving_law.proofs.Recovering.{as_it_was, recovered_now, recovered_within}
 use Rattle.serving_law.proofs.Scene.{Scene}
-use Rattle.serving_law.proofs.Standing.{quorums, serving, IsServed, IsMember, IsSent, IsNotice}
-use Rattle.serving_law.proofs.Standing.{IsPost, IsReply, SaysRightly, HasDeposit, May, Moves, Goes}
+use Rattle.serving_law.proofs.Standing.{quorums, serving, IsNotice}
+use Rattle.serving_law.proofs.Standing.{IsPost, HasDeposit, May, Moves, Goes}
 use Rattle.serving_law.proofs.Standing.{allows}
 use Rattle.serving_law.proofs.Calling as calling
 use Rattle.serving_law.proofs.Calling.{has_notice}
@@ -76,6 +49,7 @@ answered result = result
 
 module _ {C : Type 0} (device : C → Device) (members : Membership) (s : Scene device members) where
   open s use {w, inv, formed, n, member, cell, tables, recovers, is_membership, only_now}
+
   abbrev q : QuorumSystem
   q = quorums device members
 

@@ -90,7 +90,7 @@ abbrev pub reply_to : (federation : ℕ) → (port : ℕ) → SlotName → BagId
 reply_to federation port slot bag = (
   port,
   datagram_of federation
-  (record { slot = slot; body = DepositReply 1 (deposit.Registered bag) }),
+      (record { slot = slot; body = DepositReply 1 (deposit.Registered bag) }),
 )
 
 -- It is killed in the call, of which it would have replied that the bag is registered; its cell
