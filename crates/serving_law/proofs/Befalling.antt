@@ -50,10 +50,12 @@ use Rattle.udp_site.specs.Turns as turns
 use Rattle.udp_site.specs.Turns.{Serving, Done, begins, turn_of, comes_of}
 use Rattle.udp_site.specs.Served.{Turned, is_the_last}
 use Rattle.serving_law.specs.Federations.{Member, Serves, Down, Federation, Step, Happening}
-use Rattle.serving_law.specs.Federations.{Turns, Fails, Dies, Ends, Renews, Starts, becomes, renewed}
+use Rattle.serving_law.specs.Federations.{Turns, Fails, Dies, Ends, Renews, Starts, becomes}
+use Rattle.serving_law.specs.Federations.{renewed}
 use Rattle.serving_law.specs.Federations.{after}
 use Rattle.serving_law.specs.Reports.{Showing, showing_of, IsPrinted, IsTold}
-use Rattle.serving_law.specs.Reports.{Reports, Registers, known_told, records_of, step_of, IsDeposit}
+use Rattle.serving_law.specs.Reports.{Reports, Registers, known_told, records_of, step_of}
+use Rattle.serving_law.specs.Reports.{IsDeposit}
 use Rattle.serving_law.specs.Rules.{owner_of, IsServing, Takes, May, MayRecoverTo}
 use Rattle.serving_law.specs.Rules as rules
 use Rattle.serving_law.proofs.Spoken.{IsSiteBody}
@@ -145,7 +147,8 @@ module _ {C : Type 0} (device : C → Device) (members : Membership)
       printed_among notice p =
           subst (λ (ns : List Notice). Has notice ns) (sym p.split) (has_right p.before (here refl))
 
-      printed_chosen : (notice : Notice) → IsPrinted showing notice → (slot : SlotName) (bag : BagId)
+      printed_chosen : (notice : Notice) → IsPrinted showing notice → (slot : SlotName)
+          (bag : BagId)
           → report_of notice ≡ Some (record { slot = slot; bag = bag }) → IsChosen q w slot bag
       printed_chosen notice p slot bag e = (notices notice (printed_among notice p)).known _ e
 
@@ -340,8 +343,8 @@ module _ {C : Type 0} (device : C → Device) (members : Membership)
         came step t =
             turn_ends device members (scene n member old is) f.handed stands.handed step.ports
             step.folders step.turn.took t.may_come old.idle old.tried step.turn.done step.next
-            (subst (λ (s : Serving C). turn_of device step.ports (Some step.folders) s step.turn.took
-            step.turn.done step.next)
+            (subst (λ (v : Serving C). turn_of device step.ports (Some step.folders) v
+            step.turn.took step.turn.done step.next)
             (is_serving device members n old (w.sites n) is) t.comes)
 
         -- a turn that is shown, to this happening
@@ -357,7 +360,8 @@ module _ {C : Type 0} (device : C → Device) (members : Membership)
           grows = g.moves.grows;
           reports = shown_reports w g.x g.moves.formed step.turn g.posts g.notices handed written h
               shows;
-          registers = shown_registers w g.x g.moves.formed step.turn g.posts g.notices handed written h
+          registers =
+              shown_registers w g.x g.moves.formed step.turn g.posts g.notices handed written h
               shows;
           deposits = λ k slot bag d. elim (g.moves.deposits k slot bag d) [
             | inl before ↦ inl before
@@ -505,8 +509,8 @@ module _ {C : Type 0} (device : C → Device) (members : Membership)
           shown n serves.0 old serves.1 (Turns n step handed written) step refl handed written refl
           (Serves step.next) refl ((came n serves.0 old serves.1 step takes).goes opened)
       went (Fails n step handed written records) (old, serves, takes, needs, recovers) =
-          shown n serves.0 old serves.1 (Fails n step handed written records) step refl handed written
-          refl (Down records) refl
+          shown n serves.0 old serves.1 (Fails n step handed written records) step refl handed
+          written refl (Down records) refl
           ((came n serves.0 old serves.1 step takes).fails needs records recovers)
       went (Dies n step records) (old, serves, takes, recovers) =
           let moves = (came n serves.0 old serves.1 step takes).dies records recovers in

@@ -305,7 +305,8 @@ module _ {C : Type 0} (device : C → Device) (members : Membership) (s : Scene 
           by_line (Some (lines.Registered bag)) g (Proposes slot) f same = absurd (cc same)
           by_line (Some (lines.Registered bag)) g (Asks slot member) f same = absurd (cc same)
           by_line (Some (lines.Registered bag)) g (Arrives message) f same = absurd (cc same)
-          by_line (Some (lines.Registered found)) g (Deposits slot checked) f {k = k} {slot = k_slot} {bag = bag} same =
+          by_line (Some (lines.Registered found)) g (Deposits slot checked) f
+              {k = k} {slot = k_slot} {bag = bag} same =
               at_deposit slot k_slot checked k found bag f g (some_same same)
 
     -- ---- a refusal

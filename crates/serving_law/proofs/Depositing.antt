@@ -171,7 +171,9 @@ module _ {C : Type 0} (device : C → Device) (members : Membership) (s : Scene 
           })
         where
           on_record : HasDeposit called n slot bag
-          on_record = calling.deposit_kept device members s idle tried input deed effect_formed slot (check_of facts) bag refl says
+          on_record =
+              calling.deposit_kept device members s idle tried input deed effect_formed slot
+              (check_of facts) bag refl says
 
           at : (b : BagId) → deposit.Registered bag ≡ deposit.Registered b
               → HasDeposit called n slot b
@@ -232,7 +234,8 @@ module _ {C : Type 0} (device : C → Device) (members : Membership) (s : Scene 
             notices = notices_of n input result;
           }) new D
       call_ends (Ok answer) new c port =
-          turning.ok_ends device members s idle tried input deed effect_formed D allowed answer new c _
+          turning.ok_ends device members s idle tried input deed effect_formed D allowed answer new
+          c _
           (λ x same to bytes h. subst (λ (x : Network). IsPost device members w x bytes) (sym same)
           (reply_posts called port (line_answer answer.line)
           (line_right moved answer.line (c.answered refl).gives.0) to bytes h))
@@ -242,7 +245,8 @@ module _ {C : Type 0} (device : C → Device) (members : Membership) (s : Scene 
           moved = (calling.ok_moves device members s idle tried
               input deed effect_formed answer new c).formed
       call_ends (Err fault) new c port =
-          turning.err_ends device members s idle tried input deed effect_formed D allowed fault new c _
+          turning.err_ends device members s idle tried input deed effect_formed D allowed fault new
+          c _
           (λ x to bytes h. reply_posts x port (fault_answer fault)
           (fault_right fault new (c.answered refl).gives x) to bytes h)
           (λ notice h. h)

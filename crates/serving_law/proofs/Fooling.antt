@@ -188,7 +188,9 @@ module _ (members : Membership) (is_membership : IsMembership members) (two : 2 
   }
 
   member : is_member (quorums_of members) (Some 2) ≡ true
-  member = (is_in_decides (members_of members) 2).1 (sites_to_has (count_of members) 2 (omega arith) two)
+  member =
+      (is_in_decides (members_of members) 2).1
+      (sites_to_has (count_of members) 2 (omega arith) two)
 
   effect_is : effect before_it new_session (calls.Arrives (Some m)) ≡ learning
   unfolding on_arrival on_body known_of

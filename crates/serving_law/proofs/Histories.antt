@@ -33,7 +33,8 @@ use Rattle.serving_law.specs.Reports.{Reports, Registers, IsDeposit, records_of}
 use Rattle.serving_law.specs.Rules.{May, MayAll, MayCome, IsServing, Takes}
 use Rattle.serving_law.proofs.Scene.{OnlyNow}
 use Rattle.serving_law.proofs.Standing.{quorums, HasDeposit, Stands}
-use Rattle.serving_law.proofs.Befalling.{Went, went, records_are, goes_on, stands_then, with_folders}
+use Rattle.serving_law.proofs.Befalling.{Went, went, records_are, goes_on, stands_then}
+use Rattle.serving_law.proofs.Befalling.{with_folders}
 
 grows_then : {w x y : Network} → Grows w x → Grows x y → Grows w y
 grows_then g h = record {
@@ -183,9 +184,11 @@ module _ {C : Type 0} (device : C → Device) (members : Membership)
         → Reports federation g slot u → Reports federation h slot v → u ≡ v
     agree history g h slot u v may i j r s =
         let l = from_new history may in
-        chosen_once q l.x laws l.stands.kept slot u v (l.reports g i slot u r) (l.reports h j slot v s)
+        chosen_once q l.x laws l.stands.kept slot u v (l.reports g i slot u r)
+        (l.reports h j slot v s)
 
-    deposited : (before later : List (Happening C)) (h : Happening C) (slot : SlotName) (bag : BagId)
+    deposited : (before later : List (Happening C)) (h : Happening C) (slot : SlotName)
+        (bag : BagId)
         → MayAll device members new_federation (before ++ h ∷ later)
         → Reports federation h slot bag → WasDeposited federation before slot bag
     deposited before later h slot bag may r =
@@ -196,8 +199,9 @@ module _ {C : Type 0} (device : C → Device) (members : Membership)
         l = from_new before (may_split before h later new_federation may).0
 
         next : Went device members is_membership only_now (after_all new_federation before) h l.x
-        next = went device members is_membership only_now (after_all new_federation before) l.x l.stands
-            h (may_split before h later new_federation may).1
+        next =
+            went device members is_membership only_now (after_all new_federation before) l.x
+            l.stands h (may_split before h later new_federation may).1
 
         made : (n : ℕ) (slot : SlotName) (bag : BagId) → HasDeposit l.x n slot bag
             → WasDeposited federation before slot bag
@@ -228,8 +232,8 @@ module _ {C : Type 0} (device : C → Device) (members : Membership)
       refl,
       takes,
       λ not_last.
-          goes_on device members is_membership only_now (after_all new_federation history) l.x l.stands
-          n serving.0 old serving.1 step takes not_last,
+          goes_on device members is_membership only_now (after_all new_federation history) l.x
+          l.stands n serving.0 old serving.1 step takes not_last,
       λ before.
           stands_then device members is_membership only_now (after_all new_federation history) l.x
           l.stands n serving.0 old serving.1 step takes before,
@@ -252,7 +256,8 @@ module _ {C : Type 0} (device : C → Device) (members : Membership)
         (bag : BagId) → MayAll device members new_federation (before ++ h ∷ later)
         → Registers federation h n slot bag
         → HasEntry slot
-        (records_of ((after_all new_federation (before ++ h ∷ later)).members n)) (entry.Deposit bag)
+        (records_of ((after_all new_federation (before ++ h ∷ later)).members n))
+        (entry.Deposit bag)
     stays before later h n slot bag may r =
         let l = from_new (before ++ h ∷ later) may in
         subst (λ (rs : List Record). HasEntry slot rs (entry.Deposit bag))

@@ -43,7 +43,8 @@ use Rattle.udp_site.specs.Replies.{deposit_answer, line_answer}
 use Rattle.udp_site.specs.Turns.{Serving, Done, IsCalled, begins, turn_of, comes_of, notices_of}
 use Rattle.udp_site.specs.Turns.{deposit_replies}
 use Rattle.serving_law.specs.Examples.{Disk, Blank, Opened, Written, disk_of, recorded}
-use Rattle.serving_law.specs.Examples.{left_on, Request, Registering, reply_to, WasKilled, KilledInADeposit}
+use Rattle.serving_law.specs.Examples.{left_on, Request, Registering, reply_to, WasKilled}
+use Rattle.serving_law.specs.Examples.{KilledInADeposit}
 use Rattle.serving_law.specs.Federations.{Step, Happening, Starts}
 use Rattle.serving_law.specs.Federations.{new_federation, after_all}
 use Rattle.serving_law.specs.Rules.{MayAll, MayCome}

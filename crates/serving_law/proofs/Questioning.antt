@@ -82,7 +82,8 @@ module _ {C : Type 0} (device : C → Device) (members : Membership) (s : Scene 
     asking all = (moved w n None (w.sites n).session Up (to_each slot (Ask n) all) None).network
 
     step : (D : May) (all : List ℕ)
-        → Next q w (Some n) D (moved w n None (w.sites n).session Up (to_each slot (Ask n) all) None)
+        → Next q w (Some n) D
+        (moved w n None (w.sites n).session Up (to_each slot (Ask n) all) None)
     step D all =
         kept_moved q w n None (w.sites n).session Up (to_each slot (Ask n) all) None D slot (Ask n)
         (only_sends q w n D slot (Ask n) (to_each slot (Ask n) all) (carries_each slot (Ask n) all)
@@ -180,7 +181,8 @@ module _ {C : Type 0} (device : C → Device) (members : Membership) (s : Scene 
 
     chosen : (bag : BagId) → reply ≡ replies.Known bag → IsChosen q w slot bag
     chosen bag e =
-        turning.known_chosen device members s slot bag (replied_is_known slot (w.sites n).records bag e)
+        turning.known_chosen device members s slot bag
+        (replied_is_known slot (w.sites n).records bag e)
 
     reply_post : (x : Network) (bytes : List ℕ)
         → datagram_of members.federation

@@ -72,7 +72,8 @@ module _ {C : Type 0} (device : C → Device) (members : Membership) (s : Scene 
       → done ≡ record { posts = []; notices = [] } → new ≡ at idle tried → Ends done new D
   idle_ends idle tried D done new done_is same =
       subst (λ (d : Done). Ends d new D) (sym done_is)
-      (turning.quiet_ends device members s idle tried new same _ D (λ port bytes h. absurd (has_none h))
+      (turning.quiet_ends device members s idle tried new same _ D
+      (λ port bytes h. absurd (has_none h))
       (λ notice h. absurd (has_none h)))
 
   -- ---- a site's message
@@ -209,7 +210,8 @@ module _ {C : Type 0} (device : C → Device) (members : Membership) (s : Scene 
         idle tried slot (query_is_slot members handed took may port slot e) ports port D done new t
     by_request Noise e (done_is, same) =
         subst (λ (d : Done). Ends d new D) (sym done_is)
-        (turning.quiet_ends device members s idle tried new same _ D (λ port bytes h. absurd (has_none h))
+        (turning.quiet_ends device members s idle tried new same _ D
+        (λ port bytes h. absurd (has_none h))
         (λ notice h. subst (IsNotice device members w w) (has_one h)
         (turning.dropped_is device members s w)))
 

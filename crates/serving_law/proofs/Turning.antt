@@ -166,7 +166,8 @@ module _ {C : Type 0} (device : C → Device) (members : Membership) (s : Scene 
             (moves.0, allows device members may moves.1)
 
         -- where it is answered
-        pub ok_ends : (answer : Answer) (new : Serving C) → IsCalled device old input (Ok answer) new
+        pub ok_ends : (answer : Answer) (new : Serving C)
+            → IsCalled device old input (Ok answer) new
             → (done : Done)
             → ((x : Network) → x ≡ calling.called device members s idle tried input
             → (port : ℕ) (bytes : List ℕ) → Has (port, bytes) done.posts
@@ -185,16 +186,21 @@ module _ {C : Type 0} (device : C → Device) (members : Membership) (s : Scene 
                 calling.ok_notices device members s idle tried
                 input deed is answer (c.answered refl).gives.0 notice (among notice h);
           };
-          fails = λ needs. absurd (cc (calling.failed_by_device device members s idle tried input (Ok answer) new c needs));
+          fails = λ needs.
+              absurd (cc (calling.failed_by_device device members s idle tried input (Ok answer)
+              new c needs));
           dies = call_dies (Ok answer) new c;
-          last = λ needs. absurd (cc (calling.failed_by_device device members s idle tried input (Ok answer) new c needs));
+          last = λ needs.
+              absurd (cc (calling.failed_by_device device members s idle tried input (Ok answer)
+              new c needs));
           stands = λ before opened.
               subst (λ (h : Session). StandsFor new.site h) (sym c.session)
               (c.answered refl).gives.2;
         }
 
         -- where it is refused
-        pub err_ends : (fault : SiteFault) (new : Serving C) → IsCalled device old input (Err fault) new
+        pub err_ends : (fault : SiteFault) (new : Serving C)
+            → IsCalled device old input (Err fault) new
             → (done : Done)
             → ((x : Network) (port : ℕ) (bytes : List ℕ) → Has (port, bytes) done.posts
             → IsPost device members w x bytes)
@@ -219,7 +225,9 @@ module _ {C : Type 0} (device : C → Device) (members : Membership) (s : Scene 
                 notices = λ notice h. err_notices moves.0 input fault notice (among notice h);
               };
           dies = call_dies (Err fault) new c;
-          last = λ needs. said (same_fault (calling.failed_by_device device members s idle tried input (Err fault) new c needs));
+          last = λ needs.
+              said (same_fault (calling.failed_by_device device members s idle tried input
+              (Err fault) new c needs));
           stands = λ before opened.
               subst (λ (h : Session). StandsFor new.site h) (sym c.session)
               (calling.err_stands device members s idle tried input fault new

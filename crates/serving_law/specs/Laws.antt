@@ -28,8 +28,8 @@ module _ {C : Type 0} (device : C → Device) (members : Membership) where
   -- Each turn of which `serve` tells is one that may happen, where what it took may come: whatever
   -- it knows of folders, and to whichever ports it hands out. It goes on only where its site needs
   -- no opening; so each whole turn but the last is `Turns`, and the last, of which perhaps only a
-  -- part was done, is `Turns` or `Fails`. And its site stands for what it has heard, as `serve` asks
-  -- of one that begins: so after them it may be called again, which is `Renews`.
+  -- part was done, is `Turns` or `Fails`. And its site stands for what it has heard, as `serve`
+  -- asks of one that begins: so after them it may be called again, which is `Renews`.
   abbrev pub TurnsMayHappen : Type 0
   TurnsMayHappen =
       (history : List (Happening C)) (n : ℕ) (old next : Serving C) (ports : List ℕ)
