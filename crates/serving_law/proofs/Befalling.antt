@@ -1,7 +1,7 @@
 -- Each happening leads from what stands for a network to what stands for a later one, in which
 -- what it reports was chosen before.
-use Rattle.std.proofs.Common.{ℕ, ◌≡◌, ◌≢◌, ◌⊎◌, inl, inr, refl, sym, ap, subst, ◌∙◌, Bool, true, false}
-use Rattle.std.proofs.Common.{List, [], ◌∷◌, ◌++◌, append-nil, take, Option, None, Some, cond}
+use Rattle.std.proofs.Common.{ℕ, ◌≡◌, ◌⊎◌, inl, inr, refl, sym, ap, subst, ◌∙◌, Bool, true, false}
+use Rattle.std.proofs.Common.{List, [], ◌++◌, append-nil, take, Option, None, Some, cond}
 use Rattle.std.specs.Bool.{◌==◌}
 use Rattle.std.proofs.lemmas.Bool.{false≢true}
 use Rattle.std.proofs.lemmas.Bool.Decides.{Decides-eqb, not_from_Decides}
@@ -14,13 +14,13 @@ use Rattle.fed_types.specs.Slots.{SlotName}
 use Rattle.fed_types.specs.Values.{IsMembership}
 use Rattle.fed_types.specs.Laws.Lists.{has_cases, has_none, has_right, has_take}
 use Rattle.cell_device.specs.Devices.{Device}
-use Rattle.cell_device.specs.Images.{Image, MayLeave, IfKnown}
+use Rattle.cell_device.specs.Images.{Image}
 use Rattle.bag_tree.specs.declared.fault.TreeFault.{TreeFault}
 use Rattle.bag_tree.specs.declared.fault.TreeFault.TheVariants as trees
 use Rattle.bag_tree.specs.Facts.{TreeFacts}
 use Rattle.bag_tree.specs.Fault.{IsOrMemory}
 use Rattle.bag_check.specs.declared.fault.BagFault.{BagFault}
-use Rattle.bag_check.specs.Check.{check_of, identity_of}
+use Rattle.bag_check.specs.Check.{identity_of}
 use Rattle.bag_check.proofs.ValidLaws.{valid_checked, checked_valid}
 use Rattle.records.specs.declared.entry.Entry.TheVariants as entry
 use Rattle.records.specs.declared.record.Record.{Record}
@@ -33,28 +33,29 @@ use Rattle.dgram.specs.declared.body.Body.TheVariants.{DepositReply}
 use Rattle.dgram.specs.declared.body.Body.TheVariants as bodies
 use Rattle.dgram.specs.declared.message.Message.{Message}
 use Rattle.dgram.specs.Decoded.{message_of}
-use Rattle.dgram.specs.Encoding.{datagram_of}
 use Rattle.dgram.proofs.MessageOf.{message_of-again}
-use Rattle.proposer.specs.Sessions.{Session, new_session}
+use Rattle.proposer.specs.Sessions.{new_session}
 use Rattle.site.specs.Opened.{Opens}
-use Rattle.site.specs.Sites.{OpenSite}
+use Rattle.site.specs.Sites.{OpenSite, StandsFor}
 use Rattle.lines.specs.Notices.{Notice, Registered}
-use Rattle.world_law.specs.Laws.{Report, report_of, IsChosen}
+use Rattle.world_law.specs.Laws.{report_of, IsChosen}
 use Rattle.world_law.specs.Networks.{Network, SiteState, Up}
 use Rattle.world_law.specs.WellFormed.{IsWellFormed}
 use Rattle.world_law.proofs.Deeds.{some_same, nothing_sent}
 use Rattle.world_law.proofs.Grows.{Grows, grows_itself}
-use Rattle.world_law.proofs.Kept.{Kept}
 use Rattle.world_law.proofs.Step.{moved, kept_moved, Next, nothing_recalled, reports_nothing}
 use Rattle.udp_site.specs.Traffic.{Post}
 use Rattle.udp_site.specs.Requests.{Request, Waits, Says, Deposits, Queries, Noise}
+use Rattle.udp_site.specs.Turns as turns
 use Rattle.udp_site.specs.Turns.{Serving, Done, begins, turn_of, comes_of}
 use Rattle.udp_site.specs.Served.{Turned, is_the_last}
 use Rattle.serving_law.specs.Federations.{Member, Serves, Down, Federation, Step, Happening}
-use Rattle.serving_law.specs.Federations.{Turns, Fails, Dies, Ends, Renews, Starts, becomes, renewed}
+use Rattle.serving_law.specs.Federations.{Turns, Fails, Dies, Ends, Renews, Starts, becomes}
+use Rattle.serving_law.specs.Federations.{renewed}
 use Rattle.serving_law.specs.Federations.{after}
-use Rattle.serving_law.specs.Reports.{Showing, showing_of, IsPrinted, IsTold, Prints, Tells}
-use Rattle.serving_law.specs.Reports.{Reports, Registers, known_told, records_of, step_of, IsDeposit}
+use Rattle.serving_law.specs.Reports.{Showing, showing_of, IsPrinted, IsTold}
+use Rattle.serving_law.specs.Reports.{Reports, Registers, known_told, records_of, step_of}
+use Rattle.serving_law.specs.Reports.{IsDeposit}
 use Rattle.serving_law.specs.Rules.{owner_of, IsServing, Takes, May, MayRecoverTo}
 use Rattle.serving_law.specs.Rules as rules
 use Rattle.serving_law.proofs.Spoken.{IsSiteBody}
@@ -146,7 +147,8 @@ module _ {C : Type 0} (device : C → Device) (members : Membership)
       printed_among notice p =
           subst (λ (ns : List Notice). Has notice ns) (sym p.split) (has_right p.before (here refl))
 
-      printed_chosen : (notice : Notice) → IsPrinted showing notice → (slot : SlotName) (bag : BagId)
+      printed_chosen : (notice : Notice) → IsPrinted showing notice → (slot : SlotName)
+          (bag : BagId)
           → report_of notice ≡ Some (record { slot = slot; bag = bag }) → IsChosen q w slot bag
       printed_chosen notice p slot bag e = (notices notice (printed_among notice p)).known _ e
 
@@ -341,8 +343,8 @@ module _ {C : Type 0} (device : C → Device) (members : Membership)
         came step t =
             turn_ends device members (scene n member old is) f.handed stands.handed step.ports
             step.folders step.turn.took t.may_come old.idle old.tried step.turn.done step.next
-            (subst (λ (s : Serving C). turn_of device step.ports (Some step.folders) s step.turn.took
-            step.turn.done step.next)
+            (subst (λ (v : Serving C). turn_of device step.ports (Some step.folders) v
+            step.turn.took step.turn.done step.next)
             (is_serving device members n old (w.sites n) is) t.comes)
 
         -- a turn that is shown, to this happening
@@ -358,7 +360,8 @@ module _ {C : Type 0} (device : C → Device) (members : Membership)
           grows = g.moves.grows;
           reports = shown_reports w g.x g.moves.formed step.turn g.posts g.notices handed written h
               shows;
-          registers = shown_registers w g.x g.moves.formed step.turn g.posts g.notices handed written h
+          registers =
+              shown_registers w g.x g.moves.formed step.turn g.posts g.notices handed written h
               shows;
           deposits = λ k slot bag d. elim (g.moves.deposits k slot bag d) [
             | inl before ↦ inl before
@@ -506,8 +509,8 @@ module _ {C : Type 0} (device : C → Device) (members : Membership)
           shown n serves.0 old serves.1 (Turns n step handed written) step refl handed written refl
           (Serves step.next) refl ((came n serves.0 old serves.1 step takes).goes opened)
       went (Fails n step handed written records) (old, serves, takes, needs, recovers) =
-          shown n serves.0 old serves.1 (Fails n step handed written records) step refl handed written
-          refl (Down records) refl
+          shown n serves.0 old serves.1 (Fails n step handed written records) step refl handed
+          written refl (Down records) refl
           ((came n serves.0 old serves.1 step takes).fails needs records recovers)
       went (Dies n step records) (old, serves, takes, recovers) =
           let moves = (came n serves.0 old serves.1 step takes).dies records recovers in
@@ -537,6 +540,17 @@ module _ {C : Type 0} (device : C → Device) (members : Membership)
           by_test false e = e
           by_test true e =
               absurd (false≢true (sym not_last ∙ (came n member old serves step takes).last e))
+
+      -- a site that stands for what it has heard does so after the turn
+      pub stands_then : (n : ℕ) (member : Has n (members_of members)) (old : Serving C)
+          (serves : f.members n ≡ Serves old) (step : Step C) → Takes device members f old step
+          → turns.IsServing old → turns.IsServing step.next
+      stands_then n member old serves step takes before opened =
+          (came n member old serves step takes).stands
+          (subst (λ (s : Serving C). StandsFor s.site s.session)
+          (is_serving device members n old (w.sites n) (served_at n old serves))
+          (before (served_at n old serves).opened))
+          opened
 
 -- some folders give what was read
 pub with_folders : {C : Type 0} (device : C → Device) (ports : List ℕ)

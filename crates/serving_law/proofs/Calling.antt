@@ -1,5 +1,5 @@
 -- A call of a site that serves is a move of its site in a network.
-use Rattle.std.proofs.Common.{ℕ, ◌≡◌, ◌≢◌, ◌⊎◌, inl, inr, refl, sym, ap, subst, ◌∙◌, true, false}
+use Rattle.std.proofs.Common.{ℕ, ◌≡◌, inl, inr, refl, sym, ap, subst, ◌∙◌, true, false}
 use Rattle.std.proofs.Common.{List, [], ◌∷◌, ◌++◌, append-nil, map, Option, None, Some}
 use Rattle.std.specs.Prelude.{Result, Ok, Err, IsSome}
 use Rattle.std.specs.List.{flat_map}
@@ -7,13 +7,12 @@ use Rattle.std.specs.Option.{option_to_list, IfSome}
 use Rattle.fed_types.specs.declared.bag_id.BagId.{BagId}
 use Rattle.fed_types.specs.Lists.{Has, here, there}
 use Rattle.fed_types.specs.Quorums.{QuorumSystem}
-use Rattle.fed_types.specs.Sites.{Membership, IsSiteNumber}
+use Rattle.fed_types.specs.Sites.{Membership}
 use Rattle.fed_types.specs.Slots.{SlotName}
 use Rattle.fed_types.specs.Laws.Lists.{has_map, map_has, has_none, has_right, has_one}
 use Rattle.fed_types.specs.Laws.Lists.{has_cases}
 use Rattle.std.proofs.lemmas.Bool.{false≢true}
 use Rattle.cell_device.specs.Devices.{Device}
-use Rattle.cell_device.specs.Images.{MayLeave}
 use Rattle.bag_check.specs.declared.fault.BagFault.{BagFault}
 use Rattle.records.specs.declared.entry.Entry.TheVariants as entry
 use Rattle.records.specs.declared.owner.Owner.{Owner}
@@ -22,38 +21,33 @@ use Rattle.records.specs.Bounds.{HasEntry}
 use Rattle.records.specs.Records.{IsRecord}
 use Rattle.book.specs.Volumes.{RecoversTo}
 use Rattle.proposer.specs.Sessions.{Session, new_session}
-use Rattle.dgram.specs.Encoding.{datagram_of}
 use Rattle.site.specs.declared.answer.Answer.{Answer}
 use Rattle.site.specs.declared.answer.Line.{Line}
 use Rattle.site.specs.declared.answer.Line.TheVariants as lines
-use Rattle.site.specs.declared.answer.Sealed.{Sealed}
 use Rattle.site.specs.declared.fault.SiteFault.{SiteFault}
 use Rattle.site.specs.declared.fault.SiteFault.TheVariants as faults
 use Rattle.site.specs.Answered.{Keeps, Gives}
 use Rattle.site.specs.Calls.{Input, Deposits, Proposes, Asks, Arrives, effect_of}
 use Rattle.site.specs.Datagrams.{handed_out, datagram}
-use Rattle.site.specs.Effects.{Effect, Send}
-use Rattle.site_tables.specs.Contents.{Contents}
-use Rattle.lines.specs.Notices.{Notice, Registered, Learned, Dropped, notice_of, line_notice}
-use Rattle.world_law.specs.Laws.{Report, report_of}
+use Rattle.site.specs.Effects.{Effect}
+use Rattle.site.specs.Sites.{StandsFor}
+use Rattle.lines.specs.Notices.{Notice, Registered, notice_of}
 use Rattle.world_law.specs.Networks.{Network, SiteState, Up, Down}
-use Rattle.world_law.specs.WellFormed.{IsWellFormed}
 use Rattle.world_law.proofs.Deeds.{Deed, MayDeposit, some_same}
 use Rattle.world_law.proofs.Grows.{grows_itself}
-use Rattle.world_law.proofs.Kept.{Kept}
 use Rattle.world_law.proofs.Step.{moved, kept_moved, Next, Sound, nothing_recalled, reports_nothing}
 use Rattle.world_law.proofs.Deeds.{nothing_sent}
 use Rattle.world_law.proofs.WellFormedEffects.{IsWellFormedEffect}
 use Rattle.udp_site.specs.Turns.{Serving, IsCalled, posts_of, sealed_posts, notices_of}
 use Rattle.serving_law.specs.Federations.{Member, Serves}
 use Rattle.serving_law.specs.Federations as federations
-use Rattle.serving_law.specs.Rules.{owner_of, MayRecoverTo}
-use Rattle.serving_law.proofs.Spoken.{IsSiteBody, effect_speaks}
+use Rattle.serving_law.specs.Rules.{owner_of}
+use Rattle.serving_law.proofs.Spoken.{effect_speaks}
 use Rattle.serving_law.proofs.Moving.{moved_site, others_stay, moved_formed}
 use Rattle.serving_law.proofs.Recovering.{Recovered, IsKept, kept_ok, kept_err, device_needs}
 use Rattle.serving_law.proofs.Registering.{registered_is_kept}
 use Rattle.serving_law.proofs.Scene.{Scene}
-use Rattle.serving_law.proofs.Standing.{quorums, serving, IsServed, IsMember, IsSent, IsNotice}
+use Rattle.serving_law.proofs.Standing.{quorums, serving, IsServed, IsSent, IsNotice}
 use Rattle.serving_law.proofs.Standing.{HasDeposit, May, Moves}
 
 -- what stands in one of these lists
@@ -311,7 +305,8 @@ module _ {C : Type 0} (device : C → Device) (members : Membership) (s : Scene 
           by_line (Some (lines.Registered bag)) g (Proposes slot) f same = absurd (cc same)
           by_line (Some (lines.Registered bag)) g (Asks slot member) f same = absurd (cc same)
           by_line (Some (lines.Registered bag)) g (Arrives message) f same = absurd (cc same)
-          by_line (Some (lines.Registered found)) g (Deposits slot checked) f {k = k} {slot = k_slot} {bag = bag} same =
+          by_line (Some (lines.Registered found)) g (Deposits slot checked) f
+              {k = k} {slot = k_slot} {bag = bag} same =
               at_deposit slot k_slot checked k found bag f g (some_same same)
 
     -- ---- a refusal
@@ -344,6 +339,24 @@ module _ {C : Type 0} (device : C → Device) (members : Membership) (s : Scene 
             → Gives old.site new.site old.session e (Err fault) → ⊥
         unopened fault f gives =
             subst (λ (f : SiteFault). Gives old.site new.site old.session e (Err f)) f gives
+
+    -- a site that refuses stands for what it stood for
+    pub err_stands : (fault : SiteFault) (new : Serving C)
+        → Keeps device e.commits (Err fault) old.site.book new.site.book
+        → Gives old.site new.site old.session e (Err fault) → new.site.book.needs_opening ≡ false
+        → StandsFor new.site old.session
+    err_stands faults.Memory new keeps gives opened = gives
+    err_stands faults.Device new keeps gives opened =
+        absurd (false≢true (sym opened
+        ∙ device_needs device owner old.site.book refl refl recovers e.commits new.site.book gives
+        keeps))
+    err_stands faults.NeedsOpen new keeps gives opened = absurd gives
+    err_stands (faults.InvalidBag fault) new keeps gives opened = gives.1
+    err_stands (faults.OtherDeposit bag) new keeps gives opened = gives.1
+    err_stands (faults.OtherKnown bag) new keeps gives opened = gives.1
+    err_stands faults.NoDeposit new keeps gives opened = gives.1
+    err_stands faults.RoundsSpent new keeps gives opened = gives.1
+    err_stands faults.AlreadyKnown new keeps gives opened = gives.1
 
     -- a call after which the site needs opening met a failing device
     pub failed_by_device : (result : Result Answer SiteFault) (new : Serving C)

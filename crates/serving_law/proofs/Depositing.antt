@@ -1,28 +1,23 @@
 -- A turn in which a site that serves is asked to deposit a folder.
-use Rattle.std.proofs.Common.{ℕ, ◌≡◌, inl, inr, refl, sym, ap, subst, true, List, [], ◌∷◌, Option, None}
+use Rattle.std.proofs.Common.{ℕ, ◌≡◌, inr, refl, sym, ap, subst, true, List, Option, None}
 use Rattle.std.proofs.Common.{Some}
 use Rattle.std.specs.Prelude.{Result, Ok, Err, IfOk}
 use Rattle.fed_types.specs.declared.bag_id.BagId.{BagId}
 use Rattle.fed_types.specs.Lists.{Has}
 use Rattle.fed_types.specs.Quorums.{QuorumSystem}
-use Rattle.fed_types.specs.Sites.{Membership, members_of, IsSiteNumber}
+use Rattle.fed_types.specs.Sites.{Membership, IsSiteNumber}
 use Rattle.fed_types.specs.Slots.{SlotName}
-use Rattle.fed_types.specs.Values.{IsMembership, IsSlot, IsBag}
+use Rattle.fed_types.specs.Values.{IsSlot, IsBag}
 use Rattle.fed_types.specs.Laws.Lists.{has_none, has_one}
 use Rattle.cell_device.specs.Devices.{Device}
-use Rattle.cell_device.specs.Images.{MayLeave}
 use Rattle.bag_tree.specs.declared.fault.TreeFault.{TreeFault}
 use Rattle.bag_tree.specs.declared.fault.TreeFault.TheVariants as trees
 use Rattle.bag_tree.specs.Facts.{TreeFacts}
-use Rattle.bag_check.specs.declared.fault.BagFault.{BagFault}
 use Rattle.bag_check.specs.declared.fault.BagFault.TheVariants as bags
 use Rattle.bag_check.specs.Check.{check_of}
-use Rattle.book.specs.Volumes.{RecoversTo}
 use Rattle.dgram.specs.declared.answers.DepositAnswer.{DepositAnswer}
 use Rattle.dgram.specs.declared.answers.DepositAnswer.TheVariants as deposit
 use Rattle.dgram.specs.declared.body.Body.TheVariants.{DepositReply}
-use Rattle.dgram.specs.declared.message.Message.{Message}
-use Rattle.dgram.specs.Encoding.{datagram_of}
 use Rattle.dgram.specs.Messages.{IsDepositAnswer}
 use Rattle.site.specs.declared.answer.Answer.{Answer}
 use Rattle.site.specs.declared.answer.Line.{Line}
@@ -32,20 +27,17 @@ use Rattle.site.specs.declared.fault.SiteFault.TheVariants as faults
 use Rattle.site.specs.Answered.{Gives}
 use Rattle.site.specs.Calls.{Input, Deposits, effect_of}
 use Rattle.site.specs.Effects.{Effect}
-use Rattle.site_tables.specs.Contents.{Contents}
 use Rattle.world_law.specs.Laws.{IsChosen}
 use Rattle.world_law.specs.Networks.{Network}
 use Rattle.world_law.specs.WellFormed.{IsWellFormed}
 use Rattle.world_law.proofs.Calls.{deposit_deed}
 use Rattle.world_law.proofs.Deeds.{Deed, MayDeposit, some_same}
-use Rattle.world_law.proofs.Kept.{Kept}
 use Rattle.world_law.proofs.WellFormedCalls.{effect_is}
 use Rattle.world_law.proofs.WellFormedEffects.{IsWellFormedEffect}
-use Rattle.udp_site.specs.Replies.{deposit_answer, tree_answer, bag_answer, fault_answer, line_answer}
+use Rattle.udp_site.specs.Replies.{deposit_answer, tree_answer, fault_answer, line_answer}
 use Rattle.udp_site.specs.Turns.{Serving, Done, IsCalled, notices_of, deposit_replies, takes_tree}
 use Rattle.udp_site.specs.Served.{or_one}
 use Rattle.serving_law.specs.Reports.{known_told}
-use Rattle.serving_law.specs.Rules.{owner_of}
 use Rattle.serving_law.proofs.Registering.{other_known_is, other_deposit_is}
 use Rattle.serving_law.proofs.Replying.{tree_answer_is, bag_answer_is, checked_is}
 use Rattle.serving_law.proofs.Scene.{Scene}
@@ -179,7 +171,9 @@ module _ {C : Type 0} (device : C → Device) (members : Membership) (s : Scene 
           })
         where
           on_record : HasDeposit called n slot bag
-          on_record = calling.deposit_kept device members s idle tried input deed effect_formed slot (check_of facts) bag refl says
+          on_record =
+              calling.deposit_kept device members s idle tried input deed effect_formed slot
+              (check_of facts) bag refl says
 
           at : (b : BagId) → deposit.Registered bag ≡ deposit.Registered b
               → HasDeposit called n slot b
@@ -240,7 +234,8 @@ module _ {C : Type 0} (device : C → Device) (members : Membership) (s : Scene 
             notices = notices_of n input result;
           }) new D
       call_ends (Ok answer) new c port =
-          turning.ok_ends device members s idle tried input deed effect_formed D allowed answer new c _
+          turning.ok_ends device members s idle tried input deed effect_formed D allowed answer new
+          c _
           (λ x same to bytes h. subst (λ (x : Network). IsPost device members w x bytes) (sym same)
           (reply_posts called port (line_answer answer.line)
           (line_right moved answer.line (c.answered refl).gives.0) to bytes h))
@@ -250,7 +245,8 @@ module _ {C : Type 0} (device : C → Device) (members : Membership) (s : Scene 
           moved = (calling.ok_moves device members s idle tried
               input deed effect_formed answer new c).formed
       call_ends (Err fault) new c port =
-          turning.err_ends device members s idle tried input deed effect_formed D allowed fault new c _
+          turning.err_ends device members s idle tried input deed effect_formed D allowed fault new
+          c _
           (λ x to bytes h. reply_posts x port (fault_answer fault)
           (fault_right fault new (c.answered refl).gives x) to bytes h)
           (λ notice h. h)

@@ -1,6 +1,6 @@
 -- A site that takes a message that nobody has sent.
-use Rattle.std.proofs.Common.{ℕ, ◌≡◌, ◌⊎◌, ◌≤◌, inl, inr, refl, sym, ap, subst, ◌∙◌, Bool, true, false}
-use Rattle.std.proofs.Common.{cond, max, List, [], ◌∷◌, ◌++◌, Option, None, Some, arith, length}
+use Rattle.std.proofs.Common.{ℕ, ◌≡◌, ◌≤◌, inr, refl, sym, ap, subst, ◌∙◌, Bool, true, false}
+use Rattle.std.proofs.Common.{cond, max, List, [], ◌∷◌, Option, None, Some, arith}
 use Rattle.std.specs.Prelude.{Result, Ok, Err}
 use Rattle.fed_types.specs.declared.bag_id.BagId.{BagId}
 use Rattle.fed_types.specs.declared.vote.Vote.{Vote}
@@ -15,33 +15,21 @@ use Rattle.fed_types.specs.Quorums.{quorums_of}
 use Rattle.std.specs.List.{cons_option}
 use Rattle.std.specs.Option.{option_to_list}
 use Rattle.cell_device.specs.Devices.{Device}
-use Rattle.cell_device.specs.Images.{Image, Leaves, at_rest}
-use Rattle.bag_tree.specs.Facts.{TreeFacts}
+use Rattle.cell_device.specs.Images.{at_rest}
 use Rattle.bag_tree.specs.declared.fault.TreeFault.TheVariants as trees
-use Rattle.bag_check.specs.declared.fault.BagFault.{BagFault}
-use Rattle.bag_check.specs.Check.{check_of}
 use Rattle.records.specs.declared.entry.Entry.TheVariants as entry
 use Rattle.records.specs.declared.owner.Owner.{Owner}
 use Rattle.records.specs.declared.record.Record.{Record}
-use Rattle.records.specs.Journals.{Says}
-use Rattle.records.specs.Layout.{header_bytes, record_bytes}
-use Rattle.records.specs.Records.{IsRecord}
-use Rattle.records.specs.Texts.{IsTextOf}
-use Rattle.records.specs.Words.{known_of, used_of, deposit_of, with_one, if_some, round_in}
+use Rattle.records.specs.Words.{known_of, used_of, with_one, if_some, round_in}
 use Rattle.records.specs.Words.{known_in, earlier}
 use Rattle.records.proofs.Words.{used-push, known-push}
-use Rattle.records.proofs.Texts.{text_says, text_longer, nothing_says}
-use Rattle.records.proofs.Carrying.{header_text}
-use Rattle.records.proofs.OneReading.{one_saying}
-use Rattle.book.specs.Opened.{said_as_answer}
-use Rattle.book.specs.Volumes.{Volume, LeavesText, RecoversTo}
-use Rattle.book.proofs.AtRest.{keeps_same}
+use Rattle.records.proofs.Texts.{nothing_says}
+use Rattle.book.specs.Volumes.{Volume}
 use Rattle.dgram.specs.declared.body.Body.TheVariants.{Known}
 use Rattle.dgram.specs.Encoding.{datagram_of}
 use Rattle.dgram.proofs.MessageOf.{message_of-again}
 use Rattle.dgram.specs.Heard.{bodies_of, floor_of, voters_for}
 use Rattle.dgram.specs.declared.message.Message.{Message}
-use Rattle.dgram.specs.declared.answers.DepositAnswer.TheVariants as answers
 use Rattle.proposer.specs.Sessions.{Session, new_session, nothing, hears}
 use Rattle.learner.specs.Ledgers as ledgers
 use Rattle.learner.specs.declared.row.Row.TheVariants as rows
@@ -50,28 +38,23 @@ use Rattle.site.specs.declared.answer.Answer.{Answer}
 use Rattle.site.specs.declared.answer.Line.{Line}
 use Rattle.site.specs.declared.answer.Line.TheVariants as lines
 use Rattle.site.specs.declared.fault.SiteFault.{SiteFault}
-use Rattle.site.specs.Answered.{Commits, IsAnswered, commit_of}
+use Rattle.site.specs.Answered.{IsAnswered}
 use Rattle.site.specs.Arrivals.{on_arrival, on_body, is_member}
 use Rattle.site.specs.Calls as calls
 use Rattle.site.specs.Effects.{Effect}
-use Rattle.site.specs.Opened.{Opens}
 use Rattle.site.specs.Sites.{OpenSite, effect}
 use Rattle.site_tables.specs.Contents.{Contents, StandsFor}
 use Rattle.lines.specs.Notices.{Learned, notice_of}
 use Rattle.udp_site.specs.Traffic.{From}
 use Rattle.udp_site.specs.Requests as requests
-use Rattle.udp_site.specs.Replies.{deposit_answer, line_answer}
 use Rattle.udp_site.specs.Turns.{Serving, Done, IsCalled, begins, turn_of, comes_of, notices_of}
 use Rattle.udp_site.specs.Turns.{posts_of}
-use Rattle.udp_site.specs.Served.{Turned}
-use Rattle.serving_law.specs.Examples.{Disk, Blank, Opened, Written, disk_of, bytes_on, recorded}
+use Rattle.serving_law.specs.Examples.{Disk, Blank, Opened, Written, disk_of}
 use Rattle.serving_law.specs.Examples.{Learning, IsFooled, FooledByAForgedKnown}
-use Rattle.serving_law.specs.Federations.{Serves, Down, Step, Happening, Starts, Dies}
+use Rattle.serving_law.specs.Federations.{Step, Starts}
 use Rattle.serving_law.specs.Federations.{new_federation, after_all}
-use Rattle.serving_law.specs.Rules.{MayAll, MayCome}
+use Rattle.serving_law.specs.Rules.{MayAll}
 use Rattle.serving_law.proofs.Disks as disks
-use Rattle.serving_law.proofs.Replying.{checked_is}
-use Rattle.serving_law.proofs.Requesting.{deposit_is_slot}
 
 -- a site says this
 abbrev said : Option Line → Result (Option Line) SiteFault
@@ -205,7 +188,9 @@ module _ (members : Membership) (is_membership : IsMembership members) (two : 2 
   }
 
   member : is_member (quorums_of members) (Some 2) ≡ true
-  member = (is_in_decides (members_of members) 2).1 (sites_to_has (count_of members) 2 (omega arith) two)
+  member =
+      (is_in_decides (members_of members) 2).1
+      (sites_to_has (count_of members) 2 (omega arith) two)
 
   effect_is : effect before_it new_session (calls.Arrives (Some m)) ≡ learning
   unfolding on_arrival on_body known_of

@@ -1,6 +1,6 @@
 -- Every history stands for a network, in which all that was reported is chosen.
-use Rattle.std.proofs.Common.{ℕ, ◌≡◌, ◌⊎◌, inl, inr, refl, sym, ap, subst, ◌∙◌, false}
-use Rattle.std.proofs.Common.{List, [], ◌∷◌, ◌++◌, Option, None, Some}
+use Rattle.std.proofs.Common.{ℕ, ◌≡◌, ◌⊎◌, inl, inr, refl, sym, ap, subst, false}
+use Rattle.std.proofs.Common.{List, [], ◌∷◌, ◌++◌, Option, Some}
 use Rattle.std.specs.Prelude.{Result}
 use Rattle.bag_tree.specs.declared.fault.TreeFault.{TreeFault}
 use Rattle.bag_tree.specs.Facts.{TreeFacts}
@@ -13,7 +13,6 @@ use Rattle.fed_types.specs.Values.{IsMembership}
 use Rattle.fed_types.specs.Laws.Lists.{has_none, has_right}
 use Rattle.fed_types.specs.Laws.Quorums.{are_quorums}
 use Rattle.cell_device.specs.Devices.{Device}
-use Rattle.cell_device.specs.Images.{MayLeave}
 use Rattle.records.specs.declared.entry.Entry.TheVariants as entry
 use Rattle.records.specs.declared.record.Record.{Record}
 use Rattle.records.specs.Bounds.{HasEntry}
@@ -23,6 +22,7 @@ use Rattle.world_law.proofs.Grows.{Grows, grows_itself, chosen_grows}
 use Rattle.world_law.proofs.Induction.{chosen_once, chosen_came}
 use Rattle.world_law.proofs.Runs.{new_kept}
 use Rattle.world_law.proofs.WellFormed.{new_is_well_formed}
+use Rattle.udp_site.specs.Turns as turns
 use Rattle.udp_site.specs.Turns.{Serving, turn_of}
 use Rattle.udp_site.specs.Served.{Turned, is_the_last}
 use Rattle.serving_law.specs.Federations.{Federation, Step, Happening, new_federation, after}
@@ -33,7 +33,8 @@ use Rattle.serving_law.specs.Reports.{Reports, Registers, IsDeposit, records_of}
 use Rattle.serving_law.specs.Rules.{May, MayAll, MayCome, IsServing, Takes}
 use Rattle.serving_law.proofs.Scene.{OnlyNow}
 use Rattle.serving_law.proofs.Standing.{quorums, HasDeposit, Stands}
-use Rattle.serving_law.proofs.Befalling.{Went, went, records_are, goes_on, with_folders}
+use Rattle.serving_law.proofs.Befalling.{Went, went, records_are, goes_on, stands_then}
+use Rattle.serving_law.proofs.Befalling.{with_folders}
 
 grows_then : {w x y : Network} → Grows w x → Grows x y → Grows w y
 grows_then g h = record {
@@ -183,9 +184,11 @@ module _ {C : Type 0} (device : C → Device) (members : Membership)
         → Reports federation g slot u → Reports federation h slot v → u ≡ v
     agree history g h slot u v may i j r s =
         let l = from_new history may in
-        chosen_once q l.x laws l.stands.kept slot u v (l.reports g i slot u r) (l.reports h j slot v s)
+        chosen_once q l.x laws l.stands.kept slot u v (l.reports g i slot u r)
+        (l.reports h j slot v s)
 
-    deposited : (before later : List (Happening C)) (h : Happening C) (slot : SlotName) (bag : BagId)
+    deposited : (before later : List (Happening C)) (h : Happening C) (slot : SlotName)
+        (bag : BagId)
         → MayAll device members new_federation (before ++ h ∷ later)
         → Reports federation h slot bag → WasDeposited federation before slot bag
     deposited before later h slot bag may r =
@@ -196,8 +199,9 @@ module _ {C : Type 0} (device : C → Device) (members : Membership)
         l = from_new before (may_split before h later new_federation may).0
 
         next : Went device members is_membership only_now (after_all new_federation before) h l.x
-        next = went device members is_membership only_now (after_all new_federation before) l.x l.stands
-            h (may_split before h later new_federation may).1
+        next =
+            went device members is_membership only_now (after_all new_federation before) l.x
+            l.stands h (may_split before h later new_federation may).1
 
         made : (n : ℕ) (slot : SlotName) (bag : BagId) → HasDeposit l.x n slot bag
             → WasDeposited federation before slot bag
@@ -221,14 +225,18 @@ module _ {C : Type 0} (device : C → Device) (members : Membership)
         → (step : Step C) × (step.turn ≡ turn) × (step.next ≡ next)
         × Takes device members (after_all new_federation history) old step
         × (is_the_last turn ≡ false → next.site.book.needs_opening ≡ false)
+        × (turns.IsServing old → turns.IsServing next)
     taken history n old next ports gives turn may serving come comes = (
       step,
       refl,
       refl,
       takes,
       λ not_last.
-          goes_on device members is_membership only_now (after_all new_federation history) l.x l.stands
-          n serving.0 old serving.1 step takes not_last,
+          goes_on device members is_membership only_now (after_all new_federation history) l.x
+          l.stands n serving.0 old serving.1 step takes not_last,
+      λ before.
+          stands_then device members is_membership only_now (after_all new_federation history) l.x
+          l.stands n serving.0 old serving.1 step takes before,
     )
       where
         l : Led new_federation history new_network
@@ -248,7 +256,8 @@ module _ {C : Type 0} (device : C → Device) (members : Membership)
         (bag : BagId) → MayAll device members new_federation (before ++ h ∷ later)
         → Registers federation h n slot bag
         → HasEntry slot
-        (records_of ((after_all new_federation (before ++ h ∷ later)).members n)) (entry.Deposit bag)
+        (records_of ((after_all new_federation (before ++ h ∷ later)).members n))
+        (entry.Deposit bag)
     stays before later h n slot bag may r =
         let l = from_new (before ++ h ∷ later) may in
         subst (λ (rs : List Record). HasEntry slot rs (entry.Deposit bag))

@@ -1,18 +1,16 @@
 -- A site that is killed in the call of a deposit.
-use Rattle.std.proofs.Common.{ℕ, ◌≡◌, ◌⊎◌, ◌≤◌, inl, inr, refl, sym, ap, subst, ◌∙◌, Bool, true, false}
-use Rattle.std.proofs.Common.{cond, max, List, [], ◌∷◌, ◌++◌, Option, None, Some, arith, length}
-use Rattle.std.specs.Prelude.{Result, Ok, Err}
+use Rattle.std.proofs.Common.{ℕ, ◌≡◌, inl, inr, refl, sym, ap, subst, ◌∙◌, Bool, true, false}
+use Rattle.std.proofs.Common.{cond, max, List, [], ◌∷◌, ◌++◌, Option, None, Some, arith}
+use Rattle.std.specs.Prelude.{Result, Ok}
 use Rattle.fed_types.specs.declared.bag_id.BagId.{BagId}
-use Rattle.fed_types.specs.declared.vote.Vote.{Vote}
-use Rattle.fed_types.specs.Lists.{Has, here, is_in}
+use Rattle.fed_types.specs.Lists.{Has, here}
 use Rattle.fed_types.specs.Sites.{Membership, members_of, count_of}
 use Rattle.fed_types.specs.Slots.{SlotName, same_slot}
-use Rattle.fed_types.specs.Values.{IsMembership, IsSlot, IsBag}
+use Rattle.fed_types.specs.Values.{IsMembership}
 use Rattle.fed_types.specs.Laws.Sites.{sites_to_has}
 use Rattle.cell_device.specs.Devices.{Device}
-use Rattle.cell_device.specs.Images.{Image, Leaves, at_rest}
+use Rattle.cell_device.specs.Images.{at_rest}
 use Rattle.bag_tree.specs.Facts.{TreeFacts}
-use Rattle.bag_tree.specs.declared.fault.TreeFault.{TreeFault}
 use Rattle.bag_check.specs.declared.fault.BagFault.{BagFault}
 use Rattle.bag_check.specs.Check.{check_of}
 use Rattle.records.specs.declared.entry.Entry.TheVariants as entry
@@ -21,41 +19,33 @@ use Rattle.records.specs.declared.record.Record.{Record}
 use Rattle.records.specs.Journals.{Says}
 use Rattle.records.specs.Layout.{header_bytes, record_bytes}
 use Rattle.records.specs.Records.{IsRecord}
-use Rattle.records.specs.Texts.{IsTextOf}
 use Rattle.records.specs.Words.{known_of, used_of, deposit_of, with_one, if_some, round_in}
 use Rattle.records.specs.Words.{known_in, earlier}
 use Rattle.records.proofs.Words.{used-push, known-push}
-use Rattle.records.proofs.Texts.{text_says, text_longer, nothing_says}
-use Rattle.records.proofs.Carrying.{header_text}
-use Rattle.records.proofs.OneReading.{one_saying}
-use Rattle.book.specs.Opened.{said_as_answer}
-use Rattle.book.specs.Volumes.{Volume, LeavesText, RecoversTo}
-use Rattle.book.proofs.AtRest.{keeps_same}
+use Rattle.records.proofs.Texts.{text_says, nothing_says}
+use Rattle.book.specs.Volumes.{Volume}
 use Rattle.dgram.specs.Heard.{bodies_of, floor_of, voters_for}
 use Rattle.dgram.specs.declared.message.Message.{Message}
-use Rattle.dgram.specs.declared.answers.DepositAnswer.TheVariants as answers
-use Rattle.proposer.specs.Sessions.{Session, new_session, nothing}
+use Rattle.proposer.specs.Sessions.{new_session, nothing}
 use Rattle.site.specs.declared.answer.Answer.{Answer}
 use Rattle.site.specs.declared.answer.Line.{Line}
 use Rattle.site.specs.declared.answer.Line.TheVariants as lines
 use Rattle.site.specs.declared.fault.SiteFault.{SiteFault}
-use Rattle.site.specs.Answered.{Commits, IsAnswered, commit_of}
+use Rattle.site.specs.Answered.{IsAnswered}
 use Rattle.site.specs.Calls.{Input, on_deposit}
 use Rattle.site.specs.Calls as calls
 use Rattle.site.specs.Effects.{Effect}
-use Rattle.site.specs.Opened.{Opens}
 use Rattle.site.specs.Sites.{OpenSite, effect}
 use Rattle.site_tables.specs.Contents.{Contents, StandsFor}
-use Rattle.lines.specs.Notices.{Registered}
 use Rattle.udp_site.specs.Traffic.{From}
 use Rattle.udp_site.specs.Requests as requests
 use Rattle.udp_site.specs.Replies.{deposit_answer, line_answer}
 use Rattle.udp_site.specs.Turns.{Serving, Done, IsCalled, begins, turn_of, comes_of, notices_of}
 use Rattle.udp_site.specs.Turns.{deposit_replies}
-use Rattle.udp_site.specs.Served.{Turned}
-use Rattle.serving_law.specs.Examples.{Disk, Blank, Opened, Written, disk_of, bytes_on, recorded}
-use Rattle.serving_law.specs.Examples.{left_on, Request, Registering, reply_to, WasKilled, KilledInADeposit}
-use Rattle.serving_law.specs.Federations.{Serves, Down, Step, Happening, Starts, Dies}
+use Rattle.serving_law.specs.Examples.{Disk, Blank, Opened, Written, disk_of, recorded}
+use Rattle.serving_law.specs.Examples.{left_on, Request, Registering, reply_to, WasKilled}
+use Rattle.serving_law.specs.Examples.{KilledInADeposit}
+use Rattle.serving_law.specs.Federations.{Step, Happening, Starts}
 use Rattle.serving_law.specs.Federations.{new_federation, after_all}
 use Rattle.serving_law.specs.Rules.{MayAll, MayCome}
 use Rattle.serving_law.proofs.Disks as disks

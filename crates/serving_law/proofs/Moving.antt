@@ -8,7 +8,7 @@ use Rattle.records.specs.Records.{IsRecord, AreRecords}
 use Rattle.proposer.specs.Sessions.{Session}
 use Rattle.site.specs.Effects.{Send}
 use Rattle.lines.specs.Notices.{Notice}
-use Rattle.world_law.specs.Networks.{Mode, SiteState, Network, Outcome, happening}
+use Rattle.world_law.specs.Networks.{Mode, SiteState, Network, Outcome}
 use Rattle.world_law.specs.WellFormed.{AreMessages, IsSend, IsWellFormed}
 use Rattle.world_law.proofs.Step.{moved, site_cases}
 use Rattle.world_law.proofs.WellFormedWords.{all_with}

@@ -1,42 +1,32 @@
 -- A turn in which a site that serves is asked for a slot's bag, and asks the other members.
-use Rattle.std.proofs.Common.{ℕ, ◌≡◌, ◌⊎◌, inl, inr, refl, sym, ap, subst, Bool, true, false, cond, not}
-use Rattle.std.proofs.Common.{List, [], ◌∷◌, ◌++◌, append-nil, map, Option, None, Some}
-use Rattle.std.proofs.lemmas.Bool.{false≢true}
-use Rattle.std.specs.Prelude.{Result, Ok, Err, ◌==◌}
+use Rattle.std.proofs.Common.{ℕ, ◌≡◌, inl, inr, refl, sym, ap, subst, Bool, true, false, cond}
+use Rattle.std.proofs.Common.{List, [], ◌∷◌, None, Some}
+use Rattle.std.specs.Prelude.{Result, Ok, Err}
 use Rattle.std.specs.List.{filter}
-use Rattle.std.specs.Option.{option_to_list}
 use Rattle.fed_types.specs.declared.bag_id.BagId.{BagId}
 use Rattle.fed_types.specs.Lists.{Has, here, there}
 use Rattle.fed_types.specs.Quorums.{QuorumSystem}
 use Rattle.fed_types.specs.Sites.{Membership, members_of}
 use Rattle.fed_types.specs.Slots.{SlotName}
-use Rattle.fed_types.specs.Values.{IsMembership, IsSlot}
+use Rattle.fed_types.specs.Values.{IsSlot}
 use Rattle.fed_types.specs.Laws.Lists.{has_none, has_one, has_cases, has_map, has_right, map_has}
 use Rattle.cell_device.specs.Devices.{Device}
-use Rattle.cell_device.specs.Images.{MayLeave}
-use Rattle.book.specs.Volumes.{RecoversTo}
-use Rattle.dgram.specs.declared.answers.QueryAnswer.TheVariants as query
-use Rattle.dgram.specs.declared.body.Body.TheVariants.{Ask, DepositReply, QueryReply}
-use Rattle.dgram.specs.declared.answers.DepositAnswer.TheVariants as deposit
-use Rattle.dgram.specs.declared.message.Message.{Message}
+use Rattle.dgram.specs.declared.body.Body.TheVariants.{Ask, QueryReply}
 use Rattle.dgram.specs.Encoding.{datagram_of}
 use Rattle.site.specs.declared.answer.Reply.{Reply}
 use Rattle.site.specs.declared.answer.Reply.TheVariants as replies
 use Rattle.site.specs.declared.fault.SiteFault.{SiteFault}
 use Rattle.site.specs.declared.fault.SiteFault.TheVariants as faults
 use Rattle.site.specs.Calls.{reply_of}
-use Rattle.site.specs.Effects.{Send, to_each}
-use Rattle.site_tables.specs.Contents.{Contents}
-use Rattle.lines.specs.Notices.{Notice, Registered, Replied, Refused}
+use Rattle.site.specs.Effects.{to_each}
+use Rattle.lines.specs.Notices.{Notice, Replied, Refused}
 use Rattle.world_law.specs.Laws.{Report, report_of, IsChosen}
 use Rattle.world_law.specs.Networks.{Network, Up}
-use Rattle.world_law.specs.WellFormed.{IsWellFormed}
 use Rattle.world_law.proofs.Deeds.{some_same, only_sends, carries_each, same_recalls, not_new}
-use Rattle.world_law.proofs.Kept.{Kept}
 use Rattle.world_law.proofs.Step.{moved, kept_moved, Next, reports_nothing}
 use Rattle.world_law.proofs.WellFormedEffects.{sends_are}
 use Rattle.udp_site.specs.Replies.{query_answer}
-use Rattle.udp_site.specs.Turns.{Serving, Done, Asks, asked, others, answer_to, queries, posts_to}
+use Rattle.udp_site.specs.Turns.{Serving, Done, Asks, asked, queries, posts_to}
 use Rattle.serving_law.specs.Federations.{Serves}
 use Rattle.serving_law.specs.Reports.{known_told}
 use Rattle.serving_law.specs.Rules.{owner_of}
@@ -44,7 +34,7 @@ use Rattle.serving_law.proofs.Moving.{moved_site, others_stay, moved_formed}
 use Rattle.serving_law.proofs.Recovering.{as_it_was, recovered_now}
 use Rattle.serving_law.proofs.Replying.{query_answer_is, replied_is_known}
 use Rattle.serving_law.proofs.Scene.{Scene}
-use Rattle.serving_law.proofs.Standing.{quorums, IsServed, IsPost, IsNotice, IsSent, HasDeposit, May}
+use Rattle.serving_law.proofs.Standing.{quorums, IsServed, IsPost, IsNotice, IsSent, May}
 use Rattle.serving_law.proofs.Standing.{Moves}
 use Rattle.serving_law.proofs.Calling as calling
 use Rattle.serving_law.proofs.Turning as turning
@@ -92,7 +82,8 @@ module _ {C : Type 0} (device : C → Device) (members : Membership) (s : Scene 
     asking all = (moved w n None (w.sites n).session Up (to_each slot (Ask n) all) None).network
 
     step : (D : May) (all : List ℕ)
-        → Next q w (Some n) D (moved w n None (w.sites n).session Up (to_each slot (Ask n) all) None)
+        → Next q w (Some n) D
+        (moved w n None (w.sites n).session Up (to_each slot (Ask n) all) None)
     step D all =
         kept_moved q w n None (w.sites n).session Up (to_each slot (Ask n) all) None D slot (Ask n)
         (only_sends q w n D slot (Ask n) (to_each slot (Ask n) all) (carries_each slot (Ask n) all)
@@ -190,7 +181,8 @@ module _ {C : Type 0} (device : C → Device) (members : Membership) (s : Scene 
 
     chosen : (bag : BagId) → reply ≡ replies.Known bag → IsChosen q w slot bag
     chosen bag e =
-        turning.known_chosen device members s slot bag (replied_is_known slot (w.sites n).records bag e)
+        turning.known_chosen device members s slot bag
+        (replied_is_known slot (w.sites n).records bag e)
 
     reply_post : (x : Network) (bytes : List ℕ)
         → datagram_of members.federation
@@ -262,6 +254,7 @@ module _ {C : Type 0} (device : C → Device) (members : Membership) (s : Scene 
               (recovered_now device (owner_of device members n) old.site.book refl refl recovers
               only_now records m);
           last = λ needs. absurd (cc needs);
+          stands = λ before opened. before;
         })
       where
         all : List ℕ

@@ -1,11 +1,10 @@
 -- What a call leaves of a site's records, in its book and in its cell.
-use Rattle.std.proofs.Common.{◌≡◌, ◌⊎◌, inl, inr, refl, sym, ap, subst, ◌∙◌, true, false, ℕ}
+use Rattle.std.proofs.Common.{◌≡◌, ◌⊎◌, inl, inr, refl, sym, subst, ◌∙◌, true, false, ℕ}
 use Rattle.std.proofs.Common.{List, [], ◌∷◌, ◌++◌, append-nil, Option, None, Some}
-use Rattle.std.proofs.lemmas.Bool.{false≢true}
 use Rattle.std.specs.Prelude.{Result, Ok, Err, IsSome}
 use Rattle.std.specs.Option.{option_to_list}
 use Rattle.cell_device.specs.Devices.{Device}
-use Rattle.cell_device.specs.Images.{Image, IfKnown, Leaves, MayLeave}
+use Rattle.cell_device.specs.Images.{Image, IfKnown, MayLeave}
 use Rattle.records.specs.declared.owner.Owner.{Owner}
 use Rattle.records.specs.declared.record.Record.{Record}
 use Rattle.records.specs.Journals.{Says}
@@ -13,13 +12,10 @@ use Rattle.records.proofs.OneReading.{same_records_said}
 use Rattle.book.specs.declared.fault.CommitFault.TheVariants as commits
 use Rattle.book.specs.Committed.{SaysWithOrWithout}
 use Rattle.book.specs.Volumes.{Volume, RecoversTo}
-use Rattle.proposer.specs.Sessions.{Session}
 use Rattle.site.specs.declared.answer.Answer.{Answer}
 use Rattle.site.specs.declared.fault.SiteFault.{SiteFault}
 use Rattle.site.specs.declared.fault.SiteFault.TheVariants as faults
-use Rattle.site.specs.Answered.{Commits, Keeps, Gives}
-use Rattle.site.specs.Effects.{Effect}
-use Rattle.site.specs.Sites.{OpenSite}
+use Rattle.site.specs.Answered.{Commits, Keeps}
 use Rattle.serving_law.specs.Rules.{MayRecoverTo}
 
 -- a cell recovers to the records from before, or to those with the call's

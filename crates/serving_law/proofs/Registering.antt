@@ -1,11 +1,11 @@
 -- A bag that is registered is on record.
-use Rattle.std.proofs.Common.{ℕ, ◌≡◌, Bool, true, false, cond, refl, sym, ap, subst, ◌∙◌, inl, inr}
-use Rattle.std.proofs.Common.{List, [], ◌∷◌, ◌++◌, Option, None, Some}
+use Rattle.std.proofs.Common.{◌≡◌, Bool, true, false, cond, refl, ap, subst, ◌∙◌}
+use Rattle.std.proofs.Common.{List, [], ◌++◌, Option, None, Some}
 use Rattle.std.specs.Prelude.{Result, Ok, Err}
 use Rattle.std.specs.Option.{option_to_list}
 use Rattle.fed_types.specs.declared.bag_id.BagId.{BagId}
 use Rattle.fed_types.specs.Bags.{same_bag}
-use Rattle.fed_types.specs.Lists.{Has, here}
+use Rattle.fed_types.specs.Lists.{here}
 use Rattle.fed_types.specs.Slots.{SlotName}
 use Rattle.fed_types.specs.Laws.Bags.{same_bag_decides}
 use Rattle.fed_types.specs.Laws.Lists.{has_left, has_right}

@@ -1,16 +1,12 @@
 -- Replies to clients are well-formed, and a bag that one calls known was chosen.
-use Rattle.std.proofs.Common.{ℕ, ◌≡◌, ◌⊎◌, ◌≤◌, inl, inr, refl, sym, ap, subst, ◌∙◌, arith}
-use Rattle.std.proofs.Common.{List, [], ◌∷◌, ◌++◌, length, length-append, Option, None, Some}
-use Rattle.std.specs.Prelude.{Result, Ok, Err}
+use Rattle.std.proofs.Common.{ℕ, ◌≡◌, refl, subst, arith}
+use Rattle.std.proofs.Common.{List, length, Option, None, Some}
+use Rattle.std.specs.Prelude.{Ok}
 use Rattle.std.specs.Option.{IfSome}
-use Rattle.std.specs.Int.{w64, to_be_bytes}
 use Rattle.sha2.specs.Sha512.{sha512, digest_bytes}
 use Rattle.fed_types.specs.declared.bag_id.BagId.{BagId}
-use Rattle.fed_types.specs.Lists.{Has}
-use Rattle.fed_types.specs.Sites.{Membership, IsSiteNumber}
 use Rattle.fed_types.specs.Slots.{SlotName}
-use Rattle.fed_types.specs.Values.{IsBag, IsSlot}
-use Rattle.fed_types.specs.Laws.Lists.{has_one}
+use Rattle.fed_types.specs.Values.{IsBag}
 use Rattle.bag_tree.specs.declared.fault.TreeFault.{TreeFault}
 use Rattle.bag_tree.specs.declared.fault.TreeFault.TheVariants as trees
 use Rattle.bag_tree.specs.Facts.{TreeFacts}
@@ -20,26 +16,14 @@ use Rattle.bag_check.specs.Check.{check_of, identity_of, first_fault, answer}
 use Rattle.records.specs.declared.entry.Entry.TheVariants as entry
 use Rattle.records.specs.declared.record.Record.{Record}
 use Rattle.records.specs.Bounds.{HasEntry}
-use Rattle.records.specs.Records.{IsRecord, AreRecords}
+use Rattle.records.specs.Records.{AreRecords}
 use Rattle.records.specs.Words.{deposit_of, known_of}
 use Rattle.records.proofs.Bounds.{known_among}
-use Rattle.dgram.specs.declared.answers.DepositAnswer.{DepositAnswer}
-use Rattle.dgram.specs.declared.answers.DepositAnswer.TheVariants as deposit
-use Rattle.dgram.specs.declared.answers.QueryAnswer.{QueryAnswer}
-use Rattle.dgram.specs.declared.answers.QueryAnswer.TheVariants as query
-use Rattle.dgram.specs.declared.body.Body.TheVariants.{DepositReply, QueryReply}
-use Rattle.dgram.specs.declared.message.Message.{Message}
-use Rattle.dgram.specs.Messages.{IsMessage, IsDepositAnswer, IsQueryAnswer}
-use Rattle.site.specs.declared.answer.Answer.{Answer}
-use Rattle.site.specs.declared.answer.Line.{Line}
-use Rattle.site.specs.declared.answer.Line.TheVariants as lines
-use Rattle.site.specs.declared.answer.Reply.{Reply}
+use Rattle.dgram.specs.Messages.{IsDepositAnswer, IsQueryAnswer}
 use Rattle.site.specs.declared.answer.Reply.TheVariants as replies
-use Rattle.site.specs.declared.fault.SiteFault.{SiteFault}
-use Rattle.site.specs.declared.fault.SiteFault.TheVariants as faults
 use Rattle.site.specs.Calls.{reply_of, reply_by}
-use Rattle.udp_site.specs.Replies.{deposit_answer, tree_answer, query_answer, bag_answer}
-use Rattle.world_law.proofs.WellFormedWords.{all_has, deposit_is, known_is}
+use Rattle.udp_site.specs.Replies.{tree_answer, query_answer, bag_answer}
+use Rattle.world_law.proofs.WellFormedWords.{deposit_is, known_is}
 
 -- ---- bags
 

@@ -1,6 +1,6 @@
 -- What comes to a site that serves, by what it asks.
 use Rattle.std.proofs.Common.{ℕ, ◌≡◌, inl, inr, refl, sym, ap, subst, ◌∙◌, List, Option, None, Some}
-use Rattle.std.specs.Prelude.{Result, Ok, Err}
+use Rattle.std.specs.Prelude.{Result, Ok}
 use Rattle.fed_types.specs.declared.bag_id.BagId.{BagId}
 use Rattle.fed_types.specs.Lists.{Has}
 use Rattle.fed_types.specs.Sites.{Membership}
@@ -16,17 +16,16 @@ use Rattle.dgram.specs.declared.body.Body.TheVariants.{Ask, Known, Query, Deposi
 use Rattle.dgram.specs.declared.body.Body.TheVariants as bodies
 use Rattle.dgram.specs.declared.message.Message.{Message}
 use Rattle.dgram.specs.Decoded.{message_of}
-use Rattle.dgram.specs.Encoding.{datagram_of}
 use Rattle.dgram.specs.Messages.{IsMessage}
 use Rattle.dgram.proofs.MessageOf.{message_of-again, message_of-found}
 use Rattle.world_law.specs.Laws.{WasSent}
 use Rattle.world_law.specs.Networks.{Network}
 use Rattle.world_law.specs.WellFormed.{IsWellFormed}
 use Rattle.udp_site.specs.Traffic.{Post, Taken, Nothing, From}
-use Rattle.udp_site.specs.Requests.{Request, Waits, Says, Deposits, Queries, Noise, request_by}
+use Rattle.udp_site.specs.Requests.{Says, Deposits, Queries, request_by}
 use Rattle.udp_site.specs.Requests.{request_in, request_of}
-use Rattle.serving_law.specs.Rules.{AreBytes, MayCome}
-use Rattle.serving_law.proofs.Standing.{IsReplyBody, IsSent, IsReply, Means}
+use Rattle.serving_law.specs.Rules.{MayCome}
+use Rattle.serving_law.proofs.Standing.{IsReplyBody, Means}
 
 -- a deposit that is asked for: its folder, as it is read, is a valid bag
 pub record IsAsked (federation : ℕ) (folders : List ℕ → Result TreeFacts TreeFault) (took : Taken)

@@ -1,27 +1,22 @@
 -- A turn of a site that serves, of anything that may come.
-use Rattle.std.proofs.Common.{ℕ, ◌≡◌, ◌+◌, ◌%◌, inl, inr, refl, sym, ap, subst, Bool, true, false}
-use Rattle.std.proofs.Common.{List, [], ◌∷◌, Option, None, Some}
+use Rattle.std.proofs.Common.{ℕ, ◌≡◌, ◌+◌, ◌%◌, refl, sym, subst, Bool, true, false}
+use Rattle.std.proofs.Common.{List, [], Option, None, Some}
 use Rattle.std.specs.Prelude.{Result, Ok, Err, ◌==◌}
 use Rattle.fed_types.specs.declared.bag_id.BagId.{BagId}
 use Rattle.fed_types.specs.Ballots.{BallotNumber}
 use Rattle.fed_types.specs.Lists.{Has}
 use Rattle.fed_types.specs.Quorums.{QuorumSystem}
-use Rattle.fed_types.specs.Sites.{Membership, members_of}
+use Rattle.fed_types.specs.Sites.{Membership}
 use Rattle.fed_types.specs.Slots.{SlotName}
-use Rattle.fed_types.specs.Values.{IsMembership, IsSlot, IsBag}
+use Rattle.fed_types.specs.Values.{IsSlot}
 use Rattle.fed_types.specs.Laws.Lists.{has_none, has_one}
 use Rattle.cell_device.specs.Devices.{Device}
-use Rattle.cell_device.specs.Images.{MayLeave}
 use Rattle.bag_tree.specs.declared.fault.TreeFault.{TreeFault}
 use Rattle.bag_tree.specs.Facts.{TreeFacts}
 use Rattle.bag_tree.specs.Fault.{IsOrMemory}
-use Rattle.bag_check.specs.Check.{check_of}
-use Rattle.records.specs.declared.entry.Entry.TheVariants as entry
-use Rattle.records.specs.declared.record.Record.{Record}
 use Rattle.records.specs.Records.{IsRecord}
 use Rattle.records.specs.Words.{deposit_of, known_of}
 use Rattle.records.proofs.Bounds.{deposit_among}
-use Rattle.book.specs.Volumes.{RecoversTo}
 use Rattle.dgram.specs.declared.message.Message.{Message}
 use Rattle.dgram.specs.Messages.{IsMessage}
 use Rattle.proposer.specs.Proposals.{next_ballot}
@@ -29,27 +24,22 @@ use Rattle.site.specs.declared.answer.Answer.{Answer}
 use Rattle.site.specs.declared.fault.SiteFault.{SiteFault}
 use Rattle.site.specs.declared.fault.SiteFault.TheVariants as faults
 use Rattle.site.specs.Calls.{Input, Proposes, Arrives, effect_of, on_propose, issuing_if}
-use Rattle.site.specs.Effects.{Effect}
-use Rattle.site_tables.specs.Contents.{Contents}
-use Rattle.lines.specs.Notices.{Notice, Dropped}
+use Rattle.lines.specs.Notices.{Notice}
 use Rattle.world_law.specs.Laws.{WasSent}
-use Rattle.world_law.specs.Networks.{Network}
-use Rattle.world_law.specs.WellFormed.{IsWellFormed}
 use Rattle.world_law.proofs.Arriving.{arrival_deed}
 use Rattle.world_law.proofs.Calls.{propose_deed}
-use Rattle.world_law.proofs.Deeds.{Deed, some_same}
-use Rattle.world_law.proofs.Kept.{Kept}
+use Rattle.world_law.proofs.Deeds.{some_same}
 use Rattle.world_law.proofs.WellFormedCalls.{effect_is, refuses_is}
 use Rattle.world_law.proofs.WellFormedEffects.{IsWellFormedEffect}
 use Rattle.world_law.proofs.WellFormedWords.{all_has}
 use Rattle.udp_site.specs.Traffic.{Post, Taken}
 use Rattle.udp_site.specs.Requests.{Request, Waits, Says, Deposits, Queries, Noise, request_of}
 use Rattle.udp_site.specs.Turns.{Serving, Done, notices_of, proposal_notices, hears, deposits}
-use Rattle.udp_site.specs.Turns.{proposes, idles_if, idles, one_more_idle, comes_of, drops}
-use Rattle.udp_site.specs.Turns.{proposes_next, slot_of}
+use Rattle.udp_site.specs.Turns.{proposes, idles_if, comes_of}
+use Rattle.udp_site.specs.Turns.{slot_of}
 use Rattle.udp_site.specs.Rounds.{next_waiting}
 use Rattle.udp_site.specs.Served.{or_one}
-use Rattle.serving_law.specs.Rules.{owner_of, MayCome}
+use Rattle.serving_law.specs.Rules.{MayCome}
 use Rattle.serving_law.proofs.Requesting.{IsAsked, deposit_is_slot, query_is_slot, says_was_sent}
 use Rattle.serving_law.proofs.Scene.{Scene}
 use Rattle.serving_law.proofs.Standing.{quorums, Means, May, IsNotice}
@@ -82,7 +72,8 @@ module _ {C : Type 0} (device : C → Device) (members : Membership) (s : Scene 
       → done ≡ record { posts = []; notices = [] } → new ≡ at idle tried → Ends done new D
   idle_ends idle tried D done new done_is same =
       subst (λ (d : Done). Ends d new D) (sym done_is)
-      (turning.quiet_ends device members s idle tried new same _ D (λ port bytes h. absurd (has_none h))
+      (turning.quiet_ends device members s idle tried new same _ D
+      (λ port bytes h. absurd (has_none h))
       (λ notice h. absurd (has_none h)))
 
   -- ---- a site's message
@@ -219,7 +210,8 @@ module _ {C : Type 0} (device : C → Device) (members : Membership) (s : Scene 
         idle tried slot (query_is_slot members handed took may port slot e) ports port D done new t
     by_request Noise e (done_is, same) =
         subst (λ (d : Done). Ends d new D) (sym done_is)
-        (turning.quiet_ends device members s idle tried new same _ D (λ port bytes h. absurd (has_none h))
+        (turning.quiet_ends device members s idle tried new same _ D
+        (λ port bytes h. absurd (has_none h))
         (λ notice h. subst (IsNotice device members w w) (has_one h)
         (turning.dropped_is device members s w)))
 

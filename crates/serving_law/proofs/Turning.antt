@@ -1,70 +1,44 @@
 -- A turn of a site that serves is a move of its site in a network, whole or not.
-use Rattle.std.proofs.Common.{ℕ, ◌≡◌, ◌≢◌, ◌⊎◌, inl, inr, refl, sym, ap, subst, ◌∙◌, true, false, Bool}
-use Rattle.std.proofs.Common.{List, [], ◌∷◌, ◌++◌, append-nil, map, Option, None, Some}
-use Rattle.std.proofs.lemmas.Bool.{false≢true}
-use Rattle.std.specs.Prelude.{Result, Ok, Err, IsSome}
-use Rattle.std.specs.Option.{option_to_list, IfSome}
+use Rattle.std.proofs.Common.{ℕ, ◌≡◌, inl, refl, sym, ap, subst, true, false}
+use Rattle.std.proofs.Common.{List}
+use Rattle.std.specs.Prelude.{Result, Ok, Err}
 use Rattle.fed_types.specs.declared.bag_id.BagId.{BagId}
-use Rattle.fed_types.specs.Lists.{Has, here, there}
+use Rattle.fed_types.specs.Lists.{Has}
 use Rattle.fed_types.specs.Quorums.{QuorumSystem, AreQuorums}
-use Rattle.fed_types.specs.Sites.{Membership, IsSiteNumber, members_of}
+use Rattle.fed_types.specs.Sites.{Membership, IsSiteNumber}
 use Rattle.fed_types.specs.Slots.{SlotName}
-use Rattle.fed_types.specs.Values.{IsMembership, IsSlot, IsBag}
-use Rattle.fed_types.specs.Laws.Lists.{has_map, map_has, has_none, has_right, has_one, has_cases}
+use Rattle.fed_types.specs.Values.{IsBag}
+use Rattle.fed_types.specs.Laws.Lists.{has_none, has_one}
 use Rattle.fed_types.specs.Laws.Quorums.{are_quorums}
 use Rattle.cell_device.specs.Devices.{Device}
-use Rattle.cell_device.specs.Images.{MayLeave}
-use Rattle.bag_tree.specs.declared.fault.TreeFault.{TreeFault}
-use Rattle.bag_tree.specs.Facts.{TreeFacts}
-use Rattle.bag_check.specs.declared.fault.BagFault.{BagFault}
-use Rattle.bag_check.specs.Check.{check_of}
 use Rattle.records.specs.declared.entry.Entry.TheVariants as entry
 use Rattle.records.specs.declared.owner.Owner.{Owner}
 use Rattle.records.specs.declared.record.Record.{Record}
 use Rattle.records.specs.Bounds.{HasEntry}
-use Rattle.records.specs.Records.{IsRecord, AreRecords}
-use Rattle.book.specs.Volumes.{Volume, RecoversTo}
+use Rattle.records.specs.Records.{IsRecord}
 use Rattle.proposer.specs.Sessions.{Session}
-use Rattle.dgram.specs.declared.answers.DepositAnswer.{DepositAnswer}
-use Rattle.dgram.specs.declared.answers.DepositAnswer.TheVariants as deposit
-use Rattle.dgram.specs.declared.body.Body.TheVariants.{Ask, DepositReply, QueryReply}
-use Rattle.dgram.specs.declared.message.Message.{Message}
-use Rattle.dgram.specs.Encoding.{datagram_of}
-use Rattle.dgram.specs.Messages.{IsMessage, IsDepositAnswer}
 use Rattle.site.specs.declared.answer.Answer.{Answer}
-use Rattle.site.specs.declared.answer.Line.{Line}
-use Rattle.site.specs.declared.answer.Line.TheVariants as lines
-use Rattle.site.specs.declared.answer.Reply.{Reply}
-use Rattle.site.specs.declared.answer.Reply.TheVariants as replies
 use Rattle.site.specs.declared.fault.SiteFault.{SiteFault}
 use Rattle.site.specs.declared.fault.SiteFault.TheVariants as faults
-use Rattle.site.specs.Calls.{Input, Deposits, Proposes, Asks, Arrives, effect_of, reply_of}
+use Rattle.site.specs.Calls.{Input, effect_of}
 use Rattle.site.specs.Effects.{Effect}
-use Rattle.site_tables.specs.Contents.{Contents}
-use Rattle.lines.specs.Notices.{Notice, Registered, Replied, Refused, Dropped}
-use Rattle.world_law.specs.Laws.{Report, report_of, WasSent, IsChosen}
+use Rattle.site.specs.Sites.{StandsFor}
+use Rattle.lines.specs.Notices.{Notice, Refused, Dropped}
+use Rattle.world_law.specs.Laws.{IsChosen}
 use Rattle.world_law.specs.Networks.{Network}
 use Rattle.world_law.specs.WellFormed.{IsWellFormed, MembersAreSites}
-use Rattle.world_law.proofs.Arriving.{arrival_deed}
-use Rattle.world_law.proofs.Calls.{deposit_deed, propose_deed}
-use Rattle.world_law.proofs.Deeds.{Deed, MayDeposit, some_same}
-use Rattle.world_law.proofs.Kept.{Kept}
+use Rattle.world_law.proofs.Deeds.{Deed, MayDeposit}
 use Rattle.world_law.proofs.WellFormed.{members_are_sites}
-use Rattle.world_law.proofs.WellFormedCalls.{effect_is}
 use Rattle.world_law.proofs.WellFormedEffects.{IsWellFormedEffect}
 use Rattle.world_law.proofs.WellFormedWords.{all_has}
-use Rattle.udp_site.specs.Traffic.{Post}
-use Rattle.udp_site.specs.Replies.{deposit_answer, tree_answer}
-use Rattle.udp_site.specs.Turns.{Serving, Done, IsCalled, posts_of, notices_of, deposit_replies}
+use Rattle.udp_site.specs.Turns.{Serving, Done, IsCalled, posts_of, notices_of}
 use Rattle.udp_site.specs.Served.{or_one}
-use Rattle.serving_law.specs.Federations.{Member, Serves, Down}
+use Rattle.serving_law.specs.Federations.{Serves, Down}
 use Rattle.serving_law.specs.Rules.{owner_of, MayRecoverTo}
-use Rattle.serving_law.proofs.Recovering.{IsKept, as_it_was, recovered_now, recovered_within}
-use Rattle.serving_law.proofs.Registering.{other_known_is, other_deposit_is}
-use Rattle.serving_law.proofs.Replying.{tree_answer_is, bag_answer_is}
+use Rattle.serving_law.proofs.Recovering.{as_it_was, recovered_now, recovered_within}
 use Rattle.serving_law.proofs.Scene.{Scene}
-use Rattle.serving_law.proofs.Standing.{quorums, serving, IsServed, IsMember, IsSent, IsNotice}
-use Rattle.serving_law.proofs.Standing.{IsPost, IsReply, SaysRightly, HasDeposit, May, Moves, Goes}
+use Rattle.serving_law.proofs.Standing.{quorums, serving, IsNotice}
+use Rattle.serving_law.proofs.Standing.{IsPost, HasDeposit, May, Moves, Goes}
 use Rattle.serving_law.proofs.Standing.{allows}
 use Rattle.serving_law.proofs.Calling as calling
 use Rattle.serving_law.proofs.Calling.{has_notice}
@@ -92,7 +66,8 @@ module _ {C : Type 0} (device : C → Device) (members : Membership) (s : Scene 
   owner = owner_of device members n
 
   -- What comes of a turn, in which this may be deposited: where the site can go on; where it needs
-  -- opening, and its process ends, which a line says; and where its process is killed in it.
+  -- opening, and its process ends, which a line says; and where its process is killed in it. A site
+  -- that stood for its session does so then.
   pub record Ends (done : Done) (new : Serving C) (D : May) : Type 0 where
     pub goes : new.site.book.needs_opening ≡ false → Goes device members w n done (Serves new) D
     pub fails : new.site.book.needs_opening ≡ true → (records : List Record)
@@ -102,6 +77,9 @@ module _ {C : Type 0} (device : C → Device) (members : Membership) (s : Scene 
         → MayRecoverTo owner (device cell) (device new.site.book.cell) records
         → (x : Network) × Moves device members w x n (Down records) D
     pub last : new.site.book.needs_opening ≡ true → or_one done.notices ≡ true
+    pub stands : StandsFor (serving device members n (w.sites n).records (w.sites n).session cell
+        tables 0 0).site (w.sites n).session
+        → new.site.book.needs_opening ≡ false → StandsFor new.site new.session
 
   -- ---- notices that report nothing
 
@@ -166,6 +144,7 @@ module _ {C : Type 0} (device : C → Device) (members : Membership) (s : Scene 
               records
               (recovered_now device owner old.site.book refl refl recovers only_now records m);
           last = λ needs. absurd (cc needs);
+          stands = λ before opened. before;
         })
 
     -- ---- a turn with a call
@@ -187,7 +166,8 @@ module _ {C : Type 0} (device : C → Device) (members : Membership) (s : Scene 
             (moves.0, allows device members may moves.1)
 
         -- where it is answered
-        pub ok_ends : (answer : Answer) (new : Serving C) → IsCalled device old input (Ok answer) new
+        pub ok_ends : (answer : Answer) (new : Serving C)
+            → IsCalled device old input (Ok answer) new
             → (done : Done)
             → ((x : Network) → x ≡ calling.called device members s idle tried input
             → (port : ℕ) (bytes : List ℕ) → Has (port, bytes) done.posts
@@ -206,13 +186,21 @@ module _ {C : Type 0} (device : C → Device) (members : Membership) (s : Scene 
                 calling.ok_notices device members s idle tried
                 input deed is answer (c.answered refl).gives.0 notice (among notice h);
           };
-          fails = λ needs. absurd (cc (calling.failed_by_device device members s idle tried input (Ok answer) new c needs));
+          fails = λ needs.
+              absurd (cc (calling.failed_by_device device members s idle tried input (Ok answer)
+              new c needs));
           dies = call_dies (Ok answer) new c;
-          last = λ needs. absurd (cc (calling.failed_by_device device members s idle tried input (Ok answer) new c needs));
+          last = λ needs.
+              absurd (cc (calling.failed_by_device device members s idle tried input (Ok answer)
+              new c needs));
+          stands = λ before opened.
+              subst (λ (h : Session). StandsFor new.site h) (sym c.session)
+              (c.answered refl).gives.2;
         }
 
         -- where it is refused
-        pub err_ends : (fault : SiteFault) (new : Serving C) → IsCalled device old input (Err fault) new
+        pub err_ends : (fault : SiteFault) (new : Serving C)
+            → IsCalled device old input (Err fault) new
             → (done : Done)
             → ((x : Network) (port : ℕ) (bytes : List ℕ) → Has (port, bytes) done.posts
             → IsPost device members w x bytes)
@@ -237,7 +225,13 @@ module _ {C : Type 0} (device : C → Device) (members : Membership) (s : Scene 
                 notices = λ notice h. err_notices moves.0 input fault notice (among notice h);
               };
           dies = call_dies (Err fault) new c;
-          last = λ needs. said (same_fault (calling.failed_by_device device members s idle tried input (Err fault) new c needs));
+          last = λ needs.
+              said (same_fault (calling.failed_by_device device members s idle tried input
+              (Err fault) new c needs));
+          stands = λ before opened.
+              subst (λ (h : Session). StandsFor new.site h) (sym c.session)
+              (calling.err_stands device members s idle tried input fault new
+              (c.answered refl).keeps (c.answered refl).gives opened);
         }
           where
             same_fault : {f g : SiteFault} → answered (Err f) ≡ answered (Err g) → f ≡ g

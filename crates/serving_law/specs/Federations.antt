@@ -40,11 +40,11 @@ pub record Step (C : Type 0) : Type 0 where
   pub next : Serving C
 
 -- A turn, of which so many datagrams were handed out and so many bytes of its lines written: all;
--- or fewer, where memory ran out or a write failed, or since no more of it comes. A turn in which
--- the member's cell fails it, and which is the process's last. A turn in whose call the process is
--- killed: nothing was handed out or written. A process ends, or is killed, between its turns, or
--- when its call is done and the turn isn't. It begins to serve anew. A process is started: it opens
--- this cell, as this site.
+-- or fewer, where memory ran out, a write failed or the process is killed then. A turn in which the
+-- member's cell fails it, and which is its process's last. A turn in whose call the process is
+-- killed: the step says what would have come of it, and nothing was handed out or written. A
+-- process ends, or is killed, between turns, or after a part of one. It begins to serve anew. A
+-- process is started: it opens this cell, as this site.
 pub data Happening (C : Type 0) : Type 0 where
   Turns : (member : ℕ) → Step C → (handed written : ℕ) → Happening C
   Fails : (member : ℕ) → Step C → (handed written : ℕ) → List Record → Happening C

@@ -8,6 +8,7 @@ use Rattle.fed_types.specs.Values.{IsMembership}
 use Rattle.bag_tree.specs.declared.fault.TreeFault.{TreeFault}
 use Rattle.bag_tree.specs.Facts.{TreeFacts}
 use Rattle.cell_device.specs.Devices.{Device}
+use Rattle.udp_site.specs.Turns as turns
 use Rattle.udp_site.specs.Turns.{Serving, turn_of}
 use Rattle.udp_site.specs.Served.{Turned, is_the_last}
 use Rattle.serving_law.specs.Federations.{Step, Happening, new_federation, after_all}
@@ -25,9 +26,10 @@ pub record WasDeposited {C : Type 0} (federation : ℕ) (history : List (Happeni
 
 module _ {C : Type 0} (device : C → Device) (members : Membership) where
   -- Each turn of which `serve` tells is one that may happen, where what it took may come: whatever
-  -- it knows of folders, and to whichever ports it hands out. And it goes on only where its site
-  -- needs no opening. So whole turns are `Turns`; the last one, of which a part was done, is `Turns`
-  -- or `Fails`.
+  -- it knows of folders, and to whichever ports it hands out. It goes on only where its site needs
+  -- no opening; so each whole turn but the last is `Turns`, and the last, of which perhaps only a
+  -- part was done, is `Turns` or `Fails`. And its site stands for what it has heard, as `serve`
+  -- asks of one that begins: so after them it may be called again, which is `Renews`.
   abbrev pub TurnsMayHappen : Type 0
   TurnsMayHappen =
       (history : List (Happening C)) (n : ℕ) (old next : Serving C) (ports : List ℕ)
@@ -39,6 +41,7 @@ module _ {C : Type 0} (device : C → Device) (members : Membership) where
       → (step : Step C) × (step.turn ≡ turn) × (step.next ≡ next)
       × Takes device members (after_all new_federation history) old step
       × (is_the_last turn ≡ false → next.site.book.needs_opening ≡ false)
+      × (turns.IsServing old → turns.IsServing next)
 
   -- agreement: no two reports, of any members at any times, name different bags for one slot
   abbrev pub ReportsAgree : Type 0

@@ -18,7 +18,7 @@ use Rattle.dgram.specs.declared.body.Body.TheVariants.{DepositReply, QueryReply}
 use Rattle.dgram.specs.declared.message.Message.{Message}
 use Rattle.dgram.specs.Decoded.{message_of}
 use Rattle.lines.specs.Notices.{Notice, Registered}
-use Rattle.world_law.specs.Laws.{Report, report_of}
+use Rattle.world_law.specs.Laws.{report_of}
 use Rattle.udp_site.specs.Requests.{Deposits, request_of}
 use Rattle.udp_site.specs.Served.{Turned, notice_text}
 use Rattle.serving_law.specs.Federations.{Member, Serves, Down, Federation, Step, Happening}

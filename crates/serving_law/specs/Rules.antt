@@ -10,7 +10,6 @@ use Rattle.records.specs.declared.record.Record.{Record}
 use Rattle.records.specs.Journals.{Says as SaysRecords}
 use Rattle.dgram.specs.declared.message.Message.{Message}
 use Rattle.site.specs.Opened.{Opens}
-use Rattle.site.specs.Sites.{OpenSite}
 use Rattle.udp_site.specs.Traffic.{Post, Taken, Nothing, From}
 use Rattle.udp_site.specs.Requests.{Says, request_of}
 use Rattle.udp_site.specs.Turns.{Serving, turn_of}
@@ -39,9 +38,9 @@ MayCome federation handed (From port bytes) =
 -- ---- cells
 
 -- A crash at a moment since the device was as the old one may have left bytes that say these
--- records: so a cell recovers to them, and what a read would give without a crash is among these
--- bytes. That the old one tells its bytes is the premise: then it is what `cell_device` says of a
--- disk.
+-- records, so its cell may recover to them. What a read gives where the machine goes on, and only
+-- the process ends, is among these bytes. That the old one tells its bytes is the premise, as for
+-- all that is said of cells.
 pub record MayRecoverTo (owner : Owner) (old now : Device) (records : List Record) : Type 0 where
   pub told : IsSome old.image
   pub bytes : List ℕ
@@ -78,8 +77,9 @@ module _ {C : Type 0} (device : C → Device) (members : Membership) where
   -- After a turn that isn't the last its site needs no opening. A process that ends within a turn,
   -- or after one in which its cell failed it, leaves what a crash may have left at a moment since
   -- the turn began; one that ends between turns leaves what a crash may leave now. A started one
-  -- opens a cell that a read finds as the member was left; so it doesn't serve where the opening is
-  -- refused, and the member is down as before.
+  -- opens a cell that a read finds as the member was left. An opening that is refused, or broken
+  -- off, is nothing here: it leaves the same records, or what a crash might have left before
+  -- (`Opens`).
   abbrev pub May : Federation C → Happening C → Type 0
   May f (Turns n step handed written) =
       (old : Serving C) × IsServing f n old × Takes f old step
