@@ -11,6 +11,9 @@ use bag_tree::{has_unsafe_part, is_payload};
 use code_words::{push_name, push_quoted};
 use std::alloc::AllocError;
 
+/// What the names of payload manifests begin with.
+const MANIFEST: &str = "manifest";
+
 /// Appends the sentence of a place, ended by LF.
 pub(crate) fn push_place<'a>(
     text: &mut String,
@@ -54,13 +57,21 @@ fn push_no_manifest(text: &mut String, bag: &Bag<'_, '_>) -> Result<(), AllocErr
     let mut separator = "; there is ";
     for file in bag.facts.files() {
         let path = file.path();
-        if path.starts_with("manifest") && !path.contains('/') {
+        if is_like_manifest(path) {
             text.push_str(separator)?;
             push_name(text, path)?;
             separator = ", ";
         }
     }
     Ok(())
+}
+
+// Whether a path is that of a payload manifest, or nearly.
+fn is_like_manifest(path: &str) -> bool {
+    match path.split_at_checked(MANIFEST.len()) {
+        Some((front, _)) => front.eq_ignore_ascii_case(MANIFEST) && !path.contains('/'),
+        None => false,
+    }
 }
 
 // `MANIFEST line N lists PATH`, and more.

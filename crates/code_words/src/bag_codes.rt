@@ -1,5 +1,7 @@
 //! The codes of folders that are no valid bags, or can't be read.
 
+ghost use Rattle.std.specs.Prelude.{◌≤◌, ◌↔◌, IsSome};
+
 use crate::meaning::Meaning;
 
 /// What `invalid N` says, N from 1 on.
@@ -7,7 +9,7 @@ pub static INVALID: [Meaning; 15] = [
     Meaning {
         code: "invalid 1",
         words: "there is no bagit.txt",
-        advice: "name the bag's own folder, or give it the two lines of a declaration",
+        advice: "name the bag's own folder, or give it the two lines",
     },
     Meaning {
         code: "invalid 2",
@@ -52,7 +54,7 @@ pub static INVALID: [Meaning; 15] = [
     Meaning {
         code: "invalid 10",
         words: "a manifest lists an unsafe path, or one on the wrong side of data/",
-        advice: "list payload files by paths that begin with data/, and only in payload manifests",
+        advice: "list what is below data/ in payload manifests alone",
     },
     Meaning {
         code: "invalid 11",
@@ -121,11 +123,15 @@ pub static UNREAD: [Meaning; 7] = [
 ];
 
 /// What `invalid` with this number says, if there is such a number.
-pub fn invalid(number: u8) -> Option<&'static Meaning> {
+pub fn invalid(number: u8) -> Option<&'static Meaning>
+    ensures { IsSome result ↔ ((1 ≤ number) × (number ≤ 15)) }
+{
     INVALID.get(usize::from(number).checked_sub(1)?)
 }
 
 /// What `unread` with this number says, if there is such a number.
-pub fn unread(number: u8) -> Option<&'static Meaning> {
+pub fn unread(number: u8) -> Option<&'static Meaning>
+    ensures { IsSome result ↔ ((1 ≤ number) × (number ≤ 7)) }
+{
     UNREAD.get(usize::from(number).checked_sub(1)?)
 }

@@ -47,7 +47,7 @@ pub static OTHERS: [Meaning; 19] = [
     Meaning {
         code: "members other list",
         words: "the federation's number doesn't come from this list of sites",
-        advice: "the file was cut or changed: compare it with those of the other sites",
+        advice: "the file was cut or changed: compare it with the other sites'",
     },
     Meaning {
         code: "not a member",

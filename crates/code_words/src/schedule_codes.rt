@@ -17,7 +17,7 @@ pub static SKIPPED: [Meaning; 7] = [
     Meaning {
         code: "skip L path",
         words: "the tree can have no file of this path",
-        advice: "look for another file of this path, a file where a folder is, and `..`",
+        advice: "look for a file of this path, one where a folder is, and `..`",
     },
     Meaning {
         code: "skip L datagram",

@@ -39,7 +39,16 @@ fn push_meaning(
         return Ok(());
     };
     push_subject(text, asked, line, meaning)?;
-    meaning.push(text)
+    meaning.push(text)?;
+    push_hint(text, asked, meaning)
+}
+
+// Appends how to learn where a bag is at fault.
+fn push_hint(text: &mut String, asked: &Asked<'_>, meaning: &Meaning) -> Result<(), AllocError> {
+    if asked.path.is_some() && is_of_folder(meaning) {
+        return text.push_str("; `bagpaxos check --words` of that folder says where");
+    }
+    Ok(())
 }
 
 // Appends the name of the cell, or of the folder, and a colon.
