@@ -191,5 +191,5 @@ fn has_lost_to_itself(story: &Story, passages: &[Passage]) -> bool {
 
 // How much room a label of so many bytes takes, at most 60 of which are seen.
 fn room_for(bytes: usize) -> usize {
-    bytes.min(60).saturating_mul(13) / 2 + 36
+    (bytes.min(60).saturating_mul(13) / 2).saturating_add(36)
 }

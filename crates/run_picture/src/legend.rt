@@ -1,5 +1,7 @@
 //! What marks, lines and colours mean.
 
+ghost use Rattle.std.specs.Prelude.{◌≤◌};
+
 use crate::arrows::push_cross;
 use crate::layout::Layout;
 use crate::marks::{Mark, push_mark};
@@ -43,7 +45,9 @@ pub(crate) fn height(layout: &Layout, trees: usize) -> usize {
 }
 
 // How many entries are side by side, at least one.
-fn in_a_row(layout: &Layout) -> usize {
+fn in_a_row(layout: &Layout) -> usize
+    ensures { 1 ≤ result }
+{
     (layout.width().saturating_sub(40) / WIDE).max(1)
 }
 

@@ -9,7 +9,7 @@ mod faults;
 mod heading;
 mod passages;
 mod printing;
-mod records;
+mod record_words;
 mod sends;
 
 pub use printing::words_of;

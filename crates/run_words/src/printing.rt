@@ -5,7 +5,7 @@ use crate::commands::push_command;
 use crate::endings::push_skip;
 use crate::heading::push_heading;
 use crate::passages::push_passages;
-use crate::records::push_kept;
+use crate::record_words::push_kept;
 use crate::sends::push_sends;
 use lines::{Options, push_line};
 use run_story::{Deed, Event, Story};
