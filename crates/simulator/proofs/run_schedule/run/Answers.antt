@@ -1,4 +1,4 @@
-use Rattle.std.proofs.Common.{◌≡◌, ◌+◌, ◌<◌, ◌≤◌, length, take, get_or, ap, ◌∙◌, subst, sym}
+use Rattle.std.proofs.Common.{◌≡◌, ◌<◌, ◌≤◌, length, take, get_or, ap, ◌∙◌, subst, sym}
 use Rattle.world_law.specs.Headline.{LinesAgree, ReportsWereDeposited}
 use Rattle.world_law.specs.Worlds.{World, new_world, run_from}
 use Rattle.world_law.proofs.Promised as laws
@@ -22,9 +22,9 @@ lines-preserved c =
     rw (← c.lines-line-items.ensures.value) c.lines-test.true in
     let is : c.line-item.result ≡ get_or lines c.lines.index c.line-item.result =
     rw (← c.lines-line-items.ensures.value) c.line-item.is in
-    subst (StandsFor c.run_line.new.self)
+    subst (StandsFor c.in_ok-federation-2.federation)
     (run_from-more first c.lines.index w lines c.line-item.result within is)
-    (c.in_ok-run_line.ensures (run_from first w (take c.lines.index lines)) c.lines.invariant)
+    (c.in_ok-federation-2.ensures (run_from first w (take c.lines.index lines)) c.lines.invariant)
 
 pub returns-clause-lines : goal.returns-clause-lines
 returns-clause-lines c =
