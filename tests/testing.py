@@ -59,6 +59,14 @@ def in_rooms(*parts):
             part(pathlib.Path(room))
 
 
+def chosen_of(parts, names, parser):
+    """The parts of these names; all of them, where there are none."""
+    by_name = {it.__name__: it for it in parts}
+    for unknown in set(names) - set(by_name):
+        parser.error(f"no part {unknown}: {', '.join(by_name)}")
+    return [by_name[it] for it in names] or parts
+
+
 def said_by(words, **how):
     """What a command prints, and its status."""
     ran = subprocess.run(words, capture_output=True, text=True, timeout=60, **how)
