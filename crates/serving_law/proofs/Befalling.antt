@@ -5,7 +5,7 @@ use Rattle.std.proofs.Common.{List, [], ◌++◌, append-nil, take, Option, None
 use Rattle.std.specs.Bool.{◌==◌}
 use Rattle.std.proofs.lemmas.Bool.{false≢true}
 use Rattle.std.proofs.lemmas.Bool.Decides.{Decides-eqb, not_from_Decides}
-use Rattle.std.specs.Prelude.{Result, Ok, Err}
+use Rattle.std.specs.Prelude.{Result, Ok, Err, IfSome}
 use Rattle.fed_types.specs.declared.bag_id.BagId.{BagId}
 use Rattle.fed_types.specs.Lists.{Has, here}
 use Rattle.fed_types.specs.Quorums.{QuorumSystem}
@@ -552,20 +552,33 @@ module _ {C : Type 0} (device : C → Device) (members : Membership)
           (before (served_at n old serves).opened))
           opened
 
--- some folders give what was read
-pub with_folders : {C : Type 0} (device : C → Device) (ports : List ℕ)
-    (gives : Option (List ℕ → Result TreeFacts TreeFault)) (old next : Serving C) (done : Done)
-    (r : Request) → comes_of device ports gives old r done next
-    → (folders : List ℕ → Result TreeFacts TreeFault)
+-- some folders give what was read: those that are known, where they are
+abbrev pub HasFolders : {C : Type 0} → (C → Device) → (ports : List ℕ)
+    → Option (List ℕ → Result TreeFacts TreeFault) → (old next : Serving C) → Done → Request
+    → Type 0
+HasFolders device ports gives old next done r =
+    (folders : List ℕ → Result TreeFacts TreeFault)
+    × IfSome gives (λ answer. folders ≡ answer)
     × comes_of device ports (Some folders) old r done next
-with_folders device ports gives old next done Waits t = (λ path. Err trees.Memory, t)
-with_folders device ports gives old next done (Says message) t = (λ path. Err trees.Memory, t)
-with_folders device ports gives old next done (Deposits port slot path) (read, given, tree) =
-    (λ path. read, (read, as_read read, tree))
-  where
-    as_read : (read : Result TreeFacts TreeFault) → IsOrMemory read read
-    as_read (Ok facts) = refl
-    as_read (Err trees.Memory) = tt
-    as_read (Err fault) = refl
-with_folders device ports gives old next done (Queries port slot) t = (λ path. Err trees.Memory, t)
-with_folders device ports gives old next done Noise t = (λ path. Err trees.Memory, t)
+
+module _ {C : Type 0} (device : C → Device) (ports : List ℕ) (old next : Serving C)
+    (done : Done) where
+  unknown_folders : (r : Request) → comes_of device ports None old r done next
+      → HasFolders device ports None old next done r
+  unknown_folders Waits t = (λ path. Err trees.Memory, tt, t)
+  unknown_folders (Says message) t = (λ path. Err trees.Memory, tt, t)
+  unknown_folders (Deposits port slot path) (read, given, tree) =
+      (λ path. read, tt, (read, as_read read, tree))
+    where
+      as_read : (read : Result TreeFacts TreeFault) → IsOrMemory read read
+      as_read (Ok facts) = refl
+      as_read (Err trees.Memory) = tt
+      as_read (Err fault) = refl
+  unknown_folders (Queries port slot) t = (λ path. Err trees.Memory, tt, t)
+  unknown_folders Noise t = (λ path. Err trees.Memory, tt, t)
+
+  pub with_folders : (gives : Option (List ℕ → Result TreeFacts TreeFault)) (r : Request)
+      → comes_of device ports gives old r done next
+      → HasFolders device ports gives old next done r
+  with_folders (Some answer) r t = (answer, refl, t)
+  with_folders None r t = unknown_folders r t

@@ -1,7 +1,7 @@
 -- Every history stands for a network, in which all that was reported is chosen.
 use Rattle.std.proofs.Common.{ℕ, ◌≡◌, ◌⊎◌, inl, inr, refl, sym, ap, subst, false}
 use Rattle.std.proofs.Common.{List, [], ◌∷◌, ◌++◌, Option, Some}
-use Rattle.std.specs.Prelude.{Result}
+use Rattle.std.specs.Prelude.{Result, IfSome}
 use Rattle.bag_tree.specs.declared.fault.TreeFault.{TreeFault}
 use Rattle.bag_tree.specs.Facts.{TreeFacts}
 use Rattle.fed_types.specs.declared.bag_id.BagId.{BagId}
@@ -22,6 +22,7 @@ use Rattle.world_law.proofs.Grows.{Grows, grows_itself, chosen_grows}
 use Rattle.world_law.proofs.Induction.{chosen_once, chosen_came}
 use Rattle.world_law.proofs.Runs.{new_kept}
 use Rattle.world_law.proofs.WellFormed.{new_is_well_formed}
+use Rattle.udp_site.specs.Requests.{request_of}
 use Rattle.udp_site.specs.Turns as turns
 use Rattle.udp_site.specs.Turns.{Serving, turn_of}
 use Rattle.udp_site.specs.Served.{Turned, is_the_last}
@@ -34,7 +35,7 @@ use Rattle.serving_law.specs.Rules.{May, MayAll, MayCome, IsServing, Takes}
 use Rattle.serving_law.proofs.Scene.{OnlyNow}
 use Rattle.serving_law.proofs.Standing.{quorums, HasDeposit, Stands}
 use Rattle.serving_law.proofs.Befalling.{Went, went, records_are, goes_on, stands_then}
-use Rattle.serving_law.proofs.Befalling.{with_folders}
+use Rattle.serving_law.proofs.Befalling.{HasFolders, with_folders}
 
 grows_then : {w x y : Network} → Grows w x → Grows x y → Grows w y
 grows_then g h = record {
@@ -222,7 +223,8 @@ module _ {C : Type 0} (device : C → Device) (members : Membership)
         → IsServing device members (after_all new_federation history) n old
         → MayCome members.federation (after_all new_federation history).handed turn.took
         → turn_of device ports gives old turn.took turn.done next
-        → (step : Step C) × (step.turn ≡ turn) × (step.next ≡ next)
+        → (step : Step C) × (step.turn ≡ turn) × (step.next ≡ next) × (step.ports ≡ ports)
+        × IfSome gives (λ answer. step.folders ≡ answer)
         × Takes device members (after_all new_federation history) old step
         × (is_the_last turn ≡ false → next.site.book.needs_opening ≡ false)
         × (turns.IsServing old → turns.IsServing next)
@@ -230,6 +232,8 @@ module _ {C : Type 0} (device : C → Device) (members : Membership)
       step,
       refl,
       refl,
+      refl,
+      folders.1,
       takes,
       λ not_last.
           goes_on device members is_membership only_now (after_all new_federation history) l.x
@@ -242,15 +246,15 @@ module _ {C : Type 0} (device : C → Device) (members : Membership)
         l : Led new_federation history new_network
         l = from_new history may
 
-        folders : (folders : List ℕ → Result TreeFacts TreeFault)
-            × turn_of device ports (Some folders) old turn.took turn.done next
-        folders = with_folders device ports gives old next turn.done _ comes
+        folders : HasFolders device ports gives old next turn.done
+            (request_of (turns.members old).federation turn.took)
+        folders = with_folders device ports old next turn.done gives _ comes
 
         step : Step C
         step = record { ports = ports; folders = folders.0; turn = turn; next = next }
 
         takes : Takes device members (after_all new_federation history) old step
-        takes = record { may_come = come; comes = folders.1 }
+        takes = record { may_come = come; comes = folders.2 }
 
     stays : (before later : List (Happening C)) (h : Happening C) (n : ℕ) (slot : SlotName)
         (bag : BagId) → MayAll device members new_federation (before ++ h ∷ later)

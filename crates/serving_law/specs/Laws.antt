@@ -1,5 +1,5 @@
 -- What is promised of every history of a federation of sites that serve.
-use Rattle.std.specs.Prelude.{◌≡◌, ℕ, List, ◌∷◌, ◌++◌, Option, Result, false}
+use Rattle.std.specs.Prelude.{◌≡◌, ℕ, List, ◌∷◌, ◌++◌, Option, Result, IfSome, false}
 use Rattle.fed_types.specs.declared.bag_id.BagId.{BagId}
 use Rattle.fed_types.specs.Lists.{Has}
 use Rattle.fed_types.specs.Sites.{Membership}
@@ -25,11 +25,12 @@ pub record WasDeposited {C : Type 0} (federation : ℕ) (history : List (Happeni
   pub is : IsDeposit federation (after_all new_federation before) happening slot bag
 
 module _ {C : Type 0} (device : C → Device) (members : Membership) where
-  -- Each turn of which `serve` tells is one that may happen, where what it took may come: whatever
-  -- it knows of folders, and to whichever ports it hands out. It goes on only where its site needs
-  -- no opening; so each whole turn but the last is `Turns`, and the last, of which perhaps only a
-  -- part was done, is `Turns` or `Fails`. And its site stands for what it has heard, as `serve`
-  -- asks of one that begins: so after them it may be called again, which is `Renews`.
+  -- Each turn of which `serve` tells is one that may happen, where what it took may come: with its
+  -- ports, and with what it is known that folders give, or, where that isn't known, some folders. It
+  -- goes on only where its site needs no opening; so each whole turn but the last is `Turns`, and
+  -- the last, of which perhaps only a part was done, is `Turns` or `Fails`. And its site stands for
+  -- what it has heard, as `serve` asks of one that begins: so after them it may be called again,
+  -- which is `Renews`.
   abbrev pub TurnsMayHappen : Type 0
   TurnsMayHappen =
       (history : List (Happening C)) (n : ℕ) (old next : Serving C) (ports : List ℕ)
@@ -38,7 +39,8 @@ module _ {C : Type 0} (device : C → Device) (members : Membership) where
       → IsServing device members (after_all new_federation history) n old
       → MayCome members.federation (after_all new_federation history).handed turn.took
       → turn_of device ports gives old turn.took turn.done next
-      → (step : Step C) × (step.turn ≡ turn) × (step.next ≡ next)
+      → (step : Step C) × (step.turn ≡ turn) × (step.next ≡ next) × (step.ports ≡ ports)
+      × IfSome gives (λ answer. step.folders ≡ answer)
       × Takes device members (after_all new_federation history) old step
       × (is_the_last turn ≡ false → next.site.book.needs_opening ≡ false)
       × (turns.IsServing old → turns.IsServing next)
