@@ -93,16 +93,32 @@ fn refused_for(story: &Story, event: &Event) -> Option<Ballot> {
 }
 
 fn push_promised(text: &mut String, story: &Story, event: &Event) -> Result<(), AllocError> {
-    let Some(count) = event.count else {
-        return text.push_str(
+    let count = event.count;
+    match count {
+        Some(count) => push_promises(text, story, event, count),
+        None => text.push_str(
             "; not counted: the ballot isn't the last that the site has issued since it was opened",
-        );
-    };
+        ),
+    }
+}
+
+// How many have promised, and what the site proposes where they are enough.
+fn push_promises(
+    text: &mut String,
+    story: &Story,
+    event: &Event,
+    count: Count,
+) -> Result<(), AllocError> {
     push_count(text, story, count, "promised")?;
     if event.sent_before == event.sent_after {
         return Ok(());
     }
-    match count.highest {
+    push_reason(text, count.highest)
+}
+
+// Which bag a site proposes, and why: that of the highest vote, whose ballot this is, or its own.
+fn push_reason(text: &mut String, highest: Option<Ballot>) -> Result<(), AllocError> {
+    match highest {
         Some(ballot) => {
             text.push_str(": it proposes the bag of the highest vote, ")?;
             push_ballot(text, ballot)
