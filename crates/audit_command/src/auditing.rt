@@ -1,6 +1,7 @@
 //! What the cells of several sites show together.
 
-ghost use Rattle.std.specs.Prelude.{◌≡◌, map, IfErr, IfOk, IsErrOf, string_bytes, ◌&&◌, ◌==◌, if◌then◌else◌};
+ghost use Rattle.std.specs.Prelude.{◌≡◌, ◌==◌, ◌&&◌, if◌then◌else◌, map, IfErr, IfOk, IsErrOf};
+ghost use Rattle.std.specs.Prelude.{string_bytes};
 ghost use Rattle.outcomes.specs.Outcomes.{Writes, WritesPrefix};
 ghost use Rattle.audit_command.specs.Audits.{IsAudit, Answers};
 
