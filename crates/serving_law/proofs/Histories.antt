@@ -1,6 +1,6 @@
 -- Every history stands for a network, in which all that was reported is chosen.
 use Rattle.std.proofs.Common.{ℕ, ◌≡◌, ◌⊎◌, inl, inr, refl, sym, ap, subst, false}
-use Rattle.std.proofs.Common.{List, [], ◌∷◌, ◌++◌, Option, Some}
+use Rattle.std.proofs.Common.{List, [], ◌∷◌, ◌++◌, Option}
 use Rattle.std.specs.Prelude.{Result, IfSome}
 use Rattle.bag_tree.specs.declared.fault.TreeFault.{TreeFault}
 use Rattle.bag_tree.specs.Facts.{TreeFacts}
