@@ -44,6 +44,7 @@ use Rattle.site.specs.Calls as calls
 use Rattle.site.specs.Effects.{Effect}
 use Rattle.site.specs.Sites.{OpenSite, effect}
 use Rattle.site_tables.specs.Contents.{Contents, StandsFor}
+use Rattle.site_tables.proofs.Begun.{no_deposits}
 use Rattle.lines.specs.Notices.{Learned, notice_of}
 use Rattle.udp_site.specs.Traffic.{From}
 use Rattle.udp_site.specs.Requests as requests
@@ -158,6 +159,8 @@ module _ (members : Membership) (is_membership : IsMembership members) (two : 2 
       current = tt;
       waiting = refl;
     };
+    begun = no_deposits (r ∷ []);
+    current = no_deposits (r ∷ []);
     learner = record {
       known = known_is;
       votes = λ s none vote n.

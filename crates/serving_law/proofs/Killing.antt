@@ -37,6 +37,7 @@ use Rattle.site.specs.Calls as calls
 use Rattle.site.specs.Effects.{Effect}
 use Rattle.site.specs.Sites.{OpenSite, effect}
 use Rattle.site_tables.specs.Contents.{Contents, StandsFor}
+use Rattle.site_tables.proofs.Begun.{no_deposits}
 use Rattle.udp_site.specs.Traffic.{From}
 use Rattle.udp_site.specs.Requests as requests
 use Rattle.udp_site.specs.Replies.{deposit_answer, line_answer}
@@ -114,6 +115,8 @@ module _ (members : Membership) (is_membership : IsMembership members) where
         current = tt;
         waiting = refl;
       };
+      begun = no_deposits (r ∷ []);
+      current = no_deposits (r ∷ []);
       learner = record {
         known = λ s. sym (none_known s);
         votes = λ s none vote n. refl;
