@@ -31,22 +31,40 @@ impl Place {
     /// Calls the site.
     pub(crate) fn call(&mut self, alloc: Global, call: &Call) -> Result<Answer, Failure> {
         match self.tries {
-            Tries::Twice => make_twice(alloc, self.open_site()?, call),
+            Tries::Twice => self.call_twice(alloc, call),
             Tries::Once => self.call_once(alloc, call),
         }
     }
 
-    fn open_site(&mut self) -> Result<&mut Site<MemoryCell>, ToolFault> {
-        self.site.as_mut().ok_or(ToolFault::Line)
+    fn call_twice(&mut self, alloc: Global, call: &Call) -> Result<Answer, Failure> {
+        match &mut self.site {
+            Some(site) => make_twice(alloc, site, call),
+            None => Err(Failure::Faulty(ToolFault::Line)),
+        }
     }
 
     fn call_once(&mut self, alloc: Global, call: &Call) -> Result<Answer, Failure> {
-        let text = text_of(alloc, self.open_site()?)?;
-        match make(alloc, self.open_site()?, call) {
+        let text = self.text(alloc)?;
+        match self.call_open(alloc, call) {
             Err(Failure::Refused(SiteFault::Memory)) => {
                 Err(Failure::Faulty(self.close_over(text.as_slice())))
             }
             made => made,
+        }
+    }
+
+    /// The bytes of the open site's cell, by its records.
+    fn text(&self, alloc: Global) -> Result<Vec<u8>, ToolFault> {
+        match &self.site {
+            Some(site) => text_of(alloc, site),
+            None => Err(ToolFault::Line),
+        }
+    }
+
+    fn call_open(&mut self, alloc: Global, call: &Call) -> Result<Answer, Failure> {
+        match &mut self.site {
+            Some(site) => make(alloc, site, call),
+            None => Err(Failure::Faulty(ToolFault::Line)),
         }
     }
 
