@@ -33,6 +33,12 @@ def helps(program):
     return whole, {name: Help(program, name) for name in names}
 
 
+def codes(program):
+    """What `help codes` prints, if the program has that page."""
+    ran = subprocess.run([program, "help", "codes"], capture_output=True, text=True)
+    return ran.stdout.rstrip("\n") if ran.returncode == 0 else ""
+
+
 def escaped(text):
     """The text as troff prints it, line for line."""
     text = text.replace("\\", "\\e").replace("-", "\\-").replace("'", "\\(aq").replace("`", "\\(ga")
@@ -62,6 +68,7 @@ def manual(program, version):
         lines += [*as_it_stands(command.usage)]
         lines += listed(command.entries("Arguments") + command.entries("Options"))
         lines += as_it_stands(command.rest)
+    lines += [".SH CODES", *as_it_stands(codes(program))]
     return "\n".join(lines) + "\n"
 
 
