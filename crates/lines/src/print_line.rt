@@ -1,4 +1,4 @@
-ghost use Rattle.std.specs.Prelude.{◌≡◌};
+ghost use Rattle.std.specs.Prelude.{◌≡◌, OnErr, string_bytes};
 ghost use Rattle.words.specs.Pushes.{Pushes};
 ghost use Rattle.lines.specs.Texts.{line_text, is_printed, printed_line};
 
@@ -16,14 +16,15 @@ pub struct Options {
 }
 
 /// Appends a line's text, ended by LF; that of a datagram only where `sent` asks for it. It fails
-/// only where memory runs out.
+/// only where memory runs out, and then leaves the text as it was.
 pub fn push_printed(
     alloc: Global,
     text: &mut String,
     options: Options,
     line: &Line,
 ) -> Result<(), AllocError>
-    ensures { Pushes result text.old text.new (printed_line options line.now) }
+    ensures ok { Pushes result text.old text.new (printed_line options line.now) }
+    ensures err { OnErr result (string_bytes text.new ≡ string_bytes text.old) }
 {
     if is_printed(options, line) {
         push_line(alloc, text, options, line)
@@ -41,16 +42,19 @@ fn is_printed(options: Options, line: &Line) -> bool
     }
 }
 
-/// Appends a line's text, ended by LF. It fails only where memory runs out.
-#[tactic(auto, using(std::proofs::Common::append_assoc))]
+/// Appends a line's text, ended by LF. It fails only where memory runs out, and then leaves the text
+/// as it was.
 pub fn push_line(
     alloc: Global,
     text: &mut String,
     options: Options,
     line: &Line,
 ) -> Result<(), AllocError>
-    ensures { Pushes result text.old text.new (line_text options line.now) }
+    ensures ok { Pushes result text.old text.new (line_text options line.now) }
+    ensures err { OnErr result (string_bytes text.new ≡ string_bytes text.old) }
 {
-    push_words(alloc, text, options, line)?;
-    text.push('\n')
+    let mut said = String::new(alloc);
+    push_words(alloc, &mut said, options, line)?;
+    said.push('\n')?;
+    text.push_str(&said)
 }

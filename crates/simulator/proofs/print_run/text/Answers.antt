@@ -14,7 +14,7 @@ loop-line-preserved c =
     rw (← c.lines-line-items.ensures) c.loop-line-test.true in
     let is : c.line-item.result ≡ get_or lines c.loop-line.line-index c.line-item.result =
     rw (← c.lines-line-items.ensures) c.line-item.is in
-    c.in_ok-push_printed.ensures
+    c.in_ok-push_printed.ensures.ok
     ∙ (ap (λ t. t ++ printed_line c.args.options c.line-item.result) c.loop-line.invariant
     ∙ text_of-more c.args.options lines c.loop-line.line-index c.line-item.result within
     is)
