@@ -74,6 +74,16 @@ def ballot(round, site):
     return round.to_bytes(4, "big") + bytes([site])
 
 
+# What may come for a version of an object that nobody has, by its kind.
+FOR_NOBODY = {
+    "Query": lambda name: Message(QUERY, 0, name, 1),
+    "Ask": lambda name: Message(ASK, 2, name, 1),
+    "Refused": lambda name: Message(REFUSED, 2, name, 1, ballot(1, 1) + ballot(5, 2)),
+    "Accepted": lambda name: Message(ACCEPTED, 2, name, 1, ballot(5, 2) + bytes(64)),
+    "Prepare": lambda name: Message(PREPARE, 2, name, 1, ballot(5, 2)),
+}
+
+
 def deposit(object, version, path):
     """A client's deposit of the folder of this path."""
     path = str(path).encode()

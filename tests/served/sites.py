@@ -2,6 +2,7 @@
 of itself."""
 import hashlib
 import pathlib
+import random
 import signal
 import socket
 import subprocess
@@ -10,6 +11,7 @@ import time
 
 sys.path.insert(0, str(pathlib.Path(__file__).resolve().parent.parent))
 
+from messages import QUERY, Message, message
 from testing import PROGRAM, run
 
 TURNS = "4294967295"
@@ -24,11 +26,15 @@ def socket_at(port=0):
 
 
 def free_ports(count):
-    """The numbers of ports that were free just now."""
-    taken = [socket_at() for _ in range(count)]
-    ports = [it.getsockname()[1] for it in taken]
-    for it in taken:
-        it.close()
+    """The numbers of ports that were free just now, of those that no client is given."""
+    ports = []
+    while len(ports) < count:
+        port = random.randrange(10000, 32000)
+        try:
+            socket_at(port).close()
+        except OSError:
+            continue
+        ports += [] if port in ports else [port]
     return ports
 
 
@@ -110,3 +116,14 @@ def until(members, site, words, wanted, seconds=20):
         if answer == wanted or time.monotonic() > end:
             return answer
         time.sleep(0.02)
+
+
+def is_answered(client, port):
+    """Whether a query by this socket has its answer, in the time that the socket waits."""
+    client.sendto(Message(QUERY, 0, "up", 1).bytes(), ("127.0.0.1", port))
+    try:
+        while message(client.recv(2048)).object != "up":
+            pass
+        return True
+    except TimeoutError:
+        return False

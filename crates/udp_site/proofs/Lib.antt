@@ -17,3 +17,4 @@ pub mod Stopped
 pub mod TurnEnds
 pub mod Questions
 pub mod Queried
+pub mod Examples

@@ -1,36 +1,40 @@
 -- How long a port waits. Waits are milliseconds, and moments are microseconds of its clock.
-use Rattle.std.specs.Prelude.{ℕ, ◌-◌, ◌*◌, min, max, true, false, if◌then◌else◌}
+use Rattle.std.specs.Prelude.{ℕ, ◌-◌, ◌*◌, min, max, true, false, if◌then◌else◌, List}
 use Rattle.udp_site.specs.declared.waits.Waits.{Waits}
 use Rattle.udp_site.specs.declared.pace.Pace.{Pace}
 use Rattle.udp_site.specs.declared.sign.Sign.{Sign}
 use Rattle.udp_site.specs.declared.sign.Sign.TheVariants as signs
+use Rattle.udp_site.specs.Signs.{is_prepare}
 
 -- a port begins with its first wait, as after an idle turn at the moment 0
 abbrev pub begins : Waits → Pace
-begins waits = record { waits = waits; wait = waits.first; idle_at = 0; over = false }
+begins waits = record { waits = waits; wait = waits.first; idle_at = 0; under_way = false }
 
 -- nothing came: it waits twice as long, up to the most that it may
 abbrev pub idles : Pace → (now : ℕ) → Pace
 idles pace now = record pace {
   wait = min (2 * pace.wait) (max pace.waits.first pace.waits.most);
   idle_at = now;
-  over = false;
 }
 
--- Something moves: it waits for its first wait again. Where a proposal has got votes, or a bag is
--- known, no proposal is under way any more.
+-- Something comes. Where that moves something it waits for its first wait again; where a proposal has
+-- got votes, or a bag is known, no proposal is under way any more.
 abbrev pub hears : Pace → Sign → Pace
 hears pace signs.Still = pace
 hears pace signs.Moves = record pace { wait = pace.waits.first }
-hears pace signs.Decides = record pace { wait = pace.waits.first; over = true }
+hears pace signs.Decides = record pace { wait = pace.waits.first; under_way = false }
 
--- How long after an idle turn the next one comes, whatever else does: ten first waits, and 250 ms
--- at least, since a site that is idle sooner outbids its own proposal; or one wait, where none is
--- under way. First waits, and not those that have grown: site N proposes in each N-th idle turn,
--- and where clients ask all the time site 3 would else wait for 10, 20 and 40 waits.
+-- A datagram is handed out: with a Prepare a proposal is under way.
+abbrev pub hands : Pace → List ℕ → Pace
+hands pace bytes = if is_prepare bytes then record pace { under_way = true } else pace
+
+-- How long after an idle turn the next one comes, whatever else does: one wait; but where a proposal
+-- is under way ten first waits, and 250 ms at least, since a site that is idle sooner outbids it.
+-- First waits, and not those that have grown: site N proposes in each N-th idle turn, and where
+-- clients ask all the time site 3 would else wait for 10, 20 and 40 waits.
 abbrev pub between : Pace → ℕ
 between pace =
-    if pace.over then pace.wait else max pace.wait (max (10 * pace.waits.first) 250)
+    if pace.under_way then max pace.wait (max (10 * pace.waits.first) 250) else pace.wait
 
 -- for how many microseconds a turn that began then waits still; with 0 it is idle
 abbrev pub left : Pace → (began now : ℕ) → ℕ

@@ -1,5 +1,6 @@
 -- What a datagram is a sign of.
-use Rattle.std.specs.Prelude.{ℕ, ◌==◌, if◌then◌else◌, Option, Some, None}
+use Rattle.std.specs.Prelude.{ℕ, ◌==◌, if◌then◌else◌, Bool, List, get_or, Option, Some, None}
+use Rattle.dgram.specs.Numbers.{PREPARE}
 use Rattle.dgram.specs.declared.body.Body.{Body}
 use Rattle.dgram.specs.declared.body.Body.TheVariants as bodies
 use Rattle.dgram.specs.declared.message.Message.{Message}
@@ -25,3 +26,11 @@ sign_in (Some message) = sign_by message.body
 -- what a port sends to itself is a sign of nothing
 abbrev pub sign_at : (own from : ℕ) → Option Message → Sign
 sign_at own from message = if own == from then Still else sign_in message
+
+-- the place of the kind's byte in a datagram: after the magic number and the layout
+abbrev pub KIND_PLACE : ℕ
+KIND_PLACE = 3
+
+-- what a port is handed is a Prepare, by its kind
+abbrev pub is_prepare : List ℕ → Bool
+is_prepare bytes = get_or bytes KIND_PLACE 0 == PREPARE

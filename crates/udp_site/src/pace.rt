@@ -1,7 +1,9 @@
 ghost use Rattle.std.specs.Prelude.{◌≡◌, ◌≤◌, ◌*◌};
-ghost use Rattle.udp_site.specs.Pace.{begins, idles, hears, between, left};
+ghost use Rattle.std.specs.Prelude.{false};
+ghost use Rattle.udp_site.specs.declared.sign.Sign.{Sign};
+ghost use Rattle.udp_site.specs.Pace.{begins, idles, hears, hands, between, left};
 
-use crate::sign::Sign;
+use crate::sign::{Sign, is_prepare};
 use crate::waits::Waits;
 
 /// How many of its first waits a port lets pass between two idle turns, where no turn is idle by
@@ -21,8 +23,8 @@ pub(crate) struct Pace {
     pub(crate) wait: u32,
     /// When its last turn that was idle ended.
     pub(crate) idle_at: u64,
-    /// Votes of others, or a known bag, have come since then.
-    pub(crate) over: bool,
+    /// A Prepare was handed out, and no votes of others, nor a known bag, have come since then.
+    pub(crate) under_way: bool,
 }
 
 impl Pace {
@@ -34,7 +36,7 @@ impl Pace {
             waits,
             wait: waits.first,
             idle_at: 0,
-            over: false,
+            under_way: false,
         }
     }
 
@@ -45,7 +47,14 @@ impl Pace {
         let most = self.waits.most.max(self.waits.first);
         self.wait = self.wait.saturating_mul(2).min(most);
         self.idle_at = now;
-        self.over = false;
+    }
+
+    /// Whether a sign may change anything: it doesn't where the port waits for its first wait, and no
+    /// proposal is under way.
+    pub(crate) fn heeds_signs(&self) -> bool
+        ensures { result ≡ false → (sign : Sign) → hears self.now sign ≡ self.now }
+    {
+        self.wait != self.waits.first || self.under_way
     }
 
     /// A datagram came that is a sign of this.
@@ -57,8 +66,17 @@ impl Pace {
             Sign::Moves => self.wait = self.waits.first,
             Sign::Decides => {
                 self.wait = self.waits.first;
-                self.over = true;
+                self.under_way = false;
             }
+        }
+    }
+
+    /// A datagram is handed out.
+    pub(crate) fn hands(&mut self, bytes: &[u8])
+        ensures { self.new ≡ hands self.old bytes.now }
+    {
+        if is_prepare(bytes) {
+            self.under_way = true;
         }
     }
 
@@ -81,7 +99,7 @@ impl Pace {
         ensures within { result ≤ 10 * 4294967295 }
     {
         let wait = u64::from(self.wait);
-        if self.over {
+        if !self.under_way {
             return wait;
         }
         let waits = FIRST_WAITS * u64::from(self.waits.first);

@@ -1,7 +1,8 @@
 //! A socket, and how long it is waited at.
 
-ghost use Rattle.std.specs.Prelude.{◌≡◌, ◌≤◌, length, IfOk, OnErr, IfSome};
-ghost use Rattle.udp_site.specs.Pace.{begins, hears};
+ghost use Rattle.std.specs.Prelude.{◌≡◌, ◌≤◌, length, false, IfOk, OnErr, IfSome};
+ghost use Rattle.udp_site.specs.declared.sign.Sign.{Sign};
+ghost use Rattle.udp_site.specs.Pace.{begins, hears, hands};
 ghost use Rattle.udp_site.specs.inner.Paced.{Waited, EndsWait};
 
 use crate::pace::Pace;
@@ -97,11 +98,25 @@ impl<R: Clock + Drop> PacedSocket<R> {
         Err(ErrorKind::TimedOut.into())
     }
 
+    /// Whether a sign may change its pace.
+    pub(crate) fn heeds_signs(&self) -> bool
+        ensures { result ≡ false → (sign : Sign) → hears self.now.pace sign ≡ self.now.pace }
+    {
+        self.pace.heeds_signs()
+    }
+
     /// What was taken is a sign of this.
     pub(crate) fn hears(&mut self, sign: Sign)
         ensures { self.new.pace ≡ hears self.old.pace sign }
     {
         self.pace.hears(sign);
+    }
+
+    /// A datagram is handed out.
+    pub(crate) fn hands(&mut self, bytes: &[u8])
+        ensures { self.new.pace ≡ hands self.old.pace bytes.now }
+    {
+        self.pace.hands(bytes);
     }
 
     /// Sends a datagram to this port.

@@ -2,10 +2,16 @@
 
 ghost use Rattle.std.specs.Prelude.{◌≡◌, IfOk};
 ghost use Rattle.dgram.specs.Decoded.{message_of};
-ghost use Rattle.udp_site.specs.Signs.{sign_by, sign_at};
+ghost use Rattle.udp_site.specs.Signs.{sign_by, sign_at, is_prepare};
 
 use dgram::{Body, DgramFault, Message, decode};
 use std::alloc::{AllocError, Global};
+
+/// The place of the kind's byte in a datagram.
+const KIND_PLACE: usize = 3;
+
+/// A Prepare's kind.
+const PREPARE: u8 = 1;
 
 /// What a datagram is a sign of, for the pace of a port.
 #[derive(Clone, Copy, Debug, PartialEq, Eq)]
@@ -54,4 +60,11 @@ fn sign_by(body: &Body) -> Sign
         | Body::DepositReply { .. }
         | Body::QueryReply { .. } => Sign::Still,
     }
+}
+
+/// Whether a datagram that is handed out is a Prepare, by its kind.
+pub(crate) fn is_prepare(bytes: &[u8]) -> bool
+    ensures { result ≡ is_prepare bytes.now }
+{
+    bytes.get(KIND_PLACE).copied().unwrap_or(0) == PREPARE
 }

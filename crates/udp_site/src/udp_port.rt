@@ -72,11 +72,12 @@ impl<R: Clock + Drop> UdpPort<R> {
 }
 
 impl<R: Clock + Drop> Port for UdpPort<R> {
-    ghost use Rattle.std.specs.Prelude.{None};
+    ghost use Rattle.std.specs.Prelude.{◌≡◌, None};
     ghost use Rattle.cell_device.specs.Calls.{HasCause};
     ghost use Rattle.udp_site.specs.declared.port_fault.PortFault.TheVariants as faults;
-    ghost use Rattle.udp_site.specs.Traffic.{IsReceived};
-    ghost use Rattle.udp_site.specs.UdpPorts.{failures_of, IsPaced};
+    ghost use Rattle.udp_site.specs.Pace.{hands};
+    ghost use Rattle.udp_site.specs.Traffic.{IsReceived, IsHanded};
+    ghost use Rattle.udp_site.specs.UdpPorts.{failures_of, pace_of, IsPaced};
 
     ghost failures = { failures_of };
 
@@ -91,7 +92,12 @@ impl<R: Clock + Drop> Port for UdpPort<R> {
         }
     }
 
-    fn send(&mut self, to: u16, bytes: &[u8]) -> Result<(), PortFault> {
+    fn send(&mut self, to: u16, bytes: &[u8]) -> Result<(), PortFault>
+        ensures handed { IsHanded None None (to, bytes.now) result }
+        ensures cause { HasCause faults.Device (failures_of self.old) (failures_of self.new) result }
+        ensures paced { pace_of self.new ≡ hands (pace_of self.old) bytes.now }
+    {
+        self.socket.hands(bytes);
         match self.socket.send_to(to, bytes) {
             Ok(()) => Ok(()),
             Err(error) => Err(self.fail(&error)),
@@ -131,8 +137,11 @@ fn turn_at<R: Clock + Drop>(
     match socket.take(&mut bytes)? {
         Some((from, count)) => {
             bytes.truncate(count);
-            let sign = sign_of(alloc, federation, own, from, &bytes)?;
-            socket.hears(sign);
+            // A datagram is decoded once more only where that may change something.
+            if socket.heeds_signs() {
+                let sign = sign_of(alloc, federation, own, from, &bytes)?;
+                socket.hears(sign);
+            }
             Ok(Turn::Got(from, bytes))
         }
         None => Ok(Turn::Idle),
