@@ -1,5 +1,6 @@
 //! The members file that the arguments name.
 
+use crate::member_list::number_of;
 use crate::stop::Stop;
 use fed_types::SiteNo;
 use members_file::{MemberSites, MembersFault, read_members};
@@ -31,6 +32,15 @@ fn members_in<R: Read>(alloc: Global, input: &mut R) -> Result<MemberSites, Stop
         },
         Err(ReadFault::Input) => Err(Stop::MembersUnread),
         Err(ReadFault::Memory) => Err(Stop::Memory),
+    }
+}
+
+/// Refuses a file that was cut or changed: the federation's number has to come from its list.
+pub(crate) fn expect_listed(alloc: Global, members: &MemberSites) -> Result<(), Stop> {
+    match number_of(alloc, members.sites()) {
+        Ok(number) if number == members.members().federation() => Ok(()),
+        Ok(_) => Err(Stop::OtherList),
+        Err(AllocError) => Err(Stop::Memory),
     }
 }
 

@@ -1,7 +1,7 @@
 //! The command `members`.
 
-use crate::file_members::members_at;
-use crate::member_list::{digest_of, members_text, number_of};
+use crate::file_members::{expect_listed, members_at};
+use crate::member_list::{digest_of, members_text};
 use crate::member_words::sites_in;
 use crate::members_arguments::MembersTask;
 use crate::stop::{Stop, write_stop};
@@ -37,19 +37,11 @@ fn new_text(alloc: Global, words: &[&str]) -> Result<String, AllocError> {
 // What the file of this path says, in short.
 fn summary(rt: &HostRuntime, path: &str, listed: bool) -> Result<String, Stop> {
     let members = members_at(rt, path)?;
-    if listed && !is_listed(rt.alloc(), &members)? {
-        return Err(Stop::OtherList);
+    if listed {
+        expect_listed(rt.alloc(), &members)?;
     }
     match summary_of(rt.alloc(), &members) {
         Ok(text) => Ok(text),
-        Err(AllocError) => Err(Stop::Memory),
-    }
-}
-
-// Whether the federation's number comes from its list.
-fn is_listed(alloc: Global, members: &MemberSites) -> Result<bool, Stop> {
-    match number_of(alloc, members.sites()) {
-        Ok(number) => Ok(number == members.members().federation()),
         Err(AllocError) => Err(Stop::Memory),
     }
 }

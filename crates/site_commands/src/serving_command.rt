@@ -1,6 +1,6 @@
 //! The command `site`: a site of the members file, over a file and a socket.
 
-use crate::file_members::{members_at, port_of, ports_of};
+use crate::file_members::{expect_listed, members_at, port_of, ports_of};
 use crate::folders_below::FoldersBelow;
 use crate::serving::{Service, site_on};
 use crate::site_arguments::SiteTask;
@@ -57,6 +57,9 @@ struct Means<'a> {
 // All that is needed, in the order in which it is looked for.
 fn equip<'a>(rt: &HostRuntime, task: &SiteTask<'a>) -> Result<Means<'a>, Stop> {
     let file = members_at(rt, task.members)?;
+    if task.listed {
+        expect_listed(rt.alloc(), &file)?;
+    }
     let number = port_of(&file, task.number)?;
     let ports = ports_of(rt.alloc(), &file)?;
     let members = file.members();

@@ -12,7 +12,7 @@ const EXAMPLE: &str = "The members file is a text; all sites are on 127.0.0.1:
   site N PORT [WEIGHT]    for each of the sites 1, 2, 3 .., at most 63: its port, and its
                           weight, 1 to 255, which is 1 where none is given
 Sites that have more than half of all weight decide. Sites and weights stay as they are as long as
-there are cells.
+there are cells. With --listed a file is refused that `members --new` didn't write, or that was cut.
 The cell is the file in which the site keeps its word; it is made where it is missing, unless
 --existing is given: a site that has a cell must never be started without it.
 In each turn the site waits for one datagram, and prints a line for what it does:
@@ -25,8 +25,8 @@ In each turn the site waits for one datagram, and prints a line for what it does
 In a turn in which nothing comes it may propose one of its deposits to all. While nothing moves,
 each such turn waits twice as long as the one before, up to --wait-most; a deposit, a vote that
 another site asks for or gives, and a bag that it knows bring the first wait back. However much
-comes, such a turn is taken once ten times --wait, 250 ms and its own wait have passed since the
-last one; after a vote or a known bag of another site, once its own wait has.
+comes, such a turn is taken once its wait has passed since the last one; while a proposal of its own
+is under way, ten times --wait and 250 ms besides.
 
 With --bags a path that is absolute or has `..` in it is that of a folder that isn't there.
 
@@ -44,6 +44,8 @@ stopped: in words, with names. `bagpaxos help codes` lists what each says.
 The exit status is 0 after the last turn; 1 where a last line says why it stopped:
   members unread    the members file can't be read
   members line N    line N of the members file is at fault
+  members other list
+                    with --listed: the federation's number doesn't come from the file's list
   not a member      the members file has no such site
   bags unread       with --bags: it isn't a folder
   open 4            the cell's file can't be opened or read, another process has it open, or it
@@ -68,6 +70,8 @@ const MOST_WAIT: i64 = 86_400_000;
 #[derive(Clone, Copy, Debug)]
 pub struct SiteTask<'a> {
     pub members: &'a str,
+    /// Whether the federation's number has to come from that file's list.
+    pub listed: bool,
     pub number: SiteNo,
     pub cell: &'a str,
     /// Whether the cell has to be there.
@@ -105,6 +109,7 @@ impl SiteTask<'_> {
 pub fn site_task<'a>(matches: &ArgMatches<'a>) -> Option<SiteTask<'a>> {
     Some(SiteTask {
         members: matches.get_str("members")?,
+        listed: matches.get_flag("listed"),
         number: SiteNo::new(matches.get_one::<u8>("number")?).ok()?,
         cell: matches.get_str("cell")?,
         existing: matches.get_flag("existing"),
@@ -142,6 +147,7 @@ pub fn site_command<'a>(alloc: Global) -> Result<Command<'a>, AllocError> {
 fn with_place<'a>(alloc: Global, command: Command<'a>) -> Result<Command<'a>, AllocError> {
     command
         .arg(members_argument(alloc))?
+        .arg(listed_argument(alloc))?
         .arg(number_argument(alloc))?
         .arg(cell_argument(alloc))?
         .arg(existing_argument(alloc))
@@ -171,6 +177,13 @@ pub fn members_argument<'a>(alloc: Global) -> Arg<'a> {
         .value_name("FILE")
         .required(true)
         .help("The members file: the port and the weight of each site")
+}
+
+fn listed_argument<'a>(alloc: Global) -> Arg<'a> {
+    Arg::new(alloc, "listed")
+        .long("listed")
+        .action(ArgAction::SetTrue)
+        .help("Refuse a members file whose federation's number doesn't come from its list")
 }
 
 fn number_argument<'a>(alloc: Global) -> Arg<'a> {
