@@ -1,78 +1,51 @@
 -- A site that takes a message that nobody has sent.
-use Rattle.std.proofs.Common.{ℕ, ◌≡◌, ◌≤◌, inr, refl, sym, ap, subst, ◌∙◌, Bool, true, false}
-use Rattle.std.proofs.Common.{cond, max, List, [], ◌∷◌, Option, None, Some, arith}
-use Rattle.std.specs.Prelude.{Result, Ok, Err}
+use Rattle.std.proofs.Common.{ℕ, ◌≡◌, ◌≤◌, refl, sym, ap, subst, ◌∙◌, Bool, true, false, cond, max}
+use Rattle.std.proofs.Common.{List, [], ◌∷◌, Option, None, Some, arith}
+use Rattle.std.specs.Prelude.{Ok}
 use Rattle.fed_types.specs.declared.bag_id.BagId.{BagId}
-use Rattle.fed_types.specs.declared.vote.Vote.{Vote}
-use Rattle.fed_types.specs.Lists.{Has, here, is_in}
+use Rattle.fed_types.specs.Lists.{Has, here, there}
 use Rattle.fed_types.specs.Sites.{Membership, members_of, count_of}
 use Rattle.fed_types.specs.Slots.{SlotName, same_slot}
 use Rattle.fed_types.specs.Values.{IsMembership, IsSlot, IsBag}
 use Rattle.fed_types.specs.Laws.Sites.{sites_to_has}
-use Rattle.fed_types.specs.Laws.Slots.{same_slot_equivalence}
+use Rattle.fed_types.specs.Laws.Slots.{same_slot_decides}
 use Rattle.fed_types.specs.Laws.Lists.{is_in_decides}
 use Rattle.fed_types.specs.Quorums.{quorums_of}
 use Rattle.std.specs.List.{cons_option}
-use Rattle.std.specs.Option.{option_to_list}
-use Rattle.cell_device.specs.Devices.{Device}
 use Rattle.cell_device.specs.Images.{at_rest}
-use Rattle.bag_tree.specs.declared.fault.TreeFault.TheVariants as trees
 use Rattle.records.specs.declared.entry.Entry.TheVariants as entry
-use Rattle.records.specs.declared.owner.Owner.{Owner}
 use Rattle.records.specs.declared.record.Record.{Record}
 use Rattle.records.specs.Words.{known_of, used_of, with_one, if_some, round_in}
 use Rattle.records.specs.Words.{known_in, earlier}
 use Rattle.records.proofs.Words.{used-push, known-push}
 use Rattle.records.proofs.Texts.{nothing_says}
-use Rattle.book.specs.Volumes.{Volume}
 use Rattle.dgram.specs.declared.body.Body.TheVariants.{Known}
-use Rattle.dgram.specs.Encoding.{datagram_of}
-use Rattle.dgram.proofs.MessageOf.{message_of-again}
-use Rattle.dgram.specs.Heard.{bodies_of, floor_of, voters_for}
 use Rattle.dgram.specs.declared.message.Message.{Message}
-use Rattle.proposer.specs.Sessions.{Session, new_session, nothing, hears}
-use Rattle.learner.specs.Ledgers as ledgers
+use Rattle.dgram.specs.Heard.{bodies_of, floor_of}
+use Rattle.dgram.specs.Messages.{IsMessage}
 use Rattle.learner.specs.declared.row.Row.TheVariants as rows
-use Rattle.slot_table.specs.Rows.{row_at}
+use Rattle.proposer.specs.Rows.{empty_row}
+use Rattle.proposer.specs.Sessions.{Session, new_session, hears as heard_in}
 use Rattle.site.specs.declared.answer.Answer.{Answer}
-use Rattle.site.specs.declared.answer.Line.{Line}
 use Rattle.site.specs.declared.answer.Line.TheVariants as lines
-use Rattle.site.specs.declared.fault.SiteFault.{SiteFault}
-use Rattle.site.specs.Answered.{IsAnswered}
 use Rattle.site.specs.Arrivals.{on_arrival, on_body, is_member}
 use Rattle.site.specs.Calls as calls
 use Rattle.site.specs.Effects.{Effect}
-use Rattle.site.specs.Sites.{OpenSite, effect}
+use Rattle.site.specs.Sites.{effect}
 use Rattle.site_tables.specs.Contents.{Contents, StandsFor}
-use Rattle.site_tables.proofs.Begun.{no_deposits}
-use Rattle.lines.specs.Notices.{Learned, notice_of}
-use Rattle.udp_site.specs.Traffic.{From}
-use Rattle.udp_site.specs.Requests as requests
-use Rattle.udp_site.specs.Turns.{Serving, Done, IsCalled, begins, turn_of, comes_of, notices_of}
-use Rattle.udp_site.specs.Turns.{posts_of}
-use Rattle.serving_law.specs.Examples.{Disk, Blank, Opened, Written, disk_of}
-use Rattle.serving_law.specs.Examples.{Learning, IsFooled, FooledByAForgedKnown}
-use Rattle.serving_law.specs.Federations.{Step, Starts}
-use Rattle.serving_law.specs.Federations.{new_federation, after_all}
+use Rattle.udp_site.specs.Turns.{Serving, turn_of}
+use Rattle.serving_law.specs.Disks.{Disk, Blank, device}
+use Rattle.serving_law.specs.Examples.{IsFooled, FooledByAForgedKnown}
+use Rattle.serving_law.specs.Federations.{Step, Happening, Starts, new_federation, after_all}
 use Rattle.serving_law.specs.Rules.{MayAll}
-use Rattle.serving_law.proofs.Disks as disks
-
--- a site says this
-abbrev said : Option Line → Result (Option Line) SiteFault
-said line = Ok line
+use Rattle.serving_law.specs.Reports.{step_of}
+use Rattle.serving_law.proofs.Acting.{owner, serving, called, hears, heard_step, no_folders}
+use Rattle.serving_law.proofs.Answering.{answer_of}
+use Rattle.serving_law.proofs.Journaling.{holds, opens_new}
+use Rattle.serving_law.proofs.Tabling.{Rows, records_of, tables, begun_with, stands}
 
 module _ (members : Membership) (is_membership : IsMembership members) (two : 2 ≤ count_of members)
-    (slot : SlotName) (is_slot : IsSlot slot) (bag : BagId) (is_bag : IsBag bag)
-    (answer : Answer) (learns : Learning slot bag answer) where
-  abbrev owner : Owner
-  owner = disks.owner members is_membership
-
-  abbrev device : Disk → Device
-  device = disk_of owner
-
-  abbrev book : Disk → List Record → Volume Disk
-  book = disks.book members is_membership
-
+    (slot : SlotName) (is_slot : IsSlot slot) (bag : BagId) (is_bag : IsBag bag) where
   abbrev r : Record
   r = record { slot = slot; body = entry.Known bag }
 
@@ -80,107 +53,67 @@ module _ (members : Membership) (is_membership : IsMembership members) (two : 2 
   m = record { slot = slot; body = Known 2 bag }
 
   abbrev heard : Session
-  heard = hears new_session m
+  heard = heard_in new_session m
 
   -- ---- tables
 
-  abbrev empty : Contents
-  empty = record {
-    deposits = [];
-    spare = 0;
-    acceptor = [];
-    proposer = record { members = members; site = 1; rows = [] };
-    learner = record { members = members; rows = [] };
-  }
-
-  abbrev knowing : Contents
-  knowing = record empty {
-    learner = record { members = members; rows = (slot, rows.Known bag) ∷ [] };
-  }
-
-  none_used : (s : SlotName) → used_of s (r ∷ []) ≡ 0
+  none_used : used_of slot (r ∷ []) ≡ 0
   unfolding used_of
-  none_used s = used-push s [] r ∙ go (same_slot slot s)
+  none_used = used-push slot [] r ∙ go (same_slot slot slot)
     where
       go : (t : Bool)
-          → with_one max (used_of s []) (if_some round_in (cond t (Some (entry.Known bag)) None))
-          ≡ 0
+          → with_one max (used_of slot [])
+          (if_some round_in (cond t (Some (entry.Known bag)) None)) ≡ 0
       go true = refl
       go false = refl
 
-  no_floor : (s : SlotName) → floor_of (bodies_of s (m ∷ [])) ≡ 0
+  no_floor : floor_of (bodies_of slot (m ∷ [])) ≡ 0
   unfolding floor_of bodies_of
-  no_floor s = go (same_slot slot s)
+  no_floor = go (same_slot slot slot)
     where
-      go : (t : Bool)
-          → floor_of (cons_option (cond t (Some m.body) None) []) ≡ 0
+      go : (t : Bool) → floor_of (cons_option (cond t (Some m.body) None) []) ≡ 0
       go true = refl
       go false = refl
 
-  no_voters : (s : SlotName) (vote : Vote) → voters_for vote (bodies_of s (m ∷ [])) ≡ []
-  unfolding voters_for bodies_of
-  no_voters s vote = go (same_slot slot s)
-    where
-      go : (t : Bool) → voters_for vote (cons_option (cond t (Some m.body) None) []) ≡ []
-      go true = refl
-      go false = refl
-
-  -- the one row is of the slot
-  row_is : (s : SlotName) → same_slot s slot ≡ same_slot slot s
-  row_is s = same_slot_equivalence.symm s slot
-
-  known_is : (s : SlotName)
-      → ledgers.known_in (row_at knowing.learner.rows s) ≡ known_of s (r ∷ [])
+  known_is : known_of slot (r ∷ []) ≡ Some bag
   unfolding known_of
-  known_is s = rw (row_is s) (go (same_slot slot s)) ∙ sym (known-push s [] r)
-    where
-      go : (t : Bool)
-          → ledgers.known_in (cond t (Some (rows.Known bag)) None)
-          ≡ with_one earlier (known_of s [])
-          (if_some known_in (cond t (Some (entry.Known bag)) None))
-      go true = refl
-      go false = refl
+  known_is =
+      known-push slot [] r
+      ∙ ap (λ (t : Bool). with_one earlier (known_of slot [])
+      (if_some known_in (cond t (Some (entry.Known bag)) None)))
+      ((same_slot_decides slot slot).1 refl)
 
-  none_counted : (s : SlotName) (vote : Vote)
-      → ledgers.counted_in (row_at knowing.learner.rows s) vote ≡ []
-  none_counted s vote = go (same_slot s slot)
-    where
-      go : (t : Bool)
-          → ledgers.counted_in (cond t (Some (rows.Known bag)) None) vote ≡ []
-      go true = refl
-      go false = refl
+  abbrev before_tables : Contents
+  before_tables = tables slot members 1 (record { own = empty_row; heard = rows.Unheard })
 
-  stands : StandsFor knowing (r ∷ []) heard nothing
-  stands = record {
-    proposer = λ s. record {
-      used = sym (none_used s);
-      floor = sym (no_floor s);
-      begun = tt;
-      current = tt;
-      waiting = refl;
-    };
-    begun = no_deposits (r ∷ []);
-    current = no_deposits (r ∷ []);
-    learner = record {
-      known = known_is;
-      votes = λ s none vote n.
-          ap (λ (xs : List ℕ). is_in xs n) (none_counted s vote ∙ sym (no_voters s vote));
-    };
-  }
+  abbrev after_tables : Contents
+  after_tables = tables slot members 1 (record { own = empty_row; heard = rows.Known bag })
+
+  it_stands : StandsFor after_tables (records_of slot (entry.Known bag ∷ [])) heard
+      (begun_with slot None)
+  it_stands =
+      stands slot members 1 (entry.Known bag ∷ []) (Known 2 bag ∷ []) heard refl (λ s f. refl) None
+      (record { own = empty_row; heard = rows.Known bag })
+      (record {
+        used = sym none_used;
+        floor = sym no_floor;
+        begun = tt;
+        current = tt;
+        waiting = refl;
+      })
+      (λ other e. absurd (cc e)) (sym known_is)
+      (λ none vote n. absurd (not_none (sym known_is ∙ none)))
+    where
+      not_none : Some bag ≡ None → ⊥
+      not_none e = cc
 
   -- ---- the call
 
-  abbrev before_it : OpenSite Disk
-  before_it = record { book = book Opened []; tables = empty }
-
-  abbrev after_it : OpenSite Disk
-  after_it = record { book = book (Written r) (r ∷ []); tables = knowing }
-
   abbrev old : Serving Disk
-  old = begins before_it new_session
+  old = serving members is_membership 1 [] before_tables new_session 0 0
 
   abbrev new : Serving Disk
-  new = begins after_it heard
+  new = serving members is_membership 1 (r ∷ []) after_tables heard 0 0
 
   abbrev learning : Effect
   learning = record {
@@ -195,67 +128,48 @@ module _ (members : Membership) (is_membership : IsMembership members) (two : 2 
       (is_in_decides (members_of members) 2).1
       (sites_to_has (count_of members) 2 (omega arith) two)
 
-  effect_is : effect before_it new_session (calls.Arrives (Some m)) ≡ learning
+  effect_is : effect old.site new_session (calls.Arrives (Some m)) ≡ learning
   unfolding on_arrival on_body known_of
   effect_is = rw member refl
 
-  answered : IsAnswered device before_it after_it new_session
-      (effect before_it new_session (calls.Arrives (Some m))) (Ok answer)
-  answered =
-      subst (λ (e : Effect). IsAnswered device before_it after_it new_session e (Ok answer))
-      (sym effect_is) (record {
-        keeps = inr (disks.commits members is_membership r (is_slot, is_bag));
-        gives = (ap (λ l. said l) (sym learns.line), rw learns.sends refl, (nothing, stands));
-      })
-
-  called : IsCalled device old (calls.Arrives (Some m)) (Ok answer) new
-  called = record {
-    answered = λ opened. answered;
-    refused = λ needs. absurd (cc needs);
-    session = ap (λ (e : Effect). e.session) (sym effect_is);
-    idle = refl;
-    tried = refl;
-  }
-
-  abbrev done : Done
-  done = record {
-    posts = posts_of [] (Ok answer);
-    notices = notices_of 1 (calls.Arrives (Some m)) (Ok answer);
-  }
+  abbrev answer : Answer
+  answer = answer_of (Some (lines.Known slot bag)) [] (omega arith)
 
   abbrev step : Step Disk
-  step = record {
-    ports = [];
-    folders = λ path. Err trees.Memory;
-    turn = record { took = From 0 (datagram_of members.federation m); done = done };
-    next = new;
-  }
+  step = heard_step members is_membership 1 [] m answer new
 
-  asked : requests.request_of members.federation (From 0 (datagram_of members.federation m))
-      ≡ requests.Says m
-  asked =
-      ap (requests.request_in 0)
-      (message_of-again members.federation m (is_slot, ((omega arith, omega arith), is_bag)))
+  is_message : IsMessage m
+  is_message = (is_slot, ((omega arith, omega arith), is_bag))
 
-  comes : turn_of device [] (Some step.folders) old step.turn.took done new
+  comes : turn_of device [] (Some no_folders) old step.turn.took step.turn.done new
   comes =
-      subst (λ (q : requests.Request). comes_of device [] (Some step.folders) old q done new)
-      (sym asked) (Ok answer, called, refl)
+      hears members is_membership 1 [] [] before_tables new_session 0 0 new m is_message refl answer
+      (called members is_membership 1 [] tt before_tables after_tables new_session 0 0
+      (calls.Arrives (Some m)) learning (Some (lines.Known slot bag)) effect_is refl
+      (is_slot, is_bag) tt (omega arith) (begun_with slot None) it_stands)
 
   one : Has 1 (members_of members)
   one = sites_to_has (count_of members) 1 (omega arith) is_membership.1.0.0
 
-  says_it : Has (Learned 1 slot bag) done.notices
-  says_it =
-      subst (λ (l : Option Line). Has (Learned 1 slot bag)
-      (option_to_list (notice_of 1 (calls.Arrives (Some m)) (Ok l))))
-      (sym learns.line) (here refl)
+  abbrev starts : Happening Disk
+  starts =
+      Starts 1 Blank (record {
+        book = holds (owner members is_membership 1) [];
+        tables = before_tables;
+      })
+
+  no_turn : (h : Happening Disk) → Has h (starts ∷ []) → step_of h ≡ None
+  no_turn h (here e) = subst (λ (g : Happening Disk). step_of g ≡ None) e refl
+  no_turn h (there other) = absurd (none h other)
+    where
+      none : (g : Happening Disk) → Has g [] → ⊥
+      none g h = elim h [ ]
 
   pub fooled : IsFooled members slot bag
   unfolding MayAll new_federation after_all
   fooled = record {
-    before = Starts 1 Blank before_it ∷ [];
-    happen = (
+    before = starts ∷ [];
+    happens = (
       (
         one,
         (
@@ -264,22 +178,24 @@ module _ (members : Membership) (is_membership : IsMembership members) (two : 2 
           record {
             image = at_rest [];
             told = refl;
-            says = nothing_says owner;
+            says = nothing_says (owner members is_membership 1);
           },
         ),
-        disks.opens members is_membership,
+        opens_new (owner members is_membership 1) is_membership.1,
       ),
       tt,
     );
+    no_turn = no_turn;
+    nothing = refl;
     old = old;
     serves = refl;
-    nothing = refl;
     step = step;
+    forged = refl;
     comes = comes;
     goes_on = refl;
-    says = says_it;
+    says = refl;
   }
 
 pub fooled_by_a_forged_known : FooledByAForgedKnown
-fooled_by_a_forged_known members slot bag answer is two is_slot is_bag learns =
-    fooled members is two slot is_slot bag is_bag answer learns
+fooled_by_a_forged_known members slot bag is two is_slot is_bag =
+    fooled members is two slot is_slot bag is_bag

@@ -13,6 +13,14 @@ pub mod Requesting
 pub mod Taking
 pub mod Befalling
 pub mod Histories
-pub mod Disks
+pub mod Answering
+pub mod Journaling
+pub mod Fitting
+pub mod Tabling
+pub mod Acting
+pub mod Sites
+pub mod Agreeing
+pub mod Agreed
+pub mod Dying
 pub mod Killing
 pub mod Fooling

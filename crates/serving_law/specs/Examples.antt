@@ -2,68 +2,28 @@
 -- recorded: what it would have replied was never handed out, whether its record was lost or kept;
 -- had it been, `RegisteredStays` were false. And a turn that only the premise on the network keeps
 -- out: a site is told what nobody has said, and reports a bag that nobody has deposited.
-use Rattle.std.specs.Prelude.{◌≡◌, ◌⊎◌, ◌≤◌, ℕ, false, List, [], ◌∷◌, ◌++◌, Some, None, Ok}
+use Rattle.std.specs.Prelude.{◌≡◌, ◌≤◌, ℕ, false, List, [], ◌∷◌, ◌++◌, None, Some, Ok}
 use Rattle.fed_types.specs.declared.bag_id.BagId.{BagId}
 use Rattle.fed_types.specs.Lists.{Has}
 use Rattle.fed_types.specs.Sites.{Membership, count_of}
 use Rattle.fed_types.specs.Slots.{SlotName}
 use Rattle.fed_types.specs.Values.{IsMembership, IsSlot, IsBag}
-use Rattle.cell_device.specs.Devices.{Device}
-use Rattle.cell_device.specs.Images.{at_rest}
 use Rattle.bag_tree.specs.Facts.{TreeFacts}
 use Rattle.bag_check.specs.Check.{check_of}
 use Rattle.records.specs.declared.entry.Entry.TheVariants as entry
-use Rattle.records.specs.declared.owner.Owner.{Owner}
 use Rattle.records.specs.declared.record.Record.{Record}
-use Rattle.records.specs.Layout.{header_bytes, record_bytes}
 use Rattle.dgram.specs.declared.answers.DepositAnswer.TheVariants as deposit
-use Rattle.dgram.specs.declared.body.Body.TheVariants.{DepositReply}
+use Rattle.dgram.specs.declared.body.Body.TheVariants.{DepositReply, Known}
 use Rattle.dgram.specs.Encoding.{datagram_of}
-use Rattle.site.specs.declared.answer.Answer.{Answer}
-use Rattle.site.specs.declared.answer.Line.TheVariants as lines
 use Rattle.udp_site.specs.Traffic.{Post, From}
 use Rattle.lines.specs.Notices.{Learned}
 use Rattle.udp_site.specs.Requests.{Deposits, request_of}
 use Rattle.udp_site.specs.Turns.{Serving, turn_of}
+use Rattle.serving_law.specs.Disks.{Disk, device}
 use Rattle.serving_law.specs.Federations.{Serves, Down, Step, Happening, Dies, new_federation}
 use Rattle.serving_law.specs.Federations.{after_all}
-use Rattle.serving_law.specs.Rules.{AreBytes, MayAll}
-
--- ---- a disk
-
--- a new one; one that was opened; one with a record
-pub data Disk : Type 0 where
-  Blank : Disk
-  Opened : Disk
-  Written : Record → Disk
-
-abbrev pub bytes_on : Owner → Disk → List ℕ
-bytes_on owner Blank = []
-bytes_on owner Opened = header_bytes owner
-bytes_on owner (Written r) = header_bytes owner ++ record_bytes r
-
-abbrev pub moment_of : Disk → ℕ
-moment_of Blank = 0
-moment_of Opened = 0
-moment_of (Written r) = 1
-
--- what a crash since a moment may have left: what is there; or, since before there was a record,
--- what was there then
-abbrev pub left_on : Owner → Disk → (since : ℕ) → List ℕ → Type 0
-left_on owner Blank since bytes = bytes ≡ []
-left_on owner Opened since bytes = bytes ≡ header_bytes owner
-left_on owner (Written r) since bytes =
-    (bytes ≡ header_bytes owner ++ record_bytes r)
-    ⊎ ((since ≡ 0) × (bytes ≡ header_bytes owner))
-
-abbrev pub disk_of : Owner → Disk → Device
-disk_of owner disk = record {
-  image = Some (at_rest (bytes_on owner disk));
-  fuse = None;
-  moment = moment_of disk;
-  left_since = left_on owner disk;
-  failures = 0;
-}
+use Rattle.serving_law.specs.Rules.{AreBytes, IsHistory}
+use Rattle.serving_law.specs.Reports.{step_of}
 
 -- ---- a deposit
 
@@ -80,11 +40,6 @@ pub record Request (federation : ℕ) (slot : SlotName) (bag : BagId) : Type 0 w
   pub facts : TreeFacts
   pub checked : check_of facts ≡ Ok bag
 
--- the answer of a site's call that registers it
-pub record Registering (bag : BagId) (answer : Answer) : Type 0 where
-  pub line : answer.line ≡ Some (lines.Registered bag)
-  pub sends : answer.sends.items ≡ []
-
 -- the reply of site 1
 abbrev pub reply_to : (federation : ℕ) → (port : ℕ) → SlotName → BagId → Post
 reply_to federation port slot bag = (
@@ -99,9 +54,8 @@ pub record WasKilled (members : Membership) (slot : SlotName) (bag : BagId) (por
     (records : List Record) : Type 0 where
   pub before : List (Happening Disk)
   pub step : Step Disk
-  pub happen : MayAll (disk_of (record { members = members; site = 1 })) members new_federation
-      (before ++ Dies 1 step records ∷ [])
-  pub reply : Has (reply_to members.federation port slot bag) step.turn.done.posts
+  pub happens : IsHistory device members (before ++ Dies 1 step records ∷ [])
+  pub would_reply : Has (reply_to members.federation port slot bag) step.turn.done.posts
   pub down : (after_all new_federation (before ++ Dies 1 step records ∷ [])).members 1
       ≡ Down records
   pub nothing : (after_all new_federation (before ++ Dies 1 step records ∷ [])).handed ≡ []
@@ -109,36 +63,31 @@ pub record WasKilled (members : Membership) (slot : SlotName) (bag : BagId) (por
 abbrev pub KilledInADeposit : Type 0
 KilledInADeposit =
     (members : Membership) (slot : SlotName) (bag : BagId)
-    (request : Request members.federation slot bag) (answer : Answer)
-    → IsMembership members → Registering bag answer
+    (request : Request members.federation slot bag) → IsMembership members
     → WasKilled members slot bag request.port []
     × WasKilled members slot bag request.port (recorded slot bag ∷ [])
 
 -- ---- a forged message
 
--- the answer of a call that learns the bag
-pub record Learning (slot : SlotName) (bag : BagId) (answer : Answer) : Type 0 where
-  pub line : answer.line ≡ Some (lines.Known slot bag)
-  pub sends : answer.sends.items ≡ []
-
 -- By the rules of turns site 1 takes the message that site 2 knows the bag, goes on, and says it
--- too; and nothing was handed out before by anyone.
+-- too; and nobody has taken a turn or handed out anything before.
 pub record IsFooled (members : Membership) (slot : SlotName) (bag : BagId) : Type 0 where
   pub before : List (Happening Disk)
-  pub happen :
-      MayAll (disk_of (record { members = members; site = 1 })) members new_federation before
+  pub happens : IsHistory device members before
+  pub no_turn : (h : Happening Disk) → Has h before → step_of h ≡ None
+  pub nothing : (after_all new_federation before).handed ≡ []
   pub old : Serving Disk
   pub serves : (after_all new_federation before).members 1 ≡ Serves old
-  pub nothing : (after_all new_federation before).handed ≡ []
   pub step : Step Disk
-  pub comes :
-      turn_of (disk_of (record { members = members; site = 1 })) step.ports (Some step.folders)
-      old step.turn.took step.turn.done step.next
+  pub forged : step.turn.took
+      ≡ From 0 (datagram_of members.federation (record { slot = slot; body = Known 2 bag }))
+  pub comes : turn_of device step.ports (Some step.folders) old step.turn.took step.turn.done
+      step.next
   pub goes_on : step.next.site.book.needs_opening ≡ false
-  pub says : Has (Learned 1 slot bag) step.turn.done.notices
+  pub says : step.turn.done.notices ≡ Learned 1 slot bag ∷ []
 
 abbrev pub FooledByAForgedKnown : Type 0
 FooledByAForgedKnown =
-    (members : Membership) (slot : SlotName) (bag : BagId) (answer : Answer)
+    (members : Membership) (slot : SlotName) (bag : BagId)
     → IsMembership members → 2 ≤ count_of members → IsSlot slot → IsBag bag
-    → Learning slot bag answer → IsFooled members slot bag
+    → IsFooled members slot bag

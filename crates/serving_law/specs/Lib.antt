@@ -5,4 +5,6 @@ pub mod Federations
 pub mod Rules
 pub mod Reports
 pub mod Laws
+pub mod Disks
 pub mod Examples
+pub mod ExamplesAgreed

@@ -1,6 +1,14 @@
+ghost use Rattle.serving_law.specs.Disks.{AreLikeCells};
 ghost use Rattle.serving_law.specs.Examples.{FooledByAForgedKnown, KilledInADeposit};
+ghost use Rattle.serving_law.specs.ExamplesAgreed.{ThreeSitesAgree, KilledInAVote, ARepeatedVote};
 
-// A function here does nothing: its contract is an example, computed.
+// A function here does nothing: its contract is an example, computed. No example takes a site's
+// answer as given: its bytes are those of a `Vec`, which a proof can make.
+
+/// The disk of the examples keeps what every cell keeps, so the laws are about it too.
+pub fn disks_are_like_cells()
+    ensures { AreLikeCells }
+{}
 
 /// A site that is killed while its deposit is being recorded has handed out nothing, whether the
 /// record is lost or kept.
@@ -12,4 +20,20 @@ pub fn killed_in_a_deposit()
 /// in which it takes a forged message that a bag is known.
 pub fn fooled_by_a_forged_known()
     ensures { FooledByAForgedKnown }
+{}
+
+/// Three sites that serve agree.
+pub fn three_sites_agree()
+    ensures { ThreeSitesAgree }
+{}
+
+/// A site that is killed in the call in which it votes has handed out nothing, whether its vote is
+/// lost or on record.
+pub fn killed_in_a_vote()
+    ensures { KilledInAVote }
+{}
+
+/// A vote that is said again counts once, and comes to nothing once the bag is known.
+pub fn a_repeated_vote()
+    ensures { ARepeatedVote }
 {}

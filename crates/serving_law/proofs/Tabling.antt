@@ -1,0 +1,191 @@
+-- The tables of a site whose records and messages are all of one slot: a row of that slot, in those
+-- of the proposer and of the learner.
+use Rattle.std.proofs.Common.{ℕ, ◌≡◌, refl, sym, ap, subst, ◌∙◌, Bool, true, false, cond, List, []}
+use Rattle.std.proofs.Common.{◌∷◌, map, filter_map, Option, None, Some}
+use Rattle.std.specs.List.{cons_option}
+use Rattle.fed_types.specs.declared.bag_id.BagId.{BagId}
+use Rattle.fed_types.specs.declared.vote.Vote.{Vote}
+use Rattle.fed_types.specs.Lists.{is_in}
+use Rattle.fed_types.specs.Sites.{Membership}
+use Rattle.fed_types.specs.Slots.{SlotName, same_slot}
+use Rattle.fed_types.specs.Laws.Slots.{same_slot_equivalence, same_slot_decides}
+use Rattle.records.specs.declared.entry.Entry.{Entry}
+use Rattle.records.specs.declared.record.Record.{Record}
+use Rattle.records.specs.Words.{entries, entry_of, known_of, used_of, deposit_of}
+use Rattle.dgram.specs.declared.body.Body.{Body}
+use Rattle.dgram.specs.declared.message.Message.{Message}
+use Rattle.dgram.specs.Heard.{bodies_of, floor_of, voters_for, body_in}
+use Rattle.learner.specs.Ledgers as ledgers
+use Rattle.learner.specs.declared.row.Row.{Row as heard_row}
+use Rattle.proposer.specs.declared.row.Row.{Row as own_row}
+use Rattle.proposer.specs.Rows.{Knows, row_of, empty_row}
+use Rattle.proposer.specs.Sessions.{Session, UnderWay, at_slot}
+use Rattle.slot_table.specs.Rows.{row_at, row_or}
+use Rattle.site_tables.specs.Contents.{Contents, StandsFor}
+
+-- no ballot is begun, and no promise waits; the current one was begun with this bag
+abbrev pub begun_with : SlotName → Option BagId → UnderWay
+begun_with slot own = record {
+  begun = λ s. None;
+  begun_with = λ s. None;
+  current_with = λ s. at_slot slot own (λ t. None) s;
+  waiting = λ s. None;
+}
+
+-- what a site has for a slot: its own row, and what it has heard
+pub record Rows : Type 0 where
+  pub own : own_row
+  pub heard : heard_row
+
+module _ (slot : SlotName) where
+  -- records, and messages, of the slot
+  abbrev pub records_of : List Entry → List Record
+  records_of entries = map (λ e. record { slot = slot; body = e }) entries
+
+  abbrev pub heard_of : List Body → List Message
+  heard_of bodies = map (λ b. record { slot = slot; body = b }) bodies
+
+  abbrev pub tables : Membership → (site : ℕ) → Rows → Contents
+  tables members site rows = record {
+    deposits = [];
+    spare = 0;
+    acceptor = [];
+    proposer = record { members = members; site = site; rows = (slot, rows.own) ∷ [] };
+    learner = record { members = members; rows = (slot, rows.heard) ∷ [] };
+  }
+
+  no_entries : (s : SlotName) → same_slot slot s ≡ false → (es : List Entry)
+      → entries s (records_of es) ≡ []
+  no_entries s f [] = refl
+  no_entries s f (e ∷ es) =
+      ap (λ (t : Bool). cons_option (cond t (Some e) None) (entries s (records_of es))) f
+      ∙ no_entries s f es
+
+  no_bodies : (s : SlotName) → same_slot slot s ≡ false → (bs : List Body)
+      → filter_map (body_in s) (heard_of bs) ≡ []
+  no_bodies s f [] = refl
+  no_bodies s f (b ∷ bs) =
+      ap (λ (t : Bool). cons_option (cond t (Some b) None) (filter_map (body_in s) (heard_of bs))) f
+      ∙ no_bodies s f bs
+
+  none_used : (s : SlotName) → same_slot slot s ≡ false → (es : List Entry)
+      → used_of s (records_of es) ≡ 0
+  unfolding used_of
+  none_used s f es = rw (no_entries s f es) refl
+
+  none_known : (s : SlotName) → same_slot slot s ≡ false → (es : List Entry)
+      → known_of s (records_of es) ≡ None
+  unfolding known_of
+  none_known s f es = rw (no_entries s f es) refl
+
+  none_heard : (s : SlotName) → same_slot slot s ≡ false → (bs : List Body)
+      → bodies_of s (heard_of bs) ≡ []
+  unfolding bodies_of
+  none_heard s f bs = no_bodies s f bs
+
+  no_floor : floor_of [] ≡ 0
+  unfolding floor_of
+  no_floor = refl
+
+  no_voters : (vote : Vote) → voters_for vote [] ≡ []
+  unfolding voters_for
+  no_voters vote = refl
+
+  -- a table of one row
+  itself : same_slot slot slot ≡ true
+  itself = (same_slot_decides slot slot).1 refl
+
+  the_row : {R : Type 0} (row : R) → row_at ((slot, row) ∷ []) slot ≡ Some row
+  the_row {R} row = ap (λ (t : Bool). cond t (Some row) None) itself
+
+  no_row : {R : Type 0} (row : R) (s : SlotName) → same_slot slot s ≡ false
+      → row_at ((slot, row) ∷ []) s ≡ None
+  no_row {R} row s f =
+      ap (λ (t : Bool). cond t (Some row) None) (same_slot_equivalence.symm s slot ∙ f)
+
+  module _ (members : Membership) (site : ℕ) (es : List Entry) (bs : List Body)
+      (session : Session) (heard : session.heard ≡ heard_of bs)
+      (elsewhere : (s : SlotName) → same_slot slot s ≡ false → session.current s ≡ None)
+      (own : Option BagId) (rows : Rows)
+      (knows : Knows slot (records_of es) session.heard (session.current slot) None None own None
+      rows.own)
+      (is_own : (bag : BagId) → own ≡ Some bag → deposit_of slot (records_of es) ≡ Some bag)
+      (known : ledgers.known_in (Some rows.heard) ≡ known_of slot (records_of es))
+      (votes : known_of slot (records_of es) ≡ None → (vote : Vote) (n : ℕ)
+      → is_in (ledgers.counted_in (Some rows.heard) vote) n
+      ≡ is_in (voters_for vote (bodies_of slot session.heard)) n) where
+    abbrev KnowsOf : SlotName → Type 0
+    KnowsOf s =
+        Knows s (records_of es) session.heard (session.current s) None None
+        (cond (same_slot slot s) own None) None (row_of ((slot, rows.own) ∷ []) s)
+
+    proposer_at : (s : SlotName) (t : Bool) → same_slot slot s ≡ t → KnowsOf s
+    proposer_at s true e =
+        subst KnowsOf ((same_slot_decides slot s).0 e)
+        (subst (λ (r : own_row). Knows slot (records_of es) session.heard (session.current slot)
+        None None (cond (same_slot slot slot) own None) None r)
+        (ap (λ (r : Option own_row). row_or empty_row r) (sym (the_row rows.own)))
+        (subst (λ (t : Bool). Knows slot (records_of es) session.heard (session.current slot)
+        None None (cond t own None) None rows.own) (sym itself) knows))
+    proposer_at s false e =
+        subst (λ (r : own_row). Knows s (records_of es) session.heard (session.current s)
+        None None (cond (same_slot slot s) own None) None r)
+        (ap (λ (r : Option own_row). row_or empty_row r) (sym (no_row rows.own s e)))
+        (subst (λ (t : Bool). Knows s (records_of es) session.heard (session.current s)
+        None None (cond t own None) None empty_row) (sym e)
+        (record {
+          used = sym (none_used s e es);
+          floor =
+              sym (ap (λ (ms : List Message). floor_of (bodies_of s ms)) heard
+              ∙ ap (λ (b : List Body). floor_of b) (none_heard s e bs) ∙ no_floor);
+          begun = tt;
+          current = rw (elsewhere s e) tt;
+          waiting = refl;
+        }))
+
+    known_at : (s : SlotName) (t : Bool) → same_slot slot s ≡ t
+        → ledgers.known_in (row_at ((slot, rows.heard) ∷ []) s) ≡ known_of s (records_of es)
+    known_at s true e =
+        subst (λ (s : SlotName). ledgers.known_in (row_at ((slot, rows.heard) ∷ []) s)
+        ≡ known_of s (records_of es)) ((same_slot_decides slot s).0 e)
+        (ap (λ (r : Option heard_row). ledgers.known_in r) (the_row rows.heard) ∙ known)
+    known_at s false e =
+        ap (λ (r : Option heard_row). ledgers.known_in r) (no_row rows.heard s e)
+        ∙ sym (none_known s e es)
+
+    abbrev Counts : SlotName → Vote → ℕ → Type 0
+    Counts s vote n =
+        is_in (ledgers.counted_in (row_at ((slot, rows.heard) ∷ []) s) vote) n
+        ≡ is_in (voters_for vote (bodies_of s session.heard)) n
+
+    votes_at : (s : SlotName) (t : Bool) → same_slot slot s ≡ t
+        → known_of s (records_of es) ≡ None → (vote : Vote) (n : ℕ) → Counts s vote n
+    votes_at s true e none vote n =
+        subst (λ (s : SlotName). Counts s vote n) ((same_slot_decides slot s).0 e)
+        (ap (λ (r : Option heard_row). is_in (ledgers.counted_in r vote) n) (the_row rows.heard)
+        ∙ votes (ap (λ (s : SlotName). known_of s (records_of es))
+        ((same_slot_decides slot s).0 e) ∙ none) vote n)
+    votes_at s false e none vote n =
+        ap (λ (r : Option heard_row). is_in (ledgers.counted_in r vote) n)
+        (no_row rows.heard s e)
+        ∙ sym (ap (λ (xs : List ℕ). is_in xs n)
+        (ap (λ (ms : List Message). voters_for vote (bodies_of s ms)) heard
+        ∙ ap (λ (b : List Body). voters_for vote b) (none_heard s e bs) ∙ no_voters vote))
+
+    deposits_at : (s : SlotName) (bag : BagId) (t : Bool) → same_slot slot s ≡ t
+        → cond t own None ≡ Some bag → deposit_of s (records_of es) ≡ Some bag
+    deposits_at s bag true e is =
+        subst (λ (s : SlotName). deposit_of s (records_of es) ≡ Some bag)
+        ((same_slot_decides slot s).0 e) (is_own bag is)
+    deposits_at s bag false e is = absurd (cc is)
+
+    pub stands : StandsFor (tables members site rows) (records_of es) session (begun_with slot own)
+    stands = record {
+      proposer = λ s. proposer_at s (same_slot slot s) refl;
+      begun = λ s bag e. absurd (cc e);
+      current = λ s bag e. deposits_at s bag (same_slot slot s) refl e;
+      learner = record {
+        known = λ s. known_at s (same_slot slot s) refl;
+        votes = λ s none vote n. votes_at s (same_slot slot s) refl none vote n;
+      };
+    }
