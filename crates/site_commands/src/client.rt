@@ -84,14 +84,14 @@ fn answer<P: Port>(
     }
 }
 
-/// What a site replies to a query for the slot's bag, if it replies.
+/// What a site replies to a query for the slot's bag, if it replies. The port may have been used.
 pub fn ask_for_bag<P: Port>(
     alloc: Global,
     port: &mut P,
     request: &Request<'_>,
 ) -> Result<Option<QueryAnswer>, AllocError> {
     let bytes = datagram(alloc, request, None)?;
-    match ask(alloc, port, request, Wanted::ToQuery, bytes.as_slice())? {
+    match ask_again(alloc, port, request, Wanted::ToQuery, bytes.as_slice())? {
         Some(Reply::ToQuery(answer)) => Ok(Some(answer)),
         _ => Ok(None),
     }
@@ -110,8 +110,8 @@ pub(crate) fn answer_of(
     }
 }
 
-/// Sends a datagram, and gives the reply that is wanted, if it comes.
-pub(crate) fn ask<P: Port>(
+/// Sends a datagram, and gives the reply that is wanted, if it comes before a turn is idle.
+fn ask<P: Port>(
     alloc: Global,
     port: &mut P,
     request: &Request<'_>,
@@ -121,6 +121,31 @@ pub(crate) fn ask<P: Port>(
     if port.send(request.target, bytes).is_err() {
         return Ok(None);
     }
+    hear(alloc, port, request, wanted)
+}
+
+/// Asks at a port that was used before. There a turn is idle at once, if the port's wait has passed
+/// since an earlier one, so that only the second idle turn says that nothing came.
+pub(crate) fn ask_again<P: Port>(
+    alloc: Global,
+    port: &mut P,
+    request: &Request<'_>,
+    wanted: Wanted,
+    bytes: &[u8],
+) -> Result<Option<Reply>, AllocError> {
+    match ask(alloc, port, request, wanted, bytes)? {
+        Some(reply) => Ok(Some(reply)),
+        None => hear(alloc, port, request, wanted),
+    }
+}
+
+// The reply that is wanted, if it comes before a turn is idle.
+fn hear<P: Port>(
+    alloc: Global,
+    port: &mut P,
+    request: &Request<'_>,
+    wanted: Wanted,
+) -> Result<Option<Reply>, AllocError> {
     for _ in 0..MOST_DATAGRAMS {
         let Ok(Turn::Got(_, bytes)) = port.receive() else {
             return Ok(None);

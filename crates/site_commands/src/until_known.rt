@@ -1,6 +1,6 @@
 //! A client that asks until a bag is known.
 
-use crate::client::{Reply, Request, Wanted, answer_of, ask, datagram, write_reply};
+use crate::client::{Reply, Request, Wanted, answer_of, ask_again, datagram, write_reply};
 use dgram::{DepositAnswer, FolderPath, QueryAnswer};
 use outcomes::{Answer, ProgramFault};
 use std::alloc::{AllocError, Global};
@@ -71,7 +71,7 @@ fn last_reply<P: Port, C: Clock>(
     let mut last = None;
     let mut bytes = questions.first();
     for _ in 0..u32::MAX {
-        let Some(reply) = ask(alloc, port, request, Wanted::Any, bytes)? else {
+        let Some(reply) = ask_again(alloc, port, request, Wanted::Any, bytes)? else {
             bytes = questions.query.as_slice();
             if !pauses.pause(clock) {
                 break;
