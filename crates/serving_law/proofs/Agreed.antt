@@ -1000,9 +1000,12 @@ module _ (bag : BagId) (request : Request 7 a bag) where
 
   may_deposit : May device three f3 (Turns 1 deposit_step 1 0)
   unfolding new_federation
-  may_deposit =
-      (asked, (member 1 (omega arith) (omega arith), refl),
-      record { may_come = comes_in; comes = deposits }, refl)
+  may_deposit = (
+    asked,
+    (member 1 (omega arith) (omega arith), refl),
+    record { may_come = comes_in; comes = deposits },
+    refl,
+  )
     where
       comes_in : MayCome 7 f3.handed (From request.port request.bytes)
       comes_in = (request.are_bytes, λ message e. absurd (other (sym request.asked ∙ e)))
@@ -1013,9 +1016,12 @@ module _ (bag : BagId) (request : Request 7 a bag) where
 
   may_propose : May device three f4 (Turns 1 propose_step 3 0)
   unfolding new_federation
-  may_propose =
-      (has_deposit, (member 1 (omega arith) (omega arith), refl),
-      record { may_come = tt; comes = proposes }, refl)
+  may_propose = (
+    has_deposit,
+    (member 1 (omega arith) (omega arith), refl),
+    record { may_come = tt; comes = proposes },
+    refl,
+  )
 
   may_p1 : May device three f5 (Turns 1 (step_of p1) 1 0)
   unfolding new_federation
@@ -1136,9 +1142,34 @@ module _ (bag : BagId) (request : Request 7 a bag) where
   may_before : (later : List (Happening Disk)) → MayAll device three f10 later
       → MayAll device three f0 (asked_to_vote ++ later)
   unfolding MayAll
-  may_before later may =
-      (may_1, (may_2, (may_3, (may_deposit, (may_propose, (may_p1, (may_p2, (may_y1, (may_y2,
-      (may_a1, may))))))))))
+  may_before later may = (
+    may_1,
+    (
+      may_2,
+      (
+        may_3,
+        (
+          may_deposit,
+          (
+            may_propose,
+            (
+              may_p1,
+              (
+                may_p2,
+                (
+                  may_y1,
+                  (
+                    may_y2,
+                    (may_a1, may),
+                  ),
+                ),
+              ),
+            ),
+          ),
+        ),
+      ),
+    ),
+  )
 
   -- a turn in which this is all that is said, and a byte of it is written
   prints : (n : ℕ) (step : Step Disk) → step.turn.done.notices ≡ Learned n a bag ∷ []

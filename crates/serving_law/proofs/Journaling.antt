@@ -58,12 +58,17 @@ are_like_cells = record {
   seen_now = λ disk i e.
       subst (λ (j : Image). Leaves j j.seen) (some_is (at_rest (bytes_on disk)) i e)
       (0, sym (keeps_same 0 (bytes_on disk)));
-  counts_now = λ disk t bytes le left.
-      (moment_of disk, le, omega arith,
-      at_rest_leaves (bytes_on disk) bytes left ∙ sym (is_now disk));
-  only_now = λ disk bytes left.
-      (0, left.3 ∙ ap (λ (k : ℕ). bytes_at disk k) (one left.0 (moment_of disk) left.1 left.2)
-      ∙ is_now disk ∙ sym (keeps_same 0 (bytes_on disk)));
+  counts_now = λ disk t bytes le left. (
+    moment_of disk,
+    le,
+    omega arith,
+    at_rest_leaves (bytes_on disk) bytes left ∙ sym (is_now disk),
+  );
+  only_now = λ disk bytes left. (
+    0,
+    left.3 ∙ ap (λ (k : ℕ). bytes_at disk k) (one left.0 (moment_of disk) left.1 left.2)
+        ∙ is_now disk ∙ sym (keeps_same 0 (bytes_on disk)),
+  );
 }
   where
     some_is : (i j : Image) → Some i ≡ Some j → i ≡ j
@@ -203,8 +208,12 @@ module _ (owner : Owner) (are_weights : AreWeights owner.members.weights) where
         ⊎ (Says owner c (Ok records) ⊎ Says owner c (Ok more))
     since_then t c within left = elim (cases_lt left.0 (suc (suc (length records)))) [
       | inl lt ↦
-          inl (left.0, left.1, omega arith,
-          left.3 ∙ at_before owner records r left.0 (omega arith))
+          inl (
+            left.0,
+            left.1,
+            omega arith,
+            left.3 ∙ at_before owner records r left.0 (omega arith),
+          )
       | inr le ↦ inr (with_or_without c left.0 (omega arith) left.3)
     ]
 
