@@ -18,21 +18,8 @@ fn label_of(
     place: usize,
     event: &Event,
 ) -> Result<String, AllocError> {
-    let arrived = match event.deed {
-        Deed::Deliver => story.datagram(event.number),
-        _ => None,
-    };
-    let scene = Scene {
-        story,
-        event,
-        datagram: if arrived.is_some() {
-            arrived
-        } else {
-            story.first_sent(event)
-        },
-        count: story.count_at(place),
-    };
-    let sentences = match arrived {
+    let scene = Scene::of(story, place, event);
+    let sentences = match story.delivered(event) {
         Some(datagram) => [
             "#$n ",
             datagram.head(),

@@ -1,7 +1,7 @@
 //! Colours, each by its letter: of bags, by the numbers of their trees, and of what names none.
 
 use crate::shape::push_shape;
-use run_story::{Datagram, Deed, Event, Kind, Story};
+use run_story::{Datagram, Event, Kind, Story};
 use std::alloc::AllocError;
 
 /// The colour of what names no bag, and of refusals.
@@ -44,9 +44,9 @@ pub(crate) fn of_datagram(datagram: &Datagram) -> char {
 
 /// That of the words of an event.
 pub(crate) fn of_event(story: &Story, event: &Event) -> char {
-    match (event.deed, story.datagram(event.number)) {
-        (Deed::Deliver, Some(datagram)) => of_datagram(datagram),
-        _ => of_tree(event.tree),
+    match story.delivered(event) {
+        Some(datagram) => of_datagram(datagram),
+        None => of_tree(event.tree),
     }
 }
 

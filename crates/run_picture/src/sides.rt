@@ -1,6 +1,6 @@
 //! Left and right of a column.
 
-use run_story::{Deed, Event, Story};
+use run_story::{Event, Story};
 
 /// On which side of a place something stands.
 #[derive(Clone, Copy)]
@@ -12,11 +12,11 @@ pub(crate) enum Side {
 /// On which side of its column the words of an event stand. An arrow comes from the other side;
 /// that of a site to itself from the right.
 pub(crate) fn side_of(story: &Story, event: &Event) -> Side {
-    match (event.deed, story.datagram(event.number)) {
-        (Deed::Deliver, Some(datagram)) if datagram.from < datagram.to => Side::Right,
-        (Deed::Deliver, _) => Side::Left,
-        _ if event.site != 1 && event.site == story.members.count() => Side::Right,
-        _ => Side::Left,
+    match story.delivered(event) {
+        Some(datagram) if datagram.from < datagram.to => Side::Right,
+        Some(_) => Side::Left,
+        None if event.site != 1 && event.site == story.members.count() => Side::Right,
+        None => Side::Left,
     }
 }
 

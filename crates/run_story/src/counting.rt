@@ -38,9 +38,10 @@ impl Story {
 
     // What the event delivers to a site that hears it.
     fn heard_in(&self, event: &Event) -> Option<&Datagram> {
-        match event.deed {
-            Deed::Deliver if event.is_done() => self.datagram(event.number),
-            _ => None,
+        if event.is_done() {
+            self.delivered(event)
+        } else {
+            None
         }
     }
 

@@ -30,6 +30,23 @@ pub struct Scene<'a> {
     pub count: Option<Count>,
 }
 
+impl<'a> Scene<'a> {
+    /// Of the event at a place, with the datagram that it delivered, or else the first that it sent.
+    pub fn of(story: &'a Story, place: usize, event: &'a Event) -> Scene<'a> {
+        let delivered = story.delivered(event);
+        Scene {
+            story,
+            event,
+            datagram: if delivered.is_some() {
+                delivered
+            } else {
+                story.first_sent(event)
+            },
+            count: story.count_at(place),
+        }
+    }
+}
+
 impl Scene<'_> {
     /// Appends a sentence, its blanks filled in.
     pub fn say(&self, text: &mut String, sentence: &str) -> Result<(), AllocError> {

@@ -1,5 +1,5 @@
 use crate::datagram::Datagram;
-use crate::event::{Event, Outcome};
+use crate::event::{Deed, Event, Outcome};
 use fed_types::{Ballot, Members, Slot};
 use indexmap::IndexSet;
 use lines::{Line, Reason};
@@ -63,6 +63,14 @@ impl Story {
     /// The least weight that is more than half of all.
     pub fn quorum(&self) -> u16 {
         self.members.total_weight() / 2 + 1
+    }
+
+    /// The datagram that an event delivered, whether a site heard it or not, if it was sent.
+    pub fn delivered(&self, event: &Event) -> Option<&Datagram> {
+        match event.deed {
+            Deed::Deliver => self.datagram(event.number),
+            _ => None,
+        }
     }
 
     /// The first datagram that an event sent, if it sent any.

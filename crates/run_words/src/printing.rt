@@ -51,32 +51,18 @@ fn push_event(
     place: usize,
     event: &Event,
 ) -> Result<(), AllocError> {
-    let arrived = match event.deed {
-        Deed::Deliver => story.datagram(event.number),
-        _ => None,
-    };
-    let sent = story.first_sent(event);
-    let mut scene = Scene {
-        story,
-        event,
-        datagram: if arrived.is_some() { arrived } else { sent },
-        count: story.count_at(place),
-    };
+    let mut scene = Scene::of(story, place, event);
     push_all(text, &scene, &[command(event), fate(event)])?;
-    push_what(text, &scene, arrived)?;
-    scene.datagram = sent;
+    push_what(text, &scene)?;
+    scene.datagram = story.first_sent(event);
     push_sends(text, &scene)?;
     text.push('\n')
 }
 
 // What came of the event, and what is on record since.
-fn push_what(
-    text: &mut String,
-    scene: &Scene<'_>,
-    arrived: Option<&Datagram>,
-) -> Result<(), AllocError> {
+fn push_what(text: &mut String, scene: &Scene<'_>) -> Result<(), AllocError> {
     let event = scene.event;
-    match (event.outcome, arrived) {
+    match (event.outcome, scene.story.delivered(event)) {
         (Outcome::Skipped(reason), _) => scene.say(text, skip(event, reason)),
         (_, Some(datagram)) => push_arrival(text, scene, datagram),
         (_, None) => push_all(text, scene, &[outcome(scene), stop(event), kept(event)]),
