@@ -10,6 +10,8 @@ use std::alloc::AllocError;
 
 /// How far an arrow that breaks off goes.
 const BROKEN: usize = 62;
+/// How far from its column the words of such an arrow stand.
+const BEYOND: usize = 74;
 /// How far from a column an arrow ends.
 const GAP: usize = 7;
 
@@ -178,7 +180,7 @@ impl Drawing<'_> {
             Side::Left => "<text class='l f$c' x='$0' y='$1' dy='4'>",
             Side::Right => "<text class='f$c' x='$0' y='$1' dy='4'>",
         };
-        let x = beside(self.layout.column(datagram.from), 74, side);
+        let x = beside(self.layout.column(datagram.from), BEYOND, side);
         let end = self.layout.stub(number);
         push_shape(text, shape, of_datagram(datagram), &[x, end])?;
         self.push_words(text, number, datagram)?;

@@ -60,7 +60,7 @@ impl Legend {
 
     /// Where it ends, with so many trees.
     pub(crate) fn bottom(&self, trees: usize) -> usize {
-        let [_, y] = self.place(MARKS.len().saturating_add(trees));
+        let [_, y] = self.place((MARKS.len() - 1).saturating_add(trees));
         y.saturating_add(HIGH)
     }
 

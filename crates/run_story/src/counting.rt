@@ -28,12 +28,14 @@ impl Story {
     pub fn count_at(&self, place: usize) -> Option<Count> {
         let event = self.events.get(place)?;
         let datagram = self.heard_in(event)?;
-        let heard = self.heard_by(place, event.site, datagram);
-        match datagram.kind {
-            Kind::Promise if heard.issued != datagram.ballot => None,
-            Kind::Promise | Kind::Accepted => Some(self.count_of(heard)),
-            _ => None,
+        if !matches!(datagram.kind, Kind::Promise | Kind::Accepted) {
+            return None;
         }
+        let heard = self.heard_by(place, event.site, datagram);
+        if datagram.kind == Kind::Promise && heard.issued != datagram.ballot {
+            return None;
+        }
+        Some(self.count_of(heard))
     }
 
     // What the event delivers to a site that hears it.

@@ -5,9 +5,9 @@
 //!   sent before, `z` how many it sent, `c` with how many records a site starts, `e` why one
 //!   refused, `x` the ballot for which it refuses;
 //! - of its record: `R` the round, `B` the ballot; and `t` the tree of what it or the line names;
-//! - of a datagram: `o` its slot, after a space, where the story has several, `f` and `i` the sites
-//!   that it comes from and goes to, `b` its ballot, `v` the other ballot that it names, `r` the
-//!   round of that, `g` the tree;
+//! - of a datagram: `o` its slot, after a space, where the story has several, `f` the site that it
+//!   comes from, `b` its ballot, `v` the other ballot that it names, `r` the round of that, `g` the
+//!   tree;
 //! - of a count: `h` how much was heard, `q` how much is needed, `w` the highest ballot;
 //! - of the members: `m` how many they are.
 
@@ -97,7 +97,6 @@ impl Scene<'_> {
         };
         match letter {
             'f' => usize::from(datagram.from),
-            'i' => usize::from(datagram.to),
             'g' => datagram.tree as usize,
             'r' => round_of(datagram.other),
             _ => 0,
