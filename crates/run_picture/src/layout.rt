@@ -72,23 +72,28 @@ impl Layout {
         for before in event.sent_before..event.sent_after {
             if let Some(Passage::Never) = story.passages.get(before) {
                 self.bottom = self.bottom.saturating_add(STUB);
+                self.allow_stub(story, event);
             }
             self.stubs.push(self.bottom)?;
         }
         Ok(())
     }
 
-    // Leaves so much room beside an event. To the right of the last column there may be a datagram
-    // that the site has sent to itself, and that breaks off.
+    // To the right of the last column there may be a datagram that its site has sent to itself, and
+    // that breaks off.
+    fn allow_stub(&mut self, story: &Story, event: &Event) {
+        if event.site == story.members.count() {
+            self.right = self.right.max(LEAST_SPACING);
+        }
+    }
+
+    // Leaves so much room beside an event.
     fn allow(&mut self, story: &Story, event: &Event, room: usize) {
         let last = story.members.count();
         match side_of(story, event) {
             Side::Left if event.site == 1 => self.left = self.left.max(room.saturating_add(GUTTER)),
             Side::Right if event.site == last => self.right = self.right.max(room),
             _ => self.spacing = self.spacing.max(room),
-        }
-        if event.site == last && event.sent() != 0 {
-            self.right = self.right.max(LEAST_SPACING);
         }
     }
 
