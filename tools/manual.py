@@ -4,7 +4,7 @@ import subprocess
 
 SECTION = re.compile(r"(Commands|Arguments|Options):\n((?:  .*\n)+)\n?")
 # The values of these options and arguments are files, or folders; of others nothing is known.
-FILES, FOLDERS = ("<FILE>", "[FILE]", "<CELL>"), ("<FOLDER>", "[PATH]")
+FILES, FOLDERS = ("<FILE>", "[FILE]", "<CELL>", "<PICTURE>"), ("<FOLDER>", "[PATH]")
 
 
 class Help:

@@ -28,23 +28,27 @@ A deposit, propose, deliver or ask may end in a fate:
   fail 1 K, fail 2 K    the write, or the sync, fails; the site has to be started again
 Lines that are blank, or begin with `#`, are skipped.
 
-With `--words` standard error says, where the text is no schedule, what is wrong with its first line
-at fault.
+With `--words` standard error says, once the lines are printed, what each command did, with its own
+line below it, and which datagrams were never delivered; or, where the text is no schedule, what is
+wrong with its first line at fault. With `--draw` a picture of the run is written to a file, in
+place of what is there: a column a site, time downwards, an arrow a datagram.
 
 The exit status is 0; 1 where the text is no schedule (`schedule line N`), memory runs out
-(`memory`), the schedule can't be read (`input unread`), or standard output can't be written; and 2
-for a mistake in the arguments.
+(`memory`), the schedule can't be read (`input unread`), or standard output or the picture can't be
+written; and 2 for a mistake in the arguments.
 
 Examples:
   printf 'federation 7 3\\nquery 1 a 1\\n' | bagpaxos run
-  bagpaxos run --words examples/duel.schedule";
+  bagpaxos run --words --draw duel.svg examples/duel.schedule";
 
 /// A schedule to run.
 #[derive(Clone, Copy, Debug)]
 pub(crate) struct RunTask<'a> {
     pub(crate) options: Options,
-    /// What is wrong with a line at fault is said in words.
+    /// What happens is said in words.
     pub(crate) words: bool,
+    /// The path of the picture.
+    pub(crate) drawing: Option<&'a str>,
     /// The path of the schedule; none for standard input.
     pub(crate) file: Option<&'a str>,
 }
@@ -57,6 +61,7 @@ pub(crate) fn run_task<'a>(matches: &ArgMatches<'a>) -> RunTask<'a> {
             identities: matches.get_flag("identities"),
         },
         words: matches.get_flag("words"),
+        drawing: matches.get_str("draw"),
         file: matches.get_str("FILE"),
     }
 }
@@ -66,6 +71,7 @@ pub(crate) fn run_command<'a>(alloc: Global) -> Result<Command<'a>, AllocError> 
     let run = Command::new(alloc, "run").about(ABOUT).after_help(EXAMPLE);
     let run = with_argument(run.arg(sent_argument(alloc)), identities_argument(alloc));
     let run = with_argument(run, words_argument(alloc));
+    let run = with_argument(run, draw_argument(alloc));
     with_argument(run, file_argument(alloc))
 }
 
@@ -94,7 +100,14 @@ fn words_argument<'a>(alloc: Global) -> Arg<'a> {
     Arg::new(alloc, "words")
         .long("words")
         .action(ArgAction::SetTrue)
-        .help("Say in words on standard error what is wrong with the schedule")
+        .help("Say in words what happens, on standard error")
+}
+
+fn draw_argument<'a>(alloc: Global) -> Arg<'a> {
+    Arg::new(alloc, "draw")
+        .long("draw")
+        .value_name("PICTURE")
+        .help("Write a picture of the run to this file, as SVG")
 }
 
 fn file_argument<'a>(alloc: Global) -> Arg<'a> {

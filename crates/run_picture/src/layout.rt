@@ -1,0 +1,136 @@
+//! Where everything is, in units of the picture.
+
+use crate::sides::{Side, side_of};
+use lines::Reason;
+use run_story::{Deed, Event, Outcome, Passage, Story};
+use std::alloc::{AllocError, Global};
+
+/// The height above the first row, in which the sites are named.
+const TOP: usize = 84;
+/// The height of an event.
+const ROW: usize = 26;
+/// The height of a datagram that was never delivered, below the event that sent it.
+const STUB: usize = 18;
+/// Room for the numbers of the schedule's lines.
+const GUTTER: usize = 56;
+/// How far columns are apart at least, and how wide the margins are.
+const LEAST_SPACING: usize = 250;
+
+const LEAST_MARGIN: usize = 84;
+
+/// Where everything is.
+#[derive(Drop)]
+pub(crate) struct Layout {
+    // How wide the margins are, and how far columns are apart.
+    left: usize,
+    spacing: usize,
+    right: usize,
+    // The row of each event, 0 where it isn't drawn.
+    rows: Vec<usize>,
+    // Of each datagram, where it ends if it was never delivered.
+    stubs: Vec<usize>,
+    /// The last row.
+    pub(crate) bottom: usize,
+}
+
+impl Layout {
+    /// Of a story, whose events have these words beside them.
+    pub(crate) fn of(
+        alloc: Global,
+        story: &Story,
+        labels: &[String],
+    ) -> Result<Layout, AllocError> {
+        let mut layout = Layout {
+            left: GUTTER + LEAST_MARGIN,
+            spacing: LEAST_SPACING,
+            right: LEAST_MARGIN,
+            rows: Vec::new(alloc),
+            stubs: Vec::new(alloc),
+            bottom: TOP,
+        };
+        for (event, label) in story.events.iter().zip(labels.iter()) {
+            layout.add_row(event)?;
+            layout.add_stubs(story, event)?;
+            layout.allow(story, event, room_for(label.len()));
+        }
+        Ok(layout)
+    }
+
+    // The row of the next event.
+    fn add_row(&mut self, event: &Event) -> Result<(), AllocError> {
+        if !is_drawn(event) {
+            self.rows.push(0)?;
+            return Ok(());
+        }
+        self.bottom = self.bottom.saturating_add(ROW);
+        self.rows.push(self.bottom)?;
+        Ok(())
+    }
+
+    // Where the datagrams that it sent break off.
+    fn add_stubs(&mut self, story: &Story, event: &Event) -> Result<(), AllocError> {
+        for before in event.sent_before..event.sent_after {
+            if let Some(Passage::Never) = story.passages.get(before) {
+                self.bottom = self.bottom.saturating_add(STUB);
+                self.allow_stub(story, event);
+            }
+            self.stubs.push(self.bottom)?;
+        }
+        Ok(())
+    }
+
+    // To the right of the last column there may be a datagram that its site has sent to itself, and
+    // that breaks off.
+    fn allow_stub(&mut self, story: &Story, event: &Event) {
+        if event.site == story.members.count() {
+            self.right = self.right.max(LEAST_SPACING);
+        }
+    }
+
+    // Leaves so much room beside an event.
+    fn allow(&mut self, story: &Story, event: &Event, room: usize) {
+        let last = story.members.count();
+        match side_of(story, event) {
+            Side::Left if event.site == 1 => self.left = self.left.max(room.saturating_add(GUTTER)),
+            Side::Right if event.site == last => self.right = self.right.max(room),
+            _ => self.spacing = self.spacing.max(room),
+        }
+    }
+
+    /// The column of a site.
+    pub(crate) fn column(&self, site: u8) -> usize {
+        let before = usize::from(site.saturating_sub(1));
+        self.left
+            .saturating_add(before.saturating_mul(self.spacing))
+    }
+
+    /// How wide the picture of so many sites is.
+    pub(crate) fn width(&self, sites: u8) -> usize {
+        self.column(sites).saturating_add(self.right)
+    }
+
+    /// The row of the event at this place, 0 where it isn't drawn.
+    pub(crate) fn row(&self, place: usize) -> usize {
+        self.rows.get(place).copied().unwrap_or(0)
+    }
+
+    /// Where the datagram of this number breaks off, if it does.
+    pub(crate) fn stub(&self, number: usize) -> usize {
+        self.stubs.get(number.wrapping_sub(1)).copied().unwrap_or(0)
+    }
+}
+
+// Whether an event has a row: it happened at a site, or a datagram came where the site was down.
+fn is_drawn(event: &Event) -> bool {
+    match (event.deed, event.outcome) {
+        (Deed::Tree, _) => false,
+        (Deed::Deliver, Outcome::Skipped(Reason::Down)) => true,
+        (_, Outcome::Skipped(_)) => false,
+        _ => true,
+    }
+}
+
+// How much room words of so many bytes take, at most 60 of which are seen.
+fn room_for(bytes: usize) -> usize {
+    (bytes.min(60).saturating_mul(13) / 2).saturating_add(36)
+}

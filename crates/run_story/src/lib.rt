@@ -1,0 +1,20 @@
+//! What happened in a run, event by event, in numbers: what a command asked for, what came of it,
+//! what the site put on record and what it sent. The run is made by the simulator's own federation,
+//! a line of the schedule at a time. Sentences with blanks say it in words.
+#![tactic(auto)]
+
+mod counting;
+mod datagram;
+mod event;
+mod notes;
+mod planned;
+mod reading;
+mod scene;
+mod story;
+mod telling;
+
+pub use datagram::{Datagram, Kind};
+pub use event::{Deed, Event, Outcome};
+pub use scene::Scene;
+pub use story::{Count, Passage, Story};
+pub use telling::tell;

@@ -1,0 +1,271 @@
+//! What is noted while a run goes on.
+
+use crate::datagram::Datagram;
+use crate::event::{Deed, Event, Outcome};
+use crate::reading::{bag_in, bag_on, ballot_of, kind_of, other_ballot_of, outcome_of, tree_in};
+use crate::story::{Passage, Story, passage_after};
+use dgram::{Message, decode};
+use fed_types::{BagId, Members, Slot};
+use federation::Federation;
+use indexmap::IndexSet;
+use lines::Line;
+use records::{Entry, Owner, Record, read_journal};
+use stations::{Place, Station};
+use std::alloc::{AllocError, Global};
+use world_tables::{Datagrams, SeenBags};
+
+/// What was noted so far.
+#[derive(Drop)]
+pub(crate) struct Notes {
+    alloc: Global,
+    members: Members,
+    datagrams: Datagrams<Datagram>,
+    passages: Vec<Passage>,
+    slots: IndexSet<Slot>,
+    // How many records each site has, site 1 first.
+    records: Vec<usize>,
+    events: Vec<Event>,
+    // How many of the federation's lines were read.
+    lines: usize,
+}
+
+/// How many records there are, and what the last of them says.
+#[derive(Clone, Copy)]
+struct Recorded {
+    count: usize,
+    last: Option<Entry>,
+}
+
+impl Notes {
+    /// Nothing has happened.
+    pub(crate) fn new(alloc: Global, members: Members) -> Result<Notes, AllocError> {
+        let mut records = Vec::new(alloc);
+        for _ in 0..members.count() {
+            records.push(0)?;
+        }
+        Ok(Notes {
+            alloc,
+            members,
+            datagrams: Datagrams::new(alloc),
+            passages: Vec::new(alloc),
+            slots: IndexSet::new(alloc),
+            records,
+            events: Vec::new(alloc),
+            lines: 0,
+        })
+    }
+
+    /// What happened.
+    pub(crate) fn end(self, lines: Vec<Line>) -> Story {
+        let Notes {
+            members,
+            datagrams,
+            passages,
+            slots,
+            events,
+            ..
+        } = self;
+        Story {
+            members,
+            events,
+            lines,
+            passages,
+            datagrams,
+            slots,
+        }
+    }
+
+    /// The datagram that a pump delivers next.
+    pub(crate) fn next_unnamed(&mut self) -> Option<usize> {
+        self.datagrams.next_unnamed()
+    }
+
+    /// The place of a slot.
+    pub(crate) fn slot_place(&mut self, slot: &Slot) -> Result<usize, AllocError> {
+        let (place, _) = self.slots.insert_full(slot.copy(self.alloc)?)?;
+        Ok(place)
+    }
+
+    /// The event with what its datagram says, if it delivers one; its number is named.
+    pub(crate) fn begin(&mut self, event: Event) -> Result<Event, AllocError> {
+        let mut event = event;
+        event.sent_before = self.datagrams.len();
+        if let Deed::Deliver = event.deed {
+            self.datagrams.name(event.number)?;
+            if let Some(datagram) = self.datagrams.get(event.number) {
+                event.site = datagram.to;
+                event.slot = datagram.slot;
+            }
+        }
+        Ok(event)
+    }
+
+    /// Notes the event, after which the federation is so.
+    pub(crate) fn end_event(
+        &mut self,
+        event: Event,
+        federation: &Federation,
+    ) -> Result<(), AllocError> {
+        // The checker of borrows has to know each type that an event holds.
+        let _entry: Option<Entry> = None;
+        let mut event = event;
+        self.read_lines(&mut event, federation)?;
+        self.note_passage(&event);
+        self.read_record(&mut event, federation)?;
+        event.sent_after = self.datagrams.len();
+        self.events.push(event)?;
+        Ok(())
+    }
+
+    // Reads the new lines: the datagrams, and the event's own.
+    fn read_lines(&mut self, event: &mut Event, federation: &Federation) -> Result<(), AllocError> {
+        let lines = federation.lines();
+        for place in self.lines..lines.len() {
+            if let Some(line) = lines.get(place) {
+                self.read_line(event, federation.seen(), place, line)?;
+            }
+        }
+        self.lines = lines.len();
+        Ok(())
+    }
+
+    fn read_line(
+        &mut self,
+        event: &mut Event,
+        seen: &SeenBags,
+        place: usize,
+        line: &Line,
+    ) -> Result<(), AllocError> {
+        if let Line::Sent { to, bytes, .. } = line {
+            return self.read_datagram(event, seen, *to, bytes.as_slice());
+        }
+        event.outcome = outcome_of(line);
+        event.tree = tree_in(line);
+        event.said = Some(place);
+        Ok(())
+    }
+
+    fn read_datagram(
+        &mut self,
+        event: &Event,
+        seen: &SeenBags,
+        to: u8,
+        bytes: &[u8],
+    ) -> Result<(), AllocError> {
+        match decode(self.alloc, self.members.federation(), bytes) {
+            Ok(message) => self.note_message(event, seen, to, &message),
+            // No other fault comes of what a site has sealed.
+            Err(_) => Err(AllocError),
+        }
+    }
+
+    fn note_message(
+        &mut self,
+        event: &Event,
+        seen: &SeenBags,
+        to: u8,
+        message: &Message,
+    ) -> Result<(), AllocError> {
+        let body = &message.body;
+        let datagram = Datagram {
+            from: match message.from() {
+                Some(site) => site.number(),
+                None => 0,
+            },
+            to,
+            slot: event.slot,
+            event: self.events.len(),
+            kind: kind_of(body),
+            ballot: ballot_of(body),
+            other: other_ballot_of(body),
+            tree: tree_of(seen, bag_in(body)),
+        };
+        self.passages.push(Passage::Never)?;
+        self.datagrams.push(datagram)?;
+        Ok(())
+    }
+
+    // What became of the datagram that the event delivered.
+    fn note_passage(&mut self, event: &Event) {
+        let place = self.events.len();
+        if let Deed::Deliver = event.deed {
+            if let Some(passage) = self.passages.get_mut(event.number.wrapping_sub(1)) {
+                *passage = passage_after(*passage, event, place);
+            }
+        }
+    }
+
+    // Reads the record that the site has since, if it has one more than before.
+    fn read_record(
+        &mut self,
+        event: &mut Event,
+        federation: &Federation,
+    ) -> Result<(), AllocError> {
+        if let Outcome::Skipped(_) = event.outcome {
+            return Ok(());
+        }
+        let place = usize::from(event.site).wrapping_sub(1);
+        if let Some(station) = federation.stations().get(place) {
+            let recorded = recorded_at(self.alloc, self.members, station)?;
+            if self.has_grown(place, recorded.count) {
+                event.record = recorded.last;
+                if let Some(entry) = &recorded.last {
+                    event.tree = tree_of(federation.seen(), bag_on(entry));
+                }
+            }
+        }
+        Ok(())
+    }
+
+    // Notes how many records the site at this place has: more than before?
+    fn has_grown(&mut self, place: usize, count: usize) -> bool {
+        match self.records.get_mut(place) {
+            Some(before) if *before < count => {
+                *before = count;
+                true
+            }
+            _ => false,
+        }
+    }
+}
+
+// The tree that held the bag first, 0 where there is no bag.
+fn tree_of(seen: &SeenBags, bag: Option<BagId>) -> u32 {
+    match bag {
+        Some(bag) => seen.first_tree(bag),
+        None => 0,
+    }
+}
+
+// What the station's site has on record, wherever it is. Where its device has failed, the cell may
+// have one record more.
+fn recorded_at(alloc: Global, members: Members, station: &Station) -> Result<Recorded, AllocError> {
+    match station.place() {
+        Place::Running(site) => Ok(recorded_among(site.records())),
+        Place::AtRest(cell) => {
+            let owner = Owner {
+                members,
+                site: station.number(),
+            };
+            recorded_in(alloc, owner, cell.bytes())
+        }
+    }
+}
+
+fn recorded_in(alloc: Global, owner: Owner, bytes: &[u8]) -> Result<Recorded, AllocError> {
+    match read_journal(alloc, owner, bytes) {
+        Ok(journal) => Ok(recorded_among(journal.records.as_slice())),
+        // No other fault comes of a cell that keeps records.
+        Err(_) => Err(AllocError),
+    }
+}
+
+fn recorded_among(records: &[Record]) -> Recorded {
+    Recorded {
+        count: records.len(),
+        last: match records.last() {
+            Some(record) => Some(record.body),
+            None => None,
+        },
+    }
+}
