@@ -43,12 +43,7 @@ fn ask_all<W: Write>(
     versions: &mut Vec<KnownBag>,
     output: &mut W,
 ) -> Result<u8, ProgramFault> {
-    // A client waits as long each time.
-    let waits = Waits {
-        first: task.wait,
-        most: task.wait,
-    };
-    match socket(rt, asked.federation, 0, waits) {
+    match socket(rt, asked.federation, 0, Waits::always(task.wait)) {
         Ok(mut port) => {
             let alloc = rt.alloc();
             let ended = catch_up_on(alloc, rt, &mut port, &asked, versions, task.seconds, output);

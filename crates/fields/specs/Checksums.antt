@@ -27,6 +27,10 @@ without_checksum bytes =
     if nat_lt (length bytes) checksum_len then None else
     (if bytes_eq (drop (before_checksum bytes) bytes) (checksum front) then Some front else None)
 
+-- a checksum has its length, whatever it is of
+abbrev pub ChecksumsHaveTheirLength : Type 0
+ChecksumsHaveTheirLength = (bytes : List ℕ) → length (checksum bytes) ≡ checksum_len
+
 -- what is read is what was written, and nothing else is read
 abbrev pub ChecksumsAreExact : Type 0
 ChecksumsAreExact = (front bytes : List ℕ) → (without_checksum bytes ≡ Some front)

@@ -52,7 +52,7 @@ fn try_to_send<W: Write>(
     let slot = slot_of(rt.alloc(), task)?;
     let path = path_of(rt.alloc(), task)?;
     let federation = members.members().federation();
-    let mut port = socket(rt, federation, 0, waits_of(task))?;
+    let mut port = socket(rt, federation, 0, Waits::always(task.wait))?;
     let request = Request {
         federation,
         to: task.to,
@@ -66,14 +66,6 @@ fn try_to_send<W: Write>(
         }
         None => send_on(rt.alloc(), &mut port, &request, path, output),
     })
-}
-
-// A client waits as long each time.
-fn waits_of(task: &SendTask<'_>) -> Waits {
-    Waits {
-        first: task.wait,
-        most: task.wait,
-    }
 }
 
 // The slot, which the arguments name within its limits.

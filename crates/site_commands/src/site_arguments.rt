@@ -107,10 +107,11 @@ impl SiteTask<'_> {
 
 /// What these arguments of the command ask for.
 pub fn site_task<'a>(matches: &ArgMatches<'a>) -> Option<SiteTask<'a>> {
+    let number = SiteNo::new(matches.get_one::<u8>("number")?).ok()?;
     Some(SiteTask {
         members: matches.get_str("members")?,
         listed: matches.get_flag("listed"),
-        number: SiteNo::new(matches.get_one::<u8>("number")?).ok()?,
+        number,
         cell: matches.get_str("cell")?,
         existing: matches.get_flag("existing"),
         bags: matches.get_str("bags"),
@@ -120,6 +121,7 @@ pub fn site_task<'a>(matches: &ArgMatches<'a>) -> Option<SiteTask<'a>> {
         waits: Waits {
             first: matches.get_one::<u32>("wait")?,
             most: matches.get_one::<u32>("wait-most")?,
+            prompt: u32::from(number.number()),
         },
     })
 }

@@ -1,12 +1,12 @@
--- How long a port waits, computed: first 1 ms, and 5 ms at most.
+-- How long the port of site 2 waits, computed: first 1 ms, and 5 ms at most.
 use Rattle.std.proofs.Common.{◌≡◌, ℕ, List, [], ◌∷◌, refl}
 use Rattle.udp_site.specs.declared.pace.Pace.{Pace}
-use Rattle.udp_site.specs.declared.sign.Sign.TheVariants.{Still, Moves, Decides}
+use Rattle.udp_site.specs.declared.sign.Sign.TheVariants.{Still, Moves, Decides, Deposits}
 use Rattle.udp_site.specs.Pace.{begins, idles, hears, hands, left}
 
 -- a port after idle turns at 1, 3 and 7 ms
 abbrev fresh : Pace
-fresh = begins (record { first = 1; most = 5 })
+fresh = begins (record { first = 1; most = 5; prompt = 2 })
 
 abbrev once : Pace
 once = idles fresh 1000
@@ -34,9 +34,25 @@ third_wait = refl
 pub longest_wait : left rested 7000 7000 ≡ 5000
 longest_wait = refl
 
--- a deposit brings back the first wait, which has passed: the next turn is idle at once
-pub deposit_is_proposed : left (hears rested Moves) 9000 9000 ≡ 0
+-- a deposit brings back the first wait, and two turns are idle at once, as site 2 needs; no third
+abbrev deposited : Pace
+deposited = hears rested Deposits
+
+pub deposit_is_proposed : left deposited 7100 7100 ≡ 0
 deposit_is_proposed = refl
+
+pub in_the_second_turn : left (idles deposited 7100) 7100 7100 ≡ 0
+in_the_second_turn = refl
+
+pub and_no_third : left (idles (idles deposited 7100) 7200) 7200 7200 ≡ 4000
+and_no_third = refl
+
+-- what else moves brings back the first wait, which may have passed
+pub wait_has_passed : left (hears rested Moves) 9000 9000 ≡ 0
+wait_has_passed = refl
+
+pub wait_has_not_passed : left (hears rested Moves) 7100 7100 ≡ 900
+wait_has_not_passed = refl
 
 -- a question moves nothing; but the turn is idle 5 ms after the last that was, whatever comes
 pub asked : left (hears rested Still) 9000 9000 ≡ 3000
@@ -47,13 +63,13 @@ asked_all_the_time = refl
 
 -- while a proposal is under way a turn is idle 1 ms after the last that came, or 250 ms after the
 -- last idle turn
-pub proposes : left (hands (hears rested Moves) prepare) 9000 9000 ≡ 1000
+pub proposes : left (hands deposited prepare) 9000 9000 ≡ 1000
 proposes = refl
 
-pub proposes_and_is_asked : left (hands (hears rested Moves) prepare) 256000 256000 ≡ 1000
+pub proposes_and_is_asked : left (hands deposited prepare) 256000 256000 ≡ 1000
 proposes_and_is_asked = refl
 
-pub is_idle_at_last : left (hands (hears rested Moves) prepare) 257000 257000 ≡ 0
+pub is_idle_at_last : left (hands deposited prepare) 257000 257000 ≡ 0
 is_idle_at_last = refl
 
 -- a vote of another site: no proposal is under way any more

@@ -18,3 +18,4 @@ pub mod TurnEnds
 pub mod Questions
 pub mod Queried
 pub mod Examples
+pub mod Signs

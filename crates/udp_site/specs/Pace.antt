@@ -1,5 +1,5 @@
 -- How long a port waits. Waits are milliseconds, and moments are microseconds of its clock.
-use Rattle.std.specs.Prelude.{ℕ, ◌-◌, ◌*◌, min, max, true, false, if◌then◌else◌, List}
+use Rattle.std.specs.Prelude.{ℕ, ◌-◌, ◌*◌, ◌==◌, min, max, true, false, if◌then◌else◌, List}
 use Rattle.udp_site.specs.declared.waits.Waits.{Waits}
 use Rattle.udp_site.specs.declared.pace.Pace.{Pace}
 use Rattle.udp_site.specs.declared.sign.Sign.{Sign}
@@ -8,33 +8,43 @@ use Rattle.udp_site.specs.Signs.{is_prepare}
 
 -- a port begins with its first wait, as after an idle turn at the moment 0
 abbrev pub begins : Waits → Pace
-begins waits = record { waits = waits; wait = waits.first; idle_at = 0; under_way = false }
+begins waits = record {
+  waits = waits;
+  wait = waits.first;
+  idle_at = 0;
+  under_way = false;
+  prompt = 0;
+}
 
 -- nothing came: it waits twice as long, up to the most that it may
 abbrev pub idles : Pace → (now : ℕ) → Pace
 idles pace now = record pace {
   wait = min (2 * pace.wait) (max pace.waits.first pace.waits.most);
   idle_at = now;
+  prompt = pace.prompt - 1;
 }
 
 -- Something comes. Where that moves something it waits for its first wait again; where a proposal has
--- got votes, or a bag is known, no proposal is under way any more.
+-- got votes, or a bag is known, no proposal is under way any more; and where a bag is deposited, the
+-- turns in which a site gets to propose it are prompt.
 abbrev pub hears : Pace → Sign → Pace
 hears pace signs.Still = pace
 hears pace signs.Moves = record pace { wait = pace.waits.first }
 hears pace signs.Decides = record pace { wait = pace.waits.first; under_way = false }
+hears pace signs.Deposits = record pace { wait = pace.waits.first; prompt = pace.waits.prompt }
 
 -- A datagram is handed out: with a Prepare a proposal is under way.
 abbrev pub hands : Pace → List ℕ → Pace
 hands pace bytes = if is_prepare bytes then record pace { under_way = true } else pace
 
--- How long after an idle turn the next one comes, whatever else does: one wait; but where a proposal
--- is under way ten first waits, and 250 ms at least, since a site that is idle sooner outbids it.
--- First waits, and not those that have grown: site N proposes in each N-th idle turn, and where
--- clients ask all the time site 3 would else wait for 10, 20 and 40 waits.
+-- How long after an idle turn the next one comes, whatever else does: one wait, and none where it is
+-- prompt; but where a proposal is under way ten first waits, and 250 ms at least, since a site that
+-- is idle sooner outbids it. First waits, and not those that have grown: site N proposes in each N-th
+-- idle turn, and where clients ask all the time site 3 would else wait for 10, 20 and 40 waits.
 abbrev pub between : Pace → ℕ
 between pace =
-    if pace.under_way then max pace.wait (max (10 * pace.waits.first) 250) else pace.wait
+    if pace.under_way then max pace.wait (max (10 * pace.waits.first) 250) else
+    (if pace.prompt == 0 then pace.wait else 0)
 
 -- for how many microseconds a turn that began then waits still; with 0 it is idle
 abbrev pub left : Pace → (began now : ℕ) → ℕ

@@ -1,9 +1,11 @@
 ghost use Rattle.std.specs.Prelude.{◌≡◌, ◌≤◌, ◌*◌};
-ghost use Rattle.std.specs.Prelude.{false};
+ghost use Rattle.std.specs.Prelude.{ℕ, false};
+ghost use Rattle.dgram.specs.Decoded.{message_of};
 ghost use Rattle.udp_site.specs.declared.sign.Sign.{Sign};
 ghost use Rattle.udp_site.specs.Pace.{begins, idles, hears, hands, between, left};
+ghost use Rattle.udp_site.specs.Signs.{sign_at};
 
-use crate::sign::{Sign, is_prepare};
+use crate::sign::{Sign, is_deposit, is_prepare};
 use crate::waits::Waits;
 
 /// How many of its first waits a port lets pass between two idle turns, where no turn is idle by
@@ -21,10 +23,12 @@ pub(crate) struct Pace {
     pub(crate) waits: Waits,
     /// How long it waits now.
     pub(crate) wait: u32,
-    /// When its last turn that was idle ended.
+    /// When the wait of its last turn that was idle ended.
     pub(crate) idle_at: u64,
     /// A Prepare was handed out, and no votes of others, nor a known bag, have come since then.
     pub(crate) under_way: bool,
+    /// How many turns are idle at once while no proposal is under way, since a Deposit came.
+    pub(crate) prompt: u32,
 }
 
 impl Pace {
@@ -37,6 +41,7 @@ impl Pace {
             wait: waits.first,
             idle_at: 0,
             under_way: false,
+            prompt: 0,
         }
     }
 
@@ -47,14 +52,19 @@ impl Pace {
         let most = self.waits.most.max(self.waits.first);
         self.wait = self.wait.saturating_mul(2).min(most);
         self.idle_at = now;
+        self.prompt = self.prompt.saturating_sub(1);
     }
 
-    /// Whether a sign may change anything: it doesn't where the port waits for its first wait, and no
-    /// proposal is under way.
-    pub(crate) fn heeds_signs(&self) -> bool
-        ensures { result ≡ false → (sign : Sign) → hears self.now sign ≡ self.now }
+    /// Whether what came may change anything: where the port waits for its first wait, and no
+    /// proposal is under way, only a Deposit does.
+    pub(crate) fn heeds(&self, bytes: &[u8]) -> bool
+        ensures { result ≡ false → (own from federation : ℕ)
+            → hears self.now (sign_at own from (message_of federation bytes.now)) ≡ self.now }
     {
-        self.wait != self.waits.first || self.under_way
+        if self.wait != self.waits.first || self.under_way {
+            return true;
+        }
+        is_deposit(bytes)
     }
 
     /// A datagram came that is a sign of this.
@@ -67,6 +77,10 @@ impl Pace {
             Sign::Decides => {
                 self.wait = self.waits.first;
                 self.under_way = false;
+            }
+            Sign::Deposits => {
+                self.wait = self.waits.first;
+                self.prompt = self.waits.prompt;
             }
         }
     }
@@ -99,10 +113,10 @@ impl Pace {
         ensures within { result ≤ 10 * 4294967295 }
     {
         let wait = u64::from(self.wait);
-        if !self.under_way {
-            return wait;
+        if self.under_way {
+            let waits = FIRST_WAITS * u64::from(self.waits.first);
+            return wait.max(waits.max(LEAST_BETWEEN));
         }
-        let waits = FIRST_WAITS * u64::from(self.waits.first);
-        wait.max(waits.max(LEAST_BETWEEN))
+        if self.prompt == 0 { wait } else { 0 }
     }
 }

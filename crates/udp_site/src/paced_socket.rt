@@ -1,8 +1,10 @@
 //! A socket, and how long it is waited at.
 
-ghost use Rattle.std.specs.Prelude.{◌≡◌, ◌≤◌, length, false, IfOk, OnErr, IfSome};
+ghost use Rattle.std.specs.Prelude.{◌≡◌, ◌≤◌, ℕ, length, false, IfOk, OnErr, IfSome};
+ghost use Rattle.dgram.specs.Decoded.{message_of};
 ghost use Rattle.udp_site.specs.declared.sign.Sign.{Sign};
 ghost use Rattle.udp_site.specs.Pace.{begins, hears, hands};
+ghost use Rattle.udp_site.specs.Signs.{sign_at};
 ghost use Rattle.udp_site.specs.inner.Paced.{Waited, EndsWait};
 
 use crate::pace::Pace;
@@ -98,11 +100,13 @@ impl<R: Clock + Drop> PacedSocket<R> {
         Err(ErrorKind::TimedOut.into())
     }
 
-    /// Whether a sign may change its pace.
-    pub(crate) fn heeds_signs(&self) -> bool
-        ensures { result ≡ false → (sign : Sign) → hears self.now.pace sign ≡ self.now.pace }
+    /// Whether what was taken may change its pace.
+    pub(crate) fn heeds(&self, bytes: &[u8]) -> bool
+        ensures { result ≡ false → (own from federation : ℕ)
+            → hears self.now.pace (sign_at own from (message_of federation bytes.now))
+            ≡ self.now.pace }
     {
-        self.pace.heeds_signs()
+        self.pace.heeds(bytes)
     }
 
     /// What was taken is a sign of this.

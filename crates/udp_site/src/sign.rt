@@ -2,7 +2,7 @@
 
 ghost use Rattle.std.specs.Prelude.{◌≡◌, IfOk};
 ghost use Rattle.dgram.specs.Decoded.{message_of};
-ghost use Rattle.udp_site.specs.Signs.{sign_by, sign_at, is_prepare};
+ghost use Rattle.udp_site.specs.Signs.{sign_by, sign_at, kind_byte, is_prepare, is_deposit};
 
 use dgram::{Body, DgramFault, Message, decode};
 use std::alloc::{AllocError, Global};
@@ -13,6 +13,9 @@ const KIND_PLACE: usize = 3;
 /// A Prepare's kind.
 const PREPARE: u8 = 1;
 
+/// A Deposit's kind.
+const DEPOSIT: u8 = 16;
+
 /// What a datagram is a sign of, for the pace of a port.
 #[derive(Clone, Copy, Debug, PartialEq, Eq)]
 pub(crate) enum Sign {
@@ -22,6 +25,8 @@ pub(crate) enum Sign {
     Moves,
     /// Something moves, and a proposal has got votes, or a bag is known.
     Decides,
+    /// Something moves, and there may be a bag to propose.
+    Deposits,
 }
 
 /// What these bytes are a sign of, which came to a port from one. They are decoded, so that what
@@ -50,8 +55,9 @@ fn sign_by(body: &Body) -> Sign
     ensures { result ≡ sign_by body.now }
 {
     match body {
-        Body::Accept { .. } | Body::Deposit { .. } => Sign::Moves,
+        Body::Accept { .. } => Sign::Moves,
         Body::Accepted { .. } | Body::Known { .. } => Sign::Decides,
+        Body::Deposit { .. } => Sign::Deposits,
         Body::Prepare { .. }
         | Body::Promise { .. }
         | Body::Refused { .. }
@@ -66,5 +72,19 @@ fn sign_by(body: &Body) -> Sign
 pub(crate) fn is_prepare(bytes: &[u8]) -> bool
     ensures { result ≡ is_prepare bytes.now }
 {
-    bytes.get(KIND_PLACE).copied().unwrap_or(0) == PREPARE
+    kind_byte(bytes) == PREPARE
+}
+
+/// Whether a datagram that came may be a Deposit, by its kind.
+pub(crate) fn is_deposit(bytes: &[u8]) -> bool
+    ensures { result ≡ is_deposit bytes.now }
+{
+    kind_byte(bytes) == DEPOSIT
+}
+
+// The kind's byte, or 0 where there is none.
+fn kind_byte(bytes: &[u8]) -> u8
+    ensures { result ≡ kind_byte bytes.now }
+{
+    bytes.get(KIND_PLACE).copied().unwrap_or(0)
 }

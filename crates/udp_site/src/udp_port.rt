@@ -138,7 +138,7 @@ fn turn_at<R: Clock + Drop>(
         Some((from, count)) => {
             bytes.truncate(count);
             // A datagram is decoded once more only where that may change something.
-            if socket.heeds_signs() {
+            if socket.heeds(&bytes) {
                 let sign = sign_of(alloc, federation, own, from, &bytes)?;
                 socket.hears(sign);
             }

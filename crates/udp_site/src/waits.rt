@@ -1,3 +1,5 @@
+ghost use Rattle.std.specs.Prelude.{◌≡◌};
+
 /// How long a port waits in a turn, in milliseconds.
 #[derive(Clone, Copy, Debug, PartialEq, Eq)]
 pub struct Waits {
@@ -5,4 +7,20 @@ pub struct Waits {
     pub first: u32,
     /// At most, while nothing does. It is never less than the first.
     pub most: u32,
+    /// How many turns don't wait after a Deposit: as many as a site needs to propose, which is its
+    /// number, or 0.
+    pub prompt: u32,
+}
+
+impl Waits {
+    /// Those of a client: it waits as long each time.
+    pub fn always(wait: u32) -> Waits
+        ensures { result ≡ record { first = wait; most = wait; prompt = 0 } }
+    {
+        Waits {
+            first: wait,
+            most: wait,
+            prompt: 0,
+        }
+    }
 }
