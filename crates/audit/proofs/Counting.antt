@@ -15,7 +15,7 @@ use Rattle.records.specs.declared.record.Record.{Record}
 use Rattle.records.specs.Bounds.{HasEntry}
 use Rattle.dgram.specs.Heard.{same_vote}
 use Rattle.learner.specs.Ledgers.{voters_or_none}
-use Rattle.learner.proofs.Hearing.{same_vote_decides}
+use Rattle.learner.proofs.HeardVotes.{same_vote_decides}
 use Rattle.audit.specs.declared.votes.Cast.{Cast}
 use Rattle.audit.specs.Evidence.{SiteRecord, records_at}
 use Rattle.audit.specs.inner.Casts.{Casts, cast_of, same_cast, voters_in, IsCounted}

@@ -16,7 +16,7 @@ use Rattle.records.specs.Bounds.{HasEntry}
 use Rattle.records.specs.Words.{entries, vote_in}
 use Rattle.records.proofs.Bounds.{entry_has, has_entry}
 use Rattle.dgram.specs.Heard.{same_vote}
-use Rattle.learner.proofs.Hearing.{same_vote_decides}
+use Rattle.learner.proofs.HeardVotes.{same_vote_decides}
 use Rattle.world_law.specs.Laws.{IsChosenBy}
 use Rattle.audit.specs.Evidence.{SiteRecord, records_at, network_of}
 use Rattle.audit.specs.Findings.{votes_in, has_vote, members_with}

@@ -11,7 +11,7 @@ use Rattle.records.specs.declared.entry.Entry.TheVariants as entry
 use Rattle.records.specs.Bounds.{HasEntry}
 use Rattle.world_law.specs.Laws.{OnRecord}
 use Rattle.dgram.specs.Heard.{same_vote}
-use Rattle.learner.proofs.Hearing.{same_vote_decides}
+use Rattle.learner.proofs.HeardVotes.{same_vote_decides}
 use Rattle.audit.specs.declared.row.Row.{Row}
 use Rattle.audit.specs.Evidence.{SiteRecord, records_at, network_of}
 use Rattle.audit.specs.Laws.{IsNamed}

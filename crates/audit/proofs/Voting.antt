@@ -12,7 +12,7 @@ use Rattle.fed_types.specs.Laws.Slots.{same_slot_decides}
 use Rattle.records.specs.declared.entry.Entry.{Entry}
 use Rattle.records.specs.declared.entry.Entry.TheVariants as entry
 use Rattle.dgram.specs.Heard.{same_vote}
-use Rattle.learner.proofs.Hearing.{same_vote_decides}
+use Rattle.learner.proofs.HeardVotes.{same_vote_decides}
 use Rattle.slot_table.specs.Rows.{Rows, row_at, row_or, row_of, IsWith}
 use Rattle.audit.specs.declared.row.Row.{Row}
 use Rattle.audit.specs.Evidence.{SiteRecord}

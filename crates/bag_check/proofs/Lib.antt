@@ -1,7 +1,7 @@
 pub mod Bools
 pub mod Keyed
 pub mod Repeats
-pub mod Ascending
+pub mod AscendingPaths
 pub mod Counted
 pub mod Readings
 pub mod Steps

@@ -16,7 +16,7 @@ use Rattle.bag_text.specs.Lines.{lines_of}
 use Rattle.bag_text.specs.Declarations.{IsDeclaration}
 use Rattle.bag_text.specs.ListedFile.{ListedFile}
 use Rattle.bag_text.specs.Manifests.{IsManifest}
-use Rattle.bag_text.specs.Reading.{declaration_of, entries_of}
+use Rattle.bag_text.specs.Readers.{declaration_of, entries_of}
 use Rattle.bag_text.proofs.DeclarationLaws.{declares-read, read-declares}
 use Rattle.bag_text.proofs.ManifestLaws.{files_from-listed, listed-files_from}
 use Rattle.bag_tree.specs.Facts.{FileFact, TreeFacts}

@@ -12,7 +12,7 @@ use Rattle.sha2.specs.Sha512.{sha512}
 use Rattle.fed_types.specs.declared.bag_id.BagId.{BagId}
 use Rattle.bag_text.specs.declared.algorithm.Algorithm.{Algorithm}
 use Rattle.bag_text.specs.ListedFile.{ListedFile}
-use Rattle.bag_text.specs.Reading.{declaration_of}
+use Rattle.bag_text.specs.Readers.{declaration_of}
 use Rattle.bag_tree.specs.Path.{is_unsafe, is_payload}
 use Rattle.bag_digest.specs.Digests.{digest_by, is_digest}
 use Rattle.bag_tree.specs.Facts.{FileFact, TreeFacts}

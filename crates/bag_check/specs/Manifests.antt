@@ -9,7 +9,7 @@ use Rattle.bag_text.specs.declared.algorithm.Algorithm.{Algorithm}
 use Rattle.bag_text.specs.declared.algorithm.Algorithm.TheVariants.{Md5, Sha1, Sha256, Sha512}
 use Rattle.bag_text.specs.Algorithms.{algorithm_name}
 use Rattle.bag_text.specs.ListedFile.{ListedFile}
-use Rattle.bag_text.specs.Reading.{entries_of}
+use Rattle.bag_text.specs.Readers.{entries_of}
 use Rattle.bag_tree.specs.Path.{parts_of, is_text_named}
 use Rattle.bag_tree.specs.Facts.{FileFact}
 use Rattle.bag_check.specs.declared.manifests.Kind.{Kind}

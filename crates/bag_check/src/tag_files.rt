@@ -1,6 +1,6 @@
 ghost use Rattle.std.specs.Prelude.{◌≡◌, codes};
 ghost use Rattle.std.specs.List.{list_any};
-ghost use Rattle.bag_text.specs.Reading.{declaration_of};
+ghost use Rattle.bag_text.specs.Readers.{declaration_of};
 ghost use Rattle.bag_check.specs.Check.{is_supported_version, is_supported_encoding};
 ghost use Rattle.bag_check.specs.Manifests.{text_at, is_unknown};
 ghost use Rattle.bag_check.specs.inner.Order.{fault_of_declaration, fault_of_declared};

@@ -16,7 +16,7 @@ use Rattle.bag_explain.specs.Places.{repeated_places, missing_places, unlisted_p
 use Rattle.bag_explain.specs.Findings.{Finding, findings_by, findings_of, printed_fault}
 use Rattle.bag_explain.specs.Findings.{printed_places, explanation_of}
 use Rattle.bag_explain.specs.inner.Stages.{fault_of, printed_in, tree_of, printed_faults}
-use Rattle.bag_explain.proofs.Printing.{after_both}
+use Rattle.bag_explain.proofs.FaultLines.{after_both}
 use Rattle.bag_explain.specs.inner.Stages.{first_faults, listing_faults, printed_listings}
 
 flat_map-flat_map : {X Y Z : Type 0} (g : Y → List Z) (f : X → List Y) (xs : List X)

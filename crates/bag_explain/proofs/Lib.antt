@@ -1,5 +1,5 @@
-pub mod Printing
-pub mod Numbering
+pub mod FaultLines
+pub mod NumberedLines
 pub mod Repeated
 pub mod Explained
 pub mod LineLaws

@@ -7,7 +7,7 @@ use Rattle.bag_text.specs.ListedFile.{ListedFile}
 use Rattle.bag_text.specs.Lines.{lines_of, is_line_end, carriage_return, line_feed}
 use Rattle.bag_text.specs.Lines.{starts_with_line_feed}
 use Rattle.bag_text.specs.Blanks.{is_blank}
-use Rattle.bag_text.specs.Reading.{entries_of, files_from, file_in, onto_or}
+use Rattle.bag_text.specs.Readers.{entries_of, files_from, file_in, onto_or}
 use Rattle.bag_explain.specs.Lines.{NumberedFile, numbered, if_malformed, numbered_from}
 use Rattle.bag_explain.specs.Lines.{malformed_from}
 use Rattle.bag_explain.specs.Places.{files_in}

@@ -9,7 +9,7 @@ use Rattle.bag_text.specs.ListedFile.{ListedFile}
 use Rattle.bag_text.specs.Lines.{lines_of}
 use Rattle.bag_text.specs.Blanks.{IsBlank, is_blank}
 use Rattle.bag_text.specs.Manifests.{IsEntryLine}
-use Rattle.bag_text.specs.Reading.{entries_of, file_in}
+use Rattle.bag_text.specs.Readers.{entries_of, file_in}
 use Rattle.bag_text.proofs.EntryLaws.{file_in-entry, entry-file_in}
 use Rattle.bag_explain.specs.Lines.{numbered, if_malformed, numbered_from}
 use Rattle.bag_explain.specs.Lines.{malformed_from}

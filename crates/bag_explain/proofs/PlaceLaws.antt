@@ -6,7 +6,7 @@ use Rattle.std.specs.List.{list_any, flat_map}
 use Rattle.std.proofs.lemmas.List.Folds.{flat_map-map}
 use Rattle.bag_text.specs.ListedFile.{ListedFile}
 use Rattle.bag_text.specs.Lines.{lines_of}
-use Rattle.bag_text.specs.Reading.{declaration_of}
+use Rattle.bag_text.specs.Readers.{declaration_of}
 use Rattle.bag_tree.specs.Facts.{FileFact, TreeFacts}
 use Rattle.bag_check.specs.declared.fault.BagFault.{BagFault}
 use Rattle.bag_check.specs.declared.fault.BagFault.TheVariants.{NoDeclaration, BadDeclaration}

@@ -18,7 +18,7 @@ use Rattle.bag_explain.specs.Lines.{NumberedFile}
 use Rattle.bag_explain.specs.Listings.{Listing}
 use Rattle.bag_explain.specs.Places.{Place, when, files_in, repeated_after, repeated_at}
 use Rattle.bag_explain.specs.Findings.{printed_places, has_some}
-use Rattle.bag_explain.proofs.Printing.{after_both, printed-append}
+use Rattle.bag_explain.proofs.FaultLines.{after_both, printed-append}
 
 files_in-append : (a b : List NumberedFile) → files_in (a ++ b) ≡ files_in a ++ files_in b
 files_in-append [] b = refl

@@ -3,7 +3,7 @@ use Rattle.std.proofs.Common.{ℕ, ◌+◌, ◌≤◌, List, [], ◌∷◌, ◌+
 use Rattle.std.proofs.Common.{inl, inr, arith, ap}
 use Rattle.bag_text.specs.declared.algorithm.Algorithm.{Algorithm}
 use Rattle.bag_text.specs.ListedFile.{ListedFile}
-use Rattle.bag_text.specs.Reading.{entries_of}
+use Rattle.bag_text.specs.Readers.{entries_of}
 use Rattle.bag_explain.specs.Lines.{NumberedFile, numbered, numbered_from}
 use Rattle.bag_explain.proofs.Members.{In}
 

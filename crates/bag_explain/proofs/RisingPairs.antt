@@ -3,7 +3,7 @@ use Rattle.std.proofs.Common.{ℕ, ◌+◌, ◌<◌, ◌≤◌, Bool, true, fals
 use Rattle.std.proofs.Common.{Result, Ok, Err, inl, inr, subst, arith}
 use Rattle.bag_text.specs.declared.algorithm.Algorithm.{Algorithm}
 use Rattle.bag_text.specs.ListedFile.{ListedFile}
-use Rattle.bag_text.specs.Reading.{entries_of}
+use Rattle.bag_text.specs.Readers.{entries_of}
 use Rattle.bag_check.specs.Manifests.{is_listed}
 use Rattle.bag_explain.specs.Lines.{NumberedFile, if_malformed, malformed_from}
 use Rattle.bag_explain.specs.Places.{when, repeated_after}

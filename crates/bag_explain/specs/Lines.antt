@@ -2,7 +2,7 @@
 use Rattle.std.specs.Prelude.{ℕ, ◌+◌, List, [], ◌∷◌, ◌++◌, Result, Ok, Err}
 use Rattle.bag_text.specs.declared.algorithm.Algorithm.{Algorithm}
 use Rattle.bag_text.specs.ListedFile.{ListedFile}
-use Rattle.bag_text.specs.Reading.{entries_of}
+use Rattle.bag_text.specs.Readers.{entries_of}
 
 -- a line that lists a file: its number, and the file
 pub record NumberedFile : Type 0 where

@@ -4,7 +4,7 @@ use Rattle.std.specs.Prelude.{Option, Some, None, Result, Ok, Err}
 use Rattle.std.specs.List.{flat_map}
 use Rattle.bag_text.specs.declared.algorithm.Algorithm.{Algorithm}
 use Rattle.bag_text.specs.ListedFile.{ListedFile}
-use Rattle.bag_text.specs.Reading.{declaration_of}
+use Rattle.bag_text.specs.Readers.{declaration_of}
 use Rattle.bag_tree.specs.Path.{payload_folder}
 use Rattle.bag_tree.specs.Facts.{FileFact, TreeFacts}
 use Rattle.bag_check.specs.declared.fault.BagFault.{BagFault}

@@ -3,7 +3,7 @@
 use Rattle.std.specs.Prelude.{◌≡◌, ◌<◌, ℕ, true, List, Some, Ok, Err, Contains, codes}
 use Rattle.bag_text.specs.ListedFile.{ListedFile}
 use Rattle.bag_text.specs.Lines.{lines_of}
-use Rattle.bag_text.specs.Reading.{declaration_of}
+use Rattle.bag_text.specs.Readers.{declaration_of}
 use Rattle.bag_tree.specs.Path.{payload_folder}
 use Rattle.bag_tree.specs.Facts.{FileFact, TreeFacts}
 use Rattle.bag_check.specs.declared.fault.BagFault.{BagFault}

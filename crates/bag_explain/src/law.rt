@@ -6,7 +6,7 @@ ghost use Rattle.std.specs.List.{AllByRecursion};
 ghost use Rattle.bag_text.specs.declared.algorithm.Algorithm.{Algorithm};
 ghost use Rattle.bag_text.specs.Lines.{lines_of};
 ghost use Rattle.bag_text.specs.ListedFile.{ListedFile};
-ghost use Rattle.bag_text.specs.Reading.{entries_of};
+ghost use Rattle.bag_text.specs.Readers.{entries_of};
 ghost use Rattle.bag_tree.specs.Tree.{Files};
 ghost use Rattle.bag_tree.specs.Facts.{TreeFacts, facts_of_tree};
 ghost use Rattle.bag_check.specs.declared.fault.BagFault.{BagFault};

@@ -1,6 +1,6 @@
 ghost use Rattle.std.specs.Prelude.{◌≡◌, ◌++◌, IfOk, OnOk, map};
 ghost use Rattle.bag_text.specs.Lines.{lines_of};
-ghost use Rattle.bag_text.specs.Reading.{entries_of};
+ghost use Rattle.bag_text.specs.Readers.{entries_of};
 ghost use Rattle.bag_check.specs.Manifests.{manifest_at, manifests_of_kind};
 ghost use Rattle.bag_explain.specs.Lines.{numbered, if_malformed};
 ghost use Rattle.bag_explain.specs.Listings.{listing_of, listings_of};

@@ -1,6 +1,6 @@
 ghost use Rattle.std.specs.Prelude.{◌≡◌, ◌∷◌, [], codes};
 ghost use Rattle.std.specs.Option.{option_copied};
-ghost use Rattle.bag_text.specs.Reading.{declaration_of};
+ghost use Rattle.bag_text.specs.Readers.{declaration_of};
 ghost use Rattle.bag_check.specs.Check.{holds, is_supported_version, is_supported_encoding};
 ghost use Rattle.bag_check.specs.Check.{fails, declares_other};
 ghost use Rattle.bag_check.specs.Manifests.{text_at, is_unknown};

@@ -1,2 +1,2 @@
-pub mod Taking
+pub mod Taken
 pub mod NamedDigests

@@ -5,7 +5,7 @@
 mod disk_folders;
 mod failure;
 mod folders;
-mod hashing;
+mod hash_state;
 mod listing;
 mod memory_folders;
 mod read_file;
@@ -15,7 +15,7 @@ mod watcher;
 
 pub use disk_folders::DiskFolders;
 pub use folders::Folders;
-pub use hashing::Hashing;
+pub use hash_state::Hashing;
 pub use memory_folders::MemoryFolders;
 pub use read_file::{MOST_READS, hash_reader, hash_watched};
 pub use walk::read_folder;

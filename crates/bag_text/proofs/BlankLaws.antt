@@ -3,7 +3,7 @@ use Rattle.std.proofs.Common.{◌≡◌, ℕ, Bool, true, false, cond, ◌&&◌,
 use Rattle.std.proofs.Common.{refl, sym, ap, ◌∙◌, arith}
 use Rattle.std.specs.List.{list_all}
 use Rattle.bag_text.specs.Blanks.{is_blank}
-use Rattle.bag_text.specs.Reading.{skip_blanks, trim_blanks}
+use Rattle.bag_text.specs.Readers.{skip_blanks, trim_blanks}
 
 pub skip_blanks-more : (text : List ℕ) (byte : ℕ) (rest : List ℕ) → text ≡ byte ∷ rest
     → is_blank byte ≡ true → skip_blanks text ≡ skip_blanks rest

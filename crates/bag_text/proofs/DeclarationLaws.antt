@@ -13,8 +13,8 @@ use Rattle.bag_text.specs.Lines.{is_line_end, starts_with_line_feed, lines_of}
 use Rattle.bag_text.specs.Declarations.{IsVersionLine, IsEncodingLine, IsDeclaration, HasEncoding}
 use Rattle.bag_text.specs.Declarations.{IsDeclarationFault}
 use Rattle.bag_text.specs.Fault.{IsOrMemory}
-use Rattle.bag_text.specs.Reading.{version_in, encoding_in, ended, with_encoding, second_line}
-use Rattle.bag_text.specs.Reading.{with_version, declared_by, declaration_of}
+use Rattle.bag_text.specs.Readers.{version_in, encoding_in, ended, with_encoding, second_line}
+use Rattle.bag_text.specs.Readers.{with_version, declared_by, declaration_of}
 use Rattle.bag_text.proofs.Lists.{none-from_not}
 use Rattle.bag_text.proofs.FieldLaws.{version-line, line-version, encoding-line, line-encoding}
 

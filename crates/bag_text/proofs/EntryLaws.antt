@@ -20,7 +20,7 @@ use Rattle.bag_text.specs.Blanks.{is_blank, IsGap, starts_nonblank}
 use Rattle.bag_text.specs.Paths.{path_of}
 use Rattle.bag_text.specs.ListedFile.{ListedFile}
 use Rattle.bag_text.specs.Manifests.{IsEntryLine}
-use Rattle.bag_text.specs.Reading.{after_gap, unless_empty, written_path, path_in, file_in}
+use Rattle.bag_text.specs.Readers.{after_gap, unless_empty, written_path, path_in, file_in}
 use Rattle.bag_text.proofs.PathLaws.{path_in-text}
 use Rattle.bag_text.proofs.GapLaws.{nonblank_by, after_gap-gap, after_gap-some}
 

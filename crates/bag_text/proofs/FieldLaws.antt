@@ -18,8 +18,8 @@ use Rattle.bag_text.specs.Blanks.{starts_nonblank}
 use Rattle.bag_text.specs.Declarations.{version_label, encoding_label, full_stop, is_visible}
 use Rattle.bag_text.specs.Declarations.{IsField, IsNumber, IsVersion, IsEncodingName, IsVersionLine}
 use Rattle.bag_text.specs.Declarations.{IsEncodingLine}
-use Rattle.bag_text.specs.Reading.{trim_blanks, after_gap, is_number, is_version, is_encoding_name}
-use Rattle.bag_text.specs.Reading.{field_value, checked, version_in, encoding_in}
+use Rattle.bag_text.specs.Readers.{trim_blanks, after_gap, is_number, is_version, is_encoding_name}
+use Rattle.bag_text.specs.Readers.{field_value, checked, version_in, encoding_in}
 use Rattle.bag_text.proofs.Lists.{take_rest, drop_next}
 use Rattle.bag_text.proofs.GapLaws.{nonblank_by, is_nonblank, after_gap-gap, after_gap-some}
 use Rattle.bag_text.proofs.GapLaws.{trim_blanks-parts, trim_blanks-value}

@@ -6,7 +6,7 @@ use Rattle.std.specs.Prelude.{IsTrue}
 use Rattle.std.specs.List.{list_all}
 use Rattle.std.proofs.lemmas.Bool.{and_parts, eqb-true}
 use Rattle.bag_text.specs.Blanks.{is_blank, IsBlank, IsGap, starts_nonblank}
-use Rattle.bag_text.specs.Reading.{skip_blanks, trim_blanks, after_gap}
+use Rattle.bag_text.specs.Readers.{skip_blanks, trim_blanks, after_gap}
 
 -- what passes a test that spaces and tabs don't is neither
 pub nonblank_by : (p : ℕ → Bool) → p 32 ≡ false → p 9 ≡ false → (byte : ℕ) → p byte ≡ true

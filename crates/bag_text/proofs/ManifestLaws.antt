@@ -20,7 +20,7 @@ use Rattle.bag_text.specs.ListedFile.{ListedFile}
 use Rattle.bag_text.specs.Manifests.{IsEntryLine, ListsAll, none_left, skipped, listed, IsManifest}
 use Rattle.bag_text.specs.Manifests.{IsFirstMalformed}
 use Rattle.bag_text.specs.Fault.{IsOrMemory}
-use Rattle.bag_text.specs.Reading.{file_in, onto, onto_or, files_from, entries_of}
+use Rattle.bag_text.specs.Readers.{file_in, onto, onto_or, files_from, entries_of}
 use Rattle.bag_text.proofs.Lists.{false-from_not, none-from_not}
 use Rattle.bag_text.proofs.EntryLaws.{file_in-entry, entry-file_in, entry-not_blank}
 

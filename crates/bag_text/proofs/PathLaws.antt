@@ -7,7 +7,7 @@ use Rattle.std.proofs.lemmas.List.Concat.{flat_map-cons}
 use Rattle.std.proofs.lemmas.Str.{IsUtf8-from_is_utf8, is_utf8-from_IsUtf8}
 use Rattle.std.specs.Str.{IsUtf8, is_utf8}
 use Rattle.bag_text.specs.Paths.{escape_of, escaped, unescaped, path_of}
-use Rattle.bag_text.specs.Reading.{path_in}
+use Rattle.bag_text.specs.Readers.{path_in}
 use Rattle.bag_text.specs.inner.Starts.{escape_at}
 
 -- an escape comes first

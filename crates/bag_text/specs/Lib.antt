@@ -6,5 +6,5 @@ pub mod Declarations
 pub mod Paths
 pub mod ListedFile
 pub mod Manifests
-pub mod Reading
+pub mod Readers
 pub mod inner

@@ -2,7 +2,7 @@ ghost use Rattle.std.specs.Prelude.{◌≡◌};
 ghost use Rattle.std.specs.Option.{option_copied};
 ghost use Rattle.std.specs.List.{list_all};
 ghost use Rattle.bag_text.specs.Blanks.{is_blank};
-ghost use Rattle.bag_text.specs.Reading.{skip_blanks, trim_blanks, after_gap};
+ghost use Rattle.bag_text.specs.Readers.{skip_blanks, trim_blanks, after_gap};
 
 fn is_blank(byte: u8) -> bool
     ensures { result ≡ is_blank byte }

@@ -9,7 +9,7 @@ ghost use Rattle.bag_text.specs.Declarations.{IsDeclaration, IsDeclarationFault}
 ghost use Rattle.bag_text.specs.ListedFile.{ListedFile};
 ghost use Rattle.bag_text.specs.Manifests.{IsManifest, IsFirstMalformed};
 ghost use Rattle.bag_text.specs.Paths.{escaped, unescaped};
-ghost use Rattle.bag_text.specs.Reading.{declaration_of, entries_of};
+ghost use Rattle.bag_text.specs.Readers.{declaration_of, entries_of};
 
 /// `entries_of` says what a text lists, so a text lists one list of files at most. Where it lists
 /// none, `entries_of` says which line is the first malformed one.

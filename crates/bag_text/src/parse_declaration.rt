@@ -5,8 +5,8 @@ ghost use Rattle.std.specs.Option.{option_copied};
 ghost use Rattle.bag_text.specs.Lines.{lines_of};
 ghost use Rattle.bag_text.specs.Declarations.{IsDeclaration, IsDeclarationFault};
 ghost use Rattle.bag_text.specs.Declarations.{is_visible, full_stop};
-ghost use Rattle.bag_text.specs.Reading.{declaration_of, field_value, version_in, encoding_in};
-ghost use Rattle.bag_text.specs.Reading.{is_version, is_number, is_encoding_name};
+ghost use Rattle.bag_text.specs.Readers.{declaration_of, field_value, version_in, encoding_in};
+ghost use Rattle.bag_text.specs.Readers.{is_version, is_number, is_encoding_name};
 ghost use Rattle.bag_text.specs.Fault.{IsOrMemory};
 
 use crate::bagit_txt::Declaration;
@@ -59,7 +59,7 @@ fn declared(text: &[u8]) -> Result<Declaration<'_>, TextFault>
     Ok(Declaration { version, encoding })
 }
 
-#[tactic(auto, unfolding(crate::specs::Reading::version_in))]
+#[tactic(auto, unfolding(crate::specs::Readers::version_in))]
 fn version_in(line: &[u8]) -> Option<&[u8]>
     ensures { option_copied result ≡ version_in line.now }
 {
@@ -71,7 +71,7 @@ fn version_in(line: &[u8]) -> Option<&[u8]>
     }
 }
 
-#[tactic(auto, unfolding(crate::specs::Reading::encoding_in))]
+#[tactic(auto, unfolding(crate::specs::Readers::encoding_in))]
 fn encoding_in(line: &[u8]) -> Option<&[u8]>
     ensures { option_copied result ≡ encoding_in line.now }
 {
@@ -84,7 +84,7 @@ fn encoding_in(line: &[u8]) -> Option<&[u8]>
 }
 
 /// The value of a line that is the label, spaces or tabs, the value, and maybe spaces and tabs.
-#[tactic(auto, unfolding(crate::specs::Reading::field_value))]
+#[tactic(auto, unfolding(crate::specs::Readers::field_value))]
 fn field_value<'a>(label: &[u8], line: &'a [u8]) -> Option<&'a [u8]>
     ensures { option_copied result ≡ field_value label.now line.now }
 {

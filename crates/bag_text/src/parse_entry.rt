@@ -2,7 +2,7 @@ ghost use Rattle.std.specs.Prelude.{◌≡◌, IfOk};
 ghost use Rattle.std.specs.Option.{option_map, option_copied};
 ghost use Rattle.std.specs.Result.{result_ok};
 ghost use Rattle.hex.specs.Hex.{decode_of};
-ghost use Rattle.bag_text.specs.Reading.{written_path, file_in};
+ghost use Rattle.bag_text.specs.Readers.{written_path, file_in};
 
 use crate::algorithm::Algorithm;
 use crate::blank::after_gap;
@@ -12,7 +12,7 @@ use hex::FromHexError;
 use std::alloc::{AllocError, Global};
 
 /// The entry that a line is, if it is one: a digest in hex, spaces or tabs, and a path.
-#[tactic(auto, unfolding(crate::specs::Reading::file_in))]
+#[tactic(auto, unfolding(crate::specs::Readers::file_in))]
 pub(crate) fn entry_in(
     alloc: Global,
     algorithm: Algorithm,

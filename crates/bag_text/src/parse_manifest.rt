@@ -2,7 +2,7 @@ ghost use Rattle.std.specs.Prelude.{◌≡◌, ℕ, List, IfOk, IsErrOf, MatchRe
 ghost use Rattle.bag_text.specs.ListedFile.{ListedFile};
 ghost use Rattle.bag_text.specs.Lines.{lines_of};
 ghost use Rattle.bag_text.specs.Manifests.{IsManifest, IsFirstMalformed};
-ghost use Rattle.bag_text.specs.Reading.{entries_of};
+ghost use Rattle.bag_text.specs.Readers.{entries_of};
 ghost use Rattle.bag_text.specs.Fault.{IsOrMemory};
 
 use crate::algorithm::Algorithm;

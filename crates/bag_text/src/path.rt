@@ -2,7 +2,7 @@ ghost use Rattle.std.specs.Prelude.{◌≡◌, ◌∷◌, ◌<◌, [], length, I
 ghost use Rattle.std.specs.Option.{option_map};
 ghost use Rattle.std.specs.String.{string_bytes};
 ghost use Rattle.bag_text.specs.Paths.{unescaped, without_star, without_dot_slash};
-ghost use Rattle.bag_text.specs.Reading.{path_in};
+ghost use Rattle.bag_text.specs.Readers.{path_in};
 ghost use Rattle.bag_text.specs.inner.Starts.{escape_at};
 
 use std::alloc::{AllocError, Global};

@@ -16,7 +16,7 @@ use Rattle.dgram.specs.declared.fault.DgramFault.{DgramFault}
 use Rattle.dgram.specs.declared.message.Message.{Message}
 use Rattle.dgram.specs.Messages.{IsMessage}
 use Rattle.dgram.specs.Encoding.{kind_of, front_bytes, datagram_of}
-use Rattle.dgram.specs.Decoding.{datagram_at}
+use Rattle.dgram.specs.Decoders.{datagram_at}
 use Rattle.dgram.specs.Decoded.{IsOurs, IsDatagramOf, message_of, Decodes}
 use Rattle.dgram.proofs.Whole.{rest_of, Faulted, is_read, is_found, datagram_read, some_found}
 

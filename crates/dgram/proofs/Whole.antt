@@ -11,7 +11,7 @@ use Rattle.std.proofs.lemmas.List.{take-append-le, drop-append-le}
 use Rattle.fields.specs.declared.fault.FieldFault.{FieldFault}
 use Rattle.fields.specs.declared.fault.FieldFault.TheVariants as field_faults
 use Rattle.fields.specs.Encoding.{slot_bytes}
-use Rattle.fields.specs.Decoding.{◌>>=◌, Fails, byte_at, slot_at}
+use Rattle.fields.specs.Decoders.{◌>>=◌, Fails, byte_at, slot_at}
 use Rattle.fields.specs.Checksums.{checksum, with_checksum, without_checksum}
 use Rattle.fields.proofs.Checksums.{without_again, without_taken}
 use Rattle.fields.proofs.Bytes.{IsBytes, IsBytes-rest, IsBytes-prefix, past_test, bind_some}
@@ -27,7 +27,7 @@ use Rattle.dgram.specs.Faults.{fault_of_field, IsOrMemory}
 use Rattle.dgram.specs.Messages.{IsMessage}
 use Rattle.dgram.specs.Encoding.{kind_of, body_from, from_byte, body_bytes, front_bytes}
 use Rattle.dgram.specs.Encoding.{message_bytes, datagram_of}
-use Rattle.dgram.specs.Decoding.{body_at, ended, last_body_at, message_at, whole_at, datagram_at}
+use Rattle.dgram.specs.Decoders.{body_at, ended, last_body_at, message_at, whole_at, datagram_at}
 use Rattle.dgram.specs.Decoded.{IsOurs, IsDatagramOf, IsDatagram, IsMalformed}
 use Rattle.dgram.proofs.Bodies.{body_taken, body_again}
 

@@ -9,7 +9,7 @@ use Rattle.dgram.specs.declared.fault.DgramFault.TheVariants as faults
 use Rattle.dgram.specs.declared.message.Message.{Message}
 use Rattle.dgram.specs.Messages.{IsMessage}
 use Rattle.dgram.specs.Encoding.{front_bytes, datagram_of}
-use Rattle.dgram.specs.Decoding.{datagram_at}
+use Rattle.dgram.specs.Decoders.{datagram_at}
 
 -- the bytes begin with magic and layout, and name this federation after the kind
 abbrev pub IsOurs : ℕ → List ℕ → Type 0

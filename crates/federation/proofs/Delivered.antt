@@ -17,12 +17,12 @@ use Rattle.world_law.specs.Worlds.{skips, with_named, on_deliver, on_datagram}
 use Rattle.world_law.proofs.Sends.{datagram_is_read, at_number}
 use Rattle.world_tables.specs.Numbers as numbers
 use Rattle.world_tables.specs.Numbers.{numbered}
-use Rattle.federation.specs.declared.delivering.Arrival.{Arrival}
+use Rattle.federation.specs.declared.arrival.Arrival.{Arrival}
 use Rattle.federation.specs.declared.federation.Federation.{Federation}
 use Rattle.federation.specs.Federations.{StandsFor, IsSound}
 use Rattle.federation.specs.Inputs.{after_input, place_in}
 use Rattle.federation.specs.Sent.{IsArrival, arriving, sent_by}
-use Rattle.federation.proofs.Arriving.{arrives_as, delivers_as, reaches_nobody}
+use Rattle.federation.proofs.Arrivals.{arrives_as, delivers_as, reaches_nobody}
 use Rattle.federation.proofs.Places.{IsPlace, member_at, none_at}
 use Rattle.federation.proofs.Sent.{IsFound, sent_at, none_sent_at}
 use Rattle.federation.proofs.Sound.{sound_after}

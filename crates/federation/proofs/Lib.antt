@@ -4,7 +4,7 @@ pub mod Places
 pub mod Stands
 pub mod Sound
 pub mod Trees
-pub mod Arriving
+pub mod Arrivals
 pub mod Called
 pub mod Delivered
 pub mod Pumped

@@ -5,7 +5,7 @@ use Rattle.site.specs.Datagrams.{datagram}
 use Rattle.site.specs.Effects.{Send}
 use Rattle.lines.specs.declared.line.Line.{Line}
 use Rattle.lines.specs.declared.line.Line.TheVariants as lines
-use Rattle.federation.specs.declared.delivering.Arrival.{Arrival}
+use Rattle.federation.specs.declared.arrival.Arrival.{Arrival}
 
 -- the place of the sender's byte in a datagram: after the magic, the layout, the kind and the
 -- federation

@@ -2,14 +2,14 @@
 //! datagrams that they sent, the declared trees, and what was said.
 #![tactic(auto)]
 
-mod calling;
-mod declaring;
-mod delivering;
-mod depositing;
+mod arrival;
+mod calls;
+mod commands;
+mod declared_trees;
+mod deposits;
 mod federation;
-mod running;
-mod saying;
-mod sending;
-mod stopping;
+mod said_lines;
+mod sends;
+mod stops;
 
 pub use federation::Federation;

@@ -1,4 +1,4 @@
 pub mod Encoding
-pub mod Decoding
+pub mod Decoders
 pub mod Puts
 pub mod Checksums

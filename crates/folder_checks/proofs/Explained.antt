@@ -10,8 +10,8 @@ use Rattle.bag_tree.specs.Facts.{TreeFacts}
 use Rattle.bag_tree.specs.Fault as tree_numbers
 use Rattle.std.specs.String.{string_bytes}
 use Rattle.outcomes.specs.declared.answer.Answer.{Answer}
-use Rattle.folder_checks.specs.declared.checking.Verdict.{Verdict}
-use Rattle.folder_checks.specs.declared.checking.Verdict.TheVariants.{Unread}
+use Rattle.folder_checks.specs.declared.verdict.Verdict.{Verdict}
+use Rattle.folder_checks.specs.declared.verdict.Verdict.TheVariants.{Unread}
 use Rattle.folder_checks.specs.Verdicts.{verdict_of, IsOrMemory}
 use Rattle.folder_checks.specs.Explanations.{unread_line, lines_after, outcome_with, IsAnswer, IsPlace}
 

@@ -7,8 +7,8 @@ use Rattle.bag_tree.specs.declared.fault.TreeFault.{TreeFault}
 use Rattle.bag_tree.specs.Facts.{TreeFacts}
 use Rattle.bag_tree.specs.Fault.{number_of}
 use Rattle.bag_explain.specs.Findings.{explanation_of}
-use Rattle.folder_checks.specs.declared.checking.Verdict.{Verdict}
-use Rattle.folder_checks.specs.declared.checking.Verdict.TheVariants.{Valid, Invalid, Unread}
+use Rattle.folder_checks.specs.declared.verdict.Verdict.{Verdict}
+use Rattle.folder_checks.specs.declared.verdict.Verdict.TheVariants.{Valid, Invalid, Unread}
 use Rattle.outcomes.specs.Outcomes.{Outcome, no_memory}
 use Rattle.folder_checks.specs.Verdicts.{verdict_of, IsOrMemory, outcome_of_verdict}
 

@@ -11,8 +11,8 @@ use Rattle.bag_check.specs.declared.fault.BagFault.{BagFault}
 use Rattle.bag_check.specs.declared.fault.BagFault.TheVariants as bag_faults
 use Rattle.bag_check.specs.Fault as bag_numbers
 use Rattle.bag_check.specs.Check.{check_of}
-use Rattle.folder_checks.specs.declared.checking.Verdict.{Verdict}
-use Rattle.folder_checks.specs.declared.checking.Verdict.TheVariants.{Valid, Invalid, Unread}
+use Rattle.folder_checks.specs.declared.verdict.Verdict.{Verdict}
+use Rattle.folder_checks.specs.declared.verdict.Verdict.TheVariants.{Valid, Invalid, Unread}
 use Rattle.outcomes.specs.Outcomes.{Outcome, no_memory}
 
 abbrev pub verdict_of_check : Result BagId BagFault → Verdict

@@ -4,10 +4,10 @@ ghost use Rattle.std.specs.Prelude.{◌≡◌, map, IfErr, IfOk, IfSome, IsErrOf
 ghost use Rattle.outcomes.specs.Outcomes.{Writes, WritesPrefix};
 ghost use Rattle.folder_checks.specs.Reports.{ReportsOn, ReportsFirst};
 
-use crate::checking::check_on;
 use crate::checking_each::check_each_on;
-use crate::explaining::explain_on;
+use crate::explanation::explain_on;
 use crate::report::Report;
+use crate::verdict::check_on;
 use bag_folders::Folders;
 use outcomes::ProgramFault;
 use std::alloc::Global;

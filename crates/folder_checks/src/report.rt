@@ -3,8 +3,8 @@
 ghost use Rattle.std.specs.Prelude.{◌≡◌, IfOk, IfSome, string_bytes};
 ghost use Rattle.folder_checks.specs.Reports.{TellsFor};
 
-use crate::checking::{line_of, verdict_on};
-use crate::explaining::answer_on;
+use crate::explanation::answer_on;
+use crate::verdict::{line_of, verdict_on};
 use bag_folders::Folders;
 use outcomes::Answer;
 use std::alloc::{AllocError, Global};

@@ -9,7 +9,7 @@ use Rattle.records.specs.declared.entry.Entry.TheVariants as entry
 use Rattle.records.specs.Words.{known_of}
 use Rattle.dgram.specs.declared.message.Message.{Message}
 use Rattle.dgram.specs.Heard.{bodies_of, voters_for}
-use Rattle.learner.specs.Learning.{with_vote, chosen_by, learned_from}
+use Rattle.learner.specs.LearnedBags.{with_vote, chosen_by, learned_from}
 
 abbrev four : QuorumSystem
 four = quorums_of (record { federation = 7; weights = replicate 4 1 })

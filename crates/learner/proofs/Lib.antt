@@ -1,4 +1,4 @@
 pub mod Rows
-pub mod Hearing
-pub mod Noting
+pub mod HeardVotes
+pub mod NotedRecords
 pub mod Examples

@@ -1,3 +1,3 @@
-pub mod Learning
+pub mod LearnedBags
 pub mod Ledgers
 pub mod inner

@@ -16,7 +16,7 @@ ghost use Rattle.records.specs.declared.record.Record.{Record as declared_record
 ghost use Rattle.records.specs.Words.{known_of, known_in as known_in_entry};
 ghost use Rattle.dgram.specs.declared.message.Message.{Message};
 ghost use Rattle.slot_table.specs.Rows.{row_at, HasRooms};
-ghost use Rattle.learner.specs.Learning.{with_vote, learned_from, learned_of_known};
+ghost use Rattle.learner.specs.LearnedBags.{with_vote, learned_from, learned_of_known};
 ghost use Rattle.learner.specs.Ledgers.{StandsFor, known_in};
 
 use crate::row::Row;

@@ -12,7 +12,7 @@ use Rattle.records.specs.Numbers.{magic, old_magic}
 use Rattle.records.specs.Layout.{header_bytes, header_of, old_header}
 use Rattle.records.specs.Journals.{HasHeader, IsOfOwner}
 use Rattle.records.proofs.Apart.{header_size, old_header_size, old_header_magic}
-use Rattle.records.proofs.Parting.{old_whole}
+use Rattle.records.proofs.FoundParts.{old_whole}
 use Rattle.ledger.specs.Cells.{IsHeaded}
 use Rattle.ledger.specs.inner.Named.{HasHeaderOf}
 

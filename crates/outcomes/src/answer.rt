@@ -4,7 +4,7 @@ ghost use Rattle.std.specs.Prelude.{◌≡◌, ℕ, take, IfOk, OnErr};
 ghost use Rattle.std.specs.Io.KnownBytes.{Appends};
 
 use crate::fault::ProgramFault;
-use crate::writing::write_all;
+use crate::output::write_all;
 use std::io::Write;
 
 /// An exit status, and the text to write.

@@ -4,10 +4,10 @@
 
 mod answer;
 mod fault;
-mod reading;
-mod writing;
+mod input;
+mod output;
 
 pub use answer::{Answer, write_answer, write_bytes};
 pub use fault::ProgramFault;
-pub use reading::{MOST_READS, ReadFault, read_all, read_within};
-pub use writing::{WriteFault, write_all};
+pub use input::{MOST_READS, ReadFault, read_all, read_within};
+pub use output::{WriteFault, write_all};

@@ -6,7 +6,7 @@
 use crate::crash::{fuse_of, push_crash};
 use crate::datagram_case::push_datagram;
 use crate::fault::Fault;
-use crate::opening::{owner, push_opening, weighted};
+use crate::opened_cells::{owner, push_opening, weighted};
 use crate::task::site_of;
 use book::Owner;
 use cell_device::MemoryCell;

@@ -1,7 +1,7 @@
 //! A cell is opened while its device fails, and then opened again.
 
 use crate::fault::Fault;
-use crate::opening::{push_fault, push_opening};
+use crate::opened_cells::{push_fault, push_opening};
 use crate::records_text::push_records;
 use book::{Book, Owner};
 use cell_device::{Fuse, How, MemoryCell};

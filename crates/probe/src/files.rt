@@ -2,7 +2,7 @@
 
 use crate::example::vote;
 use crate::fault::Fault;
-use crate::opening::{owner, push_opening};
+use crate::opened_cells::{owner, push_opening};
 use crate::records_text::push_records;
 use book::{Book, CommitFault};
 use cell_device::FileCell;

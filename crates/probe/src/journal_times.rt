@@ -4,7 +4,7 @@ use crate::datagram_times::{digest_often, total_line};
 use crate::example::{site, slot, vote};
 use crate::fault::Fault;
 use crate::files::open_book;
-use crate::opening::owner;
+use crate::opened_cells::owner;
 use book::{Book, Entry, Record, Round};
 use cell_device::{Cell, CellFault, FileCell};
 use fields::CHECKSUM_BYTES;

@@ -3,7 +3,7 @@
 
 use crate::example::{CELL, RECORDS, site, vote, whole_line};
 use crate::fault::Fault;
-use crate::opening::{owner, push_book};
+use crate::opened_cells::{owner, push_book};
 use crate::records_text::push_records;
 use book::{Book, CommitFault, OpenFault, Owner, Record};
 use cell_device::MemoryCell;

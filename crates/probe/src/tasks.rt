@@ -9,7 +9,7 @@ use crate::files::{commit_line, opened_line};
 use crate::journal_times::{commits_line, filled_line, opening_time_line, vote_digests_line};
 use crate::out_of_memory::voted_line;
 use crate::schedule_text::printed_again;
-use crate::serving::served_text;
+use crate::served_turns::served_text;
 use crate::task::{
     CountedFile, SiteFile, Task, last_count, last_counted_file, last_site_file, last_word, no_more,
 };

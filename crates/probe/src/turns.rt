@@ -3,7 +3,7 @@
 
 use crate::fault::Fault;
 use crate::files::commit_word;
-use crate::opening::owner;
+use crate::opened_cells::owner;
 use crate::records_text::push_records;
 use book::{Book, OpenFault, Owner};
 use cell_device::FileCell;

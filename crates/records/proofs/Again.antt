@@ -10,9 +10,9 @@ use Rattle.records.specs.declared.record.Record.{Record}
 use Rattle.records.specs.Layout.{checksum_size, sealed, framed, encoded, all_encoded}
 use Rattle.records.specs.Records.{IsRecord, AreRecords}
 use Rattle.records.specs.Journals.{length_field, IsNoRecord}
-use Rattle.records.specs.inner.Decoding.{content_at}
+use Rattle.records.specs.inner.Decoders.{content_at}
 use Rattle.records.specs.inner.Steps.{record_before, IsShort, IsSized, IsNext}
-use Rattle.records.proofs.Encoding.{content_again}
+use Rattle.records.proofs.RoundTrip.{content_again}
 use Rattle.records.proofs.Prefixes.{BeginsWithNone, none_of_nothing, none_of_torn, none_of_damage}
 use Rattle.records.proofs.Prefixes.{size_said, length_is, record_size, whole_prefix}
 use Rattle.records.proofs.Walk.{from, from_is, sealed_begins, sealed_size}

@@ -1,13 +1,13 @@
-pub mod Encoding
+pub mod RoundTrip
 pub mod Prefixes
 pub mod Apart
 pub mod Texts
-pub mod Carrying
+pub mod CarriedOver
 pub mod OneReading
 pub mod Walk
 pub mod Again
 pub mod Found
-pub mod Parting
+pub mod FoundParts
 pub mod Readings
 pub mod Mended
 pub mod Words

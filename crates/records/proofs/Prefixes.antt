@@ -20,8 +20,8 @@ use Rattle.records.specs.Layout.{framed, encoded, all_encoded}
 use Rattle.records.specs.Numbers.{shortest_entry, longest_entry, shortest_content, longest_content}
 use Rattle.records.specs.Records.{IsEntry, IsRecord, AreRecords}
 use Rattle.records.specs.Journals.{IsRecordLength, length_field, IsTornRecord, IsNoRecord}
-use Rattle.records.specs.inner.Decoding.{content_at}
-use Rattle.records.proofs.Encoding.{content_again}
+use Rattle.records.specs.inner.Decoders.{content_at}
+use Rattle.records.proofs.RoundTrip.{content_again}
 
 entry_size : (e : Entry) → IsEntry e → (shortest_entry ≤ length (entry_bytes e))
     × (length (entry_bytes e) ≤ longest_entry)

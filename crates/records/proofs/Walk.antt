@@ -19,9 +19,9 @@ use Rattle.records.specs.Layout.{content_bytes, checksum_size, sealed, framed, e
 use Rattle.records.specs.Layout.{all_encoded}
 use Rattle.records.specs.Records.{IsRecord}
 use Rattle.records.specs.Journals.{length_field, IsNoRecord}
-use Rattle.records.specs.inner.Decoding.{content_at}
+use Rattle.records.specs.inner.Decoders.{content_at}
 use Rattle.records.specs.inner.Steps.{unsealed, record_in, IsWhole, IsSized, IsPassed}
-use Rattle.records.proofs.Encoding.{content_taken, content_again}
+use Rattle.records.proofs.RoundTrip.{content_taken, content_again}
 use Rattle.records.proofs.Prefixes.{record_size, content_size}
 use Rattle.records.proofs.Texts.{records-push, whole-push}
 

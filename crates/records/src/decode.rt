@@ -1,6 +1,6 @@
 ghost use Rattle.std.specs.Prelude.{◌≡◌, ◌↔◌, ◌-◌, IsTrue, IsSome, IsOkUnless, length, take, drop};
-ghost use Rattle.fields.specs.Decoding.{Gives};
-ghost use Rattle.records.specs.inner.Decoding.{round_at, entry_at, content_at};
+ghost use Rattle.fields.specs.Decoders.{Gives};
+ghost use Rattle.records.specs.inner.Decoders.{round_at, entry_at, content_at};
 ghost use Rattle.records.specs.Layout.{checksum_size};
 ghost use Rattle.records.specs.inner.Steps.{unsealed, record_in, record_before};
 
@@ -11,7 +11,7 @@ use crate::round::Round;
 use fields::{FieldFault, Reader, SlotRef, without_checksum};
 use std::alloc::Global;
 
-#[tactic(auto, unfolding(crate::specs::inner::Decoding::round_at))]
+#[tactic(auto, unfolding(crate::specs::inner::Decoders::round_at))]
 fn read_round(reader: &mut Reader) -> Result<Round, FieldFault>
     ensures gives { Gives (λ x. (x, reader.new)) result (round_at reader.old) }
     ensures no_memory { IsOkUnless result FieldFault.Malformed }
@@ -22,7 +22,7 @@ fn read_round(reader: &mut Reader) -> Result<Round, FieldFault>
     }
 }
 
-#[tactic(auto, unfolding(crate::specs::inner::Decoding::entry_at))]
+#[tactic(auto, unfolding(crate::specs::inner::Decoders::entry_at))]
 fn read_entry(kind: u8, reader: &mut Reader) -> Result<Entry, FieldFault>
     ensures gives { Gives (λ x. (x, reader.new)) result (entry_at kind reader.old) }
     ensures no_memory { IsOkUnless result FieldFault.Malformed }
@@ -39,7 +39,7 @@ fn read_entry(kind: u8, reader: &mut Reader) -> Result<Entry, FieldFault>
 
 // What the bytes after its length say as a record's, its object still among them. It takes no
 // memory.
-#[tactic(auto, unfolding(crate::specs::inner::Decoding::content_at))]
+#[tactic(auto, unfolding(crate::specs::inner::Decoders::content_at))]
 fn read_parts<'a>(bytes: &'a [u8]) -> Result<(SlotRef<'a>, Entry), FieldFault>
     ensures gives { Gives (λ x. record { slot = x.0; body = x.1 }) result (content_at bytes.now) }
     ensures no_memory { IsOkUnless result FieldFault.Malformed }

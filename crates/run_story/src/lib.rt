@@ -3,18 +3,18 @@
 //! a line of the schedule at a time. Sentences with blanks say it in words.
 #![tactic(auto)]
 
-mod counting;
+mod counts;
 mod datagram;
 mod event;
 mod notes;
 mod planned;
-mod reading;
+mod said_numbers;
 mod scene;
 mod story;
-mod telling;
+mod told_run;
 
 pub use datagram::{Datagram, Kind};
 pub use event::{Deed, Event, Outcome};
 pub use scene::Scene;
 pub use story::{Count, Passage, Story};
-pub use telling::tell;
+pub use told_run::tell;

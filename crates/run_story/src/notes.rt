@@ -2,7 +2,9 @@
 
 use crate::datagram::Datagram;
 use crate::event::{Deed, Event, Outcome};
-use crate::reading::{bag_in, bag_on, ballot_of, kind_of, other_ballot_of, outcome_of, tree_in};
+use crate::said_numbers::{
+    bag_in, bag_on, ballot_of, kind_of, other_ballot_of, outcome_of, tree_in,
+};
 use crate::story::{Passage, Story, passage_after};
 use dgram::{Message, decode};
 use fed_types::{BagId, Members, Slot};

@@ -4,9 +4,9 @@
 mod arrivals;
 mod commands;
 mod outcomes;
-mod printing;
+mod run_text;
 mod sends;
 mod skips;
 mod stops;
 
-pub use printing::words_of;
+pub use run_text::words_of;

@@ -29,7 +29,7 @@ use Rattle.dgram.specs.Messages.{IsMessage}
 use Rattle.dgram.specs.Heard.{bodies_of, floor_of, promises_for, promisers, priors, voters_for}
 use Rattle.dgram.specs.Heard.{same_vote}
 use Rattle.acceptor.specs.Decisions.{prepare_decision, accept_decision}
-use Rattle.learner.specs.Learning.{chosen_by}
+use Rattle.learner.specs.LearnedBags.{chosen_by}
 use Rattle.learner.specs.Ledgers as ledgers
 use Rattle.learner.specs.declared.row.Row.{Row as heard_row}
 use Rattle.learner.specs.declared.row.Row.TheVariants as rows
@@ -58,10 +58,10 @@ use Rattle.serving_law.specs.Disks.{Disk, Blank, Holds, bytes_at, journal, devic
 use Rattle.serving_law.specs.Federations.{Down, Federation, Step, Happening, Turns, Dies, Starts}
 use Rattle.serving_law.specs.Federations.{new_federation, after, after_all}
 use Rattle.serving_law.specs.Rules.{May, MayAll}
-use Rattle.serving_law.proofs.Answering.{AreMessages, seals, answer_of}
-use Rattle.serving_law.proofs.Acting.{owner, serving, called, no_folders}
-use Rattle.serving_law.proofs.Journaling.{holds, opens_new, says}
-use Rattle.serving_law.proofs.Agreeing.{three_are, ports, step_of, may_turn, takes, serves}
+use Rattle.serving_law.proofs.Answers.{AreMessages, seals, answer_of}
+use Rattle.serving_law.proofs.DiskCalls.{owner, serving, called, no_folders}
+use Rattle.serving_law.proofs.DiskJournals.{holds, opens_new, says}
+use Rattle.serving_law.proofs.Agreement.{three_are, ports, step_of, may_turn, takes, serves}
 use Rattle.serving_law.specs.Examples.{Request}
 use Rattle.serving_law.specs.ExamplesAgreed.{three, a, ballot, vote, Agree, DiesVoting, says_vote}
 use Rattle.serving_law.specs.ExamplesAgreed.{CountsOnce, ThreeSitesAgree, KilledInAVote}
@@ -70,13 +70,13 @@ use Rattle.serving_law.specs.Reports.{Prints}
 use Rattle.lines.specs.Notices.{Learned}
 use Rattle.records.specs.declared.owner.Owner.{Owner}
 use Rattle.serving_law.specs.Rules.{AreBytes, MayCome}
-use Rattle.serving_law.proofs.Agreeing.{State, Hearing, m, r, to_site, to_all, comes_to}
-use Rattle.serving_law.proofs.Fitting.{Bytes, joined, of_number, of_message, of_bag}
-use Rattle.serving_law.proofs.Replying.{checked_is}
-use Rattle.serving_law.proofs.Requesting.{deposit_is_slot}
+use Rattle.serving_law.proofs.Agreement.{State, Hearing, m, r, to_site, to_all, comes_to}
+use Rattle.serving_law.proofs.DatagramBytes.{Bytes, joined, of_number, of_message, of_bag}
+use Rattle.serving_law.proofs.Replies.{checked_is}
+use Rattle.serving_law.proofs.Requests.{deposit_is_slot}
 use Rattle.serving_law.proofs.Sites.{session_of, issued, no_ballot, promised_by, voted_by, counted}
 use Rattle.serving_law.proofs.Sites.{stands_idle, stands_issued}
-use Rattle.serving_law.proofs.Tabling.{Rows, records_of, heard_of, tables, begun_with}
+use Rattle.serving_law.proofs.Tables.{Rows, records_of, heard_of, tables, begun_with}
 
 -- by its place, counted from 0
 at_index : {X : Type 0} (k : ℕ) (xs : List X) (x : X) → slice_get xs k ≡ Some x → Has x xs

@@ -33,9 +33,9 @@ use Rattle.serving_law.specs.Laws.{RegisteredStays, TurnsMayHappen}
 use Rattle.serving_law.specs.Reports.{Reports, Registers, IsDeposit, records_of}
 use Rattle.serving_law.specs.Rules.{May, MayAll, MayCome, IsServing, Takes}
 use Rattle.serving_law.proofs.Scene.{OnlyNow}
-use Rattle.serving_law.proofs.Standing.{quorums, HasDeposit, Stands}
-use Rattle.serving_law.proofs.Befalling.{Went, went, records_are, goes_on, stands_then}
-use Rattle.serving_law.proofs.Befalling.{HasFolders, with_folders}
+use Rattle.serving_law.proofs.Networks.{quorums, HasDeposit, Stands}
+use Rattle.serving_law.proofs.Happenings.{Went, went, records_are, goes_on, stands_then}
+use Rattle.serving_law.proofs.Happenings.{HasFolders, with_folders}
 
 grows_then : {w x y : Network} → Grows w x → Grows x y → Grows w y
 grows_then g h = record {

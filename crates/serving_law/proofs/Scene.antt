@@ -11,7 +11,7 @@ use Rattle.world_law.specs.Networks.{Network}
 use Rattle.world_law.specs.WellFormed.{IsWellFormed}
 use Rattle.world_law.proofs.Kept.{Kept}
 use Rattle.serving_law.specs.Rules.{owner_of}
-use Rattle.serving_law.proofs.Standing.{quorums}
+use Rattle.serving_law.proofs.Networks.{quorums}
 
 -- since this moment of a device there is no other
 abbrev pub OnlyNow : {C : Type 0} → (C → Device) → Type 0

@@ -15,14 +15,14 @@ use Rattle.dgram.specs.Heard.{same_vote, bodies_of, floor_of, voters_for, promis
 use Rattle.learner.specs.Ledgers as ledgers
 use Rattle.learner.specs.declared.row.Row.{Row as heard_row}
 use Rattle.learner.specs.declared.row.Row.TheVariants as rows
-use Rattle.learner.proofs.Hearing.{same_vote_decides}
+use Rattle.learner.proofs.HeardVotes.{same_vote_decides}
 use Rattle.proposer.specs.declared.row.Row.{Row as own_row}
 use Rattle.proposer.specs.Proposals.{Current, gathered, highest_prior}
 use Rattle.proposer.specs.Rows.{Knows}
 use Rattle.proposer.specs.Sessions.{Session, at_slot}
 use Rattle.site_tables.specs.Contents.{StandsFor}
 use Rattle.serving_law.specs.ExamplesAgreed.{three, a, ballot, vote}
-use Rattle.serving_law.proofs.Tabling.{Rows, records_of, heard_of, tables, begun_with, stands}
+use Rattle.serving_law.proofs.Tables.{Rows, records_of, heard_of, tables, begun_with, stands}
 
 -- ---- what it has heard, and which ballot is current
 

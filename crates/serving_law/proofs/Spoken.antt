@@ -22,7 +22,7 @@ use Rattle.acceptor.specs.declared.decision.Decision.{Decision}
 use Rattle.acceptor.specs.Decisions.{prepare_decision, accept_decision}
 use Rattle.proposer.specs.Proposals.{ready, next_ballot}
 use Rattle.proposer.specs.Sessions.{Session, hears}
-use Rattle.learner.specs.Learning.{learned_from, learned_of_known}
+use Rattle.learner.specs.LearnedBags.{learned_from, learned_of_known}
 use Rattle.site.specs.declared.fault.SiteFault.{SiteFault}
 use Rattle.site.specs.Arrivals.{answer_body, addressees, decided, proposing, learning, telling}
 use Rattle.site.specs.Arrivals.{on_body, on_arrival, is_member}

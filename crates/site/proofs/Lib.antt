@@ -1,13 +1,13 @@
 pub mod Sent
 pub mod Committed
-pub mod Concluding
-pub mod Hearing
+pub mod Conclusions
+pub mod HeardMessages
 pub mod Replies
 pub mod Asked
 pub mod Registered
 pub mod Refused
 pub mod Reopened
-pub mod Beginning
-pub mod Issuing
+pub mod BegunBallots
+pub mod IssuedBallots
 pub mod Proposed
 pub mod Reports

@@ -18,7 +18,7 @@ use Rattle.site.specs.Datagrams.{handed_out}
 use Rattle.site.specs.Effects.{Effect}
 use Rattle.site.specs.Sites.{OpenSite, StandsFor, effect}
 use Rattle.site.specs.inner.Concluded.{Concludes}
-use Rattle.site.proofs.Concluding.{concluded}
+use Rattle.site.proofs.Conclusions.{concluded}
 
 -- a thing that is there, or isn't
 pub some_of : (o : Option BagId) → is_some o ≡ true → (a : BagId) × (o ≡ Some a)

@@ -22,7 +22,7 @@ use Rattle.dgram.specs.declared.message.Message.{Message}
 use Rattle.dgram.specs.Encoding.{body_from}
 use Rattle.proposer.specs.Proposals.{ready, next_ballot}
 use Rattle.proposer.specs.Sessions.{Session, hears}
-use Rattle.learner.specs.Learning.{unless_known, chosen_by, with_vote}
+use Rattle.learner.specs.LearnedBags.{unless_known, chosen_by, with_vote}
 use Rattle.cell_device.specs.Devices.{Device}
 use Rattle.book.specs.Volumes.{Volume}
 use Rattle.fed_types.specs.Quorums.{quorums_of}

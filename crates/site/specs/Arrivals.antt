@@ -22,7 +22,7 @@ use Rattle.acceptor.specs.declared.decision.Decision.{Decision}
 use Rattle.acceptor.specs.Decisions.{prepare_decision, accept_decision}
 use Rattle.proposer.specs.Proposals.{ready}
 use Rattle.proposer.specs.Sessions.{Session, hears}
-use Rattle.learner.specs.Learning.{learned_from, learned_of_known}
+use Rattle.learner.specs.LearnedBags.{learned_from, learned_of_known}
 use Rattle.site.specs.declared.answer.Line.TheVariants as lines
 use Rattle.site.specs.Effects.{Effect, commits_and_sends, commits_and_says, only_says, quiet}
 

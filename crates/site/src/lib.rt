@@ -5,12 +5,12 @@
 
 mod answer;
 mod arrivals;
-mod committing;
+mod begun_ballot;
+mod commit;
+mod datagrams;
 mod fault;
 mod law;
 mod member_site;
-mod proposing;
-mod sealing;
 
 pub use answer::{Answer, Line, Reply, Sealed};
 pub use fault::SiteFault;

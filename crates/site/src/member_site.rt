@@ -16,10 +16,10 @@ ghost use Rattle.site.specs.Sites.{StandsFor, effect};
 ghost use Rattle.site.specs.inner.Concluded.{Concludes, one_datagram, all_datagrams};
 
 use crate::answer::{Answer, Line, Reply, Sealed};
-use crate::committing::commit_and_note;
+use crate::begun_ballot::begin_ballot;
+use crate::commit::commit_and_note;
+use crate::datagrams::{to_all, to_one};
 use crate::fault::SiteFault;
-use crate::proposing::begin_ballot;
-use crate::sealing::{to_all, to_one};
 use bag_check::check;
 use bag_tree::Facts;
 use book::{Book, OpenFault};

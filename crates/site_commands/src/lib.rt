@@ -10,9 +10,9 @@ mod folders_below;
 mod member_list;
 mod member_words;
 mod members_arguments;
-mod members_printing;
+mod members_command;
 mod send_arguments;
-mod serving;
+mod service;
 mod serving_command;
 mod site_arguments;
 mod stop;
@@ -22,9 +22,9 @@ pub use client::{Request, ask_for_bag, send_on};
 pub use client_command::send_to_site;
 pub use file_members::{members_at, port_of};
 pub use members_arguments::{MembersTask, members_command, members_task};
-pub use members_printing::print_members;
+pub use members_command::print_members;
 pub use send_arguments::{SendTask, send_command, send_task, to_argument};
-pub use serving::{Service, site_on};
+pub use service::{Service, site_on};
 pub use serving_command::{serve_site, socket};
 pub use site_arguments::{
     SiteTask, Turns, members_argument, site_command, site_task, wait_argument,

@@ -2,7 +2,7 @@
 
 use crate::file_members::{expect_listed, members_at, port_of, ports_of};
 use crate::folders_below::FoldersBelow;
-use crate::serving::{Service, site_on};
+use crate::service::{Service, site_on};
 use crate::site_arguments::SiteTask;
 use crate::stop::{Stop, write_stop};
 use bag_folders::DiskFolders;

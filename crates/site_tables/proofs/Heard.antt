@@ -23,7 +23,7 @@ use Rattle.proposer.specs.Sessions.{heard_if}
 use Rattle.proposer.proofs.Stands.{heard_stands}
 use Rattle.learner.specs.declared.row.Row.{Row as learner_row}
 use Rattle.learner.specs.Ledgers as learners
-use Rattle.learner.proofs.Hearing.{heard_known}
+use Rattle.learner.proofs.HeardVotes.{heard_known}
 use Rattle.site_tables.specs.Contents.{Contents, StandsFor}
 
 -- ---- the learner

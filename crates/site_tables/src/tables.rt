@@ -13,7 +13,7 @@ ghost use Rattle.proposer.specs.Sessions.{Session, UnderWay, new_session, nothin
 ghost use Rattle.proposer.specs.Sessions.{promise_message, heard_after, waiting_after};
 ghost use Rattle.proposer.specs.Sessions.{hears, refusal_message, heard_if, waits};
 ghost use Rattle.proposer.specs.Sessions.{issued_by, issued_if, under_way_if};
-ghost use Rattle.learner.specs.Learning.{learned_from, learned_of_known};
+ghost use Rattle.learner.specs.LearnedBags.{learned_from, learned_of_known};
 ghost use Rattle.dgram.specs.declared.body.Body.TheVariants.{Accepted};
 ghost use Rattle.site_tables.specs.Contents.{IsOf, StandsFor, StandsForSame, HasRoom};
 ghost use Rattle.site_tables.specs.Contents.{deposits_of, slot_at};

@@ -2,6 +2,6 @@ mod Refusals
 mod Kept
 mod Came
 mod GoingOn
-mod Resting
-mod Starting
-mod Stopping
+mod Rest
+mod Starts
+mod Stops

@@ -14,7 +14,7 @@ use Rattle.records.specs.declared.record.Record.{Record}
 use Rattle.records.specs.Words.{deposit_of, known_of}
 use Rattle.proposer.specs.Proposals.{next_ballot, ready}
 use Rattle.proposer.specs.Sessions.{Session, hears}
-use Rattle.learner.specs.Learning.{learned_from, learned_of_known}
+use Rattle.learner.specs.LearnedBags.{learned_from, learned_of_known}
 use Rattle.site.specs.declared.answer.Line.{Line}
 use Rattle.site.specs.declared.fault.SiteFault.{SiteFault}
 use Rattle.site.specs.Arrivals.{on_arrival, on_body, proposing, learning, telling, is_member}

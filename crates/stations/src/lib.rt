@@ -4,7 +4,7 @@
 
 mod call;
 mod fates;
-mod opening;
+mod opened_site;
 mod place;
 mod station;
 mod told;

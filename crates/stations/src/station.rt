@@ -12,7 +12,7 @@ ghost use Rattle.stations.specs.declared.told.Said.TheVariants as said;
 
 use crate::call::Call;
 use crate::fates::undergo;
-use crate::opening::open;
+use crate::opened_site::open;
 use crate::place::Place;
 use crate::told::{Said, Told, nothing};
 use cell_device::MemoryCell;

@@ -11,7 +11,7 @@ use Rattle.std.proofs.Math.Seq.{take-append-add, take-length}
 use Rattle.udp_site.specs.declared.fault.ServeFault.{ServeFault}
 use Rattle.udp_site.specs.declared.fault.ServeFault.TheVariants as faults
 use Rattle.udp_site.specs.Traffic.{Post, Move, Handed, Grows, all_handed}
-use Rattle.udp_site.specs.inner.Coming.{Hands}
+use Rattle.udp_site.specs.inner.Outcomes.{Hands}
 
 pub grows_by_none : (a : Option (List Move)) → Grows a a []
 grows_by_none None = tt

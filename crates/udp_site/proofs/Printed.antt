@@ -10,8 +10,8 @@ use Rattle.lines.specs.Notices.{Notice}
 use Rattle.lines.specs.Named.{line_of}
 use Rattle.lines.specs.Texts.{line_text}
 use Rattle.udp_site.specs.Served.{by_identity, notice_text, or_one, is_of_the_cell}
-use Rattle.udp_site.specs.inner.Coming.{Notes}
-use Rattle.udp_site.specs.inner.Stopping.{line_of_the_cell}
+use Rattle.udp_site.specs.inner.Outcomes.{Notes}
+use Rattle.udp_site.specs.inner.StopLines.{line_of_the_cell}
 
 line_stops : (notice : Notice) → line_of_the_cell (line_of [] notice) ≡ is_of_the_cell notice
 line_stops (kinds.Refused site faults.Device) = refl

@@ -25,9 +25,9 @@ use Rattle.udp_site.specs.declared.fault.ServeFault.TheVariants as ends
 use Rattle.udp_site.specs.Traffic.{Move, Grows, all_handed}
 use Rattle.udp_site.specs.Turns.{Serving, Done, IsServing, IsCalled, Refuses, number, posts_of}
 use Rattle.udp_site.specs.Turns.{proposal_notices, proposing}
-use Rattle.udp_site.specs.inner.Coming.{ComesTo, Hands, Notes}
+use Rattle.udp_site.specs.inner.Outcomes.{ComesTo, Hands, Notes}
 use Rattle.udp_site.proofs.Called.{Answers, NeedsOpen, Untouched, called, is_called}
-use Rattle.udp_site.proofs.Calling.{comes_whole, comes_part, comes_failed}
+use Rattle.udp_site.proofs.Calls.{comes_whole, comes_part, comes_failed}
 use Rattle.udp_site.proofs.Handed.{Part}
 
 -- what a call's contract says of its refusals

@@ -15,7 +15,7 @@ use Rattle.udp_site.specs.declared.fault.ServeFault.TheVariants as faults
 use Rattle.udp_site.specs.Traffic.{Post, Move, Grows, all_handed}
 use Rattle.udp_site.specs.Turns.{Serving, Done, IsServing, asked, answer_to, members, number}
 use Rattle.udp_site.specs.Turns.{queries, query_replies, reply_notice}
-use Rattle.udp_site.specs.inner.Coming.{ComesTo, AsksFor, Notes}
+use Rattle.udp_site.specs.inner.Outcomes.{ComesTo, AsksFor, Notes}
 use Rattle.udp_site.proofs.Handed.{Part, grows_by_posts, part_of_posts, then_part_of_posts}
 use Rattle.udp_site.proofs.Requested.{could_ask}
 use Rattle.udp_site.proofs.Said.{broken_off}

@@ -30,8 +30,8 @@ use Rattle.udp_site.specs.declared.fault.ServeFault.TheVariants as faults
 use Rattle.udp_site.specs.Traffic.{Post, Move, all_handed}
 use Rattle.udp_site.specs.Turns.{Serving, Done, IsServing, Asks, members, number, posts_to}
 use Rattle.udp_site.specs.Turns.{sealed_posts}
-use Rattle.udp_site.specs.inner.Asking.{others_of}
-use Rattle.udp_site.specs.inner.Coming.{AsksFor, Hands, Notes}
+use Rattle.udp_site.specs.inner.Others.{others_of}
+use Rattle.udp_site.specs.inner.Outcomes.{AsksFor, Hands, Notes}
 use Rattle.udp_site.proofs.Handed.{grows_by_no_posts, grows_by_posts, part_of_posts}
 use Rattle.udp_site.proofs.Handed.{then_part_of_posts, no_part, is_err}
 

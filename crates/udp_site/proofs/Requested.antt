@@ -23,7 +23,7 @@ use Rattle.udp_site.specs.Requests.{Request, Says, request_by, request_in}
 use Rattle.udp_site.specs.Turns.{Serving, Done, IsServing, Asks, comes_of, members}
 use Rattle.udp_site.specs.Turns.{number, asked, answer_to, reply_notice, query_replies, posts_of}
 use Rattle.udp_site.specs.Turns.{notices_of, deposit_replies, takes_tree}
-use Rattle.udp_site.specs.inner.Coming.{ComesTo}
+use Rattle.udp_site.specs.inner.Outcomes.{ComesTo}
 use Rattle.udp_site.proofs.Called.{could_be_called}
 
 -- the members can be asked, one after another: memory may run out for each

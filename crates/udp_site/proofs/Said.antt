@@ -7,7 +7,7 @@ use Rattle.udp_site.specs.declared.fault.ServeFault.{ServeFault}
 use Rattle.udp_site.specs.declared.fault.ServeFault.TheVariants as faults
 use Rattle.udp_site.specs.Traffic.{Move, all_handed}
 use Rattle.udp_site.specs.Turns.{Serving, Coming, Done}
-use Rattle.udp_site.specs.inner.Coming.{ComesTo}
+use Rattle.udp_site.specs.inner.Outcomes.{ComesTo}
 use Rattle.udp_site.proofs.Handed.{Part, is_err}
 
 -- memory ran out when a part of it was handed out

@@ -15,8 +15,8 @@ use Rattle.records.specs.declared.record.Record.{Record}
 use Rattle.records.specs.Words.{known_of, deposit_in}
 use Rattle.slot_table.specs.Rows.{Rows, row_at}
 use Rattle.site_tables.specs.Contents.{deposits_of, with_deposit, with_bag, unless_there}
-use Rattle.udp_site.specs.inner.Waiting.{says_known, known_at, is_settled, AreSettled}
-use Rattle.udp_site.proofs.Waiting.{known_by_any}
+use Rattle.udp_site.specs.inner.SlotRecords.{says_known, known_at, is_settled, AreSettled}
+use Rattle.udp_site.proofs.WaitingDeposits.{known_by_any}
 
 differ : true ≡ false → ⊥
 differ e = cc

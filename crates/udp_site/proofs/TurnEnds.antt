@@ -14,11 +14,11 @@ use Rattle.udp_site.specs.Traffic.{Taken, Move, Took, Grows, all_handed}
 use Rattle.udp_site.specs.Turns.{Serving}
 use Rattle.udp_site.specs.Served.{Rule, Outside, Turned, moves_of, text_of, by_identity}
 use Rattle.udp_site.specs.Served.{is_the_last}
-use Rattle.udp_site.specs.inner.Coming.{ComesTo, at}
+use Rattle.udp_site.specs.inner.Outcomes.{ComesTo, at}
 use Rattle.udp_site.specs.inner.OneTurn as one
 use Rattle.udp_site.specs.inner.OneTurn.{OneTurn}
-use Rattle.udp_site.specs.inner.Receiving.{Receives}
-use Rattle.udp_site.specs.inner.Stopping.{line_of_the_cell}
+use Rattle.udp_site.specs.inner.Receipts.{Receives}
+use Rattle.udp_site.specs.inner.StopLines.{line_of_the_cell}
 use Rattle.udp_site.proofs.Growth.{Grows-trans, Appends-none}
 use Rattle.udp_site.proofs.Printed.{one_is_last, text_is}
 

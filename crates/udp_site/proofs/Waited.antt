@@ -17,7 +17,7 @@ use Rattle.udp_site.specs.Traffic.{Move, all_handed}
 use Rattle.udp_site.specs.Turns.{Serving, Coming, Done, IsServing, number, posts_of}
 use Rattle.udp_site.specs.Turns.{proposal_notices, one_more_idle, tries, slot_of, proposing}
 use Rattle.udp_site.specs.Turns.{proposes, proposes_next, idles_if, idles}
-use Rattle.udp_site.specs.inner.Coming.{ComesTo, at}
+use Rattle.udp_site.specs.inner.Outcomes.{ComesTo, at}
 use Rattle.udp_site.proofs.Handed.{grows_by_no_posts, no_part}
 use Rattle.udp_site.proofs.Proposals.{could_propose}
 use Rattle.udp_site.proofs.Said.{broken_off}

@@ -5,7 +5,7 @@ pub mod Rounds
 pub mod Turns
 pub mod Served
 pub mod Faults
-pub mod Failing
+pub mod Failures
 pub mod MemoryPorts
 pub mod Pace
 pub mod Signs

@@ -1,9 +1,9 @@
-pub mod Coming
+pub mod Outcomes
 pub mod OneTurn
 pub mod Asked
-pub mod Waiting
-pub mod Stopping
-pub mod Asking
+pub mod SlotRecords
+pub mod StopLines
+pub mod Others
 pub mod Arrivals
-pub mod Receiving
+pub mod Receipts
 pub mod Paced

@@ -2,25 +2,25 @@
 //! is handed out.
 #![tactic(auto)]
 
-mod asking;
-mod depositing;
+mod arrivals;
+mod asked;
+mod deposits;
 mod fault;
-mod handing;
-mod hearing;
-mod idling;
+mod idle_turns;
 mod memory_port;
 mod pace;
 mod paced_socket;
 mod port;
 mod port_fault;
 mod port_move;
-mod querying;
+mod posts;
+mod queries;
 mod replies;
-mod saying;
-mod serving;
+mod said_lines;
+mod service;
 mod sign;
 mod turn;
-mod turning;
+mod turn_step;
 mod udp_port;
 mod waits;
 
@@ -29,7 +29,7 @@ pub use memory_port::MemoryPort;
 pub use port::Port;
 pub use port_fault::PortFault;
 pub use port_move::PortMove;
-pub use serving::serve;
+pub use service::serve;
 pub use turn::Turn;
 pub use udp_port::UdpPort;
 pub use waits::Waits;

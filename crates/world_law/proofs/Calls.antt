@@ -31,7 +31,7 @@ use Rattle.world_law.proofs.Kept.{vote_for, IsCurrent, Kept}
 use Rattle.world_law.proofs.Step.{Extends, Splits, reports_nothing, reports_plain}
 use Rattle.world_law.proofs.Deeds.{MayDeposit, Deed, some_same, sent_extends, carries_each}
 use Rattle.world_law.proofs.Deeds.{only_sends, keeps_one, not_new}
-use Rattle.world_law.proofs.Arriving.{still_deed, says_deed}
+use Rattle.world_law.proofs.Arrivals.{still_deed, says_deed}
 
 module _ (q : QuorumSystem) (laws : AreQuorums q) (w : Network) (inv : Kept q w) (n : ℕ) where
   abbrev records : List Record

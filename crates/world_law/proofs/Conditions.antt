@@ -1,7 +1,7 @@
 -- What follows where a test has passed.
 use Rattle.std.proofs.Common.{◌≡◌, Bool, true, false, cond, not, ◌&&◌, refl, Option, None, Some}
 use Rattle.fed_types.specs.declared.bag_id.BagId.{BagId}
-use Rattle.learner.specs.Learning.{unless_known}
+use Rattle.learner.specs.LearnedBags.{unless_known}
 
 -- what is given only if a test passes
 pub given_if : {A : Type 0} (t : Bool) (x y : A) → cond t (Some x) None ≡ Some y

@@ -18,7 +18,7 @@ use Rattle.dgram.specs.declared.message.Message.{Message}
 use Rattle.dgram.specs.Decoded.{message_of}
 use Rattle.dgram.specs.Heard.{bodies_of, promises_for, promisers, priors, voters_for, floor_of}
 use Rattle.acceptor.specs.Decisions.{prepare_decision, accept_decision}
-use Rattle.learner.specs.Learning.{chosen_by}
+use Rattle.learner.specs.LearnedBags.{chosen_by}
 use Rattle.proposer.specs.Proposals.{next_ballot, gathered, highest_prior, proposal}
 use Rattle.proposer.specs.Sessions.{Session, new_session, hears, issues, promise_message}
 use Rattle.proposer.specs.Sessions.{refusal_message}

@@ -6,7 +6,7 @@ pub mod Step
 pub mod Deeds
 pub mod Decided
 pub mod Conditions
-pub mod Arriving
+pub mod Arrivals
 pub mod Calls
 pub mod Outcomes
 pub mod Sends

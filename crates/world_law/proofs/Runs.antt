@@ -23,7 +23,7 @@ use Rattle.world_law.proofs.Step.{Deposits as Allowed}
 use Rattle.world_law.proofs.Step.{Next}
 use Rattle.world_law.proofs.Deeds.{MayDeposit, some_same}
 use Rattle.world_law.proofs.Sends.{at_number}
-use Rattle.world_law.proofs.Arriving.{arrival_deed}
+use Rattle.world_law.proofs.Arrivals.{arrival_deed}
 use Rattle.world_law.proofs.Outcomes.{stays, member_kept, takes_kept, replies_kept, stops_kept}
 use Rattle.world_law.proofs.Outcomes.{starts_kept}
 use Rattle.world_law.proofs.Calls.{deposit_deed, propose_deed, ask_deed}

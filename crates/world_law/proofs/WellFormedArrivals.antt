@@ -26,7 +26,7 @@ use Rattle.acceptor.specs.declared.decision.Decision.{Decision}
 use Rattle.acceptor.specs.Decisions.{promises, votes, votes_again, refuses, on_prepare}
 use Rattle.acceptor.specs.Decisions.{is_in_ballot, is_vote, on_new_accept, prepare_decision}
 use Rattle.acceptor.specs.Decisions.{accept_decision}
-use Rattle.learner.specs.Learning.{unless_known, chosen_by, with_vote}
+use Rattle.learner.specs.LearnedBags.{unless_known, chosen_by, with_vote}
 use Rattle.proposer.specs.Proposals.{Current, gathered, completes, highest_prior, bag_of, proposal}
 use Rattle.proposer.specs.Proposals.{ready}
 use Rattle.proposer.specs.Sessions.{Session, hears}

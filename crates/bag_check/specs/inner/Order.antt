@@ -6,7 +6,7 @@ use Rattle.std.specs.List.{list_any, flat_map}
 use Rattle.std.specs.Option.{option_or}
 use Rattle.bag_text.specs.declared.algorithm.Algorithm.{Algorithm}
 use Rattle.bag_text.specs.ListedFile.{ListedFile}
-use Rattle.bag_text.specs.Reading.{declaration_of}
+use Rattle.bag_text.specs.Readers.{declaration_of}
 use Rattle.bag_tree.specs.Facts.{FileFact}
 use Rattle.bag_check.specs.declared.fault.BagFault.{BagFault}
 use Rattle.bag_check.specs.declared.fault.BagFault.TheVariants.{NoDeclaration, BadDeclaration}

@@ -6,7 +6,7 @@ use Rattle.std.specs.List.{list_any}
 use Rattle.fed_types.specs.Limits.{most_members}
 use Rattle.fed_types.specs.Sites.{AreWeights}
 use Rattle.fields.specs.Checksums.{without_checksum}
-use Rattle.fields.specs.Decoding.{◌>>=◌}
+use Rattle.fields.specs.Decoders.{◌>>=◌}
 use Rattle.records.specs.declared.layout.Layout.{Layout}
 use Rattle.records.specs.declared.layout.Layout.TheVariants.{First, Second}
 use Rattle.records.specs.declared.record.Record.{Record}
@@ -20,7 +20,7 @@ use Rattle.records.specs.Numbers.{magic}
 use Rattle.records.specs.Layout.{checksum_size, encoded, all_encoded, owner_bytes, header_of}
 use Rattle.records.specs.Records.{IsRecord, AreRecords}
 use Rattle.records.specs.Journals.{length_field, IsTornRecord, IsNoRecord, IsHeaderPart, HasHeader}
-use Rattle.records.specs.inner.Decoding.{content_at}
+use Rattle.records.specs.inner.Decoders.{content_at}
 
 -- the bytes of a whole record, its checksum left out, if that is right
 abbrev pub unsealed : Layout → List ℕ → Option (List ℕ)

@@ -6,7 +6,7 @@ use Rattle.std.proofs.lemmas.Bool.{false_from_ne_true}
 use Rattle.std.proofs.lemmas.List.{take_all}
 use Rattle.bag_check.specs.Manifests.{is_listed}
 use Rattle.bag_check.specs.Check.{repeats}
-use Rattle.bag_check.proofs.Ascending.{IsUpTo, less_from_not_ge, up_to_next}
+use Rattle.bag_check.proofs.AscendingPaths.{IsUpTo, less_from_not_ge, up_to_next}
 use Rattle.bag_check.proofs.Repeats.{listed_next, repeat_passed}
 use Rattle.bag_check.proofs.entries.is_ascending.Goals as goal
 

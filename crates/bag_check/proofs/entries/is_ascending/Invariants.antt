@@ -3,7 +3,7 @@ use denote.Text.{Utf8}
 use denote.Shadow.{shadow}
 use Rattle.bag_check.specs.Manifests.{is_listed}
 use Rattle.bag_check.specs.Check.{repeats}
-use Rattle.bag_check.proofs.Ascending.{IsUpTo}
+use Rattle.bag_check.proofs.AscendingPaths.{IsUpTo}
 use Rattle.bag_check.proofs.entries.is_ascending.Given as goal
 
 -- no path that was listed so far is greater than the last, and none was listed twice

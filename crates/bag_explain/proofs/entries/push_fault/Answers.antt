@@ -2,7 +2,7 @@ use Rattle.std.proofs.Common.{string_bytes}
 use Rattle.bag_explain.specs.Listings.{Listing}
 use Rattle.bag_explain.specs.Findings.{printed_places}
 use Rattle.bag_explain.specs.inner.Stages.{fault_of, places_in}
-use Rattle.bag_explain.proofs.Printing.{text_one_more, text_all_done}
+use Rattle.bag_explain.proofs.FaultLines.{text_one_more, text_all_done}
 use Rattle.bag_explain.proofs.entries.push_fault.Goals as goal
 
 pub loop-listing-preserved : goal.loop-listing-preserved

@@ -5,7 +5,7 @@ use Rattle.bag_check.specs.Check.{is_unlisted}
 use Rattle.bag_check.specs.Manifests.{is_listed}
 use Rattle.bag_explain.specs.Places.{when, at_unlisted, unlisted_at, files_in}
 use Rattle.bag_explain.specs.Findings.{printed_places}
-use Rattle.bag_explain.proofs.Printing.{one_more, all_done}
+use Rattle.bag_explain.proofs.FaultLines.{one_more, all_done}
 use Rattle.bag_explain.proofs.entries.push_left_out.Goals as goal
 
 pub loop-file-preserved : goal.loop-file-preserved

@@ -3,7 +3,7 @@ use Rattle.std.proofs.lemmas.List.{get_or_default}
 use Rattle.bag_check.specs.declared.fault.BagFault.TheVariants.{MalformedLine}
 use Rattle.bag_explain.specs.Places.{at_line, malformed_at}
 use Rattle.bag_explain.specs.Findings.{printed_fault}
-use Rattle.bag_explain.proofs.Printing.{one_more, all_done}
+use Rattle.bag_explain.proofs.FaultLines.{one_more, all_done}
 use Rattle.bag_explain.proofs.entries.push_malformed.Goals as goal
 
 pub loop-line-preserved : goal.loop-line-preserved

@@ -1,7 +1,7 @@
 use Rattle.std.proofs.Common.{string_bytes}
 use Rattle.bag_check.specs.declared.fault.BagFault.TheVariants.{WrongDigest}
 use Rattle.bag_explain.specs.Places.{wrong_at}
-use Rattle.bag_explain.proofs.Printing.{one_more, all_done}
+use Rattle.bag_explain.proofs.FaultLines.{one_more, all_done}
 use Rattle.bag_explain.proofs.entries.push_wrong.Goals as goal
 
 pub loop-entry-preserved : goal.loop-entry-preserved

@@ -1,4 +1,4 @@
-use Rattle.bag_explain.proofs.Numbering.{kinds_read}
+use Rattle.bag_explain.proofs.NumberedLines.{kinds_read}
 use Rattle.bag_explain.proofs.read_manifests.listings.Goals as goal
 
 pub returns : goal.returns

@@ -1,6 +1,6 @@
 use Rattle.std.proofs.Common.{◌≡◌, Some, ap, sym, ◌∙◌}
 use Rattle.bag_check.specs.Manifests.{text_at, manifest_name}
-use Rattle.bag_explain.proofs.Numbering.{no_manifest, one_manifest}
+use Rattle.bag_explain.proofs.NumberedLines.{no_manifest, one_manifest}
 use Rattle.bag_explain.proofs.read_manifests.read.Goals as goal
 
 pub returns-in_default : goal.returns-in_default

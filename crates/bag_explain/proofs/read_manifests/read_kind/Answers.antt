@@ -1,5 +1,5 @@
 use Rattle.std.proofs.lemmas.Result.{on_ok_weaker}
-use Rattle.bag_explain.proofs.Numbering.{kind_read}
+use Rattle.bag_explain.proofs.NumberedLines.{kind_read}
 use Rattle.bag_explain.proofs.read_manifests.read_kind.Goals as goal
 
 pub returns : goal.returns

@@ -1,6 +1,6 @@
 use Rattle.std.proofs.Common.{◌+◌, ℕ, [], refl, ap, ◌∙◌}
 use Rattle.bag_explain.specs.Lines.{numbered_from, malformed_from}
-use Rattle.bag_explain.proofs.Numbering.{malformed_more, numbered_more, all_read, texts_of}
+use Rattle.bag_explain.proofs.NumberedLines.{malformed_more, numbered_more, all_read, texts_of}
 use Rattle.bag_explain.proofs.read_manifests.read_text.Goals as goal
 
 pub loop-line-init : goal.loop-line-init

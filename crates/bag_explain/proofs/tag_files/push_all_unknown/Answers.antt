@@ -3,7 +3,7 @@ use Rattle.bag_check.specs.declared.fault.BagFault.TheVariants.{UnknownAlgorithm
 use Rattle.bag_check.specs.Manifests.{is_unknown}
 use Rattle.bag_explain.specs.Places.{when, at_file, unknown_at, places_of}
 use Rattle.bag_explain.specs.Findings.{printed_places}
-use Rattle.bag_explain.proofs.Printing.{one_more, all_done}
+use Rattle.bag_explain.proofs.FaultLines.{one_more, all_done}
 use Rattle.bag_explain.proofs.tag_files.push_all_unknown.Goals as goal
 
 pub loop-file-preserved : goal.loop-file-preserved

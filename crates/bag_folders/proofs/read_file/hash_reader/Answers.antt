@@ -1,8 +1,8 @@
 use Rattle.std.proofs.Common.{rules, take}
 use Rattle.bag_folders.specs.Pieces.{IsReadFault}
 use Rattle.bag_tree.specs.declared.fault.TreeFault.TheVariants.{TextTooLong}
-use Rattle.bag_folders.proofs.Taking.{taken_end, taken_facts, taken_fits, hashed_more, taken_kept}
-use Rattle.bag_folders.proofs.Taking.{refused_too_long, refused_as, passed_on, passed_on_as}
+use Rattle.bag_folders.proofs.Taken.{taken_end, taken_facts, taken_fits, hashed_more, taken_kept}
+use Rattle.bag_folders.proofs.Taken.{refused_too_long, refused_as, passed_on, passed_on_as}
 use Rattle.bag_folders.proofs.read_file.hash_reader.Goals as goal
 use Rattle.bag_folders.proofs.read_file.hash_reader.Goals.{in-Ok+in_ok-feed-in-Ok, in-Err+else-ne}
 

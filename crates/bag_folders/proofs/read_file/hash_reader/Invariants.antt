@@ -1,5 +1,5 @@
 use Rattle.std.proofs.Common.{◌≡◌}
-use Rattle.bag_folders.proofs.Taking.{Taken}
+use Rattle.bag_folders.proofs.Taken.{Taken}
 use Rattle.bag_folders.proofs.read_file.hash_reader.Given as goal
 
 -- what the reader gave so far was taken, and it fits

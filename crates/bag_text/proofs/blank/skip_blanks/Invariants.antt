@@ -1,5 +1,5 @@
 use Rattle.std.proofs.Common.{◌≡◌, length}
-use Rattle.bag_text.specs.Reading.{skip_blanks}
+use Rattle.bag_text.specs.Readers.{skip_blanks}
 use Rattle.bag_text.proofs.blank.skip_blanks.Given as goal
 
 abbrev pub invariant-loop-first : goal.invariant-loop-first

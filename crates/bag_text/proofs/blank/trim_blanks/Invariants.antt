@@ -1,5 +1,5 @@
 use Rattle.std.proofs.Common.{◌≡◌, length}
-use Rattle.bag_text.specs.Reading.{trim_blanks}
+use Rattle.bag_text.specs.Readers.{trim_blanks}
 use Rattle.bag_text.proofs.blank.trim_blanks.Given as goal
 
 abbrev pub invariant-loop-last : goal.invariant-loop-last

@@ -1,5 +1,5 @@
 use Rattle.std.proofs.Common.{◌+◌, sym, ◌∙◌, arith}
-use Rattle.bag_text.specs.Reading.{entries_of}
+use Rattle.bag_text.specs.Readers.{entries_of}
 use Rattle.bag_text.proofs.LineLaws.{lines_of-empty}
 use Rattle.bag_text.proofs.ManifestLaws.{read_blank, read_entry, read_fault, read_ended}
 use Rattle.bag_text.proofs.parse_manifest.entries_in.Goals as goal

@@ -1,6 +1,6 @@
 use Rattle.std.proofs.Common.{◌≡◌, ◌+◌, ◌≤◌, length}
 use Rattle.bag_text.specs.Lines.{lines_of}
-use Rattle.bag_text.specs.Reading.{entries_of, files_from}
+use Rattle.bag_text.specs.Readers.{entries_of, files_from}
 use Rattle.bag_text.proofs.ManifestLaws.{after}
 use Rattle.bag_text.proofs.parse_manifest.entries_in.Given as goal
 

@@ -2,7 +2,7 @@ use Rattle.std.proofs.Common.{refl}
 use Rattle.std.specs.Prelude.{codes}
 use Rattle.examples.specs.Examples.{declaration_1_0}
 use Rattle.bag_text.specs.Lines.{lines_of}
-use Rattle.bag_text.specs.Reading.{skip_blanks, trim_blanks, field_value, version_in, encoding_in}
+use Rattle.bag_text.specs.Readers.{skip_blanks, trim_blanks, field_value, version_in, encoding_in}
 use Rattle.examples.proofs.texts.declares_1_0.Goals as goal
 
 pub returns : goal.returns

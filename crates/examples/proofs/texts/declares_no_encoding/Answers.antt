@@ -1,7 +1,7 @@
 use Rattle.std.proofs.Common.{refl}
 use Rattle.examples.specs.Examples.{declaration_of_one_line}
 use Rattle.bag_text.specs.Lines.{lines_of}
-use Rattle.bag_text.specs.Reading.{skip_blanks, trim_blanks, field_value, version_in, encoding_in}
+use Rattle.bag_text.specs.Readers.{skip_blanks, trim_blanks, field_value, version_in, encoding_in}
 use Rattle.examples.proofs.texts.declares_no_encoding.Goals as goal
 
 pub returns : goal.returns

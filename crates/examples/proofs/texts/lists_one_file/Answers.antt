@@ -6,7 +6,7 @@ use Rattle.std.specs.Str.{is_utf8, chars}
 use Rattle.hex.specs.Hex.{decode_pairs}
 use Rattle.bag_text.specs.Lines.{lines_of}
 use Rattle.bag_text.specs.Paths.{unescaped}
-use Rattle.bag_text.specs.Reading.{skip_blanks, file_in, files_from}
+use Rattle.bag_text.specs.Readers.{skip_blanks, file_in, files_from}
 use Rattle.examples.proofs.texts.lists_one_file.Goals as goal
 
 pub returns : goal.returns

@@ -1,6 +1,6 @@
 use Rattle.std.proofs.Common.{subst, take, inl, inr}
 use Rattle.fields.specs.declared.fault.FieldFault.{FieldFault}
-use Rattle.fields.specs.Decoding.{Fails}
+use Rattle.fields.specs.Decoders.{Fails}
 use Rattle.records.specs.inner.Steps.{record_before}
 use Rattle.records.proofs.Again.{none_next, whole_next, unread_next}
 use Rattle.records.proofs.journal.next_record.Goals as goal

@@ -1,4 +1,4 @@
-use Rattle.serving_law.proofs.Journaling.{are_like_cells}
+use Rattle.serving_law.proofs.DiskJournals.{are_like_cells}
 use Rattle.serving_law.proofs.examples.disks_are_like_cells.Goals as goal
 
 pub returns : goal.returns

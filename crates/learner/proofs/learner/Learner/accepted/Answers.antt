@@ -3,7 +3,7 @@ use Rattle.fed_types.specs.Voters.{with_voter}
 use Rattle.slot_table.specs.Rows.{row_at}
 use Rattle.learner.specs.Ledgers.{Ledger, StandsFor, known_in, counted_in}
 use Rattle.learner.specs.inner.Counts.{is_learned}
-use Rattle.learner.proofs.Hearing.{heard_as, learned_as}
+use Rattle.learner.proofs.HeardVotes.{heard_as, learned_as}
 use Rattle.learner.proofs.Rows.{err_of}
 use Rattle.learner.proofs.learner.Learner.accepted.Goals as goal
 

@@ -1,7 +1,7 @@
 use Rattle.std.proofs.Common.{true, sym, subst}
 use Rattle.learner.specs.Ledgers.{Ledger, StandsFor}
-use Rattle.learner.proofs.Hearing.{same_stands}
-use Rattle.learner.proofs.Noting.{noted_known, noted_other, says_none}
+use Rattle.learner.proofs.HeardVotes.{same_stands}
+use Rattle.learner.proofs.NotedRecords.{noted_known, noted_other, says_none}
 use Rattle.learner.proofs.learner.Learner.note.Goals as goal
 
 pub returns-in_ok-reserve-clause-noted : goal.returns-in_ok-reserve-clause-noted

@@ -1,7 +1,7 @@
 use Rattle.std.proofs.Common.{◌≡◌, subst}
 use Rattle.acceptor.specs.Decisions.{accept_decision}
 use Rattle.site.specs.Sites.{OpenSite}
-use Rattle.site.proofs.Hearing.{hears_accept}
+use Rattle.site.proofs.HeardMessages.{hears_accept}
 use Rattle.site.proofs.member_site.Site.accept.Goals as goal
 
 pub returns : goal.returns

@@ -5,9 +5,9 @@ use Rattle.site_tables.specs.Contents.{Contents}
 use Rattle.site.specs.declared.answer.Line.TheVariants as lines
 use Rattle.site.specs.declared.fault.SiteFault.TheVariants as faults
 use Rattle.site.specs.inner.Concluded.{Concludes}
-use Rattle.site.proofs.Concluding.{answer_err_of}
-use Rattle.site.proofs.Hearing.{hears_vote, hears_deciding_vote, vote_unheard, stays_in_order}
-use Rattle.site.proofs.Hearing.{same_in_order}
+use Rattle.site.proofs.Conclusions.{answer_err_of}
+use Rattle.site.proofs.HeardMessages.{hears_vote, hears_deciding_vote, vote_unheard, stays_in_order}
+use Rattle.site.proofs.HeardMessages.{same_in_order}
 use Rattle.site.proofs.member_site.Site.accepted.Goals as goal
 
 pub invariant_of-self : goal.invariant_of-self

@@ -3,7 +3,7 @@ use Rattle.dgram.specs.Decoded.{message_of}
 use Rattle.proposer.specs.Sessions.{Session}
 use Rattle.site.specs.Calls.{Arrives}
 use Rattle.site.specs.Sites.{OpenSite, StandsFor}
-use Rattle.site.proofs.Hearing.{drops_bytes}
+use Rattle.site.proofs.HeardMessages.{drops_bytes}
 use Rattle.site.proofs.Reports.{reported_of}
 use Rattle.site.proofs.member_site.Site.arrive.Goals as goal
 

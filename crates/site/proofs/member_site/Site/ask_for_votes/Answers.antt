@@ -3,7 +3,7 @@ use Rattle.dgram.specs.declared.body.Body.TheVariants as bodies
 use Rattle.site.specs.Datagrams.{handed_out}
 use Rattle.site.specs.Sites.{OpenSite}
 use Rattle.site.specs.inner.Concluded.{all_datagrams}
-use Rattle.site.proofs.Hearing.{stays_in_order, says_so}
+use Rattle.site.proofs.HeardMessages.{stays_in_order, says_so}
 use Rattle.site.proofs.member_site.Site.ask_for_votes.Goals as goal
 
 pub invariant_of-self : goal.invariant_of-self

@@ -3,7 +3,7 @@ use Rattle.site.specs.declared.answer.Answer.{Answer}
 use Rattle.site.specs.declared.fault.SiteFault.{SiteFault}
 use Rattle.site.specs.Datagrams.{handed_out}
 use Rattle.site.specs.inner.Concluded.{Concludes}
-use Rattle.site.proofs.Concluding.{concludes_err, answer_err_of}
+use Rattle.site.proofs.Conclusions.{concludes_err, answer_err_of}
 use Rattle.site.proofs.member_site.Site.conclude.Goals as goal
 
 pub returns-in_err-commit_and_note : goal.returns-in_err-commit_and_note

@@ -7,7 +7,7 @@ use Rattle.site.specs.Answered.{IsAnswered}
 use Rattle.site.specs.Calls.{on_deposit}
 use Rattle.site.specs.Faults.{check_fault}
 use Rattle.site.specs.Sites.{OpenSite, StandsFor}
-use Rattle.site.proofs.Concluding.{answer_err_of}
+use Rattle.site.proofs.Conclusions.{answer_err_of}
 use Rattle.site.proofs.Refused.{check_refused, needs_none}
 use Rattle.site.proofs.member_site.Site.deposit.Goals as goal
 

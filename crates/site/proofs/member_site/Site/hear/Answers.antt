@@ -1,5 +1,5 @@
 use Rattle.std.proofs.Common.{inl, inr, refl, sym, subst}
-use Rattle.site.proofs.Hearing.{IsRequest, drops_request}
+use Rattle.site.proofs.HeardMessages.{IsRequest, drops_request}
 use Rattle.site.proofs.member_site.Site.hear.Goals as goal
 
 pub returns-in-Deposit : goal.returns-in-Deposit

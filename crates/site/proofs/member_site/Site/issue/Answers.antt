@@ -6,9 +6,9 @@ use Rattle.site.specs.Answered.{IsAnswered}
 use Rattle.site.specs.Calls.{Proposes}
 use Rattle.site.specs.Sites.{OpenSite, effect}
 use Rattle.site.specs.inner.Begun.{BeginsBallot}
-use Rattle.site.proofs.Concluding.{answer_err_of}
-use Rattle.site.proofs.Issuing.{mid_order, not_issued, issued, refused_or_issued, refused_as}
-use Rattle.site.proofs.Issuing.{not_refused}
+use Rattle.site.proofs.Conclusions.{answer_err_of}
+use Rattle.site.proofs.IssuedBallots.{mid_order, not_issued, issued, refused_or_issued, refused_as}
+use Rattle.site.proofs.IssuedBallots.{not_refused}
 use Rattle.site.proofs.member_site.Site.issue.Goals as goal
 
 pub invariant_of-self : goal.invariant_of-self

@@ -1,7 +1,7 @@
 use Rattle.std.proofs.Common.{◌≡◌, subst}
 use Rattle.acceptor.specs.Decisions.{prepare_decision}
 use Rattle.site.specs.Sites.{OpenSite}
-use Rattle.site.proofs.Hearing.{hears_prepare}
+use Rattle.site.proofs.HeardMessages.{hears_prepare}
 use Rattle.site.proofs.member_site.Site.prepare.Goals as goal
 
 pub returns : goal.returns

@@ -1,5 +1,5 @@
 use Rattle.std.proofs.Common.{refl}
-use Rattle.site.proofs.Hearing.{hears_promise, hears_last_promise, stays_in_order}
+use Rattle.site.proofs.HeardMessages.{hears_promise, hears_last_promise, stays_in_order}
 use Rattle.site.proofs.member_site.Site.promised.Goals as goal
 
 pub invariant_of-self : goal.invariant_of-self

@@ -1,7 +1,7 @@
 use Rattle.std.proofs.Common.{refl}
 use Rattle.site.specs.declared.fault.SiteFault.TheVariants as faults
-use Rattle.site.proofs.Concluding.{answer_err_of}
-use Rattle.site.proofs.Hearing.{hears_refused, refusal_unheard, stays_in_order, same_in_order}
+use Rattle.site.proofs.Conclusions.{answer_err_of}
+use Rattle.site.proofs.HeardMessages.{hears_refused, refusal_unheard, stays_in_order, same_in_order}
 use Rattle.site.proofs.member_site.Site.refused.Goals as goal
 
 pub invariant_of-self : goal.invariant_of-self

@@ -3,7 +3,7 @@ use Rattle.site.specs.Arrivals.{on_body}
 use Rattle.site.specs.Sites.{OpenSite, IsInOrder}
 use Rattle.fed_types.specs.Quorums.{quorums_of}
 use Rattle.proposer.specs.Sessions.{hears}
-use Rattle.site.proofs.Hearing.{takes_in, drops, is_open}
+use Rattle.site.proofs.HeardMessages.{takes_in, drops, is_open}
 use Rattle.site.proofs.member_site.Site.take_in.Goals as goal
 
 pub returns-then-is_from_member-clause-answer : goal.returns-then-is_from_member-clause-answer

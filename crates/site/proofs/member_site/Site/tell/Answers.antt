@@ -4,7 +4,7 @@ use Rattle.records.specs.Words.{known_of}
 use Rattle.site.specs.Datagrams.{handed_out}
 use Rattle.site.specs.Sites.{OpenSite}
 use Rattle.site.specs.inner.Concluded.{one_datagram}
-use Rattle.site.proofs.Hearing.{hears_ask, tells}
+use Rattle.site.proofs.HeardMessages.{hears_ask, tells}
 use Rattle.site.proofs.member_site.Site.tell.Goals as goal
 
 pub returns-in_ok-sends-in-Some : goal.returns-in_ok-sends-in-Some

@@ -1,7 +1,7 @@
 use Rattle.std.proofs.Common.{◌≡◌, Some, None, refl, subst}
-use Rattle.learner.specs.Learning.{learned_of_known}
+use Rattle.learner.specs.LearnedBags.{learned_of_known}
 use Rattle.site.specs.Sites.{OpenSite}
-use Rattle.site.proofs.Hearing.{hears_told, hears_told_nothing}
+use Rattle.site.proofs.HeardMessages.{hears_told, hears_told_nothing}
 use Rattle.site.proofs.member_site.Site.told.Goals as goal
 
 pub returns-in-Some : goal.returns-in-Some

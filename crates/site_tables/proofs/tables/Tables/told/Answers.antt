@@ -1,6 +1,6 @@
 use Rattle.std.proofs.Common.{Option, Some, ap}
 use Rattle.fed_types.specs.declared.bag_id.BagId.{BagId}
-use Rattle.learner.specs.Learning.{unless_known}
+use Rattle.learner.specs.LearnedBags.{unless_known}
 use Rattle.site_tables.proofs.tables.Tables.told.Goals as goal
 
 pub returns-in-None : goal.returns-in-None

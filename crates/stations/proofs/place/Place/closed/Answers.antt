@@ -1,7 +1,7 @@
 use Rattle.std.proofs.Common.{subst}
 use Rattle.stations.specs.declared.place.Place.{Place}
 use Rattle.stations.specs.Stations.{StandsFor}
-use Rattle.stations.proofs.Resting.{stopped}
+use Rattle.stations.proofs.Rest.{stopped}
 use Rattle.stations.proofs.place.Place.closed.Goals as goal
 
 pub returns-in-Running : goal.returns-in-Running

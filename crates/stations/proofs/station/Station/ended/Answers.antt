@@ -3,7 +3,7 @@ use Rattle.schedule.specs.declared.fate.Fate.{Fate}
 use Rattle.stations.specs.Fates.{before_stop}
 use Rattle.stations.specs.Stations.{Undergoes}
 use Rattle.stations.specs.declared.place.Place.TheVariants.{Running}
-use Rattle.stations.proofs.Stopping.{stops_after, stops_in, goes_on}
+use Rattle.stations.proofs.Stops.{stops_after, stops_in, goes_on}
 use Rattle.stations.proofs.station.Station.ended.Goals as goal
 
 pub returns-in-StopsAfter-clause-ends : goal.returns-in-StopsAfter-clause-ends

@@ -2,7 +2,7 @@ use Rattle.std.proofs.Common.{ℕ, List, [], ap, ◌∙◌}
 use Rattle.cell_device.specs.Images.{at_rest}
 use Rattle.world_law.specs.Networks.{new_site}
 use Rattle.stations.specs.Stations.{IsOpened}
-use Rattle.stations.proofs.Resting.{empty_keeps_none}
+use Rattle.stations.proofs.Rest.{empty_keeps_none}
 use Rattle.stations.proofs.station.Station.new.Goals as goal
 
 pub returns-clause-is_new : goal.returns-clause-is_new

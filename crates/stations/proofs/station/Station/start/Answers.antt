@@ -1,6 +1,6 @@
 use Rattle.std.proofs.Common.{List, length, ap}
 use Rattle.records.specs.declared.record.Record.{Record}
-use Rattle.stations.proofs.Starting.{started}
+use Rattle.stations.proofs.Starts.{started}
 use Rattle.stations.proofs.station.Station.start.Goals as goal
 
 pub returns-clause-starts : goal.returns-clause-starts

@@ -1,0 +1,171 @@
+-- The numbered lines of a manifest, one line on, and its listing.
+use Rattle.std.proofs.Common.{◌≡◌, ℕ, ◌+◌, ◌<◌, ◌≤◌, List, [], ◌∷◌, ◌++◌, length, take, get_or, map}
+use Rattle.std.proofs.Common.{refl, sym, ap, ◌∙◌, append_assoc, append-nil, arith}
+use Rattle.std.proofs.Common.{None, Some}
+use Rattle.std.specs.Borrow.{Bor}
+use Rattle.std.proofs.lemmas.List.{map-append, take_more, take_all, length-take-le}
+use Rattle.std.proofs.lemmas.List.{length-map}
+use Rattle.bag_text.specs.declared.algorithm.Algorithm.{Algorithm}
+use Rattle.bag_text.specs.declared.algorithm.Algorithm.TheVariants.{Md5, Sha1, Sha256, Sha512}
+use Rattle.bag_text.specs.Lines.{lines_of}
+use Rattle.bag_text.specs.Readers.{entries_of}
+use Rattle.bag_tree.specs.Facts.{FileFact}
+use Rattle.bag_check.specs.declared.manifests.Kind.{Kind}
+use Rattle.bag_check.specs.declared.manifests.Kind.TheVariants.{Payload, Tag}
+use Rattle.bag_check.specs.Manifests.{Manifest, text_at, manifest_name, manifest_at}
+use Rattle.bag_check.specs.Manifests.{manifests_of_kind, manifests_of}
+use Rattle.bag_explain.specs.Lines.{NumberedFile, numbered, if_malformed, numbered_from}
+use Rattle.bag_explain.specs.Lines.{malformed_from}
+use Rattle.bag_explain.specs.Listings.{Listing, listing_by, listing_of, listings_of}
+
+zero_more : (n : ℕ) → n ≡ n + 0
+zero_more n = omega arith
+
+malformed_from-snoc : (algorithm : Algorithm) (number : ℕ) (lines : List (List ℕ)) (line : List ℕ)
+    → malformed_from algorithm number (lines ++ line ∷ [])
+    ≡ malformed_from algorithm number lines
+    ++ if_malformed (number + length lines) (entries_of algorithm line)
+unfolding malformed_from
+malformed_from-snoc algorithm number [] line =
+    append-nil (if_malformed number (entries_of algorithm line))
+    ∙ ap (λ (n : ℕ). if_malformed n (entries_of algorithm line)) (zero_more number)
+malformed_from-snoc algorithm number (first ∷ lines) line =
+    let here = if_malformed number (entries_of algorithm first) in
+    let there = malformed_from algorithm (number + 1) lines in
+    let e : (number + 1) + length lines ≡ number + length (first ∷ lines) = omega arith in
+    ap (λ t. here ++ t) (malformed_from-snoc algorithm (number + 1) lines line)
+    ∙ (sym (append_assoc here there
+    (if_malformed ((number + 1) + length lines) (entries_of algorithm line)))
+    ∙ ap (λ (n : ℕ). (here ++ there) ++ if_malformed n (entries_of algorithm line)) e)
+
+numbered_from-snoc : (algorithm : Algorithm) (number : ℕ) (lines : List (List ℕ)) (line : List ℕ)
+    → numbered_from algorithm number (lines ++ line ∷ [])
+    ≡ numbered_from algorithm number lines
+    ++ numbered (number + length lines) (entries_of algorithm line)
+unfolding numbered_from
+numbered_from-snoc algorithm number [] line =
+    append-nil (numbered number (entries_of algorithm line))
+    ∙ ap (λ (n : ℕ). numbered n (entries_of algorithm line)) (zero_more number)
+numbered_from-snoc algorithm number (first ∷ lines) line =
+    let here = numbered number (entries_of algorithm first) in
+    let there = numbered_from algorithm (number + 1) lines in
+    let e : (number + 1) + length lines ≡ number + length (first ∷ lines) = omega arith in
+    ap (λ t. here ++ t) (numbered_from-snoc algorithm (number + 1) lines line)
+    ∙ (sym (append_assoc here there
+    (numbered ((number + 1) + length lines) (entries_of algorithm line)))
+    ∙ ap (λ (n : ℕ). (here ++ there) ++ numbered n (entries_of algorithm line)) e)
+
+-- ---- the loop over the lines
+
+abbrev pub texts_of : List (Bor (List ℕ)) → List (List ℕ)
+texts_of lines = map (λ line. line.now) lines
+
+module _ (algorithm : Algorithm) (items : List (Bor (List ℕ))) (place number : ℕ)
+    (other : Bor (List ℕ)) (within : place < length items) (counted : number ≡ place) where
+  abbrev text : List ℕ
+  text = (get_or items place other).now
+
+  next : texts_of (take (place + 1) items) ≡ texts_of (take place items) ++ text ∷ []
+  next = ap texts_of (take_more items place other within)
+      ∙ map-append (λ (line : Bor (List ℕ)). line.now) (take place items)
+      (get_or items place other ∷ [])
+
+  here : 1 + length (texts_of (take place items)) ≡ number + 1
+  here =
+      let e : length (texts_of (take place items)) ≡ length (take place items) =
+      length-map (take place items) (λ (line : Bor (List ℕ)). line.now) in
+      let k : length (take place items) ≡ place =
+      length-take-le place items (omega (arith, within)) in
+      omega (arith, e, k, counted)
+
+  pub malformed_more : (before after : List ℕ)
+      → before ≡ malformed_from algorithm 1 (texts_of (take place items))
+      → after ≡ before ++ if_malformed (number + 1) (entries_of algorithm text)
+      → after ≡ malformed_from algorithm 1 (texts_of (take (place + 1) items))
+  malformed_more before after e h =
+      h ∙ (ap (λ t. t ++ if_malformed (number + 1) (entries_of algorithm text)) e
+      ∙ (ap (λ n. malformed_from algorithm 1 (texts_of (take place items))
+      ++ if_malformed n (entries_of algorithm text)) (sym here)
+      ∙ (sym (malformed_from-snoc algorithm 1 (texts_of (take place items)) text)
+      ∙ ap (malformed_from algorithm 1) (sym next))))
+
+  pub numbered_more : (before after : List NumberedFile)
+      → before ≡ numbered_from algorithm 1 (texts_of (take place items))
+      → after ≡ before ++ numbered (number + 1) (entries_of algorithm text)
+      → after ≡ numbered_from algorithm 1 (texts_of (take (place + 1) items))
+  numbered_more before after e h =
+      h ∙ (ap (λ t. t ++ numbered (number + 1) (entries_of algorithm text)) e
+      ∙ (ap (λ n. numbered_from algorithm 1 (texts_of (take place items))
+      ++ numbered n (entries_of algorithm text)) (sym here)
+      ∙ (sym (numbered_from-snoc algorithm 1 (texts_of (take place items)) text)
+      ∙ ap (numbered_from algorithm 1) (sym next))))
+
+-- after the last line
+pub all_read : (manifest : Manifest) (items : List (Bor (List ℕ))) (place : ℕ)
+    (malformed : List ℕ) (files : List NumberedFile) (result : Listing) → length items ≤ place
+    → texts_of items ≡ lines_of manifest.text
+    → malformed ≡ malformed_from manifest.algorithm 1 (texts_of (take place items))
+    → files ≡ numbered_from manifest.algorithm 1 (texts_of (take place items))
+    → result ≡ listing_by manifest malformed files → result ≡ listing_of manifest
+unfolding listing_of
+all_read manifest items place malformed files result past lines e f is =
+    let all : texts_of (take place items) ≡ lines_of manifest.text =
+    ap texts_of (take_all place items past) ∙ lines in
+    is ∙ (ap (λ m. listing_by manifest m files) (e ∙ ap (malformed_from manifest.algorithm 1) all)
+    ∙ ap (λ f. listing_by manifest (malformed_from manifest.algorithm 1 (lines_of manifest.text)) f)
+    (f ∙ ap (numbered_from manifest.algorithm 1) all))
+
+-- ---- the manifests
+
+module _ (kind : Kind) (algorithm : Algorithm) (files : List FileFact) (found : List Listing) where
+  pub no_manifest : text_at (manifest_name kind algorithm) files ≡ None
+      → found ≡ found ++ map listing_of (manifest_at kind algorithm files)
+  unfolding manifest_at
+  no_manifest h = rw h (sym (append-nil found))
+
+  pub one_manifest : (text : List ℕ) (listing : Listing) (after : List Listing)
+      → text_at (manifest_name kind algorithm) files ≡ Some text
+      → listing ≡ listing_of (record { kind = kind; algorithm = algorithm; text = text })
+      → after ≡ found ++ listing ∷ []
+      → after ≡ found ++ map listing_of (manifest_at kind algorithm files)
+  unfolding manifest_at
+  one_manifest text listing after h is now = rw h (now ∙ ap (λ l. found ++ l ∷ []) is)
+
+module _ (kind : Kind) (files : List FileFact) (f0 f1 f2 f3 f4 : List Listing) where
+  abbrev listed : Algorithm → List Listing
+  listed algorithm = map listing_of (manifest_at kind algorithm files)
+
+  all_four : (a b c d : List Manifest)
+      → map listing_of (a ++ (b ++ (c ++ (d ++ []))))
+      ≡ map listing_of a ++ (map listing_of b ++ (map listing_of c ++ map listing_of d))
+  all_four a b c d =
+      rw (
+        append-nil d,
+        map-append listing_of a (b ++ (c ++ d)),
+        map-append listing_of b (c ++ d),
+        map-append listing_of c d,
+      ) refl
+
+  pub kind_read : f1 ≡ f0 ++ listed Md5 → f2 ≡ f1 ++ listed Sha1 → f3 ≡ f2 ++ listed Sha256
+      → f4 ≡ f3 ++ listed Sha512 → f4 ≡ f0 ++ map listing_of (manifests_of_kind kind files)
+  unfolding manifests_of_kind
+  kind_read e1 e2 e3 e4 =
+      e4 ∙ (ap (λ t. t ++ listed Sha512) (e3 ∙ ap (λ t. t ++ listed Sha256)
+      (e2 ∙ ap (λ t. t ++ listed Sha1) e1))
+      ∙ (append_assoc ((f0 ++ listed Md5) ++ listed Sha1) (listed Sha256) (listed Sha512)
+      ∙ (append_assoc (f0 ++ listed Md5) (listed Sha1) (listed Sha256 ++ listed Sha512)
+      ∙ (append_assoc f0 (listed Md5) (listed Sha1 ++ (listed Sha256 ++ listed Sha512))
+      ∙ ap (λ t. f0 ++ t) (sym (all_four (manifest_at kind Md5 files) (manifest_at kind Sha1 files)
+      (manifest_at kind Sha256 files) (manifest_at kind Sha512 files)))))))
+
+pub kinds_read : (files : List FileFact) (empty between after : List Listing) → empty ≡ []
+    → between ≡ empty ++ map listing_of (manifests_of_kind Payload files)
+    → after ≡ between ++ map listing_of (manifests_of_kind Tag files)
+    → after ≡ listings_of files
+unfolding listings_of manifests_of
+kinds_read files empty between after none payload tags =
+    tags ∙ (ap (λ t. t ++ map listing_of (manifests_of_kind Tag files))
+    (payload ∙ ap (λ t. t ++ map listing_of (manifests_of_kind Payload files)) none)
+    ∙ (sym (map-append listing_of (manifests_of_kind Payload files) (manifests_of_kind Tag files))
+    ∙ ap (λ ms. map listing_of (manifests_of_kind Payload files ++ ms))
+    (sym (append-nil (manifests_of_kind Tag files)))))

@@ -1,0 +1,220 @@
+-- A turn of a site that serves, of anything that may come.
+use Rattle.std.proofs.Common.{ℕ, ◌≡◌, ◌+◌, ◌%◌, refl, sym, subst, Bool, true, false}
+use Rattle.std.proofs.Common.{List, [], Option, None, Some}
+use Rattle.std.specs.Prelude.{Result, Ok, Err, ◌==◌}
+use Rattle.fed_types.specs.declared.bag_id.BagId.{BagId}
+use Rattle.fed_types.specs.Ballots.{BallotNumber}
+use Rattle.fed_types.specs.Lists.{Has}
+use Rattle.fed_types.specs.Quorums.{QuorumSystem}
+use Rattle.fed_types.specs.Sites.{Membership}
+use Rattle.fed_types.specs.Slots.{SlotName}
+use Rattle.fed_types.specs.Values.{IsSlot}
+use Rattle.fed_types.specs.Laws.Lists.{has_none, has_one}
+use Rattle.cell_device.specs.Devices.{Device}
+use Rattle.bag_tree.specs.declared.fault.TreeFault.{TreeFault}
+use Rattle.bag_tree.specs.Facts.{TreeFacts}
+use Rattle.bag_tree.specs.Fault.{IsOrMemory}
+use Rattle.records.specs.Records.{IsRecord}
+use Rattle.records.specs.Words.{deposit_of, known_of}
+use Rattle.records.proofs.Bounds.{deposit_among}
+use Rattle.dgram.specs.declared.message.Message.{Message}
+use Rattle.dgram.specs.Messages.{IsMessage}
+use Rattle.proposer.specs.Proposals.{next_ballot}
+use Rattle.site.specs.declared.answer.Answer.{Answer}
+use Rattle.site.specs.declared.fault.SiteFault.{SiteFault}
+use Rattle.site.specs.declared.fault.SiteFault.TheVariants as faults
+use Rattle.site.specs.Calls.{Input, Proposes, Arrives, effect_of, on_propose, issuing_if}
+use Rattle.lines.specs.Notices.{Notice}
+use Rattle.world_law.specs.Laws.{WasSent}
+use Rattle.world_law.proofs.Arrivals.{arrival_deed}
+use Rattle.world_law.proofs.Calls.{propose_deed}
+use Rattle.world_law.proofs.Deeds.{some_same}
+use Rattle.world_law.proofs.WellFormedCalls.{effect_is, refuses_is}
+use Rattle.world_law.proofs.WellFormedEffects.{IsWellFormedEffect}
+use Rattle.world_law.proofs.WellFormedWords.{all_has}
+use Rattle.udp_site.specs.Traffic.{Post, Taken}
+use Rattle.udp_site.specs.Requests.{Request, Waits, Says, Deposits, Queries, Noise, request_of}
+use Rattle.udp_site.specs.Turns.{Serving, Done, notices_of, proposal_notices, hears, deposits}
+use Rattle.udp_site.specs.Turns.{proposes, idles_if, comes_of}
+use Rattle.udp_site.specs.Turns.{slot_of}
+use Rattle.udp_site.specs.Rounds.{next_waiting}
+use Rattle.udp_site.specs.Served.{or_one}
+use Rattle.serving_law.specs.Rules.{MayCome}
+use Rattle.serving_law.proofs.Requests.{IsAsked, deposit_is_slot, query_is_slot, says_was_sent}
+use Rattle.serving_law.proofs.Scene.{Scene}
+use Rattle.serving_law.proofs.Networks.{quorums, Means, May, IsNotice}
+use Rattle.serving_law.proofs.Deposits.{tree_ends}
+use Rattle.serving_law.proofs.Questions.{query_ends}
+use Rattle.serving_law.proofs.Turns as turning
+
+-- what a proposal says is what its call says, or nothing
+proposal_among : (n : ℕ) (input : Input) (result : Result Answer SiteFault) (notice : Notice)
+    → Has notice (proposal_notices n input result) → Has notice (notices_of n input result)
+proposal_among n input (Err faults.RoundsSpent) notice h = absurd (has_none h)
+proposal_among n input (Err fault) notice h = h
+proposal_among n input (Ok answer) notice h = h
+
+module _ {C : Type 0} (device : C → Device) (members : Membership) (s : Scene device members) where
+  open s use {w, inv, formed, n, member, cell, tables, recovers, is_membership, only_now}
+
+  abbrev q : QuorumSystem
+  q = quorums device members
+
+  abbrev Ends : Done → Serving C → May → Type 0
+  Ends = turning.Ends device members s
+
+  abbrev at : (idle tried : ℕ) → Serving C
+  at = turning.old device members s
+
+  -- ---- nothing to do
+
+  idle_ends : (idle tried : ℕ) (D : May) (done : Done) (new : Serving C)
+      → done ≡ record { posts = []; notices = [] } → new ≡ at idle tried → Ends done new D
+  idle_ends idle tried D done new done_is same =
+      subst (λ (d : Done). Ends d new D) (sym done_is)
+      (turning.quiet_ends device members s idle tried new same _ D
+      (λ port bytes h. absurd (has_none h))
+      (λ notice h. absurd (has_none h)))
+
+  -- ---- a site's message
+
+  hears_ends : (idle tried : ℕ) (ports : List ℕ) (message : Message)
+      → WasSent w message.slot message.body → IsMessage message → (D : May) (done : Done)
+      (new : Serving C) → hears device ports (at idle tried) message done new → Ends done new D
+  hears_ends idle tried ports message sent is D done new (result, called, done_is) =
+      subst (λ (d : Done). Ends d new D) (sym done_is)
+      (turning.speaks_ends device members s idle tried (Arrives (Some message))
+      (arrival_deed q
+      (turning.laws device members s)
+      w inv n (Some message)
+      (λ m e. subst (λ (m : Message). WasSent w m.slot m.body) (some_same e) sent))
+      (effect_is q
+      (turning.sites device members s)
+      n
+      (turning.is_site device members s)
+      (w.sites n).records (formed.records n) (w.sites n).session (formed.heard n)
+      (Arrives (Some message)) is)
+      D (λ slot bag none. absurd none) result new called ports
+      (notices_of n (Arrives (Some message)) result) (λ notice h. h)
+      (λ e. subst (λ (r : Result Answer SiteFault).
+      or_one (notices_of n (Arrives (Some message)) r) ≡ true) (sym e) refl))
+
+  -- ---- a proposal
+
+  propose_formed : (slot : SlotName)
+      → IsWellFormedEffect
+      (effect_of q n (w.sites n).records (w.sites n).session (Proposes slot))
+  unfolding on_propose
+  propose_formed slot = go (deposit_of slot (w.sites n).records) refl
+    where
+      by_slot : IsSlot slot
+          → IsWellFormedEffect
+          (effect_of q n (w.sites n).records (w.sites n).session (Proposes slot))
+      by_slot is_slot =
+          effect_is q
+          (turning.sites device members s)
+          n
+          (turning.is_site device members s)
+          (w.sites n).records (formed.records n) (w.sites n).session (formed.heard n)
+          (Proposes slot) is_slot
+
+      refused : (known : Option BagId) (next : Option BallotNumber)
+          → IsWellFormedEffect (issuing_if q slot known None next (w.sites n).session)
+      refused (Some bag) next = refuses_is (w.sites n).session (formed.heard n) _
+      refused None next = refuses_is (w.sites n).session (formed.heard n) _
+
+      go : (own : Option BagId) → deposit_of slot (w.sites n).records ≡ own
+          → IsWellFormedEffect
+          (effect_of q n (w.sites n).records (w.sites n).session (Proposes slot))
+      go None e =
+          subst (λ (o : Option BagId). IsWellFormedEffect
+          (issuing_if q slot (known_of slot (w.sites n).records) o
+          (next_ballot n slot (w.sites n).records (w.sites n).session.heard) (w.sites n).session))
+          (sym e) (refused (known_of slot (w.sites n).records) _)
+      go (Some bag) e =
+          by_slot (all_has IsRecord (w.sites n).records (formed.records n)
+          (deposit_among slot (w.sites n).records bag e)).0
+
+  proposes_ends : (idle tried : ℕ) (ports : List ℕ) (D : May) (done : Done) (new : Serving C)
+      (place : Option ℕ) (slot : Option SlotName)
+      → proposes device ports (at idle tried) place slot done new → Ends done new D
+  proposes_ends idle tried ports D done new None None (done_is, same) =
+      idle_ends idle tried D done new done_is same
+  proposes_ends idle tried ports D done new None (Some slot) (done_is, same) =
+      idle_ends idle tried D done new done_is same
+  proposes_ends idle tried ports D done new (Some place) None (done_is, same) =
+      idle_ends idle tried D done new done_is same
+  proposes_ends idle tried ports D done new (Some place) (Some slot)
+      (result, called, refuses, done_is) =
+      subst (λ (d : Done). Ends d new D) (sym done_is)
+      (turning.speaks_ends device members s idle (place + 1) (Proposes slot)
+      (propose_deed q
+      (turning.laws device members s)
+      w inv n slot)
+      (propose_formed slot) D (λ s bag none. absurd none) result new called ports
+      (proposal_notices n (Proposes slot) result) (proposal_among n (Proposes slot) result)
+      (λ e. subst (λ (r : Result Answer SiteFault).
+      or_one (proposal_notices n (Proposes slot) r) ≡ true) (sym e) refl))
+
+  if_ends : (idle tried : ℕ) (ports : List ℕ) (D : May) (done : Done) (new : Serving C) (t : Bool)
+      → idles_if t device ports (at idle tried) done new → Ends done new D
+  if_ends idle tried ports D done new true t =
+      proposes_ends idle tried ports D done new
+      (next_waiting (w.sites n).records tried)
+      (slot_of (w.sites n).records (next_waiting (w.sites n).records tried)) t
+  if_ends idle tried ports D done new false (done_is, same) =
+      idle_ends idle tried D done new done_is same
+
+  -- ---- any turn
+
+  module _ (handed : List Post)
+      (means : (port : ℕ) (bytes : List ℕ) → Has (port, bytes) handed
+      → Means device members w bytes)
+      (ports : List ℕ) (folders : List ℕ → Result TreeFacts TreeFault) (took : Taken)
+      (may : MayCome members.federation handed took) (idle tried : ℕ) (done : Done)
+      (new : Serving C) where
+    abbrev D : May
+    D = IsAsked members.federation folders took
+
+    deposit_ends : (port : ℕ) (slot : SlotName) (path : List ℕ)
+        → request_of members.federation took ≡ Deposits port slot path
+        → deposits device (Some folders) (at idle tried) port slot path done new → Ends done new D
+    deposit_ends port slot path e (read, gives, tree) =
+        tree_ends device members s
+        slot (deposit_is_slot members handed took may port slot path e) idle tried port read D
+        (λ facts bag is checked. record {
+          port = port;
+          path = path;
+          asked = e;
+          facts = facts;
+          read = given read facts is gives;
+          checked = checked;
+        })
+        done new tree
+      where
+        given : (read : Result TreeFacts TreeFault) (facts : TreeFacts) → read ≡ Ok facts
+            → IsOrMemory read (folders path) → folders path ≡ Ok facts
+        given read facts is g =
+            subst (λ (r : Result TreeFacts TreeFault). IsOrMemory r (folders path)) is g
+
+    by_request : (r : Request) → request_of members.federation took ≡ r
+        → comes_of device ports (Some folders) (at idle tried) r done new → Ends done new D
+    by_request Waits e t =
+        if_ends (idle + 1) tried ports D done new ((idle + 1) % n == 0) t
+    by_request (Says message) e t =
+        let heard = says_was_sent members handed device w formed means took may message e in
+        hears_ends idle tried ports message heard.0 heard.1 D done new t
+    by_request (Deposits port slot path) e t = deposit_ends port slot path e t
+    by_request (Queries port slot) e t =
+        query_ends device members s
+        idle tried slot (query_is_slot members handed took may port slot e) ports port D done new t
+    by_request Noise e (done_is, same) =
+        subst (λ (d : Done). Ends d new D) (sym done_is)
+        (turning.quiet_ends device members s idle tried new same _ D
+        (λ port bytes h. absurd (has_none h))
+        (λ notice h. subst (IsNotice device members w w) (has_one h)
+        (turning.dropped_is device members s w)))
+
+    pub turn_ends : comes_of device ports (Some folders) (at idle tried)
+        (request_of members.federation took) done new → Ends done new D
+    turn_ends t = by_request (request_of members.federation took) refl t

@@ -1,0 +1,376 @@
+-- A call of a site that serves is a move of its site in a network.
+use Rattle.std.proofs.Common.{ℕ, ◌≡◌, inl, inr, refl, sym, ap, subst, ◌∙◌, true, false}
+use Rattle.std.proofs.Common.{List, [], ◌∷◌, ◌++◌, append-nil, map, Option, None, Some}
+use Rattle.std.specs.Prelude.{Result, Ok, Err, IsSome}
+use Rattle.std.specs.List.{flat_map}
+use Rattle.std.specs.Option.{option_to_list, IfSome}
+use Rattle.fed_types.specs.declared.bag_id.BagId.{BagId}
+use Rattle.fed_types.specs.Lists.{Has, here, there}
+use Rattle.fed_types.specs.Quorums.{QuorumSystem}
+use Rattle.fed_types.specs.Sites.{Membership}
+use Rattle.fed_types.specs.Slots.{SlotName}
+use Rattle.fed_types.specs.Laws.Lists.{has_map, map_has, has_none, has_right, has_one}
+use Rattle.fed_types.specs.Laws.Lists.{has_cases}
+use Rattle.std.proofs.lemmas.Bool.{false≢true}
+use Rattle.cell_device.specs.Devices.{Device}
+use Rattle.bag_check.specs.declared.fault.BagFault.{BagFault}
+use Rattle.records.specs.declared.entry.Entry.TheVariants as entry
+use Rattle.records.specs.declared.owner.Owner.{Owner}
+use Rattle.records.specs.declared.record.Record.{Record}
+use Rattle.records.specs.Bounds.{HasEntry}
+use Rattle.records.specs.Records.{IsRecord}
+use Rattle.book.specs.Volumes.{RecoversTo}
+use Rattle.proposer.specs.Sessions.{Session, new_session}
+use Rattle.site.specs.declared.answer.Answer.{Answer}
+use Rattle.site.specs.declared.answer.Line.{Line}
+use Rattle.site.specs.declared.answer.Line.TheVariants as lines
+use Rattle.site.specs.declared.fault.SiteFault.{SiteFault}
+use Rattle.site.specs.declared.fault.SiteFault.TheVariants as faults
+use Rattle.site.specs.Answered.{Keeps, Gives}
+use Rattle.site.specs.Calls.{Input, Deposits, Proposes, Asks, Arrives, effect_of}
+use Rattle.site.specs.Datagrams.{handed_out, datagram}
+use Rattle.site.specs.Effects.{Effect}
+use Rattle.site.specs.Sites.{StandsFor}
+use Rattle.lines.specs.Notices.{Notice, Registered, notice_of}
+use Rattle.world_law.specs.Networks.{Network, SiteState, Up, Down}
+use Rattle.world_law.proofs.Deeds.{Deed, MayDeposit, some_same}
+use Rattle.world_law.proofs.Grows.{grows_itself}
+use Rattle.world_law.proofs.Step.{moved, kept_moved, Next, Sound, nothing_recalled, reports_nothing}
+use Rattle.world_law.proofs.Deeds.{nothing_sent}
+use Rattle.world_law.proofs.WellFormedEffects.{IsWellFormedEffect}
+use Rattle.udp_site.specs.Turns.{Serving, IsCalled, posts_of, sealed_posts, notices_of}
+use Rattle.serving_law.specs.Federations.{Member, Serves}
+use Rattle.serving_law.specs.Federations as federations
+use Rattle.serving_law.specs.Rules.{owner_of}
+use Rattle.serving_law.proofs.Spoken.{effect_speaks}
+use Rattle.serving_law.proofs.Moves.{moved_site, others_stay, moved_formed}
+use Rattle.serving_law.proofs.Recoveries.{Recovered, IsKept, kept_ok, kept_err, device_needs}
+use Rattle.serving_law.proofs.Registrations.{registered_is_kept}
+use Rattle.serving_law.proofs.Scene.{Scene}
+use Rattle.serving_law.proofs.Networks.{quorums, serving, IsServed, IsSent, IsNotice}
+use Rattle.serving_law.proofs.Networks.{HasDeposit, May, Moves}
+
+-- what stands in one of these lists
+pub has_flat_map : {X Y : Type 0} (f : X → List Y) (y : Y) (xs : List X) → Has y (flat_map f xs)
+    → (x : X) × Has x xs × Has y (f x)
+has_flat_map f y [] h = absurd (has_none h)
+has_flat_map f y (x ∷ xs) h = elim (has_cases (f x) (flat_map f xs) h) [
+  | inl first ↦ (x, here refl, first)
+  | inr later ↦
+      let found = has_flat_map f y xs later in
+      (found.0, there found.1, found.2)
+]
+
+-- which notice there is
+pub has_notice : (o : Option Notice) (m : Notice) → Has m (option_to_list o) → o ≡ Some m
+has_notice None m h = absurd (has_none h)
+has_notice (Some l) m h = ap Some (has_one h)
+
+-- some slot, for what is of none
+pub any_slot : SlotName
+any_slot = record { object = []; version = 0 }
+
+module _ {C : Type 0} (device : C → Device) (members : Membership) (s : Scene device members)
+    (idle tried : ℕ) where
+  open s use {w, inv, formed, n, cell, tables, recovers}
+
+  abbrev pub q : QuorumSystem
+  q = quorums device members
+
+  abbrev pub owner : Owner
+  owner = owner_of device members n
+
+  abbrev pub old : Serving C
+  old = serving device members n (w.sites n).records (w.sites n).session cell tables idle tried
+
+  -- ---- between turns, where the book is as it was but for a record
+
+  pub served : (new : Serving C) (o : Option Record) (session : Session)
+      → IsKept device owner (w.sites n).records o new.site.book → new.session ≡ session
+      → IsServed device members n new
+      (record { records = (w.sites n).records ++ option_to_list o; session = session; mode = Up })
+  served new o session k same = record {
+    records = k.records;
+    opened = k.opened;
+    whose = k.whose;
+    session = same;
+    recovers =
+        subst (λ (rs : List Record). RecoversTo owner rs (device new.site.book.cell).image)
+        k.records k.recovers;
+  }
+
+  -- nothing moves
+  pub stays : (new : Serving C) → IsKept device owner (w.sites n).records None new.site.book
+      → new.session ≡ old.session → (D : May) → Moves device members w w n (Serves new) D
+  stays new k same D = record {
+    kept = inv;
+    formed = formed;
+    grows = grows_itself;
+    others = λ j f. refl;
+    is = record {
+      records = k.records ∙ append-nil (w.sites n).records;
+      opened = k.opened;
+      whose = k.whose;
+      session = same;
+      recovers =
+          subst (λ (rs : List Record). RecoversTo owner rs (device new.site.book.cell).image)
+          (k.records ∙ append-nil (w.sites n).records) k.recovers;
+    };
+    deposits = λ j slot bag h. inl h;
+  }
+
+  -- ---- a process stops, with a record more or without
+
+  abbrev stopped : Option Record → Network
+  stopped o = (moved w n o new_session Down [] None).network
+
+  stops : (o : Option Record) (D : May) (slot : SlotName) (body : _)
+      → Sound q w n D o slot body [] → IfSome o IsRecord → (records : List Record)
+      → records ≡ (w.sites n).records ++ option_to_list o
+      → Moves device members w (stopped o) n (federations.Down records) D
+  stops o D slot body sound is records same =
+      let next = kept_moved q w n o new_session Down [] None D slot body sound inv nothing_recalled
+      reports_nothing in
+      record {
+        kept = next.kept;
+        formed =
+            moved_formed w n o new_session Down [] None formed is tt (λ d h. absurd (has_none h));
+        grows = next.grows;
+        others = others_stay w n o new_session Down [] None;
+        is =
+            subst (λ t. records ≡ t.records) (sym (moved_site w n o new_session Down [] None)) same;
+        deposits = λ k slot bag h. elim (next.deposits k slot bag h) [
+          | inl old ↦ inl old
+          | inr may ↦ inr (sym (some_same may.0), may.1)
+        ];
+      }
+
+  pub stops_as_it_was : (D : May) (records : List Record) → records ≡ (w.sites n).records
+      → (x : Network) × Moves device members w x n (federations.Down records) D
+  stops_as_it_was D records same = (
+    stopped None,
+    stops None D any_slot _ (nothing_sent q w n D any_slot) tt records
+        (same ∙ sym (append-nil (w.sites n).records)),
+  )
+
+  -- ---- a call
+
+  module _ (input : Input) where
+    abbrev pub e : Effect
+    e = effect_of q n (w.sites n).records (w.sites n).session input
+
+    -- the site, where its call is done
+    abbrev pub called : Network
+    called = (moved w n e.commits e.session Up e.sends (notice_of n input e.says)).network
+
+    module _ (deed : Deed q w n input e) (is : IsWellFormedEffect e) where
+      abbrev step : Next q w (Some n) (MayDeposit input)
+          (moved w n e.commits e.session Up e.sends (notice_of n input e.says))
+      step =
+          kept_moved q w n e.commits e.session Up e.sends (notice_of n input e.says)
+          (MayDeposit input) deed.slot deed.body deed.sound inv deed.recalls deed.reports
+
+      pub ok_moves : (answer : Answer) (new : Serving C)
+          → IsCalled device old input (Ok answer) new
+          → Moves device members w called n (Serves new) (MayDeposit input)
+      ok_moves answer new c = record {
+        kept = step.kept;
+        formed =
+            moved_formed w n e.commits e.session Up e.sends (notice_of n input e.says) formed
+            is.commits is.heard is.sends;
+        grows = step.grows;
+        others = others_stay w n e.commits e.session Up e.sends (notice_of n input e.says);
+        is =
+            subst (IsServed device members n new)
+            (sym (moved_site w n e.commits e.session Up e.sends (notice_of n input e.says)))
+            (served new e.commits e.session
+            (kept_ok device owner old.site.book refl refl recovers e.commits answer new.site.book
+            (c.answered refl).keeps)
+            c.session);
+        deposits = λ k slot bag h. elim (step.deposits k slot bag h) [
+          | inl old ↦ inl old
+          | inr may ↦ inr (sym (some_same may.0), may.1)
+        ];
+      }
+
+      -- its record is lost or kept where it is killed
+      pub stopped_moves : (records : List Record)
+          → Recovered (w.sites n).records e.commits records
+          → (x : Network)
+          × Moves device members w x n (federations.Down records) (MayDeposit input)
+      stopped_moves records (inl same) = stops_as_it_was (MayDeposit input) records same
+      stopped_moves records (inr (r, commits, more)) = (
+        stopped (Some r),
+        stops (Some r) (MayDeposit input) deed.slot deed.body sound
+            (subst (λ (o : Option Record). IfSome o IsRecord) commits is.commits) records more,
+      )
+        where
+          all : Sound q w n (MayDeposit input) (Some r) deed.slot deed.body e.sends
+          all =
+              subst
+              (λ (o : Option Record). Sound q w n (MayDeposit input) o deed.slot deed.body e.sends)
+              commits deed.sound
+
+          sound : Sound q w n (MayDeposit input) (Some r) deed.slot deed.body []
+          sound = record {
+            each = λ d h. absurd (has_none h);
+            own = all.own;
+            entry = all.entry;
+            says = all.says;
+          }
+
+      -- ---- what an answer hands out and says
+
+      pub ok_posts : (answer : Answer)
+          → map handed_out answer.sends.items ≡ map (datagram members.federation) e.sends
+          → (ports : List ℕ) (port : ℕ) (bytes : List ℕ)
+          → Has (port, bytes) (posts_of ports (Ok answer)) → IsSent device members called bytes
+      ok_posts answer given ports port bytes h =
+          let at = has_flat_map (sealed_posts ports) (port, bytes) answer.sends.items h in
+          let to = has_map (λ (p : ℕ). (p, at.0.bytes.items)) _ at.2 in
+          let among = subst (λ ps. Has (handed_out at.0) ps) given
+          (map_has handed_out at.1) in
+          let from = has_map (datagram members.federation) e.sends among in
+          record {
+            send = from.0;
+            sent = has_right w.sent from.1;
+            bytes_are =
+                ap (λ (p : ℕ × List ℕ). p.1) (sym to.2) ∙ ap (λ (p : ℕ × List ℕ). p.1) (sym from.2);
+            speaks = effect_speaks q n (w.sites n).records (w.sites n).session input from.0 from.1;
+          }
+
+      -- a deposit that is registered is on record
+      pub deposit_kept : (slot : SlotName) (checked : Result BagId BagFault) (bag : BagId)
+          → input ≡ Deposits slot checked → e.says ≡ Ok (Some (lines.Registered bag))
+          → HasDeposit called n slot bag
+      deposit_kept slot checked bag as_input says =
+          subst (λ (t : SiteState). HasEntry slot t.records (entry.Deposit bag))
+          (sym (moved_site w n e.commits e.session Up e.sends (notice_of n input e.says)))
+          (at input as_input says)
+        where
+          at : (i : Input) → i ≡ Deposits slot checked
+              → (effect_of q n (w.sites n).records (w.sites n).session i).says
+              ≡ Ok (Some (lines.Registered bag))
+              → HasEntry slot
+              ((w.sites n).records
+              ++ option_to_list
+              (effect_of q n (w.sites n).records (w.sites n).session i).commits)
+              (entry.Deposit bag)
+          at i f g =
+              subst
+              (λ (i : Input). (effect_of q n (w.sites n).records (w.sites n).session i).says
+              ≡ Ok (Some (lines.Registered bag))
+              → HasEntry slot
+              ((w.sites n).records
+              ++ option_to_list
+              (effect_of q n (w.sites n).records (w.sites n).session i).commits)
+              (entry.Deposit bag))
+              (sym f)
+              (registered_is_kept slot (w.sites n).records (w.sites n).session checked bag) g
+
+      pub ok_notices : (answer : Answer) → e.says ≡ Ok answer.line → (notice : Notice)
+          → Has notice (notices_of n input (Ok answer))
+          → IsNotice device members w called notice
+      ok_notices answer says notice h = record {
+        known = λ r reports. deed.reports.chosen notice r said reports;
+        registered = λ k slot bag as_notice.
+            by_line answer.line says input refl
+            (has_notice (notice_of n input (Ok answer.line)) notice h ∙ ap Some as_notice);
+      }
+        where
+          said : notice_of n input e.says ≡ Some notice
+          said = rw says (has_notice (notice_of n input (Ok answer.line)) notice h)
+
+          at_deposit : (slot k_slot : SlotName) (checked : Result BagId BagFault) (k : ℕ)
+              (found bag : BagId) → input ≡ Deposits slot checked
+              → e.says ≡ Ok (Some (lines.Registered found))
+              → Registered n slot found ≡ Registered k k_slot bag
+              → HasDeposit called k k_slot bag
+          at_deposit slot k_slot checked k found bag f g same =
+              let place : n ≡ k = cc in
+              let slots : slot ≡ k_slot = cc in
+              let bags : found ≡ bag = cc in
+              subst (λ (m : ℕ). HasDeposit called m k_slot bag) place
+              (subst (λ (s : SlotName). HasDeposit called n s bag) slots
+              (subst (λ (b : BagId). HasDeposit called n slot b) bags
+              (deposit_kept slot checked found f g)))
+
+          by_line : (line : Option Line) → e.says ≡ Ok line → (i : Input) → input ≡ i
+              → {k : ℕ} {slot : SlotName} {bag : BagId}
+              → notice_of n i (Ok line) ≡ Some (Registered k slot bag)
+              → HasDeposit called k slot bag
+          by_line None g i f same = absurd (cc same)
+          by_line (Some lines.Dropped) g i f same = absurd (cc same)
+          by_line (Some (lines.Known slot bag)) g i f same = absurd (cc same)
+          by_line (Some (lines.Registered bag)) g (Proposes slot) f same = absurd (cc same)
+          by_line (Some (lines.Registered bag)) g (Asks slot member) f same = absurd (cc same)
+          by_line (Some (lines.Registered bag)) g (Arrives message) f same = absurd (cc same)
+          by_line (Some (lines.Registered found)) g (Deposits slot checked) f
+              {k = k} {slot = k_slot} {bag = bag} same =
+              at_deposit slot k_slot checked k found bag f g (some_same same)
+
+    -- ---- a refusal
+
+    pub err_stays : (fault : SiteFault) (new : Serving C)
+        → IsCalled device old input (Err fault) new → new.site.book.needs_opening ≡ false
+        → (D : May) → Moves device members w w n (Serves new) D
+    err_stays fault new c opened D =
+        elim (kept_err device owner old.site.book refl refl recovers e.commits fault new.site.book
+        (c.answered refl).keeps) [
+          | inl k ↦ stays new k c.session D
+          | inr (inl f) ↦ absurd (failed fault f (c.answered refl).keeps (c.answered refl).gives)
+          | inr (inr f) ↦ absurd (unopened fault f (c.answered refl).gives)
+        ]
+      where
+        failed : (fault : SiteFault) → fault ≡ faults.Device
+            → Keeps device e.commits (Err fault) old.site.book new.site.book
+            → Gives old.site new.site old.session e (Err fault) → ⊥
+        failed fault f keeps gives =
+            let kept : Keeps device e.commits (Err faults.Device) old.site.book new.site.book =
+            subst (λ (f : SiteFault). Keeps device e.commits (Err f) old.site.book new.site.book) f
+            keeps in
+            let some : IsSome e.commits =
+            subst (λ (f : SiteFault). Gives old.site new.site old.session e (Err f)) f gives in
+            false≢true (sym opened
+            ∙ device_needs device owner old.site.book refl refl recovers e.commits new.site.book
+            some kept)
+
+        unopened : (fault : SiteFault) → fault ≡ faults.NeedsOpen
+            → Gives old.site new.site old.session e (Err fault) → ⊥
+        unopened fault f gives =
+            subst (λ (f : SiteFault). Gives old.site new.site old.session e (Err f)) f gives
+
+    -- a site that refuses stands for what it stood for
+    pub err_stands : (fault : SiteFault) (new : Serving C)
+        → Keeps device e.commits (Err fault) old.site.book new.site.book
+        → Gives old.site new.site old.session e (Err fault) → new.site.book.needs_opening ≡ false
+        → StandsFor new.site old.session
+    err_stands faults.Memory new keeps gives opened = gives
+    err_stands faults.Device new keeps gives opened =
+        absurd (false≢true (sym opened
+        ∙ device_needs device owner old.site.book refl refl recovers e.commits new.site.book gives
+        keeps))
+    err_stands faults.NeedsOpen new keeps gives opened = absurd gives
+    err_stands (faults.InvalidBag fault) new keeps gives opened = gives.1
+    err_stands (faults.OtherDeposit bag) new keeps gives opened = gives.1
+    err_stands (faults.OtherKnown bag) new keeps gives opened = gives.1
+    err_stands faults.NoDeposit new keeps gives opened = gives.1
+    err_stands faults.RoundsSpent new keeps gives opened = gives.1
+    err_stands faults.AlreadyKnown new keeps gives opened = gives.1
+
+    -- a call after which the site needs opening met a failing device
+    pub failed_by_device : (result : Result Answer SiteFault) (new : Serving C)
+        → IsCalled device old input result new → new.site.book.needs_opening ≡ true
+        → result ≡ Err faults.Device
+    failed_by_device (Ok answer) new c needs =
+        absurd (false≢true (sym (kept_ok device owner old.site.book refl refl recovers e.commits
+        answer new.site.book (c.answered refl).keeps).opened ∙ needs))
+    failed_by_device (Err fault) new c needs =
+        elim (kept_err device owner old.site.book refl refl recovers e.commits fault new.site.book
+        (c.answered refl).keeps) [
+          | inl k ↦ absurd (false≢true (sym k.opened ∙ needs))
+          | inr (inl f) ↦ ap Err f
+          | inr (inr f) ↦
+              absurd (subst (λ (f : SiteFault). Gives old.site new.site old.session e (Err f)) f
+              (c.answered refl).gives)
+        ]

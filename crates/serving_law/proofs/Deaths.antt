@@ -1,0 +1,221 @@
+-- A site dies in the call of a deposit.
+use Rattle.std.proofs.Common.{ℕ, ◌≡◌, ◌≤◌, refl, sym, ap, subst, ◌∙◌, Bool, true, false, cond, max}
+use Rattle.std.proofs.Common.{List, [], ◌∷◌, ◌++◌, Option, None, Some, arith}
+use Rattle.std.specs.Prelude.{Result, Ok}
+use Rattle.fed_types.specs.declared.bag_id.BagId.{BagId}
+use Rattle.fed_types.specs.Lists.{Has, here}
+use Rattle.dgram.specs.declared.message.Message.{Message}
+use Rattle.fed_types.specs.Sites.{Membership, members_of, count_of}
+use Rattle.fed_types.specs.Slots.{SlotName, same_slot}
+use Rattle.fed_types.specs.Values.{IsMembership}
+use Rattle.fed_types.specs.Laws.Sites.{sites_to_has}
+use Rattle.cell_device.specs.Images.{at_rest}
+use Rattle.bag_check.specs.declared.fault.BagFault.{BagFault}
+use Rattle.bag_check.specs.Check.{check_of}
+use Rattle.records.specs.declared.entry.Entry.TheVariants as entry
+use Rattle.records.specs.declared.record.Record.{Record}
+use Rattle.records.specs.Records.{IsRecord, AreRecords}
+use Rattle.records.specs.Words.{known_of, used_of, deposit_of, with_one, if_some, round_in}
+use Rattle.records.specs.Words.{known_in, earlier}
+use Rattle.records.proofs.Words.{used-push, known-push}
+use Rattle.records.proofs.Texts.{nothing_says}
+use Rattle.dgram.specs.Heard.{bodies_of, floor_of, voters_for}
+use Rattle.learner.specs.declared.row.Row.TheVariants as rows
+use Rattle.proposer.specs.Rows.{empty_row}
+use Rattle.proposer.specs.Sessions.{new_session}
+use Rattle.site.specs.declared.answer.Answer.{Answer}
+use Rattle.site.specs.declared.answer.Line.TheVariants as lines
+use Rattle.site.specs.Calls.{on_deposit}
+use Rattle.site.specs.Calls as calls
+use Rattle.site.specs.Effects.{Effect}
+use Rattle.site.specs.Sites.{effect}
+use Rattle.site_tables.specs.Contents.{Contents, StandsFor}
+use Rattle.udp_site.specs.Traffic.{From}
+use Rattle.udp_site.specs.Requests as requests
+use Rattle.udp_site.specs.Replies.{deposit_answer}
+use Rattle.udp_site.specs.Turns.{Serving, Done, turn_of, comes_of, notices_of, deposit_replies}
+use Rattle.serving_law.specs.Disks.{Disk, Blank, Holds, bytes_at, journal, device}
+use Rattle.serving_law.specs.Examples.{recorded, Request}
+use Rattle.serving_law.specs.Federations.{Step, Happening, Starts, Dies, new_federation}
+use Rattle.serving_law.specs.Rules.{MayAll, MayCome, IsHistory}
+use Rattle.serving_law.proofs.DiskCalls.{owner, serving, called}
+use Rattle.serving_law.proofs.Answers.{answer_of}
+use Rattle.serving_law.proofs.DiskJournals.{holds, opens_new, says}
+use Rattle.serving_law.proofs.Replies.{checked_is}
+use Rattle.serving_law.proofs.Requests.{deposit_is_slot}
+use Rattle.serving_law.proofs.Tables.{Rows, records_of, tables, begun_with, stands}
+
+module _ (members : Membership) (is_membership : IsMembership members) (slot : SlotName)
+    (bag : BagId) where
+  abbrev pub r : Record
+  r = recorded slot bag
+
+  -- ---- the tables: nothing was heard, and no ballot was issued
+
+  abbrev pub its_tables : Contents
+  its_tables = tables slot members 1 (record { own = empty_row; heard = rows.Unheard })
+
+  none_used : used_of slot (r ∷ []) ≡ 0
+  unfolding used_of
+  none_used = used-push slot [] r ∙ go (same_slot slot slot)
+    where
+      go : (t : Bool)
+          → with_one max (used_of slot [])
+          (if_some round_in (cond t (Some (entry.Deposit bag)) None)) ≡ 0
+      go true = refl
+      go false = refl
+
+  none_known : known_of slot (r ∷ []) ≡ None
+  unfolding known_of
+  none_known = known-push slot [] r ∙ go (same_slot slot slot)
+    where
+      go : (t : Bool)
+          → with_one earlier (known_of slot [])
+          (if_some known_in (cond t (Some (entry.Deposit bag)) None)) ≡ None
+      go true = refl
+      go false = refl
+
+  it_stands : StandsFor its_tables (records_of slot (entry.Deposit bag ∷ [])) new_session
+      (begun_with slot None)
+  unfolding floor_of bodies_of voters_for
+  it_stands =
+      stands slot members 1 (entry.Deposit bag ∷ []) [] new_session refl (λ s f. refl) None
+      (record { own = empty_row; heard = rows.Unheard })
+      (record {
+        used = sym none_used;
+        floor = refl;
+        begun = tt;
+        current = tt;
+        waiting = refl;
+      })
+      (λ other e. absurd (cc e)) (sym none_known) (λ none vote n. refl)
+
+  -- ---- the call
+
+  abbrev registering : Effect
+  registering = record {
+    commits = Some r;
+    sends = [];
+    says = Ok (Some (lines.Registered bag));
+    session = new_session;
+  }
+
+  is_registering : on_deposit [] new_session slot (Ok bag) ≡ registering
+  unfolding on_deposit deposit_of known_of
+  is_registering = refl
+
+  abbrev pub old : Serving Disk
+  old = serving members is_membership 1 [] its_tables new_session 0 0
+
+  abbrev pub new : Serving Disk
+  new = serving members is_membership 1 (r ∷ []) its_tables new_session 0 0
+
+  abbrev pub answer : Answer
+  answer = answer_of (Some (lines.Registered bag)) [] (omega arith)
+
+  module _ (request : Request members.federation slot bag) where
+    effect_is : effect old.site new_session (calls.Deposits slot (check_of request.facts))
+        ≡ registering
+    effect_is =
+        ap (λ (c : Result BagId BagFault). on_deposit [] new_session slot c) request.checked
+        ∙ is_registering
+
+    abbrev pub done : Done
+    done = record {
+      posts =
+          deposit_replies members.federation 1 request.port slot (deposit_answer (Ok answer));
+      notices = notices_of 1 (calls.Deposits slot (check_of request.facts)) (Ok answer);
+    }
+
+    abbrev pub step : Step Disk
+    step = record {
+      ports = [];
+      folders = λ path. Ok request.facts;
+      turn = record { took = From request.port request.bytes; done = done };
+      next = new;
+    }
+
+    come : MayCome members.federation [] (From request.port request.bytes)
+    come = (
+      request.are_bytes,
+      λ message e. absurd (other (sym request.asked ∙ e)),
+    )
+      where
+        other : {message : Message}
+            → requests.Deposits request.port slot request.path ≡ requests.Says message → ⊥
+        other e = cc
+
+    pub is_record : IsRecord r
+    is_record = (
+      deposit_is_slot members [] (From request.port request.bytes) come request.port slot
+          request.path request.asked,
+      checked_is request.facts bag request.checked,
+    )
+
+    comes : turn_of device [] (Some step.folders) old (From request.port request.bytes) done new
+    comes =
+        subst (λ (q : requests.Request).
+        comes_of device [] (Some step.folders) old q done new)
+        (sym request.asked) (
+          Ok request.facts,
+          refl,
+          (
+            Ok answer,
+            called members is_membership 1 [] tt its_tables its_tables new_session 0 0
+                (calls.Deposits slot (check_of request.facts)) registering
+                (Some (lines.Registered bag)) effect_is refl is_record tt (omega arith)
+                (begun_with slot None) it_stands,
+            refl,
+          ),
+        )
+
+    -- ---- the histories
+
+    one : Has 1 (members_of members)
+    one = sites_to_has (count_of members) 1 (omega arith) is_membership.1.0.0
+
+    abbrev pub before : List (Happening Disk)
+    before =
+        Starts 1 Blank (record {
+          book = holds (owner members is_membership 1) [];
+          tables = its_tables;
+        })
+        ∷ []
+
+    abbrev pub dies : List Record → Happening Disk
+    dies records = Dies 1 step records
+
+    pub may_die : (records : List Record) → AreRecords records → (k : ℕ) → 1 ≤ k → k ≤ 2
+        → journal (owner members is_membership 1) records
+        ≡ bytes_at (Holds (owner members is_membership 1) (r ∷ [])) k
+        → IsHistory device members (before ++ dies records ∷ [])
+    unfolding MayAll new_federation
+    may_die records are k from to is = (
+      (
+        one,
+        (
+          [],
+          refl,
+          record {
+            image = at_rest [];
+            told = refl;
+            says = nothing_says (owner members is_membership 1);
+          },
+        ),
+        opens_new (owner members is_membership 1) is_membership.1,
+      ),
+      (
+        (
+          old,
+          (one, refl),
+          record { may_come = come; comes = comes },
+          record {
+            told = refl;
+            bytes = journal (owner members is_membership 1) records;
+            left = (k, from, to, is);
+            says = says (owner members is_membership 1) is_membership.1 records are;
+          },
+        ),
+        tt,
+      ),
+    )

@@ -1,0 +1,201 @@
+-- A site that takes a message that nobody has sent.
+use Rattle.std.proofs.Common.{ℕ, ◌≡◌, ◌≤◌, refl, sym, ap, subst, ◌∙◌, Bool, true, false, cond, max}
+use Rattle.std.proofs.Common.{List, [], ◌∷◌, Option, None, Some, arith}
+use Rattle.std.specs.Prelude.{Ok}
+use Rattle.fed_types.specs.declared.bag_id.BagId.{BagId}
+use Rattle.fed_types.specs.Lists.{Has, here, there}
+use Rattle.fed_types.specs.Sites.{Membership, members_of, count_of}
+use Rattle.fed_types.specs.Slots.{SlotName, same_slot}
+use Rattle.fed_types.specs.Values.{IsMembership, IsSlot, IsBag}
+use Rattle.fed_types.specs.Laws.Sites.{sites_to_has}
+use Rattle.fed_types.specs.Laws.Slots.{same_slot_decides}
+use Rattle.fed_types.specs.Laws.Lists.{is_in_decides}
+use Rattle.fed_types.specs.Quorums.{quorums_of}
+use Rattle.std.specs.List.{cons_option}
+use Rattle.cell_device.specs.Images.{at_rest}
+use Rattle.records.specs.declared.entry.Entry.TheVariants as entry
+use Rattle.records.specs.declared.record.Record.{Record}
+use Rattle.records.specs.Words.{known_of, used_of, with_one, if_some, round_in}
+use Rattle.records.specs.Words.{known_in, earlier}
+use Rattle.records.proofs.Words.{used-push, known-push}
+use Rattle.records.proofs.Texts.{nothing_says}
+use Rattle.dgram.specs.declared.body.Body.TheVariants.{Known}
+use Rattle.dgram.specs.declared.message.Message.{Message}
+use Rattle.dgram.specs.Heard.{bodies_of, floor_of}
+use Rattle.dgram.specs.Messages.{IsMessage}
+use Rattle.learner.specs.declared.row.Row.TheVariants as rows
+use Rattle.proposer.specs.Rows.{empty_row}
+use Rattle.proposer.specs.Sessions.{Session, new_session, hears as heard_in}
+use Rattle.site.specs.declared.answer.Answer.{Answer}
+use Rattle.site.specs.declared.answer.Line.TheVariants as lines
+use Rattle.site.specs.Arrivals.{on_arrival, on_body, is_member}
+use Rattle.site.specs.Calls as calls
+use Rattle.site.specs.Effects.{Effect}
+use Rattle.site.specs.Sites.{effect}
+use Rattle.site_tables.specs.Contents.{Contents, StandsFor}
+use Rattle.udp_site.specs.Turns.{Serving, turn_of}
+use Rattle.serving_law.specs.Disks.{Disk, Blank, device}
+use Rattle.serving_law.specs.Examples.{IsFooled, FooledByAForgedKnown}
+use Rattle.serving_law.specs.Federations.{Step, Happening, Starts, new_federation, after_all}
+use Rattle.serving_law.specs.Rules.{MayAll}
+use Rattle.serving_law.specs.Reports.{step_of}
+use Rattle.serving_law.proofs.DiskCalls.{owner, serving, called, hears, heard_step, no_folders}
+use Rattle.serving_law.proofs.Answers.{answer_of}
+use Rattle.serving_law.proofs.DiskJournals.{holds, opens_new}
+use Rattle.serving_law.proofs.Tables.{Rows, records_of, tables, begun_with, stands}
+
+module _ (members : Membership) (is_membership : IsMembership members) (two : 2 ≤ count_of members)
+    (slot : SlotName) (is_slot : IsSlot slot) (bag : BagId) (is_bag : IsBag bag) where
+  abbrev r : Record
+  r = record { slot = slot; body = entry.Known bag }
+
+  abbrev m : Message
+  m = record { slot = slot; body = Known 2 bag }
+
+  abbrev heard : Session
+  heard = heard_in new_session m
+
+  -- ---- tables
+
+  none_used : used_of slot (r ∷ []) ≡ 0
+  unfolding used_of
+  none_used = used-push slot [] r ∙ go (same_slot slot slot)
+    where
+      go : (t : Bool)
+          → with_one max (used_of slot [])
+          (if_some round_in (cond t (Some (entry.Known bag)) None)) ≡ 0
+      go true = refl
+      go false = refl
+
+  no_floor : floor_of (bodies_of slot (m ∷ [])) ≡ 0
+  unfolding floor_of bodies_of
+  no_floor = go (same_slot slot slot)
+    where
+      go : (t : Bool) → floor_of (cons_option (cond t (Some m.body) None) []) ≡ 0
+      go true = refl
+      go false = refl
+
+  known_is : known_of slot (r ∷ []) ≡ Some bag
+  unfolding known_of
+  known_is =
+      known-push slot [] r
+      ∙ ap (λ (t : Bool). with_one earlier (known_of slot [])
+      (if_some known_in (cond t (Some (entry.Known bag)) None)))
+      ((same_slot_decides slot slot).1 refl)
+
+  abbrev before_tables : Contents
+  before_tables = tables slot members 1 (record { own = empty_row; heard = rows.Unheard })
+
+  abbrev after_tables : Contents
+  after_tables = tables slot members 1 (record { own = empty_row; heard = rows.Known bag })
+
+  it_stands : StandsFor after_tables (records_of slot (entry.Known bag ∷ [])) heard
+      (begun_with slot None)
+  it_stands =
+      stands slot members 1 (entry.Known bag ∷ []) (Known 2 bag ∷ []) heard refl (λ s f. refl) None
+      (record { own = empty_row; heard = rows.Known bag })
+      (record {
+        used = sym none_used;
+        floor = sym no_floor;
+        begun = tt;
+        current = tt;
+        waiting = refl;
+      })
+      (λ other e. absurd (cc e)) (sym known_is)
+      (λ none vote n. absurd (not_none (sym known_is ∙ none)))
+    where
+      not_none : Some bag ≡ None → ⊥
+      not_none e = cc
+
+  -- ---- the call
+
+  abbrev old : Serving Disk
+  old = serving members is_membership 1 [] before_tables new_session 0 0
+
+  abbrev new : Serving Disk
+  new = serving members is_membership 1 (r ∷ []) after_tables heard 0 0
+
+  abbrev learning : Effect
+  learning = record {
+    commits = Some r;
+    sends = [];
+    says = Ok (Some (lines.Known slot bag));
+    session = heard;
+  }
+
+  member : is_member (quorums_of members) (Some 2) ≡ true
+  member =
+      (is_in_decides (members_of members) 2).1
+      (sites_to_has (count_of members) 2 (omega arith) two)
+
+  effect_is : effect old.site new_session (calls.Arrives (Some m)) ≡ learning
+  unfolding on_arrival on_body known_of
+  effect_is = rw member refl
+
+  abbrev answer : Answer
+  answer = answer_of (Some (lines.Known slot bag)) [] (omega arith)
+
+  abbrev step : Step Disk
+  step = heard_step members is_membership 1 [] m answer new
+
+  is_message : IsMessage m
+  is_message = (is_slot, ((omega arith, omega arith), is_bag))
+
+  comes : turn_of device [] (Some no_folders) old step.turn.took step.turn.done new
+  comes =
+      hears members is_membership 1 [] [] before_tables new_session 0 0 new m is_message refl answer
+      (called members is_membership 1 [] tt before_tables after_tables new_session 0 0
+      (calls.Arrives (Some m)) learning (Some (lines.Known slot bag)) effect_is refl
+      (is_slot, is_bag) tt (omega arith) (begun_with slot None) it_stands)
+
+  one : Has 1 (members_of members)
+  one = sites_to_has (count_of members) 1 (omega arith) is_membership.1.0.0
+
+  abbrev starts : Happening Disk
+  starts =
+      Starts 1 Blank (record {
+        book = holds (owner members is_membership 1) [];
+        tables = before_tables;
+      })
+
+  no_turn : (h : Happening Disk) → Has h (starts ∷ []) → step_of h ≡ None
+  no_turn h (here e) = subst (λ (g : Happening Disk). step_of g ≡ None) e refl
+  no_turn h (there other) = absurd (none h other)
+    where
+      none : (g : Happening Disk) → Has g [] → ⊥
+      none g h = elim h [ ]
+
+  pub fooled : IsFooled members slot bag
+  unfolding MayAll new_federation after_all
+  fooled = record {
+    before = starts ∷ [];
+    happens = (
+      (
+        one,
+        (
+          [],
+          refl,
+          record {
+            image = at_rest [];
+            told = refl;
+            says = nothing_says (owner members is_membership 1);
+          },
+        ),
+        opens_new (owner members is_membership 1) is_membership.1,
+      ),
+      tt,
+    );
+    no_turn = no_turn;
+    nothing = refl;
+    old = old;
+    serves = refl;
+    step = step;
+    forged = refl;
+    comes = comes;
+    goes_on = refl;
+    says = refl;
+  }
+
+pub fooled_by_a_forged_known : FooledByAForgedKnown
+fooled_by_a_forged_known members slot bag is two is_slot is_bag =
+    fooled members is two slot is_slot bag is_bag

@@ -1,0 +1,162 @@
+-- What comes to a site that serves, by what it asks.
+use Rattle.std.proofs.Common.{ℕ, ◌≡◌, inl, inr, refl, sym, ap, subst, ◌∙◌, List, Option, None, Some}
+use Rattle.std.specs.Prelude.{Result, Ok}
+use Rattle.fed_types.specs.declared.bag_id.BagId.{BagId}
+use Rattle.fed_types.specs.Lists.{Has}
+use Rattle.fed_types.specs.Sites.{Membership}
+use Rattle.fed_types.specs.Slots.{SlotName}
+use Rattle.fed_types.specs.Values.{IsSlot}
+use Rattle.cell_device.specs.Devices.{Device}
+use Rattle.bag_tree.specs.declared.fault.TreeFault.{TreeFault}
+use Rattle.bag_tree.specs.Facts.{TreeFacts}
+use Rattle.bag_check.specs.Check.{check_of}
+use Rattle.dgram.specs.declared.body.Body.{Body}
+use Rattle.dgram.specs.declared.body.Body.TheVariants.{Prepare, Promise, Accept, Accepted, Refused}
+use Rattle.dgram.specs.declared.body.Body.TheVariants.{Ask, Known, Query, DepositReply, QueryReply}
+use Rattle.dgram.specs.declared.body.Body.TheVariants as bodies
+use Rattle.dgram.specs.declared.message.Message.{Message}
+use Rattle.dgram.specs.Decoded.{message_of}
+use Rattle.dgram.specs.Messages.{IsMessage}
+use Rattle.dgram.proofs.MessageOf.{message_of-again, message_of-found}
+use Rattle.world_law.specs.Laws.{WasSent}
+use Rattle.world_law.specs.Networks.{Network}
+use Rattle.world_law.specs.WellFormed.{IsWellFormed}
+use Rattle.udp_site.specs.Traffic.{Post, Taken, Nothing, From}
+use Rattle.udp_site.specs.Requests.{Says, Deposits, Queries, request_by}
+use Rattle.udp_site.specs.Requests.{request_in, request_of}
+use Rattle.serving_law.specs.Rules.{MayCome}
+use Rattle.serving_law.proofs.Networks.{IsReplyBody, Means}
+
+-- a deposit that is asked for: its folder, as it is read, is a valid bag
+pub record IsAsked (federation : ℕ) (folders : List ℕ → Result TreeFacts TreeFault) (took : Taken)
+    (slot : SlotName) (bag : BagId) : Type 0 where
+  pub port : ℕ
+  pub path : List ℕ
+  pub asked : request_of federation took ≡ Deposits port slot path
+  pub facts : TreeFacts
+  pub read : folders path ≡ Ok facts
+  pub checked : check_of facts ≡ Ok bag
+
+-- ---- a message, by what it asks
+
+says_message : (port : ℕ) (m : Message) (body : Body) (message : Message)
+    → request_by port m body ≡ Says message → m ≡ message
+says_message port m (Prepare ballot) message e = cc
+says_message port m (Promise from ballot prior) message e = cc
+says_message port m (Accept vote) message e = cc
+says_message port m (Accepted from vote) message e = cc
+says_message port m (Refused from asked standing) message e = cc
+says_message port m (Ask from) message e = cc
+says_message port m (Known from bag) message e = cc
+says_message port m (bodies.Deposit path) message e = absurd (cc e)
+says_message port m Query message e = absurd (cc e)
+says_message port m (DepositReply from answer) message e = absurd (cc e)
+says_message port m (QueryReply from answer) message e = absurd (cc e)
+
+deposit_slot : (port : ℕ) (m : Message) (body : Body) (at : ℕ) (slot : SlotName) (path : List ℕ)
+    → request_by port m body ≡ Deposits at slot path → m.slot ≡ slot
+deposit_slot port m (Prepare ballot) at slot path e = absurd (cc e)
+deposit_slot port m (Promise from ballot prior) at slot path e = absurd (cc e)
+deposit_slot port m (Accept vote) at slot path e = absurd (cc e)
+deposit_slot port m (Accepted from vote) at slot path e = absurd (cc e)
+deposit_slot port m (Refused from asked standing) at slot path e = absurd (cc e)
+deposit_slot port m (Ask from) at slot path e = absurd (cc e)
+deposit_slot port m (Known from bag) at slot path e = absurd (cc e)
+deposit_slot port m (bodies.Deposit to) at slot path e = cc
+deposit_slot port m Query at slot path e = absurd (cc e)
+deposit_slot port m (DepositReply from answer) at slot path e = absurd (cc e)
+deposit_slot port m (QueryReply from answer) at slot path e = absurd (cc e)
+
+query_slot : (port : ℕ) (m : Message) (body : Body) (at : ℕ) (slot : SlotName)
+    → request_by port m body ≡ Queries at slot → m.slot ≡ slot
+query_slot port m (Prepare ballot) at slot e = absurd (cc e)
+query_slot port m (Promise from ballot prior) at slot e = absurd (cc e)
+query_slot port m (Accept vote) at slot e = absurd (cc e)
+query_slot port m (Accepted from vote) at slot e = absurd (cc e)
+query_slot port m (Refused from asked standing) at slot e = absurd (cc e)
+query_slot port m (Ask from) at slot e = absurd (cc e)
+query_slot port m (Known from bag) at slot e = absurd (cc e)
+query_slot port m (bodies.Deposit to) at slot e = absurd (cc e)
+query_slot port m Query at slot e = cc
+query_slot port m (DepositReply from answer) at slot e = absurd (cc e)
+query_slot port m (QueryReply from answer) at slot e = absurd (cc e)
+
+reply_says_nothing : (port : ℕ) (m : Message) (body : Body) (message : Message)
+    → IsReplyBody body → request_by port m body ≡ Says message → ⊥
+reply_says_nothing port m (DepositReply from answer) message is e = cc
+reply_says_nothing port m (QueryReply from answer) message is e = cc
+reply_says_nothing port m (Prepare ballot) message is e = absurd is
+reply_says_nothing port m (Promise from ballot prior) message is e = absurd is
+reply_says_nothing port m (Accept vote) message is e = absurd is
+reply_says_nothing port m (Accepted from vote) message is e = absurd is
+reply_says_nothing port m (Refused from asked standing) message is e = absurd is
+reply_says_nothing port m (Ask from) message is e = absurd is
+reply_says_nothing port m (Known from bag) message is e = absurd is
+reply_says_nothing port m (bodies.Deposit path) message is e = absurd is
+reply_says_nothing port m Query message is e = absurd is
+
+-- ---- bytes that come
+
+module _ (members : Membership) (handed : List Post) where
+  abbrev federation : ℕ
+  federation = members.federation
+
+  pub deposit_is_slot : (took : Taken) → MayCome federation handed took → (port : ℕ)
+      (slot : SlotName) (path : List ℕ) → request_of federation took ≡ Deposits port slot path
+      → IsSlot slot
+  deposit_is_slot Nothing may port slot path e = absurd (cc e)
+  deposit_is_slot (From from bytes) may port slot path e =
+      go (message_of federation bytes) refl e
+    where
+      go : (o : Option Message) → message_of federation bytes ≡ o
+          → request_in from o ≡ Deposits port slot path → IsSlot slot
+      go None f g = absurd (cc g)
+      go (Some m) f g =
+          subst IsSlot (deposit_slot from m m.body port slot path g)
+          (message_of-found federation bytes m may.0 f).0.0
+
+  pub query_is_slot : (took : Taken) → MayCome federation handed took → (port : ℕ)
+      (slot : SlotName) → request_of federation took ≡ Queries port slot → IsSlot slot
+  query_is_slot Nothing may port slot e = absurd (cc e)
+  query_is_slot (From from bytes) may port slot e = go (message_of federation bytes) refl e
+    where
+      go : (o : Option Message) → message_of federation bytes ≡ o
+          → request_in from o ≡ Queries port slot → IsSlot slot
+      go None f g = absurd (cc g)
+      go (Some m) f g =
+          subst IsSlot (query_slot from m m.body port slot g)
+          (message_of-found federation bytes m may.0 f).0.0
+
+  -- a site's message was sent
+
+  module _ {C : Type 0} (device : C → Device) (w : Network) (formed : IsWellFormed w)
+      (means : (port : ℕ) (bytes : List ℕ) → Has (port, bytes) handed
+      → Means device members w bytes) where
+    abbrev pub IsHeard : Message → Type 0
+    IsHeard message = WasSent w message.slot message.body × IsMessage message
+
+    by_meaning : (from : ℕ) (bytes : List ℕ) (message : Message) → Means device members w bytes
+        → request_of federation (From from bytes) ≡ Says message → IsHeard message
+    by_meaning from bytes message (inl s) e =
+        subst IsHeard
+        (says_message from s.send.message s.send.message.body message
+        (sym (ap (request_in from) read) ∙ e))
+        (record { to = s.send.to; is_sent = s.sent }, (formed.sent s.send s.sent).1)
+      where
+        read : message_of federation bytes ≡ Some s.send.message
+        read =
+            ap (message_of federation) s.bytes_are
+            ∙ message_of-again federation s.send.message (formed.sent s.send s.sent).1
+    by_meaning from bytes message (inr (m, r)) e =
+        absurd (reply_says_nothing from m m.body message r.replies
+        (sym (ap (request_in from) read) ∙ e))
+      where
+        read : message_of federation bytes ≡ Some m
+        read = ap (message_of federation) r.bytes_are ∙ message_of-again federation m r.is
+
+    pub says_was_sent : (took : Taken) → MayCome federation handed took → (message : Message)
+        → request_of federation took ≡ Says message → IsHeard message
+    says_was_sent Nothing may message e = absurd (cc e)
+    says_was_sent (From from bytes) may message e =
+        let found = may.1 message e in
+        by_meaning from bytes message (means found.0 bytes found.1) e

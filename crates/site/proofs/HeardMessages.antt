@@ -1,0 +1,582 @@
+-- From what the steps of a site do to what it does with a message of a member.
+use Rattle.std.proofs.Common.{◌≡◌, ◌⊎◌, inl, inr, ℕ, Bool, true, false, cond, List, [], ◌∷◌, ◌++◌}
+use Rattle.std.proofs.Common.{map, Option, Some, None, IsSome, Result, Ok, Err, refl, sym, ap}
+use Rattle.std.proofs.Common.{subst, ◌∙◌}
+use Rattle.std.specs.Prelude.{IsErrOf}
+use Rattle.fed_types.specs.declared.bag_id.BagId.{BagId}
+use Rattle.fed_types.specs.declared.vote.Vote.{Vote}
+use Rattle.fed_types.specs.Ballots.{BallotNumber}
+use Rattle.fed_types.specs.Quorums.{quorums_of}
+use Rattle.fed_types.specs.Sites.{members_of}
+use Rattle.fed_types.specs.Slots.{SlotName}
+use Rattle.fed_types.specs.Laws.Slots.{same_slot_decides}
+use Rattle.cell_device.specs.Devices.{Device}
+use Rattle.records.specs.declared.entry.Entry.TheVariants as entry
+use Rattle.records.specs.declared.owner.Owner.{Owner}
+use Rattle.records.specs.declared.record.Record.{Record}
+use Rattle.records.specs.Words.{deposit_of, known_of, with_one, earlier, known_in, if_some}
+use Rattle.records.proofs.Words.{known-push}
+use Rattle.book.specs.Volumes.{Volume}
+use Rattle.dgram.specs.declared.body.Body.{Body}
+use Rattle.dgram.specs.declared.body.Body.TheVariants as bodies
+use Rattle.dgram.specs.declared.message.Message.{Message}
+use Rattle.dgram.specs.Encoding.{body_from}
+use Rattle.dgram.specs.Heard.{promise_in, refused_round, voter_in}
+use Rattle.acceptor.specs.declared.decision.Decision.{Decision}
+use Rattle.acceptor.specs.Decisions.{prepare_decision, accept_decision}
+use Rattle.proposer.proofs.Stands.{at_here}
+use Rattle.proposer.specs.Proposals.{ready}
+use Rattle.proposer.specs.Sessions.{Session, UnderWay, hears, heard_if, waits, promise_message}
+use Rattle.proposer.specs.Sessions.{refusal_message}
+use Rattle.learner.specs.LearnedBags.{learned_from, learned_of_known}
+use Rattle.site_tables.specs.Contents.{Contents, IsOf, StandsForSame}
+use Rattle.site_tables.specs.Contents as tables
+use Rattle.site_tables.proofs.Heard.{hears_other, hears_known}
+use Rattle.site.specs.declared.answer.Answer.{Answer}
+use Rattle.site.specs.declared.answer.Line.{Line}
+use Rattle.site.specs.declared.answer.Line.TheVariants as lines
+use Rattle.site.specs.declared.fault.SiteFault.{SiteFault}
+use Rattle.site.specs.declared.fault.SiteFault.TheVariants as faults
+use Rattle.site.specs.Answered.{IsAnswered, Keeps, Gives}
+use Rattle.site.specs.Arrivals.{on_body, decided, learning, proposing, telling, answer_body}
+use Rattle.site.specs.Arrivals.{addressees, is_member, on_arrival}
+use Rattle.site.specs.Datagrams.{handed_out, datagram}
+use Rattle.site.specs.Effects.{Effect, record_of, to_each, only_says, quiet}
+use Rattle.site.specs.Sites.{OpenSite, StandsFor, IsInOrder}
+use Rattle.site.specs.inner.Concluded.{Stands, session_after, under_after, Concludes, HearsBody}
+use Rattle.site.specs.inner.Concluded.{Issues, one_datagram, all_datagrams}
+use Rattle.site.proofs.Conclusions.{concluded, IsNoRound, noted_same, prepare_issues_none}
+use Rattle.site.proofs.Conclusions.{accept_issues_none}
+
+-- a message that is no promise, no refusal and no vote
+pub record IsOther (body : Body) : Type 0 where
+  pub no_promise : (b : BallotNumber) → promise_in b body ≡ None
+  pub no_refusal : refused_round body ≡ None
+  pub no_vote : (v : Vote) → voter_in v body ≡ None
+
+-- a request of a client, or the reply to one
+abbrev pub IsRequest : Body → Type 0
+IsRequest (bodies.Deposit path) = Unit {0}
+IsRequest bodies.Query = Unit {0}
+IsRequest (bodies.DepositReply from answer) = Unit {0}
+IsRequest (bodies.QueryReply from answer) = Unit {0}
+IsRequest _ = ⊥
+
+module _ {C : Type 0} (device : C → Device) (old new : OpenSite C) (slot : SlotName)
+    (result : Result Answer SiteFault) where
+  -- what the acceptor has decided is concluded, and the message that asked for it is heard
+  hears_decided : (body : Body) (asker : ℕ) (d : Decision) → IsOther body → IsNoRound d.entry
+      → Concludes device old new (record_of slot d.entry) None
+      (map (datagram old.book.owner.members.federation)
+      (to_each slot (answer_body old.book.owner.site d.answer)
+      (addressees (quorums_of old.book.owner.members) asker d.answer))) result
+      → (session : Session) → StandsFor old session
+      → IsAnswered device old new session
+      (decided (quorums_of old.book.owner.members) old.book.owner.site slot asker d
+      (hears session (record { slot = slot; body = body }))) result
+  hears_decided body asker d other none c session (under, stands) =
+      concluded device old old new session under
+      (decided (quorums_of old.book.owner.members) old.book.owner.site slot asker d
+      (hears session m)) None
+      (map (datagram old.book.owner.members.federation)
+      (to_each slot (answer_body old.book.owner.site d.answer)
+      (addressees (quorums_of old.book.owner.members) asker d.answer))) result c refl stands refl
+      refl
+      (λ after. (
+        under,
+        hears_other new.tables new.book.records session under (same after) m
+            other.no_promise other.no_refusal other.no_vote,
+      ))
+    where
+      m : Message
+      m = record { slot = slot; body = body }
+
+      same : Stands new (session_after session under (record_of slot d.entry))
+          (under_after under (record_of slot d.entry)) → Stands new session under
+      same after =
+          subst (λ (u : UnderWay). Stands new session u)
+          (noted_same slot d.entry none session under).1
+          (subst (λ (s : Session). Stands new s (under_after under (record_of slot d.entry)))
+          (noted_same slot d.entry none session under).0 after)
+
+  pub hears_prepare : (ballot : BallotNumber) (asker : ℕ) (d : Decision) → asker ≡ ballot.site
+      → d ≡ prepare_decision slot old.book.records ballot
+      → Concludes device old new (record_of slot d.entry) None
+      (map (datagram old.book.owner.members.federation)
+      (to_each slot (answer_body old.book.owner.site d.answer)
+      (addressees (quorums_of old.book.owner.members) asker d.answer))) result
+      → HearsBody device old new slot (bodies.Prepare ballot) result
+  unfolding on_body
+  hears_prepare ballot asker d from is c session stands =
+      subst (λ (x : Decision). IsAnswered device old new session
+      (decided (quorums_of old.book.owner.members) old.book.owner.site slot ballot.site x
+      (hears session m)) result) is
+      (subst (λ (n : ℕ). IsAnswered device old new session
+      (decided (quorums_of old.book.owner.members) old.book.owner.site slot n d
+      (hears session m)) result) from
+      (hears_decided m.body asker d
+      (record { no_promise = λ b. refl; no_refusal = refl; no_vote = λ v. refl })
+      (subst (λ (x : Decision). IsNoRound x.entry) (sym is)
+      (prepare_issues_none slot old.book.records ballot)) c session stands))
+    where
+      m : Message
+      m = record { slot = slot; body = bodies.Prepare ballot }
+
+  pub hears_accept : (vote : Vote) (asker : ℕ) (d : Decision) → asker ≡ vote.ballot.site
+      → d ≡ accept_decision slot old.book.records vote
+      → Concludes device old new (record_of slot d.entry) None
+      (map (datagram old.book.owner.members.federation)
+      (to_each slot (answer_body old.book.owner.site d.answer)
+      (addressees (quorums_of old.book.owner.members) asker d.answer))) result
+      → HearsBody device old new slot (bodies.Accept vote) result
+  unfolding on_body
+  hears_accept vote asker d from is c session stands =
+      subst (λ (x : Decision). IsAnswered device old new session
+      (decided (quorums_of old.book.owner.members) old.book.owner.site slot vote.ballot.site x
+      (hears session m)) result) is
+      (subst (λ (n : ℕ). IsAnswered device old new session
+      (decided (quorums_of old.book.owner.members) old.book.owner.site slot n d
+      (hears session m)) result) from
+      (hears_decided m.body asker d
+      (record { no_promise = λ b. refl; no_refusal = refl; no_vote = λ v. refl })
+      (subst (λ (x : Decision). IsNoRound x.entry) (sym is)
+      (accept_issues_none slot old.book.records vote)) c session stands))
+    where
+      m : Message
+      m = record { slot = slot; body = bodies.Accept vote }
+
+-- ---- a site whose tables hear something, and whose book stays
+module _ {C : Type 0} (book : Volume C) (old new : Contents)
+    (of : (owner : Owner) (records : List Record) → IsOf old owner records
+    → IsOf new owner records) where
+  -- it stays in order, whatever session it stands for then
+  pub stays_in_order :
+      ((session : Session) (under : UnderWay) → tables.StandsFor old book.records session under
+      → (s : Session) × ((u : UnderWay) × tables.StandsFor new book.records s u))
+      → IsInOrder (record { book = book; tables = old })
+      → IsInOrder (record { book = book; tables = new })
+  stays_in_order stands order = record {
+    of = of book.owner book.records order.of;
+    session = stands order.session.0 order.session.1.0 order.session.1.1;
+  }
+
+  -- and where they stand for the same
+  pub same_in_order : StandsForSame old new → IsInOrder (record { book = book; tables = old })
+      → IsInOrder (record { book = book; tables = new })
+  same_in_order same =
+      stays_in_order (λ session under stands. (
+        session,
+        (under, same.stands book.records session under stands),
+      ))
+
+module _ {C : Type 0} (device : C → Device) (old new : OpenSite C) where
+  -- what is dropped
+  says_dropped : (session : Session) (a : Answer)
+      → (a.line ≡ Some lines.Dropped) × (a.sends.items ≡ []) → new ≡ old → StandsFor old session
+      → IsAnswered device old new session (only_says lines.Dropped session) (Ok a)
+  says_dropped session a is same stands = record {
+    keeps = ap (λ (s : OpenSite C). s.book) same;
+    gives = (
+      ap (λ (l : Option Line). Ok l) (sym is.0),
+      ap (map handed_out) is.1,
+      subst (λ (s : OpenSite C). StandsFor s session) (sym same) stands,
+    );
+  }
+
+module _ {C : Type 0} (device : C → Device) (old new : OpenSite C) (slot : SlotName) where
+  -- ---- nothing comes of a message but the session
+  says_nothing : (session now : Session) (a : Answer)
+      → (a.line ≡ None) × (a.sends.items ≡ []) → new.book ≡ old.book → StandsFor new now
+      → IsAnswered device old new session (quiet now) (Ok a)
+  says_nothing session now a is book stands = record {
+    keeps = book;
+    gives = (
+      ap (λ (l : Option Line). Ok l) (sym is.0),
+      ap (map handed_out) is.1,
+      stands,
+    );
+  }
+
+  -- memory ran out
+  out_of_memory : (session now : Session) (result : Result Answer SiteFault)
+      → result ≡ Err faults.Memory → new.book ≡ old.book → StandsFor new session
+      → IsAnswered device old new session (quiet now) result
+  out_of_memory session now result is book stands =
+      subst (λ (r : Result Answer SiteFault). IsAnswered device old new session (quiet now) r)
+      (sym is) (record { keeps = book; gives = stands })
+
+  -- ---- a refusal
+  module _ (from : ℕ) (asked standing : BallotNumber) where
+    pub hears_refused : (a : Answer) → (a.line ≡ None) × (a.sends.items ≡ [])
+        → new.book ≡ old.book
+        → ((session : Session) (under : UnderWay) → Stands old session under
+        → Stands new (hears session (refusal_message slot from asked standing)) under)
+        → HearsBody device old new slot (bodies.Refused from asked standing) (Ok a)
+    unfolding on_body
+    hears_refused a is book heard session (under, stands) =
+        says_nothing session (hears session (refusal_message slot from asked standing)) a is book
+        (under, heard session under stands)
+
+    pub refusal_unheard : (result : Result Answer SiteFault) → result ≡ Err faults.Memory
+        → new.book ≡ old.book
+        → ((session : Session) (under : UnderWay) → Stands old session under
+        → Stands new session under)
+        → HearsBody device old new slot (bodies.Refused from asked standing) result
+    unfolding on_body
+    refusal_unheard result is book same session (under, stands) =
+        out_of_memory session (hears session (refusal_message slot from asked standing)) result is
+        book (under, same session under stands)
+
+  -- ---- a bag that a site knows
+  module _ (from : ℕ) (bag : BagId) where
+    abbrev known_message : Message
+    known_message = record { slot = slot; body = bodies.Known from bag }
+
+    hears_it : (session : Session) (under : UnderWay) → Stands new session under
+        → Stands new (hears session known_message) under
+    hears_it session under stands =
+        hears_other new.tables new.book.records session under stands known_message (λ b. refl) refl
+        (λ v. refl)
+
+    pub hears_told_nothing : (a : Answer) → (a.line ≡ None) × (a.sends.items ≡ [])
+        → new ≡ old → None ≡ learned_of_known slot old.book.records bag
+        → HearsBody device old new slot (bodies.Known from bag) (Ok a)
+    unfolding on_body
+    hears_told_nothing a is same none session (under, stands) =
+        subst (λ (o : Option BagId). IsAnswered device old new session
+        (learning slot o (hears session known_message)) (Ok a)) none
+        (says_nothing session (hears session known_message) a is
+        (ap (λ (s : OpenSite C). s.book) same) (
+          under,
+          hears_it session under
+              (subst (λ (s : OpenSite C). Stands s session under) (sym same) stands),
+        ))
+
+    pub hears_told : (learned : BagId) (result : Result Answer SiteFault)
+        → Some learned ≡ learned_of_known slot old.book.records bag
+        → Concludes device old new (record_of slot (Some (entry.Known learned)))
+        (Some (lines.Known slot learned)) [] result
+        → HearsBody device old new slot (bodies.Known from bag) result
+    unfolding on_body
+    hears_told learned result some c session (under, stands) =
+        subst (λ (o : Option BagId). IsAnswered device old new session
+        (learning slot o (hears session known_message)) result) some
+        (concluded device old old new session under
+        (learning slot (Some learned) (hears session known_message))
+        (Some (lines.Known slot learned)) [] result c refl stands refl refl (λ after. (under, hears_it session under after)))
+
+  -- ---- a vote
+  module _ (from : ℕ) (vote : Vote) where
+    abbrev vote_message : Message
+    vote_message = record { slot = slot; body = bodies.Accepted from vote }
+
+    pub hears_vote : (a : Answer) → (a.line ≡ None) × (a.sends.items ≡ [])
+        → new.book ≡ old.book
+        → ((session : Session) (under : UnderWay) → Stands old session under
+        → None ≡ learned_from (quorums_of old.book.owner.members) slot old.book.records
+        session.heard from vote)
+        → ((session : Session) (under : UnderWay) → Stands old session under
+        → Stands new (hears session (record { slot = slot; body = bodies.Accepted from vote }))
+        under)
+        → HearsBody device old new slot (bodies.Accepted from vote) (Ok a)
+    unfolding on_body
+    hears_vote a is book none heard session (under, stands) =
+        subst (λ (o : Option BagId). IsAnswered device old new session
+        (learning slot o (hears session vote_message)) (Ok a)) (none session under stands)
+        (says_nothing session (hears session vote_message) a is book
+        (under, heard session under stands))
+
+    pub vote_unheard : (result : Result Answer SiteFault) → result ≡ Err faults.Memory
+        → new.book ≡ old.book
+        → ((session : Session) (under : UnderWay) → Stands old session under
+        → learned_from (quorums_of old.book.owner.members) slot old.book.records session.heard from
+        vote ≡ None)
+        → ((session : Session) (under : UnderWay) → Stands old session under
+        → Stands new session under)
+        → HearsBody device old new slot (bodies.Accepted from vote) result
+    unfolding on_body
+    vote_unheard result is book none same session (under, stands) =
+        subst (λ (o : Option BagId). IsAnswered device old new session
+        (learning slot o (hears session vote_message)) result) (sym (none session under stands))
+        (out_of_memory session (hears session vote_message) result is book
+        (under, same session under stands))
+
+    -- once its bag is recorded as known, the vote that made it so is heard too
+    module _ (bag : BagId) where
+      abbrev noted : Record
+      noted = record { slot = slot; body = entry.Known bag }
+
+      -- of two, some bag is the first
+      first_of : (known : Option BagId) → (b : BagId) × (with_one earlier known (Some bag) ≡ Some b)
+      first_of None = (bag, refl)
+      first_of (Some k) = (k, refl)
+
+      now_known : (b : BagId) × (known_of slot (old.book.records ++ noted ∷ []) ≡ Some b)
+      now_known = (
+        (first_of (known_of slot old.book.records)).0,
+        known-push slot old.book.records noted
+            ∙ ap (λ (t : Bool). with_one earlier (known_of slot old.book.records)
+            (if_some known_in (cond t (Some (entry.Known bag)) None)))
+            ((same_slot_decides slot slot).1 refl)
+            ∙ (first_of (known_of slot old.book.records)).1,
+      )
+
+      -- the effect
+      abbrev learned : Session → Effect
+      learned session = learning slot (Some bag) (hears session vote_message)
+
+      refused_so : (fault : SiteFault) (session : Session) (under : UnderWay)
+          → Concludes device old new (Some noted) (Some (lines.Known slot bag)) [] (Err fault)
+          → Stands old session under
+          → (fault ≡ faults.Memory) ⊎ ((fault ≡ faults.Device) × IsSome (Some noted))
+          → Gives old new session (learned session) (Err fault)
+      refused_so fault session under c stands (inl is) =
+          subst (λ (f : SiteFault). Gives old new session (learned session) (Err f)) (sym is)
+          (under, c.same session under stands)
+      refused_so fault session under c stands (inr (is, some)) =
+          subst (λ (f : SiteFault). Gives old new session (learned session) (Err f)) (sym is) some
+
+      grown : (a : Answer) → Keeps device (Some noted) (Ok a) old.book new.book
+          → new.book.records ≡ old.book.records ++ noted ∷ []
+      grown a (inl (e, same)) = absurd (no_fault e)
+        where
+          no_fault : ◌≡◌ {A = Result Answer SiteFault} (Ok a) (Err faults.Memory) → ⊥
+          no_fault e = cc
+      grown a (inr c) = c.committed.0
+
+      answered : (result : Result Answer SiteFault)
+          → Concludes device old new (Some noted) (Some (lines.Known slot bag)) [] result
+          → (session : Session) (under : UnderWay) → Stands old session under
+          → IsAnswered device old new session (learned session) result
+      answered (Ok a) c session under stands =
+          concluded device old old new session under (learned session) (Some (lines.Known slot bag))
+          [] (Ok a) c refl stands refl refl
+          (λ after. (
+            under,
+            hears_known new.tables new.book.records session under after slot from
+                vote now_known.0 (ap (known_of slot) (grown a c.keeps) ∙ now_known.1),
+          ))
+      answered (Err fault) c session under stands =
+          record { keeps = c.keeps; gives = refused_so fault session under c stands c.faults }
+
+      pub hears_deciding_vote : (result : Result Answer SiteFault)
+          → ((session : Session) (under : UnderWay) → Stands old session under
+          → Some bag ≡ learned_from (quorums_of old.book.owner.members) slot old.book.records
+          session.heard from vote)
+          → Concludes device old new (Some (record { slot = slot; body = entry.Known bag }))
+          (Some (lines.Known slot bag)) [] result
+          → HearsBody device old new slot (bodies.Accepted from vote) result
+      unfolding on_body
+      hears_deciding_vote result some c session (under, stands) =
+          subst (λ (o : Option BagId). IsAnswered device old new session
+          (learning slot o (hears session vote_message)) result) (some session under stands)
+          (answered result c session under stands)
+
+  -- ---- a promise
+  module _ (from : ℕ) (ballot : BallotNumber) (prior : Option Vote) where
+    -- the bag that it makes ready to be proposed
+    abbrev now_ready : Session → Option BagId
+    now_ready session =
+        ready (quorums_of old.book.owner.members) (deposit_of slot old.book.records) slot
+        (session.current slot) session.heard ballot (record { site = from; prior = prior })
+
+    abbrev promise : Message
+    promise = promise_message slot from ballot prior
+
+    abbrev vote_for : BagId → Vote
+    vote_for bag = record { ballot = ballot; bag = bag }
+
+    pub hears_promise : (a : Answer) → (a.line ≡ None) × (a.sends.items ≡ [])
+        → new.book ≡ old.book
+        → ((session : Session) (under : UnderWay) → Stands old session under
+        → None ≡ now_ready session)
+        → ((session : Session) (under : UnderWay) → Stands old session under
+        → Stands new (hears session promise) under)
+        → HearsBody device old new slot (bodies.Promise from ballot prior) (Ok a)
+    unfolding on_body
+    hears_promise a is book none heard session (under, stands) =
+        subst (λ (o : Option BagId). IsAnswered device old new session
+        (proposing (quorums_of old.book.owner.members) slot ballot o (hears session promise))
+        (Ok a)) (none session under stands)
+        (says_nothing session (hears session promise) a is book
+        (under, heard session under stands))
+
+    module _ (mid : OpenSite C) (bag : BagId) where
+      asked_all : (result : Result Answer SiteFault) → mid.book ≡ old.book
+          → Issues mid new slot (all_datagrams mid slot (bodies.Accept (vote_for bag))) result
+          → (session : Session) (under : UnderWay)
+          → Stands mid session (waits under slot (Some promise))
+          → IsAnswered device old new session
+          (proposing (quorums_of old.book.owner.members) slot ballot (Some bag)
+          (hears session promise)) result
+      asked_all (Ok a) book i session under stands = record {
+        keeps = i.book ∙ book;
+        gives = (
+          ap (λ (l : Option Line). Ok l) (sym (i.says a refl).0),
+          (i.says a refl).1
+              ∙ ap (λ (b : Volume C). map (datagram b.owner.members.federation)
+              (to_each slot (bodies.Accept (vote_for bag)) (members_of b.owner.members))) book,
+          (
+            waits (waits under slot (Some promise)) slot None,
+            subst (λ (m : Option Message). Stands new (heard_if session m)
+                (waits (waits under slot (Some promise)) slot None))
+                (at_here slot (Some promise) under.waiting)
+                (i.heard session (waits under slot (Some promise)) stands),
+          ),
+        );
+      }
+      asked_all (Err fault) book i session under stands =
+          out_of_memory_of fault i.faults
+        where
+          out_of_memory_of : (f : SiteFault) → f ≡ faults.Memory
+              → IsAnswered device old new session
+              (proposing (quorums_of old.book.owner.members) slot ballot (Some bag)
+              (hears session promise)) (Err f)
+          out_of_memory_of f is =
+              subst (λ (x : SiteFault). IsAnswered device old new session
+              (proposing (quorums_of old.book.owner.members) slot ballot (Some bag)
+              (hears session promise)) (Err x)) (sym is)
+              (record {
+                keeps = i.book ∙ book;
+                gives = (
+                  waits under slot (Some promise),
+                  i.same session (waits under slot (Some promise)) stands,
+                );
+              })
+
+      pub hears_last_promise : (result : Result Answer SiteFault) → mid.book ≡ old.book
+          → ((session : Session) (under : UnderWay) → Stands old session under
+          → Some bag ≡ now_ready session)
+          → ((session : Session) (under : UnderWay) → Stands old session under
+          → Stands mid session (waits under slot (Some promise)))
+          → Issues mid new slot
+          (all_datagrams mid slot (bodies.Accept (record { ballot = ballot; bag = bag }))) result
+          → HearsBody device old new slot (bodies.Promise from ballot prior) result
+      unfolding on_body
+      hears_last_promise result book some waiting i session (under, stands) =
+          subst (λ (o : Option BagId). IsAnswered device old new session
+          (proposing (quorums_of old.book.owner.members) slot ballot o (hears session promise))
+          result) (some session under stands)
+          (asked_all result book i session under (waiting session under stands))
+
+  -- ---- a question
+  module _ (from : ℕ) where
+    abbrev asking : Message
+    asking = record { slot = slot; body = bodies.Ask from }
+
+    hears_question : new ≡ old → (session : Session) (under : UnderWay) → Stands old session under
+        → Stands new (hears session asking) under
+    hears_question same session under stands =
+        hears_other new.tables new.book.records session under
+        (subst (λ (s : OpenSite C). Stands s session under) (sym same) stands) asking (λ b. refl)
+        refl (λ v. refl)
+
+    pub hears_ask : (a : Answer) → (a.line ≡ None) × (a.sends.items ≡ []) → new ≡ old
+        → None ≡ known_of slot old.book.records
+        → HearsBody device old new slot (bodies.Ask from) (Ok a)
+    unfolding on_body
+    hears_ask a is same none session (under, stands) =
+        subst (λ (o : Option BagId). IsAnswered device old new session
+        (telling old.book.owner.site slot from o (hears session asking)) (Ok a)) none
+        (says_nothing session (hears session asking) a is (ap (λ (s : OpenSite C). s.book) same)
+        (under, hears_question same session under stands))
+
+    pub tells : (a : Answer) (bag : BagId) → a.line ≡ None
+        → map handed_out a.sends.items
+        ≡ one_datagram old slot (bodies.Known old.book.owner.site bag) from
+        → new ≡ old → Some bag ≡ known_of slot old.book.records
+        → HearsBody device old new slot (bodies.Ask from) (Ok a)
+    unfolding on_body
+    tells a bag silent sent same some session (under, stands) =
+        subst (λ (o : Option BagId). IsAnswered device old new session
+        (telling old.book.owner.site slot from o (hears session asking)) (Ok a)) some
+        (record {
+          keeps = ap (λ (s : OpenSite C). s.book) same;
+          gives = (
+            ap (λ (l : Option Line). Ok l) (sym silent),
+            sent,
+            (under, hears_question same session under stands),
+          );
+        })
+
+  -- ---- a request of a client, or the reply to one
+  pub drops_request : (body : Body) → IsRequest body → (a : Answer)
+      → (a.line ≡ Some lines.Dropped) × (a.sends.items ≡ []) → new ≡ old
+      → HearsBody device old new slot body (Ok a)
+  unfolding on_body
+  drops_request (bodies.Deposit path) is a dropped same session stands =
+      says_dropped device old new session a dropped same stands
+  drops_request bodies.Query is a dropped same session stands =
+      says_dropped device old new session a dropped same stands
+  drops_request (bodies.DepositReply from answer) is a dropped same session stands =
+      says_dropped device old new session a dropped same stands
+  drops_request (bodies.QueryReply from answer) is a dropped same session stands =
+      says_dropped device old new session a dropped same stands
+  drops_request (bodies.Prepare ballot) is a dropped same session stands = absurd is
+  drops_request (bodies.Accept vote) is a dropped same session stands = absurd is
+  drops_request (bodies.Promise from ballot prior) is a dropped same session stands = absurd is
+  drops_request (bodies.Accepted from vote) is a dropped same session stands = absurd is
+  drops_request (bodies.Refused from asked standing) is a dropped same session stands = absurd is
+  drops_request (bodies.Ask from) is a dropped same session stands = absurd is
+  drops_request (bodies.Known from bag) is a dropped same session stands = absurd is
+
+-- ---- what arrives
+module _ {C : Type 0} (device : C → Device) (old new : OpenSite C) where
+  abbrev arrived : Session → Option Message → Effect
+  arrived session message =
+      on_arrival (quorums_of old.book.owner.members) old.book.owner.site old.book.records session
+      message
+
+  -- a message of a member is heard
+  pub takes_in : (m : Message) (result : Result Answer SiteFault)
+      → is_member (quorums_of old.book.owner.members) (body_from m.body) ≡ true
+      → HearsBody device old new m.slot m.body result
+      → (session : Session) → StandsFor old session
+      → IsAnswered device old new session (arrived session (Some m)) result
+  unfolding on_arrival
+  takes_in m result member hears_body session stands =
+      subst (λ (t : Bool). IsAnswered device old new session
+      (cond t (on_body (quorums_of old.book.owner.members) old.book.owner.site old.book.records
+      session (hears session m) m.slot m.body) (only_says lines.Dropped session)) result)
+      (sym member) (hears_body session stands)
+
+  -- any other is dropped
+  pub drops : (m : Message) (a : Answer)
+      → is_member (quorums_of old.book.owner.members) (body_from m.body) ≡ false
+      → (a.line ≡ Some lines.Dropped) × (a.sends.items ≡ []) → new ≡ old
+      → (session : Session) → StandsFor old session
+      → IsAnswered device old new session (arrived session (Some m)) (Ok a)
+  unfolding on_arrival
+  drops m a stranger dropped same session stands =
+      subst (λ (t : Bool). IsAnswered device old new session
+      (cond t (on_body (quorums_of old.book.owner.members) old.book.owner.site old.book.records
+      session (hears session m) m.slot m.body) (only_says lines.Dropped session)) (Ok a))
+      (sym stranger) (says_dropped device old new session a dropped same stands)
+
+  -- and so is what is no message
+  pub drops_bytes : (o : Option Message) (a : Answer) → o ≡ None
+      → (a.line ≡ Some lines.Dropped) × (a.sends.items ≡ []) → new ≡ old
+      → (session : Session) → StandsFor old session
+      → IsAnswered device old new session (arrived session o) (Ok a)
+  unfolding on_arrival
+  drops_bytes o a none dropped same session stands =
+      subst (λ (x : Option Message). IsAnswered device old new session (arrived session x) (Ok a))
+      (sym none) (says_dropped device old new session a dropped same stands)
+
+  -- what is answered needs no opening
+  pub is_open : (session : Session) (e : Effect) (result : Result Answer SiteFault)
+      → IsAnswered device old new session e result → IsErrOf result faults.NeedsOpen → ⊥
+  is_open session e result is fault =
+      subst (λ (r : Result Answer SiteFault). Gives old new session e r) fault is.gives
+
+-- ---- what an answer says, of the answer that is given
+pub says_so : (a b : Answer) (line : Option Line) (datagrams : List (ℕ × List ℕ))
+    → ◌≡◌ {A = Result Answer SiteFault} (Ok a) (Ok b)
+    → (a.line ≡ line) × (map handed_out a.sends.items ≡ datagrams)
+    → (b.line ≡ line) × (map handed_out b.sends.items ≡ datagrams)
+says_so a b line datagrams e is =
+    subst (λ (x : Answer). (x.line ≡ line) × (map handed_out x.sends.items ≡ datagrams)) (same e)
+    is
+  where
+    same : ◌≡◌ {A = Result Answer SiteFault} (Ok a) (Ok b) → a ≡ b
+    same e = cc

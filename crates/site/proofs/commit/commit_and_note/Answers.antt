@@ -1,0 +1,73 @@
+use Rattle.std.proofs.Common.{true, false, [], ◌∷◌, ◌++◌, ◌≡◌, Err, refl, sym, ap, subst, ◌∙◌}
+use Rattle.records.specs.declared.record.Record.{Record}
+use Rattle.book.specs.declared.fault.CommitFault.{CommitFault}
+use Rattle.site_tables.specs.Contents.{IsOf}
+use Rattle.site_tables.specs.Contents as tables
+use Rattle.site.specs.Faults.{commit_fault}
+use Rattle.site.specs.inner.Concluded.{noted_session, noted_under}
+use Rattle.site.specs.declared.fault.SiteFault.TheVariants as faults
+use Rattle.site.proofs.Committed.{err_of, not_tried, refused, done}
+use Rattle.site.proofs.commit.commit_and_note.Goals as goal
+
+pub returns-in_err-reserve : goal.returns-in_err-reserve
+returns-in_err-reserve g c =
+    not_tried g.C.Cell.device (record { book = c.args.book.now; tables = c.args.tables.now })
+    (record { book = c.args.book.now; tables = c.reserve.new.self }) c.args.new
+    c.from_residual.result (err_of c.from_residual.result faults.Memory c.from_residual.ensures.1)
+    refl c.reserve.ensures.same
+
+pub returns-in_err-noted : goal.returns-in_err-noted
+returns-in_err-noted g c =
+    not_tried g.C.Cell.device (record { book = c.args.book.now; tables = c.args.tables.now })
+    (record { book = c.args.book.now; tables = c.reserve.new.self }) c.args.new
+    c.from_residual-in_err-noted.result
+    (err_of c.from_residual-in_err-noted.result faults.Memory c.from_residual-in_err-noted.ensures.1)
+    refl c.reserve.ensures.same
+
+pub returns-in_err-commit : goal.returns-in_err-commit
+returns-in_err-commit g c =
+    refused g.C.Cell.device (record { book = c.args.book.now; tables = c.args.tables.now })
+    (record { book = c.commit.new.self; tables = c.reserve.new.self }) c.args.new
+    c.from_residual-in_err-commit.result c.in_err-commit.field-0.0
+    (err_of c.from_residual-in_err-commit.result (commit_fault c.in_err-commit.field-0.0)
+    c.from_residual-in_err-commit.ensures.1)
+    (λ e. is_open (sym (c.in_err-commit.ensures.needs_open.0 (ap (λ (f : CommitFault). Err f) e)) ∙ c.requires))
+    (record {
+      committed = c.in_err-commit.ensures.committed;
+      durable = c.in_err-commit.ensures.durable;
+      recovers = c.in_err-commit.ensures.recovers;
+      device_failed = c.in_err-commit.ensures.device;
+      memory = c.in_err-commit.ensures.memory;
+      any_moment = c.in_err-commit.ensures.any_moment c.requires;
+      cause = c.in_err-commit.ensures.cause;
+      fuse = c.in_err-commit.ensures.fuse;
+      calls = c.in_err-commit.ensures.calls;
+      whose = c.in_err-commit.ensures.whose;
+    }) c.reserve.ensures.same
+  where
+    is_open : true ≡ false → ⊥
+    is_open e = cc
+
+pub returns : goal.returns
+returns g c =
+    done g.C.Cell.device (record { book = c.args.book.now; tables = c.args.tables.now })
+    (record { book = c.commit.new.self; tables = c.note.new.self }) c.args.new c.reserve.new.self
+    (record {
+      committed = c.in_ok-commit.ensures.committed;
+      durable = c.in_ok-commit.ensures.durable;
+      recovers = c.in_ok-commit.ensures.recovers;
+      device_failed = c.in_ok-commit.ensures.device;
+      memory = c.in_ok-commit.ensures.memory;
+      any_moment = c.in_ok-commit.ensures.any_moment c.requires;
+      cause = c.in_ok-commit.ensures.cause;
+      fuse = c.in_ok-commit.ensures.fuse;
+      calls = c.in_ok-commit.ensures.calls;
+      whose = c.in_ok-commit.ensures.whose;
+    }) c.reserve.ensures.same
+    (λ of. subst (λ (r : Record). IsOf c.note.new.self c.args.book.now.owner
+    (c.args.book.now.records ++ r ∷ [])) c.in_ok-noted.ensures
+    (c.note.ensures.of c.args.book.now.owner c.args.book.now.records of))
+    (λ session under stands. subst (λ (r : Record). tables.StandsFor c.note.new.self
+    (c.args.book.now.records ++ r ∷ []) (noted_session session under r) (noted_under under r))
+    c.in_ok-noted.ensures
+    (c.note.ensures.stands c.args.book.now.records session under stands))

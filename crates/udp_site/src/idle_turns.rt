@@ -1,0 +1,161 @@
+//! Turns in which nothing came.
+
+ghost use Rattle.std.specs.Prelude.{◌≡◌, ◌+◌, ◌<◌, ◌≤◌, ℕ, true, is_some, IfSome};
+ghost use Rattle.std.specs.List.{list_any};
+ghost use Rattle.records.specs.Words.{known_of};
+ghost use Rattle.udp_site.specs.Rounds.{waits, next_waiting};
+ghost use Rattle.udp_site.specs.Turns.{Serving, IsServing, idles, proposing};
+ghost use Rattle.udp_site.specs.inner.Outcomes.{ComesTo, at};
+ghost use Rattle.udp_site.specs.inner.SlotRecords.{says_known, is_settled, AreSettled, IsFirst};
+
+use crate::fault::ServeFault;
+use crate::port::Port;
+use crate::posts::hand_answer;
+use crate::said_lines::say_proposal;
+use cell_device::Cell;
+use fed_types::Slot;
+use lines::Line;
+use records::{Entry, Record};
+use site::{Reply, Site};
+use std::alloc::Global;
+
+/// Where an idle site is in the round of its deposits.
+#[derive(Drop)]
+pub(crate) struct Round {
+    /// How many turns were idle.
+    pub(crate) idle: u32,
+    /// The place, among the deposits, after that which was tried last.
+    pub(crate) tried: usize,
+    /// All deposits before this place have a known bag, so that no search begins before it.
+    pub(crate) settled: usize,
+}
+
+/// Nothing came: where the count of such turns is a multiple of the site's number, it proposes the
+/// next of its deposits without a known bag.
+pub(crate) fn idle<C: Cell, P: Port>(
+    alloc: Global,
+    site: &mut Site<C>,
+    port: &mut P,
+    ports: &[u16],
+    round: &mut Round,
+    lines: &mut Vec<Line>,
+) -> Result<(), ServeFault>
+    requires { round.old.idle < 4294967295 }
+    ensures comes { (old : Serving C) → old.site ≡ site.old → old.idle ≡ round.old.idle
+        → old.tried ≡ round.old.tried → IsServing old
+        → AreSettled site.old.book.records round.old.settled
+        → ComesTo (at round.new.idle round.new.tried (idles C.device ports.now old))
+        (P.traffic port.old) (P.traffic port.new) lines.old.items lines.new.items site.new result }
+    ensures count { round.new.idle ≤ round.old.idle + 1 }
+    ensures settled { AreSettled site.old.book.records round.old.settled
+        → AreSettled site.old.book.records round.new.settled }
+    ensures later { P.failures port.old ≤ P.failures port.new }
+{
+    round.idle += 1;
+    if round.idle % u32::from(site.number().number()) != 0 {
+        return Ok(());
+    }
+    round.settled = past_settled(site, round.settled);
+    let Some(place) = next_waiting(site, round.tried, round.settled) else {
+        return Ok(());
+    };
+    let Some(slot) = site.deposited(place) else {
+        return Ok(());
+    };
+    round.tried = place + 1;
+    let slot = slot.copy(alloc)?;
+    propose(site, port, ports, lines, &slot)
+}
+
+// Proposes the slot's deposit.
+fn propose<C: Cell, P: Port>(
+    site: &mut Site<C>,
+    port: &mut P,
+    ports: &[u16],
+    lines: &mut Vec<Line>,
+    slot: &Slot,
+) -> Result<(), ServeFault>
+    ensures comes { (old : Serving C) → old.site ≡ site.old → IsServing old
+        → ComesTo (proposing C.device ports.now old slot.now) (P.traffic port.old)
+        (P.traffic port.new) lines.old.items lines.new.items site.new result }
+    ensures later { P.failures port.old ≤ P.failures port.new }
+{
+    let number = site.number().number();
+    let answer = site.propose(slot);
+    hand_answer(port, ports, &answer)?;
+    say_proposal(lines, number, answer)?;
+    Ok(())
+}
+
+// The first place, from this one on, that isn't settled.
+fn past_settled<C: Cell>(site: &Site<C>, from: usize) -> usize
+    ensures { (place : ℕ) → from ≤ place → place < result
+        → is_settled site.now.book.records place ≡ true }
+{
+    for place in from..site.records().len() {
+        if !is_settled(site, place) {
+            return place;
+        }
+    }
+    from
+}
+
+// The first deposit without a known bag, from this place on, and then from the first one on.
+fn next_waiting<C: Cell>(site: &Site<C>, from: usize, settled: usize) -> Option<usize>
+    ensures next { AreSettled site.now.book.records settled
+        → result ≡ next_waiting site.now.book.records from }
+    ensures within { IfSome result (λ place. place < 18446744073709551615) }
+{
+    match first_waiting(site, from.max(settled)) {
+        Some(place) => Some(place),
+        None => first_waiting(site, settled),
+    }
+}
+
+// The first deposit without a known bag, from this place on.
+fn first_waiting<C: Cell>(site: &Site<C>, from: usize) -> Option<usize>
+    ensures first { IsFirst (waits site.now.book.records) from result }
+    ensures within { IfSome result (λ place. place < 18446744073709551615) }
+{
+    for place in from..site.records().len() {
+        let slot = site.deposited(place)?;
+        if !is_known(site, slot) {
+            return Some(place);
+        }
+    }
+    None
+}
+
+// Whether a deposit is at this place, and its slot has a known bag.
+fn is_settled<C: Cell>(site: &Site<C>, place: usize) -> bool
+    ensures { result ≡ is_settled site.now.book.records place }
+{
+    match site.deposited(place) {
+        Some(slot) => is_known(site, slot),
+        None => false,
+    }
+}
+
+fn is_known<C: Cell>(site: &Site<C>, slot: &Slot) -> bool
+    ensures { result ≡ is_some (known_of slot.now site.now.book.records) }
+{
+    match site.query(slot) {
+        Ok(Reply::Known(_)) => true,
+        Ok(Reply::Pending(_)) => false,
+        Ok(Reply::Nothing) => false,
+        Err(_) => is_known_in(site.records(), slot),
+    }
+}
+
+// Whether one of these records says that a bag is known for the slot.
+fn is_known_in(records: &[Record], slot: &Slot) -> bool
+    ensures { result ≡ list_any (says_known slot.now) records.now }
+{
+    records.iter().any(|kept| says_known(kept, slot))
+}
+
+fn says_known(kept: &Record, slot: &Slot) -> bool
+    ensures { result ≡ says_known slot.now kept.now }
+{
+    kept.slot == *slot && matches!(kept.body, Entry::Known(_))
+}

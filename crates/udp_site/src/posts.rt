@@ -1,0 +1,92 @@
+//! Handing out datagrams.
+
+ghost use Rattle.std.specs.Prelude.{◌≤◌, ◌∷◌, []};
+ghost use Rattle.std.specs.List.{flat_map};
+ghost use Rattle.udp_site.specs.inner.Outcomes.{Hands};
+ghost use Rattle.udp_site.specs.Turns.{posts_to, posts_of, sealed_posts, replies_to};
+
+use crate::fault::ServeFault;
+use crate::port::Port;
+use crate::port_fault::PortFault;
+use dgram::{LONGEST_DATAGRAM, Message, encode};
+use fed_types::SiteNo;
+use site::{Answer, Sealed, SiteFault};
+use std::alloc::Global;
+
+/// Hands out the datagrams of an answer, in order. A refusal has none.
+pub(crate) fn hand_answer<P: Port>(
+    port: &mut P,
+    ports: &[u16],
+    answer: &Result<Answer, SiteFault>,
+) -> Result<(), ServeFault>
+    ensures hands { Hands (P.traffic port.old) (P.traffic port.new)
+        (posts_of ports.now answer.now) result }
+    ensures later { P.failures port.old ≤ P.failures port.new }
+{
+    match answer {
+        Ok(Answer { sends, .. }) => hand_all(port, ports, sends.as_slice()),
+        Err(_) => Ok(()),
+    }
+}
+
+/// Hands out datagrams for sites, in order.
+pub(crate) fn hand_all<P: Port>(
+    port: &mut P,
+    ports: &[u16],
+    sends: &[Sealed],
+) -> Result<(), ServeFault>
+    ensures hands { Hands (P.traffic port.old) (P.traffic port.new)
+        (flat_map (sealed_posts ports.now) sends.now) result }
+    ensures later { P.failures port.old ≤ P.failures port.new }
+{
+    for sealed in sends {
+        hand_to(port, ports, sealed.to, &sealed.bytes)?;
+    }
+    Ok(())
+}
+
+/// Hands out a datagram for a site, if it has a port.
+pub(crate) fn hand_to<P: Port>(
+    port: &mut P,
+    ports: &[u16],
+    site: SiteNo,
+    bytes: &[u8],
+) -> Result<(), ServeFault>
+    ensures hands { Hands (P.traffic port.old) (P.traffic port.new)
+        (posts_to ports.now site bytes.now) result }
+    ensures later { P.failures port.old ≤ P.failures port.new }
+{
+    match ports.get(usize::from(site.number()) - 1) {
+        Some(to) => hand(port, *to, bytes),
+        None => Ok(()),
+    }
+}
+
+/// Hands out a message for a client's port.
+pub(crate) fn reply<P: Port>(
+    alloc: Global,
+    port: &mut P,
+    federation: u64,
+    to: u16,
+    message: &Message,
+) -> Result<(), ServeFault>
+    ensures hands { Hands (P.traffic port.old) (P.traffic port.new)
+        (replies_to federation to message.now.slot message.now.body) result }
+    ensures later { P.failures port.old ≤ P.failures port.new }
+{
+    let mut bytes = Vec::with_capacity(alloc, LONGEST_DATAGRAM)?;
+    encode(federation, message, &mut bytes)?;
+    hand(port, to, &bytes)
+}
+
+// Hands out a datagram. One that the port's device loses was handed out.
+fn hand<P: Port>(port: &mut P, to: u16, bytes: &[u8]) -> Result<(), ServeFault>
+    ensures hands { Hands (P.traffic port.old) (P.traffic port.new) ((to, bytes.now) ∷ []) result }
+    ensures later { P.failures port.old ≤ P.failures port.new }
+{
+    match port.send(to, bytes) {
+        Ok(()) => Ok(()),
+        Err(PortFault::Device) => Ok(()),
+        Err(PortFault::Memory) => Err(ServeFault::Memory),
+    }
+}

@@ -1,0 +1,169 @@
+//! Queries of clients.
+
+ghost use Rattle.std.specs.Prelude.{◌≡◌, ◌≤◌, ◌∷◌, [], false, IsOk, IfOk};
+ghost use Rattle.fed_types.specs.Sites.{IsSiteNumber};
+ghost use Rattle.udp_site.specs.Turns.{Serving, IsServing, queries, query_replies, others, asked};
+ghost use Rattle.udp_site.specs.inner.Others.{others_of};
+ghost use Rattle.udp_site.specs.inner.Outcomes.{ComesTo, AsksFor, Hands};
+
+use crate::fault::ServeFault;
+use crate::port::Port;
+use crate::posts::{hand_all, reply};
+use crate::replies::query_answer;
+use crate::said_lines::{say_refused, say_reply};
+use cell_device::Cell;
+use dgram::{Body, Message};
+use fed_types::{SiteNo, Slot};
+use lines::Line;
+use site::{Reply, Site, SiteFault};
+use std::alloc::Global;
+
+/// A client asks for the slot's bag. Where the site doesn't know it, it asks the other members
+/// after its reply.
+pub(crate) fn take_query<C: Cell, P: Port>(
+    alloc: Global,
+    site: &Site<C>,
+    port: &mut P,
+    ports: &[u16],
+    lines: &mut Vec<Line>,
+    client: u16,
+    slot: Slot,
+) -> Result<(), ServeFault>
+    ensures comes { (old : Serving C) → old.site ≡ site.now → IsServing old
+        → ComesTo (queries ports.now old client slot) (P.traffic port.old) (P.traffic port.new)
+        lines.old.items lines.new.items site.now result }
+    ensures later { P.failures port.old ≤ P.failures port.new }
+{
+    let from = site.number();
+    let federation = site.members().federation();
+    let known = site.query(&slot);
+    let slot = tell_known(alloc, port, federation, from, client, slot, known)?;
+    let named = slot.copy(alloc)?;
+    say_reply(lines, from.number(), named, known)?;
+    ask_unless_known(site, port, ports, lines, &slot, known)
+}
+
+// Tells a client what is known of the slot, and gives back the slot.
+fn tell_known<P: Port>(
+    alloc: Global,
+    port: &mut P,
+    federation: u64,
+    from: SiteNo,
+    client: u16,
+    slot: Slot,
+    known: Result<Reply, SiteFault>,
+) -> Result<Slot, ServeFault>
+    ensures slot { IfOk result (λ s. s ≡ slot) }
+    ensures handed { Hands (P.traffic port.old) (P.traffic port.new)
+        (query_replies federation from client slot known) result }
+    ensures later { P.failures port.old ≤ P.failures port.new }
+{
+    let answer = query_answer(known);
+    let body = Body::QueryReply { from, answer };
+    let message = Message { slot, body };
+    reply(alloc, port, federation, client, &message)?;
+    Ok(message.slot)
+}
+
+// Asks the other members, unless the site knows the bag or needs opening.
+fn ask_unless_known<C: Cell, P: Port>(
+    site: &Site<C>,
+    port: &mut P,
+    ports: &[u16],
+    lines: &mut Vec<Line>,
+    slot: &Slot,
+    known: Result<Reply, SiteFault>,
+) -> Result<(), ServeFault>
+    requires { IsOk known → site.now.book.needs_opening ≡ false }
+    ensures comes { (old : Serving C) → old.site ≡ site.now → IsServing old
+        → AsksFor ports.now old slot.now (asked old known) (P.traffic port.old) (P.traffic port.new)
+        lines.old.items lines.new.items result }
+    ensures later { P.failures port.old ≤ P.failures port.new }
+{
+    let Ok(reply) = known else {
+        return Ok(());
+    };
+    match reply {
+        Reply::Known(_) => Ok(()),
+        Reply::Pending(_) => ask_others(site, port, ports, lines, slot),
+        Reply::Nothing => ask_others(site, port, ports, lines, slot),
+    }
+}
+
+// Asks all other members for the slot's bag, in ascending order. Where memory ran out for one, it
+// isn't asked, and a line says so.
+fn ask_others<C: Cell, P: Port>(
+    site: &Site<C>,
+    port: &mut P,
+    ports: &[u16],
+    lines: &mut Vec<Line>,
+    slot: &Slot,
+) -> Result<(), ServeFault>
+    requires { site.now.book.needs_opening ≡ false }
+    ensures comes { (old : Serving C) → old.site ≡ site.now → IsServing old
+        → AsksFor ports.now old slot.now (others old) (P.traffic port.old) (P.traffic port.new)
+        lines.old.items lines.new.items result }
+    ensures later { P.failures port.old ≤ P.failures port.new }
+{
+    let count = site.members().count();
+    for earlier in 0..count {
+        ask_other(site, port, ports, lines, slot, member(earlier + 1))?;
+    }
+    Ok(())
+}
+
+// Asks a member, unless it is the site itself.
+fn ask_other<C: Cell, P: Port>(
+    site: &Site<C>,
+    port: &mut P,
+    ports: &[u16],
+    lines: &mut Vec<Line>,
+    slot: &Slot,
+    member: SiteNo,
+) -> Result<(), ServeFault>
+    requires { site.now.book.needs_opening ≡ false }
+    ensures comes { (old : Serving C) → old.site ≡ site.now → IsServing old
+        → AsksFor ports.now old slot.now (others_of old (member ∷ [])) (P.traffic port.old)
+        (P.traffic port.new) lines.old.items lines.new.items result }
+    ensures later { P.failures port.old ≤ P.failures port.new }
+{
+    if member == site.number() {
+        return Ok(());
+    }
+    ask(site, port, ports, lines, slot, member)
+}
+
+// Asks a member.
+fn ask<C: Cell, P: Port>(
+    site: &Site<C>,
+    port: &mut P,
+    ports: &[u16],
+    lines: &mut Vec<Line>,
+    slot: &Slot,
+    member: SiteNo,
+) -> Result<(), ServeFault>
+    requires { site.now.book.needs_opening ≡ false }
+    ensures comes { (old : Serving C) → old.site ≡ site.now → IsServing old
+        → AsksFor ports.now old slot.now (member ∷ []) (P.traffic port.old) (P.traffic port.new)
+        lines.old.items lines.new.items result }
+    ensures later { P.failures port.old ≤ P.failures port.new }
+{
+    match site.ask(slot, member) {
+        Ok(answer) => hand_all(port, ports, answer.sends.as_slice()),
+        Err(_) => {
+            say_refused(lines, site.number().number(), SiteFault::Memory)?;
+            Ok(())
+        }
+    }
+}
+
+// The member of this number.
+fn member(number: u8) -> SiteNo
+    requires { IsSiteNumber number }
+    ensures { result ≡ number }
+{
+    match SiteNo::new(number) {
+        Ok(member) => member,
+        Err(_) => unreachable!(),
+    }
+}

@@ -1,0 +1,165 @@
+//! What is said of calls: lines, which name bags by their identities.
+
+ghost use Rattle.std.specs.Prelude.{◌≡◌, ◌∷◌, ◌++◌, [], Some, Result, Ok, OnOk};
+ghost use Rattle.bag_check.specs.declared.fault.BagFault.{BagFault};
+ghost use Rattle.fed_types.specs.declared.bag_id.BagId as bags;
+ghost use Rattle.dgram.specs.declared.message.Message as messages;
+ghost use Rattle.site.specs.Calls.{Arrives, Deposits, Proposes};
+ghost use Rattle.fed_types.specs.Slots as slots;
+ghost use Rattle.std.specs.Option.{option_to_list};
+ghost use Rattle.lines.specs.Notices.{Refused, Dropped, notice_of};
+ghost use Rattle.lines.specs.Named.{named_bag, named_reply};
+ghost use Rattle.udp_site.specs.Turns.{notices_of, proposal_notices, reply_notice};
+ghost use Rattle.udp_site.specs.inner.Outcomes.{Notes};
+
+use fed_types::{BagId, Slot};
+use lines::{Line, NamedBag, NamedReply};
+use site::{Answer, Line as SiteLine, Reply, SiteFault};
+use std::alloc::AllocError;
+
+/// Says what a site says of what arrived.
+pub(crate) fn say_arrival(
+    lines: &mut Vec<Line>,
+    site: u8,
+    answer: Result<Answer, SiteFault>,
+) -> Result<(), AllocError>
+    ensures { OnOk result ((m : messages.Message)
+        → Notes lines.old.items lines.new.items (notices_of site (Arrives (Some m)) answer)) }
+{
+    match answer {
+        Ok(Answer { line, .. }) => say_line(lines, site, line),
+        Err(fault) => say_refused(lines, site, fault),
+    }
+}
+
+/// Says what a site says of a deposit for the slot.
+pub(crate) fn say_deposit(
+    lines: &mut Vec<Line>,
+    site: u8,
+    slot: Slot,
+    answer: Result<Answer, SiteFault>,
+) -> Result<(), AllocError>
+    ensures { OnOk result ((checked : Result bags.BagId BagFault)
+        → Notes lines.old.items lines.new.items (notices_of site (Deposits slot checked) answer)) }
+{
+    match answer {
+        Ok(Answer { line, .. }) => match line {
+            Some(SiteLine::Registered(bag)) => say(
+                lines,
+                Line::Registered {
+                    site,
+                    slot,
+                    bag: named(bag),
+                },
+            ),
+            Some(SiteLine::Known(slot, bag)) => say(
+                lines,
+                Line::Known {
+                    site,
+                    slot,
+                    bag: named(bag),
+                },
+            ),
+            Some(SiteLine::Dropped) => say_dropped(lines, site),
+            None => Ok(()),
+        },
+        Err(fault) => say_refused(lines, site, fault),
+    }
+}
+
+/// Says what an idle site says of its proposal: a refusal, but not that no round is left.
+pub(crate) fn say_proposal(
+    lines: &mut Vec<Line>,
+    site: u8,
+    answer: Result<Answer, SiteFault>,
+) -> Result<(), AllocError>
+    ensures { OnOk result ((slot : slots.SlotName)
+        → Notes lines.old.items lines.new.items (proposal_notices site (Proposes slot) answer)) }
+{
+    match answer {
+        Ok(Answer { line, .. }) => say_line(lines, site, line),
+        Err(SiteFault::RoundsSpent) => Ok(()),
+        Err(fault) => say_refused(lines, site, fault),
+    }
+}
+
+// Says a line, if there is one, of a call that deposits nothing.
+fn say_line(lines: &mut Vec<Line>, site: u8, line: Option<SiteLine>) -> Result<(), AllocError>
+    ensures arrives { OnOk result ((m : messages.Message) → Notes lines.old.items lines.new.items
+        (option_to_list (notice_of site (Arrives (Some m)) (Ok line)))) }
+    ensures proposes { OnOk result ((slot : slots.SlotName) → Notes lines.old.items
+        lines.new.items (option_to_list (notice_of site (Proposes slot) (Ok line)))) }
+{
+    match line {
+        Some(SiteLine::Known(slot, bag)) => {
+            let bag = named(bag);
+            say(lines, Line::Known { site, slot, bag })
+        }
+        Some(SiteLine::Dropped) => say_dropped(lines, site),
+        Some(SiteLine::Registered(_)) | None => Ok(()),
+    }
+}
+
+/// Says what a site replies to a query.
+pub(crate) fn say_reply(
+    lines: &mut Vec<Line>,
+    site: u8,
+    slot: Slot,
+    reply: Result<Reply, SiteFault>,
+) -> Result<(), AllocError>
+    ensures { OnOk result (Notes lines.old.items lines.new.items (reply_notice site slot reply ∷ [])) }
+{
+    match reply {
+        Ok(reply) => say(
+            lines,
+            Line::Replied {
+                site,
+                slot,
+                reply: named_reply(reply),
+            },
+        ),
+        Err(fault) => say_refused(lines, site, fault),
+    }
+}
+
+/// Says that the site refuses.
+pub(crate) fn say_refused(
+    lines: &mut Vec<Line>,
+    site: u8,
+    fault: SiteFault,
+) -> Result<(), AllocError>
+    ensures { OnOk result (Notes lines.old.items lines.new.items (Refused site fault ∷ [])) }
+{
+    say(lines, Line::Refused { site, fault })
+}
+
+/// Says that the site dropped what arrived.
+pub(crate) fn say_dropped(lines: &mut Vec<Line>, site: u8) -> Result<(), AllocError>
+    ensures { OnOk result (Notes lines.old.items lines.new.items (Dropped site ∷ [])) }
+{
+    say(lines, Line::Dropped { site })
+}
+
+fn say(lines: &mut Vec<Line>, line: Line) -> Result<(), AllocError>
+    ensures { OnOk result (lines.new.items ≡ lines.old.items ++ line ∷ []) }
+{
+    lines.push(line)?;
+    Ok(())
+}
+
+// The bag by its identity: a site that serves knows no numbers of trees.
+fn named(bag: BagId) -> NamedBag
+    ensures { result ≡ named_bag [] bag }
+{
+    NamedBag { bag, tree: 0 }
+}
+
+fn named_reply(reply: Reply) -> NamedReply
+    ensures { result ≡ named_reply [] reply }
+{
+    match reply {
+        Reply::Known(bag) => NamedReply::Known(named(bag)),
+        Reply::Pending(bag) => NamedReply::Pending(named(bag)),
+        Reply::Nothing => NamedReply::Nothing,
+    }
+}

@@ -1,0 +1,176 @@
+//! A site that serves, turn by turn.
+
+ghost use Rattle.std.specs.Prelude.{◌≡◌, ◌⊎◌, ◌+◌, ◌≤◌, ◌<◌, [], ℕ, List, take};
+ghost use Rattle.std.specs.Prelude.{OnOk, OnErr, IfOk, IfErr, string_bytes};
+ghost use Rattle.std.specs.List.{flat_map, list_any};
+ghost use Rattle.std.specs.Io.KnownBytes.{Appends};
+ghost use Rattle.cell_device.specs.Calls.{HasCause};
+ghost use Rattle.proposer.specs.Sessions.{Session};
+ghost use Rattle.lines.specs.Texts.{line_text};
+ghost use Rattle.udp_site.specs.Failures.{OnlyByFailing};
+ghost use Rattle.udp_site.specs.Served.{Serves, Turned, by_identity};
+ghost use Rattle.udp_site.specs.Turns.{Serving, IsServing, begins, turn_of};
+ghost use Rattle.udp_site.specs.inner.OneTurn.{OneTurn};
+ghost use Rattle.udp_site.specs.inner.Receipts.{Receives};
+ghost use Rattle.udp_site.specs.inner.StopLines.{line_of_the_cell};
+ghost use Rattle.udp_site.specs.inner.SlotRecords.{AreSettled};
+
+use crate::fault::ServeFault;
+use crate::idle_turns::Round;
+use crate::port::Port;
+use crate::port_fault::PortFault;
+use crate::turn::Turn;
+use crate::turn_step::take_turn;
+use bag_folders::Folders;
+use cell_device::Cell;
+use lines::{Line, Options, push_line};
+use outcomes::write_all;
+use site::{Site, SiteFault};
+use std::alloc::{AllocError, Global};
+use std::io::Write;
+
+/// Serves `turns` turns. Each receives once; what came is taken in, its datagrams are handed out to
+/// the sites' ports, that of site 1 first, and its lines are written.
+pub fn serve<C: Cell, P: Port, F: Folders, W: Write>(
+    alloc: Global,
+    site: &mut Site<C>,
+    port: &mut P,
+    folders: &mut F,
+    ports: &[u16],
+    turns: u32,
+    output: &mut W,
+) -> Result<(), ServeFault>
+    ensures served { (session : Session) → IsServing (begins site.old session)
+        → (end : Serving C) × (done : List Turned) × (end.site ≡ site.new)
+        × Serves (turn_of C.device ports.now (F.gives folders.old))
+        (record { traffic = P.traffic port.old; written = W.contents output.old })
+        (record { traffic = P.traffic port.new; written = W.contents output.new })
+        (begins site.old session) end turns done result }
+    ensures port { OnlyByFailing ServeFault.Port (P.failures port.old) (P.failures port.new)
+        result }
+    ensures kept { F.gives folders.new ≡ F.gives folders.old }
+{
+    let mut round = Round {
+        idle: 0,
+        tried: 0,
+        settled: 0,
+    };
+    let mut lines = Vec::new(alloc);
+    'turns: for _ in 0..turns {
+        lines.clear();
+        one_turn(
+            alloc, site, port, folders, ports, &mut round, &mut lines, output,
+        )?;
+    }
+    Ok(())
+}
+
+// One turn.
+fn one_turn<C: Cell, P: Port, F: Folders, W: Write>(
+    alloc: Global,
+    site: &mut Site<C>,
+    port: &mut P,
+    folders: &mut F,
+    ports: &[u16],
+    round: &mut Round,
+    lines: &mut Vec<Line>,
+    output: &mut W,
+) -> Result<(), ServeFault>
+    requires idle { round.old.idle < 4294967295 }
+    requires lines { lines.old.items ≡ [] }
+    ensures turn { (old : Serving C) → old.site ≡ site.old → old.idle ≡ round.old.idle
+        → old.tried ≡ round.old.tried → IsServing old
+        → AreSettled site.old.book.records round.old.settled
+        → OneTurn (turn_of C.device ports.now (F.gives folders.old))
+        (record { traffic = P.traffic port.old; written = W.contents output.old })
+        (record { traffic = P.traffic port.new; written = W.contents output.new })
+        old site.new round.new.idle round.new.tried result }
+    ensures count { round.new.idle ≤ round.old.idle + 1 }
+    ensures settled { OnOk result ((old : Serving C) → old.site ≡ site.old
+        → old.idle ≡ round.old.idle → old.tried ≡ round.old.tried → IsServing old
+        → AreSettled site.old.book.records round.old.settled
+        → AreSettled site.new.book.records round.new.settled) }
+    ensures port { OnlyByFailing ServeFault.Port (P.failures port.old) (P.failures port.new)
+        result }
+    ensures kept { F.gives folders.new ≡ F.gives folders.old }
+{
+    let turn = receive(port)?;
+    // Only where memory runs out is a turn broken off.
+    match take_turn(alloc, site, port, folders, ports, round, lines, &turn) {
+        Ok(()) => {}
+        Err(_) => return Err(ServeFault::Memory),
+    }
+    let written = write_lines(alloc, lines, output);
+    // A cell that failed is the answer also where that can't be written.
+    if is_refused(lines) {
+        return Err(ServeFault::Cell);
+    }
+    written
+}
+
+// Receives once.
+fn receive<P: Port>(port: &mut P) -> Result<Turn, ServeFault>
+    ensures received { Receives (P.traffic port.old) (P.traffic port.new) result }
+    ensures cause { HasCause ServeFault.Port (P.failures port.old) (P.failures port.new) result }
+{
+    match port.receive() {
+        Ok(turn) => Ok(turn),
+        Err(PortFault::Device) => Err(ServeFault::Port),
+        Err(PortFault::Memory) => Err(ServeFault::Memory),
+    }
+}
+
+// Writes the lines.
+fn write_lines<W: Write>(alloc: Global, lines: &[Line], output: &mut W) -> Result<(), ServeFault>
+    ensures whole { OnOk result (Appends (W.contents output.old) (W.contents output.new)
+        (flat_map (line_text by_identity) lines.now)) }
+    ensures part { OnErr result ((count : ℕ) × Appends (W.contents output.old)
+        (W.contents output.new) (take count (flat_map (line_text by_identity) lines.now))) }
+    ensures none { IfErr result (λ f. f ≡ ServeFault.Memory
+        → W.contents output.new ≡ W.contents output.old) }
+    ensures fault { IfErr result (λ f. (f ≡ ServeFault.Output) ⊎ (f ≡ ServeFault.Memory)) }
+{
+    if lines.is_empty() {
+        return Ok(());
+    }
+    let text = text_of(alloc, lines)?;
+    match write_all(output, text.as_bytes()) {
+        Ok(()) => Ok(()),
+        Err(_) => Err(ServeFault::Output),
+    }
+}
+
+// The lines' text, with bags by their identities.
+fn text_of(alloc: Global, lines: &[Line]) -> Result<String, AllocError>
+    ensures { IfOk result (λ text. string_bytes text ≡ flat_map (line_text by_identity) lines.now) }
+{
+    let options = Options {
+        sent: false,
+        identities: true,
+    };
+    let mut text = String::new(alloc);
+    for line in lines {
+        push_line(alloc, &mut text, options, line)?;
+    }
+    Ok(text)
+}
+
+// Whether a line says that a call was refused since the site's device failed. A site that needs
+// opening serves until a call says so: noise, and idle turns without a proposal, pass.
+fn is_refused(lines: &[Line]) -> bool
+    ensures { result ≡ list_any line_of_the_cell lines.now }
+{
+    lines.iter().any(|line| is_of_the_cell(line))
+}
+
+fn is_of_the_cell(line: &Line) -> bool
+    ensures { result ≡ line_of_the_cell line.now }
+{
+    matches!(
+        line,
+        Line::Refused {
+            fault: SiteFault::Device | SiteFault::NeedsOpen,
+            ..
+        }
+    )
+}
