@@ -94,7 +94,8 @@ record_votes slot records vote h =
 module _ (q : QuorumSystem) (laws : AreQuorums q) (given : List SiteRecord) (slot : SlotName)
     (vote : Vote) where
   -- the test passes exactly where the laws say that it is
-  pub chosen_by : IsQuorum q (members_with q given slot vote) → IsChosenBy q (network_of given) slot vote
+  pub chosen_by : IsQuorum q (members_with q given slot vote)
+      → IsChosenBy q (network_of given) slot vote
   unfolding network_of
   chosen_by quorum = record {
     voters = members_with q given slot vote;
@@ -105,7 +106,8 @@ module _ (q : QuorumSystem) (laws : AreQuorums q) (given : List SiteRecord) (slo
         (any_has vote (votes_in slot (records_at given n)) r.1);
   }
 
-  pub by_chosen : IsChosenBy q (network_of given) slot vote → IsQuorum q (members_with q given slot vote)
+  pub by_chosen : IsChosenBy q (network_of given) slot vote
+      → IsQuorum q (members_with q given slot vote)
   unfolding network_of
   by_chosen c =
       laws.grow c.voters (members_with q given slot vote) c.quorum

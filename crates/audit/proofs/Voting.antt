@@ -115,7 +115,8 @@ module _ (q : QuorumSystem) (laws : AreQuorums q) (old new : Casts) (given : Lis
       let all = given ++ given_entry n slot (entry.Vote vote) ∷ [] in
       let voters = voters_in new (cast_of slot vote) in
       let after = vote_counted old new given n slot vote counted are in
-      chosen_now q given all slot (keeps given n slot (entry.Vote vote) slot) vote old_votes old_bags
+      chosen_now q given all slot
+      (keeps given n slot (entry.Vote vote) slot) vote old_votes old_bags
       row
       (record {
         voters = voters;

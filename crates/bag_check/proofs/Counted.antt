@@ -154,7 +154,8 @@ module _ (entries : List ListedFile) (files : List FileFact)
           → is_unlisted entries (get_or files k d) ≡ true → ⊥
       left_out k d within unlisted =
           let file : FileFact = get_or files k d in
-          let both = and_parts (is_payload file.path) (not (is_listed file.path entries)) unlisted in
+          let both = and_parts (is_payload file.path)
+          (not (is_listed file.path entries)) unlisted in
           is_listed_too file.path both.0
           (list_any_at (λ (f : FileFact). bytes_eq f.path file.path) files k d within
           ((bytes_eq-Decides file.path file.path).1 refl))

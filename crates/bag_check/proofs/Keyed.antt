@@ -70,7 +70,8 @@ pub at_text-put_back : (path : List ℕ) (file first : Bor FileFact)
     → (q : List ℕ) → at_text q r ≡ option_or (at_text q m)
     (cond (bytes_eq path q) (Some file.now) None)
 at_text-put_back path file first m n r put back was q =
-    ap option_copied (btree_map_updates_str path n r (Some first) back q) ∙ go (bytes_eq path q) refl
+    ap option_copied (btree_map_updates_str path n r (Some first) back q)
+    ∙ go (bytes_eq path q) refl
   where
     some_or : (o : Option (Bor FileFact)) (other : Option FileFact) → Some first ≡ o
         → Some first.now ≡ option_or (option_copied o) other

@@ -112,6 +112,7 @@ malformed_are algorithm text =
         → AllByRecursion (IsMalformedAt algorithm all)
         (if_malformed (length before + 1) (entries_of algorithm line))
     here before after line e h =
-        subst (λ r. AllByRecursion (IsMalformedAt algorithm all) (if_malformed (length before + 1) r))
+        subst (λ r. AllByRecursion (IsMalformedAt algorithm all)
+        (if_malformed (length before + 1) r))
         (sym (line_says algorithm line h))
         (go before after line e (list_all is_blank line) (file_in algorithm line) refl refl)

@@ -1,6 +1,8 @@
 -- A call of a site, from what its station comes to.
-use Rattle.std.proofs.Common.{ℕ, Bool, cond, ◌+◌, ◌<◌, ◌≡◌, true, false, List, [], ◌∷◌, ◌++◌, length, map, get_or}
-use Rattle.std.proofs.Common.{Option, Some, None, Result, Ok, Err, refl, sym, ap, subst, ◌∙◌, append-nil, arith}
+use Rattle.std.proofs.Common.{ℕ, Bool, cond, ◌+◌, ◌<◌, ◌≡◌, true, false, List, [], ◌∷◌, ◌++◌}
+use Rattle.std.proofs.Common.{length, map, get_or}
+use Rattle.std.proofs.Common.{Option, Some, None, Result, Ok, Err, refl, sym, ap, subst, ◌∙◌}
+use Rattle.std.proofs.Common.{append-nil, arith}
 use Rattle.std.specs.Prelude.{slice_set, nat_le, is_some, IfOk}
 use Rattle.std.proofs.lemmas.Bool.Decides.{nat_tests}
 use Rattle.fed_types.specs.Lists.{is_in}
@@ -248,7 +250,8 @@ one_line f g w place old new o line is sound within at whose stands says none me
       sends = ap (map (datagram w.members.federation)) (sym none);
       lines = lines ∙ sym (append-nil (f.lines.items ++ line ∷ []));
       sent = ap (λ d. d.sent) sent ∙ sym (append-nil f.sent.sent);
-      named = λ named is k. subst (λ d. is_named d.marks d.others k ≡ is_in named k) (sym sent) (is k);
+      named = λ named is k. subst (λ d. is_named d.marks d.others k ≡ is_in named k) (sym sent)
+          (is k);
       trees = trees;
       seen = seen;
     }) sound is
@@ -258,7 +261,8 @@ pub stopped : (f g : Federation) (w : World) (number place : ℕ) (old new : Sta
     → place < length f.stations.items → old ≡ get_or f.stations.items place old
     → owner_of new ≡ owner_of old
     → ((s : SiteState) → stations.StandsFor (owner_of old) (place_of old) s
-    → stations.StandsFor (owner_of old) (place_of new) (goes_down (owner_of old).site s None []).site)
+    → stations.StandsFor (owner_of old) (place_of new)
+    (goes_down (owner_of old).site s None []).site)
     → line ≡ printed.Down (place + 1)
     → g.members ≡ f.members → g.stations.items ≡ slice_set f.stations.items place new
     → g.trees ≡ f.trees → g.seen ≡ f.seen → g.sent ≡ f.sent
@@ -294,7 +298,8 @@ stopped f g w number place old new line is up within at whose closes line_is mem
     happens_so : happens (quorums w) w.network (Stop site) ≡ happening w.network site o
     happens_so = stop_happens w site (is_member_at f w place is within) up
 
-pub started : (f g : Federation) (w : World) (number place : ℕ) (old new : Station) (count : ℕ) (line : Line)
+pub started : (f g : Federation) (w : World) (number place : ℕ) (old new : Station) (count : ℕ)
+    (line : Line)
     → StandsFor f w → is_up (mode_of w (place + 1)) ≡ false
     → place < length f.stations.items → old ≡ get_or f.stations.items place old
     → owner_of new ≡ owner_of old
@@ -307,7 +312,8 @@ pub started : (f g : Federation) (w : World) (number place : ℕ) (old new : Sta
     → g.lines.items ≡ f.lines.items ++ line ∷ []
     → StandsFor g (on_start w number (place + 1) (mode_of w (place + 1)))
 unfolding after_event
-started f g w number place old new count line is down within at whose closes line_is members stations_are
+started f g w number place old new count line is down within at whose closes line_is members
+    stations_are
     trees seen sent lines =
     subst (λ (v : World). StandsFor g v)
     (sym (not_up w number site (mode_of w site) down))
@@ -316,7 +322,8 @@ started f g w number place old new count line is down within at whose closes lin
     (subst (λ (h : Happening). IsSound (quorums w) h.network) happens_so
     (sound_after (quorums w) w.network (Start site) tt is.sound))
     within at whose opens.0
-    (ap (λ (n : ℕ). printed.Up site n ∷ []) (sym opens.1) ∙ ap (λ (l : Line). l ∷ []) (sym line_is)) refl members stations_are
+    (ap (λ (n : ℕ). printed.Up site n ∷ []) (sym opens.1) ∙ ap (λ (l : Line). l ∷ []) (sym line_is))
+    refl members stations_are
     trees seen sent lines))
   where
     site : ℕ
@@ -445,7 +452,8 @@ pub deposited : (f mid g : Federation) (w : World) (number place tree : ℕ) (sl
     → is_down (mode_of w (place + 1)) ≡ false → IsSlot slot → IfOk found IsBag
     → firsts.StandsFor mid.seen (seen_with tree found w.seen)
     → ((v : World) → StandsFor mid v → is_down (mode_of v (place + 1)) ≡ false
-    → IsSound (quorums v) (takes (quorums v) v.network (place + 1) (Deposits slot found) fate).network
+    → IsSound (quorums v)
+    (takes (quorums v) v.network (place + 1) (Deposits slot found) fate).network
     → StandsFor g (after_input v (place + 1) (Deposits slot found) fate))
     → StandsFor g (on_checked w number (place + 1) tree slot fate found)
 unfolding after_event happens

@@ -1,6 +1,7 @@
 -- The stations of the members, each at its place.
 use Rattle.std.proofs.Common.{ℕ, zero, suc, ◌+◌, ◌-◌, ◌<◌, ◌≡◌, ◌==◌, true, false, cond, Bool}
-use Rattle.std.proofs.Common.{List, [], ◌∷◌, ◌++◌, length, Option, Some, None, refl, sym, ap, subst, ◌∙◌, arith}
+use Rattle.std.proofs.Common.{List, [], ◌∷◌, ◌++◌, length, Option, Some, None, refl, sym, ap, subst}
+use Rattle.std.proofs.Common.{◌∙◌, arith}
 use Rattle.std.proofs.Common.{◌⊎◌, inl, inr, ◌≢◌, get_or, if◌then◌else◌}
 use Rattle.std.specs.Prelude.{slice_get, slice_set, nat_le}
 use Rattle.std.proofs.lemmas.Option.{slice_get_read}
@@ -117,7 +118,8 @@ with_station members all sites place station s are is = record {
     | inr other_one ↦
         subst (λ (t : Bool). IsStation members (k + 1) other (cond t s (sites (k + 1))))
         (sym other_one.0)
-        (are.each k other (sym (get_set_other all place k station (λ e. other_one.1 (omega (arith, e)))) ∙ at))
+        (are.each k other (sym
+        (get_set_other all place k station (λ e. other_one.1 (omega (arith, e)))) ∙ at))
   ];
 }
 

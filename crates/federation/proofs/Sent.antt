@@ -106,7 +106,8 @@ are_sent_length federation number all [] (d ∷ sends) are = absurd are
 are_sent_length federation number all (p ∷ places) [] are = absurd are
 
 -- what is found at a place
-pub record IsFound (federation : ℕ) (all : List Line) (place : ℕ) (sent : Option Send) : Type 0 where
+pub record IsFound (federation : ℕ) (all : List Line) (place : ℕ)
+    (sent : Option Send) : Type 0 where
   pub send : Send
   pub number : ℕ
   pub is : sent ≡ Some send
@@ -151,7 +152,8 @@ none_sent_at federation number all (p ∷ places) [] k are at = absurd are
 -- ---- one more is sent
 
 lines_sent_more : (number : ℕ) (ds : List (ℕ × List ℕ)) (d : ℕ × List ℕ)
-    → lines_sent number (ds ++ d ∷ []) ≡ lines_sent number ds ++ line_sent (number + length ds) d ∷ []
+    → lines_sent number (ds ++ d ∷ []) ≡ lines_sent number ds ++ line_sent
+    (number + length ds) d ∷ []
 unfolding lines_sent
 lines_sent_more number [] d = ap (λ (n : ℕ). line_sent n d ∷ []) (omega arith)
 lines_sent_more number (e ∷ ds) d =

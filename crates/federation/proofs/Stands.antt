@@ -1,5 +1,6 @@
 -- What a federation stands for, after one of its parts has changed.
-use Rattle.std.proofs.Common.{ℕ, suc, ◌+◌, ◌≡◌, true, false, cond, Bool, List, [], ◌∷◌, ◌++◌, length, map}
+use Rattle.std.proofs.Common.{ℕ, suc, ◌+◌, ◌≡◌, true, false, cond, Bool, List, [], ◌∷◌, ◌++◌}
+use Rattle.std.proofs.Common.{length, map}
 use Rattle.std.proofs.Common.{None, refl, ap, subst, ◌∙◌, arith, append_assoc}
 use Rattle.fed_types.specs.Lists.{is_in}
 use Rattle.fed_types.specs.Quorums.{QuorumSystem}
@@ -113,7 +114,8 @@ stands_after f g w site o c sound is = record {
     lines_so : g.lines.items ≡ front ++ new
     lines_so = c.lines
         ∙ ap (λ (n : ℕ). front ++ lines_sent (n + 1) c.datagrams) many
-        ∙ ap (λ (ds : List (ℕ × List ℕ)). front ++ lines_sent (length w.network.sent + 1) ds) c.sends
+        ∙ ap (λ (ds : List (ℕ × List ℕ)). front ++ lines_sent (length w.network.sent + 1) ds)
+        c.sends
 
     lines : g.lines.items ≡ w.lines ++ (own_lines w.seen o.notice
         ++ sent_lines federation (length w.network.sent + 1) o.sends)
@@ -127,7 +129,8 @@ stands_after f g w site o c sound is = record {
     places_so : g.sent.sent ≡ f.sent.sent ++ places_from (length front) (length o.sends)
     places_so = c.sent
         ∙ ap (λ (n : ℕ). f.sent.sent ++ places_from (length front) n)
-        (ap (λ (ds : List (ℕ × List ℕ)). length ds) c.sends ∙ length_map (datagram federation) o.sends)
+        (ap (λ (ds : List (ℕ × List ℕ)). length ds) c.sends
+        ∙ length_map (datagram federation) o.sends)
 
     old_ones : AreSent federation 1 (front ++ new) f.sent.sent w.network.sent
     old_ones = are_sent_among federation 1 front new f.sent.sent w.network.sent

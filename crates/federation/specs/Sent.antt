@@ -27,7 +27,8 @@ places_from first zero = []
 places_from first (suc count) = first ∷ places_from (first + 1) count
 
 -- at each of these places stands the line of a datagram, the first of which has this number
-unfoldable pub AreSent : (federation number : ℕ) → List Line → (places : List ℕ) → List Send → Type 0
+unfoldable pub AreSent : (federation number : ℕ) → List Line → (places : List ℕ) → List Send
+    → Type 0
 AreSent federation number all [] [] = Unit {0}
 AreSent federation number all (place ∷ places) (d ∷ sends) =
     (slice_get all place ≡ Some (line_sent number (datagram federation d)))

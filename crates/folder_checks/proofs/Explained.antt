@@ -13,7 +13,8 @@ use Rattle.outcomes.specs.declared.answer.Answer.{Answer}
 use Rattle.folder_checks.specs.declared.verdict.Verdict.{Verdict}
 use Rattle.folder_checks.specs.declared.verdict.Verdict.TheVariants.{Unread}
 use Rattle.folder_checks.specs.Verdicts.{verdict_of, IsOrMemory}
-use Rattle.folder_checks.specs.Explanations.{unread_line, lines_after, outcome_with, IsAnswer, IsPlace}
+use Rattle.folder_checks.specs.Explanations.{unread_line, lines_after, outcome_with, IsAnswer}
+use Rattle.folder_checks.specs.Explanations.{IsPlace}
 
 -- a known place is the known one
 known_is : (known : Option (List ℕ)) → IsPlace known known

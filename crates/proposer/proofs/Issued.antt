@@ -158,7 +158,8 @@ issued_stands old new slot records session under at stands =
         (under.current_with s) (at_slot slot None under.waiting s) (row_of old s)
     other s e heard k =
         subst (λ (w : Option Message). Knows s records heard (session.current s) (under.begun s)
-        (under.begun_with s) (under.current_with s) w (row_of old s)) (sym (at_other slot s None under.waiting e)) k
+        (under.begun_with s) (under.current_with s) w (row_of old s))
+        (sym (at_other slot s None under.waiting e)) k
 
     with_message : (from : ℕ) (b : BallotNumber) (p : Promise)
         → CountsFor slot (under.current_with slot)
@@ -177,8 +178,10 @@ issued_stands old new slot records session under at stands =
         ((same_slot_decides slot slot).1 refl))
         counts)
         (λ s e. other s e (session.heard ++ m ∷ [])
-        (other_knows s records session.heard (session.current s) (under.begun s) (under.begun_with s)
-        (under.current_with s) (under.waiting s) m (row_of old s) (says_nothing slot s m.body e) (stands s)))
+        (other_knows s records session.heard (session.current s) (under.begun s)
+        (under.begun_with s)
+        (under.current_with s) (under.waiting s) m (row_of old s) (says_nothing slot s m.body e)
+        (stands s)))
 
     without : CountsFor slot (under.current_with slot) session.heard (session.current slot)
         (current_in (row_of new slot))
@@ -246,7 +249,8 @@ module _ (old new : Rows Row) (r : Record) (records : List Record) (session : Se
   raised row n is puts used floor begun current =
       stands_at old new r.slot row (records ++ r ∷ []) session under puts
       (raised_knows r.slot records r session.heard (session.current r.slot) (under.begun r.slot)
-      (under.begun_with r.slot) (under.current_with r.slot) (under.waiting r.slot) (row_of old r.slot) row
+      (under.begun_with r.slot) (under.current_with r.slot) (under.waiting r.slot)
+      (row_of old r.slot) row
       (used ∙ ap (with_one max (row_of old r.slot).used) (sym (says n is))) floor begun current
       (stands r.slot))
       others_stay

@@ -52,7 +52,8 @@ counts_same slot own heard m (Some c) (Some round) isnt h =
 -- a row whose floor is raised where the message is a refusal
 pub heard_knows : (slot : SlotName) (records : List Record) (heard : List Message)
     (c : Option Current) (b : Option BallotNumber) (bag own : Option BagId)
-    (w : Option Message) (m : Message) (row next : Row) → next.used ≡ row.used → next.begun ≡ row.begun → next.current ≡ row.current
+    (w : Option Message) (m : Message) (row next : Row) → next.used ≡ row.used
+    → next.begun ≡ row.begun → next.current ≡ row.current
     → next.floor ≡ with_one max row.floor (if_some refused_round (body_in slot m))
     → IsNoPromise slot c m
     → Knows slot records heard c b bag own w row

@@ -155,7 +155,8 @@ refused_stands old mid new slot n from asked standing records session under same
     stands_at old new slot (with_floor (row_of mid slot) n) records (hears session m) under
     (puts_at old mid new slot (with_floor (row_of mid slot) n) same put)
     (heard_knows slot records session.heard (session.current slot) (under.begun slot)
-    (under.begun_with slot) (under.current_with slot) (under.waiting slot) m (row_of old slot) (with_floor (row_of mid slot) n)
+    (under.begun_with slot) (under.current_with slot) (under.waiting slot) m (row_of old slot)
+    (with_floor (row_of mid slot) n)
     (ap (λ (r : Row). r.used) (same slot)) (ap (λ (r : Row). r.begun) (same slot))
     (ap (λ (r : Row). r.current) (same slot))
     ((λ i. max (same slot i).floor (is i))
@@ -164,7 +165,8 @@ refused_stands old mid new slot n from asked standing records session under same
     (no_promise (session.current slot))
     (stands slot))
     (λ s e. other_knows s records session.heard (session.current s) (under.begun s)
-    (under.begun_with s) (under.current_with s) (under.waiting s) m (row_of old s) (says_nothing slot s m.body e) (stands s))
+    (under.begun_with s) (under.current_with s) (under.waiting s) m (row_of old s)
+    (says_nothing slot s m.body e) (stands s))
   where
     m : Message
     m = refusal_message slot from asked standing
@@ -270,7 +272,8 @@ module _ (q : QuorumSystem) (laws : AreQuorums q) (slot : SlotName) (from : ℕ)
             waiting = k.1;
           })
           (λ s e. other_knows s records session.heard (session.current s) (under.begun s)
-          (under.begun_with s) (under.current_with s) (under.waiting s) m (row_of old s) (says_nothing slot s m.body e) (stands s))
+          (under.begun_with s) (under.current_with s) (under.waiting s) m (row_of old s)
+          (says_nothing slot s m.body e) (stands s))
       go (Some bag) k =
           let h = stands slot in
           stands_at old new slot (row_of new slot) records session (waits under slot (Some m)) at.0

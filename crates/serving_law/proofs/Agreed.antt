@@ -1,5 +1,6 @@
 -- Three sites that serve agree; one is killed as it votes; a vote is said again.
-use Rattle.std.proofs.Common.{ℕ, zero, suc, ◌≡◌, ◌<◌, ◌≤◌, ◌^◌, refl, sym, ap, subst, ◌∙◌, Bool, true, false}
+use Rattle.std.proofs.Common.{ℕ, zero, suc, ◌≡◌, ◌<◌, ◌≤◌, ◌^◌, refl, sym, ap, subst, ◌∙◌, Bool}
+use Rattle.std.proofs.Common.{true, false}
 use Rattle.std.proofs.Common.{cond, List, [], ◌∷◌, ◌++◌, length, Option, None, Some, arith}
 use Rattle.std.specs.Prelude.{Result, Ok, Err, bytes_eq}
 use Rattle.std.specs.List.{slice_get, cons_option}
@@ -299,12 +300,14 @@ module _ (bag : BagId) (request : Request 7 a bag) where
       promisers priors bodies_of chosen_by voters_for
   y1_effect = refl
 
-  y1_stands : StandsFor (tables a three 1 y1.rows) (records_of a (deposited ∷ proposed ∷ promised ∷ []))
+  y1_stands : StandsFor (tables a three 1 y1.rows)
+      (records_of a (deposited ∷ proposed ∷ promised ∷ []))
       (session_of y1.bs y1.old.current) (begun_with a (Some bag))
   unfolding known_of used_of deposit_of voters_for bodies_of floor_of is_in same_slot gathered
       promises_for promisers priors highest_prior
   y1_stands =
-      stands_issued 1 (deposited ∷ proposed ∷ promised ∷ []) y1.bs (rows.Unheard) refl (λ none u k. refl)
+      stands_issued 1 (deposited ∷ proposed ∷ promised ∷ []) y1.bs (rows.Unheard) refl
+      (λ none u k. refl)
       refl bag (1 ∷ []) refl refl refl refl
 
   -- and that of site 2: it proposes
@@ -336,12 +339,14 @@ module _ (bag : BagId) (request : Request 7 a bag) where
       promisers priors bodies_of chosen_by voters_for
   y2_effect = refl
 
-  y2_stands : StandsFor (tables a three 1 y2.rows) (records_of a (deposited ∷ proposed ∷ promised ∷ []))
+  y2_stands : StandsFor (tables a three 1 y2.rows)
+      (records_of a (deposited ∷ proposed ∷ promised ∷ []))
       (session_of y2.bs y2.old.current) (begun_with a (Some bag))
   unfolding known_of used_of deposit_of voters_for bodies_of floor_of is_in same_slot gathered
       promises_for promisers priors highest_prior
   y2_stands =
-      stands_issued 1 (deposited ∷ proposed ∷ promised ∷ []) y2.bs (rows.Unheard) refl (λ none u k. refl)
+      stands_issued 1 (deposited ∷ proposed ∷ promised ∷ []) y2.bs (rows.Unheard) refl
+      (λ none u k. refl)
       refl bag (1 ∷ 2 ∷ []) refl refl refl refl
 
   -- site 1 votes,
@@ -373,12 +378,14 @@ module _ (bag : BagId) (request : Request 7 a bag) where
       promisers priors bodies_of chosen_by voters_for
   a1_effect = refl
 
-  a1_stands : StandsFor (tables a three 1 a1.rows) (records_of a (deposited ∷ proposed ∷ promised ∷ voted ∷ []))
+  a1_stands : StandsFor (tables a three 1 a1.rows)
+      (records_of a (deposited ∷ proposed ∷ promised ∷ voted ∷ []))
       (session_of a1.bs a1.old.current) (begun_with a (Some bag))
   unfolding known_of used_of deposit_of voters_for bodies_of floor_of is_in same_slot gathered
       promises_for promisers priors highest_prior
   a1_stands =
-      stands_issued 1 (deposited ∷ proposed ∷ promised ∷ voted ∷ []) a1.bs (rows.Unheard) refl (λ none u k. refl)
+      stands_issued 1 (deposited ∷ proposed ∷ promised ∷ voted ∷ []) a1.bs (rows.Unheard) refl
+      (λ none u k. refl)
       refl bag (1 ∷ 2 ∷ []) refl refl refl refl
 
   -- and site 2
@@ -433,7 +440,8 @@ module _ (bag : BagId) (request : Request 7 a bag) where
     commits = None;
     sends = [];
     line = None;
-    bs = Prepare ballot ∷ Promise 1 ballot None ∷ Promise 2 ballot None ∷ Accept v ∷ Accepted 1 v ∷ [];
+    bs = Prepare ballot ∷ Promise 1 ballot None ∷ Promise 2 ballot None ∷ Accept v ∷ Accepted 1 v
+        ∷ [];
     rows = own_rows (1 ∷ 2 ∷ []) (voted_by bag (1 ∷ []));
     ms = tt;
     few = omega arith;
@@ -447,12 +455,14 @@ module _ (bag : BagId) (request : Request 7 a bag) where
       promisers priors bodies_of chosen_by voters_for
   v11_effect = rw itself refl
 
-  v11_stands : StandsFor (tables a three 1 v11.rows) (records_of a (deposited ∷ proposed ∷ promised ∷ voted ∷ []))
+  v11_stands : StandsFor (tables a three 1 v11.rows)
+      (records_of a (deposited ∷ proposed ∷ promised ∷ voted ∷ []))
       (session_of v11.bs v11.old.current) (begun_with a (Some bag))
   unfolding known_of used_of deposit_of voters_for bodies_of floor_of is_in same_slot gathered
       promises_for promisers priors highest_prior
   v11_stands =
-      stands_issued 1 (deposited ∷ proposed ∷ promised ∷ voted ∷ []) v11.bs (voted_by bag (1 ∷ [])) refl (λ none u k. ap (λ (xs : List ℕ). is_in xs k)
+      stands_issued 1 (deposited ∷ proposed ∷ promised ∷ voted ∷ []) v11.bs
+      (voted_by bag (1 ∷ [])) refl (λ none u k. ap (λ (xs : List ℕ). is_in xs k)
       (counted bag (1 ∷ []) u ∙ one_vote (same_vote v u) 1))
       refl bag (1 ∷ 2 ∷ []) refl refl refl refl
 
@@ -462,7 +472,8 @@ module _ (bag : BagId) (request : Request 7 a bag) where
     n = 1;
     old = record {
       es = deposited ∷ proposed ∷ promised ∷ voted ∷ [];
-      bs = Prepare ballot ∷ Promise 1 ballot None ∷ Promise 2 ballot None ∷ Accept v ∷ Accepted 1 v ∷ [];
+      bs = Prepare ballot ∷ Promise 1 ballot None ∷ Promise 2 ballot None ∷ Accept v ∷ Accepted 1 v
+          ∷ [];
       current = Some issued;
       rows = own_rows (1 ∷ 2 ∷ []) (voted_by bag (1 ∷ []));
       turns = 1;
@@ -471,7 +482,8 @@ module _ (bag : BagId) (request : Request 7 a bag) where
     commits = Some (r known);
     sends = [];
     line = Some (lines.Known a bag);
-    bs = Prepare ballot ∷ Promise 1 ballot None ∷ Promise 2 ballot None ∷ Accept v ∷ Accepted 1 v ∷ Accepted 2 v ∷ [];
+    bs = Prepare ballot ∷ Promise 1 ballot None ∷ Promise 2 ballot None ∷ Accept v ∷ Accepted 1 v
+        ∷ Accepted 2 v ∷ [];
     rows = own_rows (1 ∷ 2 ∷ []) (rows.Known bag);
     ms = tt;
     few = omega arith;
@@ -485,12 +497,14 @@ module _ (bag : BagId) (request : Request 7 a bag) where
       promisers priors bodies_of chosen_by voters_for
   v12_effect = rw itself refl
 
-  v12_stands : StandsFor (tables a three 1 v12.rows) (records_of a (deposited ∷ proposed ∷ promised ∷ voted ∷ known ∷ []))
+  v12_stands : StandsFor (tables a three 1 v12.rows)
+      (records_of a (deposited ∷ proposed ∷ promised ∷ voted ∷ known ∷ []))
       (session_of v12.bs v12.old.current) (begun_with a (Some bag))
   unfolding known_of used_of deposit_of voters_for bodies_of floor_of is_in same_slot gathered
       promises_for promisers priors highest_prior
   v12_stands =
-      stands_issued 1 (deposited ∷ proposed ∷ promised ∷ voted ∷ known ∷ []) v12.bs (rows.Known bag) refl (λ none. absurd (cc none))
+      stands_issued 1 (deposited ∷ proposed ∷ promised ∷ voted ∷ known ∷ []) v12.bs
+      (rows.Known bag) refl (λ none. absurd (cc none))
       refl bag (1 ∷ 2 ∷ []) refl refl refl refl
 
   -- so does site 2,
@@ -527,7 +541,8 @@ module _ (bag : BagId) (request : Request 7 a bag) where
   unfolding known_of used_of deposit_of voters_for bodies_of floor_of is_in same_slot gathered
       promises_for promisers priors highest_prior
   v21_stands =
-      stands_idle 2 (promised ∷ voted ∷ []) v21.bs (voted_by bag (1 ∷ [])) refl (λ none u k. ap (λ (xs : List ℕ). is_in xs k)
+      stands_idle 2 (promised ∷ voted ∷ []) v21.bs (voted_by bag (1 ∷ [])) refl
+      (λ none u k. ap (λ (xs : List ℕ). is_in xs k)
       (counted bag (1 ∷ []) u ∙ one_vote (same_vote v u) 1))
       refl refl
 
@@ -565,7 +580,8 @@ module _ (bag : BagId) (request : Request 7 a bag) where
   unfolding known_of used_of deposit_of voters_for bodies_of floor_of is_in same_slot gathered
       promises_for promisers priors highest_prior
   v22_stands =
-      stands_idle 2 (promised ∷ voted ∷ known ∷ []) v22.bs (rows.Known bag) refl (λ none. absurd (cc none))
+      stands_idle 2 (promised ∷ voted ∷ known ∷ []) v22.bs (rows.Known bag) refl
+      (λ none. absurd (cc none))
       refl refl
 
   -- and site 3,
@@ -602,7 +618,8 @@ module _ (bag : BagId) (request : Request 7 a bag) where
   unfolding known_of used_of deposit_of voters_for bodies_of floor_of is_in same_slot gathered
       promises_for promisers priors highest_prior
   v31_stands =
-      stands_idle 3 ([]) v31.bs (voted_by bag (1 ∷ [])) refl (λ none u k. ap (λ (xs : List ℕ). is_in xs k)
+      stands_idle 3 ([]) v31.bs (voted_by bag (1 ∷ [])) refl
+      (λ none u k. ap (λ (xs : List ℕ). is_in xs k)
       (counted bag (1 ∷ []) u ∙ one_vote (same_vote v u) 1))
       refl refl
 
@@ -677,7 +694,8 @@ module _ (bag : BagId) (request : Request 7 a bag) where
   unfolding known_of used_of deposit_of voters_for bodies_of floor_of is_in same_slot gathered
       promises_for promisers priors highest_prior
   again_stands =
-      stands_idle 3 ([]) again.bs (voted_by bag (1 ∷ 1 ∷ [])) refl (λ none u k. ap (λ (xs : List ℕ). is_in xs k)
+      stands_idle 3 ([]) again.bs (voted_by bag (1 ∷ 1 ∷ [])) refl
+      (λ none u k. ap (λ (xs : List ℕ). is_in xs k)
       (counted bag (1 ∷ 1 ∷ []) u ∙ two_votes (same_vote v u) 1))
       refl refl
 
@@ -1026,7 +1044,8 @@ module _ (bag : BagId) (request : Request 7 a bag) where
   may_p1 : May device three f5 (Turns 1 (step_of p1) 1 0)
   unfolding new_federation
   may_p1 =
-      may_turn p1 (is_d, (is_r, tt)) is_prepare refl prepare_fits p1_effect is_p (begun_with a (Some bag)) p1_stands f5 1
+      may_turn p1 (is_d, (is_r, tt)) is_prepare refl prepare_fits p1_effect is_p
+      (begun_with a (Some bag)) p1_stands f5 1
       (at_index 1 f5.handed (1, datagram_of 7 (m p1.body)) refl)
       (member 1 (omega arith) (omega arith)) refl 1 0
 
@@ -1040,70 +1059,80 @@ module _ (bag : BagId) (request : Request 7 a bag) where
   may_y1 : May device three f7 (Turns 1 (step_of y1) 0 0)
   unfolding new_federation
   may_y1 =
-      may_turn y1 (is_d, (is_r, (is_p, tt))) is_promise_1 refl (promise_fits 1 (omega arith)) y1_effect tt (begun_with a (Some bag)) y1_stands f7 1
+      may_turn y1 (is_d, (is_r, (is_p, tt))) is_promise_1 refl
+      (promise_fits 1 (omega arith)) y1_effect tt (begun_with a (Some bag)) y1_stands f7 1
       (at_index 4 f7.handed (1, datagram_of 7 (m y1.body)) refl)
       (member 1 (omega arith) (omega arith)) refl 0 0
 
   may_y2 : May device three f8 (Turns 1 (step_of y2) 3 0)
   unfolding new_federation
   may_y2 =
-      may_turn y2 (is_d, (is_r, (is_p, tt))) is_promise_2 refl (promise_fits 2 (omega arith)) y2_effect tt (begun_with a (Some bag)) y2_stands f8 1
+      may_turn y2 (is_d, (is_r, (is_p, tt))) is_promise_2 refl
+      (promise_fits 2 (omega arith)) y2_effect tt (begun_with a (Some bag)) y2_stands f8 1
       (at_index 5 f8.handed (1, datagram_of 7 (m y2.body)) refl)
       (member 1 (omega arith) (omega arith)) refl 3 0
 
   may_a1 : May device three f9 (Turns 1 (step_of a1) 3 0)
   unfolding new_federation
   may_a1 =
-      may_turn a1 (is_d, (is_r, (is_p, tt))) is_accept refl accept_fits a1_effect is_v (begun_with a (Some bag)) a1_stands f9 1
+      may_turn a1 (is_d, (is_r, (is_p, tt))) is_accept refl accept_fits a1_effect is_v
+      (begun_with a (Some bag)) a1_stands f9 1
       (at_index 6 f9.handed (1, datagram_of 7 (m a1.body)) refl)
       (member 1 (omega arith) (omega arith)) refl 3 0
 
   may_a2 : May device three f10 (Turns 2 (step_of a2) 3 0)
   unfolding new_federation
   may_a2 =
-      may_turn a2 (is_p, tt) is_accept refl accept_fits a2_effect is_v (begun_with a None) a2_stands f10 2
+      may_turn a2 (is_p, tt) is_accept refl accept_fits a2_effect is_v
+      (begun_with a None) a2_stands f10 2
       (at_index 7 f10.handed (2, datagram_of 7 (m a2.body)) refl)
       (member 2 (omega arith) (omega arith)) refl 3 0
 
   may_v11 : May device three f11 (Turns 1 (step_of v11) 0 0)
   unfolding new_federation
   may_v11 =
-      may_turn v11 (is_d, (is_r, (is_p, (is_v, tt)))) is_accepted_1 refl (accepted_fits 1 (omega arith)) v11_effect tt (begun_with a (Some bag)) v11_stands f11 1
+      may_turn v11 (is_d, (is_r, (is_p, (is_v, tt)))) is_accepted_1 refl
+      (accepted_fits 1 (omega arith)) v11_effect tt (begun_with a (Some bag)) v11_stands f11 1
       (at_index 9 f11.handed (1, datagram_of 7 (m v11.body)) refl)
       (member 1 (omega arith) (omega arith)) refl 0 0
 
   may_v12 : May device three f12 (Turns 1 (step_of v12) 0 1)
   unfolding new_federation
   may_v12 =
-      may_turn v12 (is_d, (is_r, (is_p, (is_v, tt)))) is_accepted_2 refl (accepted_fits 2 (omega arith)) v12_effect is_k (begun_with a (Some bag)) v12_stands f12 1
+      may_turn v12 (is_d, (is_r, (is_p, (is_v, tt)))) is_accepted_2 refl
+      (accepted_fits 2 (omega arith)) v12_effect is_k (begun_with a (Some bag)) v12_stands f12 1
       (at_index 12 f12.handed (1, datagram_of 7 (m v12.body)) refl)
       (member 1 (omega arith) (omega arith)) refl 0 1
 
   may_v21 : May device three f13 (Turns 2 (step_of v21) 0 0)
   unfolding new_federation
   may_v21 =
-      may_turn v21 (is_p, (is_v, tt)) is_accepted_1 refl (accepted_fits 1 (omega arith)) v21_effect tt (begun_with a None) v21_stands f13 2
+      may_turn v21 (is_p, (is_v, tt)) is_accepted_1 refl
+      (accepted_fits 1 (omega arith)) v21_effect tt (begun_with a None) v21_stands f13 2
       (at_index 10 f13.handed (2, datagram_of 7 (m v21.body)) refl)
       (member 2 (omega arith) (omega arith)) refl 0 0
 
   may_v22 : May device three f14 (Turns 2 (step_of v22) 0 1)
   unfolding new_federation
   may_v22 =
-      may_turn v22 (is_p, (is_v, tt)) is_accepted_2 refl (accepted_fits 2 (omega arith)) v22_effect is_k (begun_with a None) v22_stands f14 2
+      may_turn v22 (is_p, (is_v, tt)) is_accepted_2 refl
+      (accepted_fits 2 (omega arith)) v22_effect is_k (begun_with a None) v22_stands f14 2
       (at_index 13 f14.handed (2, datagram_of 7 (m v22.body)) refl)
       (member 2 (omega arith) (omega arith)) refl 0 1
 
   may_v31 : May device three f15 (Turns 3 (step_of v31) 0 0)
   unfolding new_federation
   may_v31 =
-      may_turn v31 tt is_accepted_1 refl (accepted_fits 1 (omega arith)) v31_effect tt (begun_with a None) v31_stands f15 3
+      may_turn v31 tt is_accepted_1 refl (accepted_fits 1 (omega arith)) v31_effect tt
+      (begun_with a None) v31_stands f15 3
       (at_index 11 f15.handed (3, datagram_of 7 (m v31.body)) refl)
       (member 3 (omega arith) (omega arith)) refl 0 0
 
   may_v32 : May device three f16 (Turns 3 (step_of v32) 0 1)
   unfolding new_federation
   may_v32 =
-      may_turn v32 tt is_accepted_2 refl (accepted_fits 2 (omega arith)) v32_effect is_k (begun_with a None) v32_stands f16 3
+      may_turn v32 tt is_accepted_2 refl (accepted_fits 2 (omega arith)) v32_effect is_k
+      (begun_with a None) v32_stands f16 3
       (at_index 14 f16.handed (3, datagram_of 7 (m v32.body)) refl)
       (member 3 (omega arith) (omega arith)) refl 0 1
 

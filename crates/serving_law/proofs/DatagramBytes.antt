@@ -1,5 +1,6 @@
 -- The bytes of datagrams are bytes.
-use Rattle.std.proofs.Common.{ℕ, zero, suc, ◌≡◌, ◌<◌, refl, sym, ap, subst, ◌∙◌, List, [], ◌∷◌, ◌++◌}
+use Rattle.std.proofs.Common.{ℕ, zero, suc, ◌≡◌, ◌<◌, refl, sym, ap, subst, ◌∙◌, List, [], ◌∷◌}
+use Rattle.std.proofs.Common.{◌++◌}
 use Rattle.std.proofs.Common.{get_or, take, Option, None, Some, arith}
 use Rattle.std.specs.Prelude.{Ok, slice_index, unwrap_or}
 use Rattle.std.specs.Int.{w32, w64, to_be_bytes, bytes_high_first, byte_at}

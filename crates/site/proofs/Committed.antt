@@ -113,6 +113,7 @@ module _ {C : Type 0} (device : C → Device) (old new : OpenSite C) (r : Record
       all_stands : (session : Session) (under : UnderWay) → Stands old session under
           → Stands new (noted_session session under r) (noted_under under r)
       all_stands session under s =
-          subst (λ (rs : List Record). tables.StandsFor new.tables rs (noted_session session under r)
+          subst (λ (rs : List Record). tables.StandsFor new.tables rs
+          (noted_session session under r)
           (noted_under under r)) (sym c.committed.0)
           (stands session under (same.stands old.book.records session under s))

@@ -1,6 +1,7 @@
 -- From what a site's last step does to the answer of the definitions.
 use Rattle.std.proofs.Common.{◌≡◌, ◌⊎◌, inl, inr, ◌||◌, ℕ, Bool, true, false, cond, List}
-use Rattle.std.proofs.Common.{map, Option, Some, None, IsSome, Result, Ok, Err, refl, sym, ap, subst}
+use Rattle.std.proofs.Common.{map, Option, Some, None, IsSome, Result, Ok, Err, refl, sym, ap}
+use Rattle.std.proofs.Common.{subst}
 use Rattle.std.proofs.Common.{◌∙◌}
 use Rattle.std.specs.Prelude.{IsErrAnd}
 use Rattle.fed_types.specs.declared.vote.Vote.{Vote}
@@ -11,7 +12,8 @@ use Rattle.records.specs.declared.entry.Entry.{Entry}
 use Rattle.records.specs.declared.record.Record.{Record}
 use Rattle.records.specs.Words.{promised_of, vote_of}
 use Rattle.book.specs.Volumes.{Volume}
-use Rattle.acceptor.specs.Decisions.{prepare_decision, accept_decision, promises, votes, votes_again}
+use Rattle.acceptor.specs.Decisions.{prepare_decision, accept_decision, promises, votes}
+use Rattle.acceptor.specs.Decisions.{votes_again}
 use Rattle.acceptor.specs.Decisions.{refuses, on_prepare, is_vote, is_in_ballot, on_new_accept}
 use Rattle.proposer.specs.Sessions.{Session, UnderWay, issued_by}
 use Rattle.site.specs.declared.answer.Answer.{Answer}
@@ -67,7 +69,8 @@ module _ {C : Type 0} (device : C → Device) (old new : OpenSite C) (r : Record
           (committed (Err x)) new.book) e c)
 
       keeps : (fault ≡ faults.Memory) ⊎ (fault ≡ faults.Device)
-          → (◌≡◌ {A = Result (Unit {0}) SiteFault} (Err fault) (Err faults.Memory) × (new.book ≡ old.book))
+          → (◌≡◌ {A = Result (Unit {0}) SiteFault} (Err fault) (Err faults.Memory) ×
+          (new.book ≡ old.book))
           ⊎ Commits device old.book r (committed (Err fault)) new.book
           → Keeps device (Some r) (Err fault) old.book new.book
       keeps f (inl (e, same)) = inl (ap (λ (x : SiteFault). Err x) (err_of e), same)
@@ -138,7 +141,8 @@ unfolding prepare_decision
 prepare_issues_none slot records ballot = go (promised_of slot records)
   where
     by_test : (promised : BallotNumber) (t : Bool)
-        → IsNoRound (cond t (promises ballot (vote_of slot records)) (refuses ballot promised)).entry
+        → IsNoRound (cond t (promises ballot (vote_of slot records))
+        (refuses ballot promised)).entry
     by_test promised true = λ begun. refl
     by_test promised false = tt
 

@@ -263,7 +263,8 @@ module _ {C : Type 0} (device : C → Device) (old new : OpenSite C) (slot : Slo
         (learning slot o (hears session known_message)) result) some
         (concluded device old old new session under
         (learning slot (Some learned) (hears session known_message))
-        (Some (lines.Known slot learned)) [] result c refl stands refl refl (λ after. (under, hears_it session under after)))
+        (Some (lines.Known slot learned)) [] result c refl stands refl refl
+        (λ after. (under, hears_it session under after)))
 
   -- ---- a vote
   module _ (from : ℕ) (vote : Vote) where

@@ -32,7 +32,8 @@ issued_is : (slot : SlotName) (ballot : BallotNumber) (own : BagId) (under : Und
     → issued_by ((begins under slot ballot own).begun slot) (entry.Round ballot.round)
     ≡ Some ballot
 issued_is slot ballot own under =
-    ap (λ (b : Option BallotNumber). of_round b ballot.round) (at_here slot (Some ballot) under.begun)
+    ap (λ (b : Option BallotNumber). of_round b ballot.round)
+    (at_here slot (Some ballot) under.begun)
     ∙ ap (λ (t : Bool). cond t (Some ballot) None) ((Decides-eqb ballot.round ballot.round).1 refl)
 
 -- what was begun is one thing
@@ -186,7 +187,8 @@ module _ {C : Type 0} (device : C → Device) (old mid : OpenSite C) (slot : Slo
         go (Ok x) is (ballot, next, of_ballot, s) = issues ballot next
         go (Err faults.RoundsSpent) is (none, s) = subst (λ (e : Effect). IsRefused e result)
             (propose_effect None none)
-            (λ fault says. err faults.RoundsSpent is ∙ ap (λ (f : SiteFault). Err f) (same fault says))
+            (λ fault says. err faults.RoundsSpent is
+            ∙ ap (λ (f : SiteFault). Err f) (same fault says))
           where
             same : (fault : SiteFault)
                 → ◌≡◌ {A = Result (Option Line) SiteFault} (Err faults.RoundsSpent) (Err fault)

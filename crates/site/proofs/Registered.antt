@@ -1,5 +1,6 @@
 -- A valid bag is deposited, or why it isn't.
-use Rattle.std.proofs.Common.{◌≡◌, ℕ, true, false, is_some, List, [], map, Option, Some, None, Result, Ok, Err, refl, sym}
+use Rattle.std.proofs.Common.{◌≡◌, ℕ, true, false, is_some, List, [], map, Option, Some, None}
+use Rattle.std.proofs.Common.{Result, Ok, Err, refl, sym}
 use Rattle.std.proofs.Common.{ap, subst, ◌∙◌}
 use Rattle.fed_types.specs.declared.bag_id.BagId.{BagId}
 use Rattle.fed_types.specs.Slots.{SlotName}
@@ -64,7 +65,8 @@ module _ {C : Type 0} (device : C → Device) (old : OpenSite C) (session : Sess
           → faults.OtherDeposit a ≡ fault
       own_of a e = cc
 
-      known_of_it : (a : BagId) → ◌≡◌ {A = Option SiteFault} (Some (faults.OtherKnown a)) (Some fault)
+      known_of_it : (a : BagId)
+          → ◌≡◌ {A = Option SiteFault} (Some (faults.OtherKnown a)) (Some fault)
           → faults.OtherKnown a ≡ fault
       known_of_it a e = cc
 
@@ -92,10 +94,15 @@ module _ {C : Type 0} (device : C → Device) (old : OpenSite C) (session : Sess
     deposited_again a there answer line sends =
         subst (λ (e : Effect). IsAnswered device old old session e (Ok answer))
         ((λ i. registering slot (sym there i) bag None session) ∙ deposit_effect None is)
-        (record { keeps = refl; gives = (ap (λ (l : Option Line). Ok l) (sym line), sends, stands) })
+        (record {
+          keeps = refl;
+          gives =
+              (ap (λ (l : Option Line). Ok l) (sym line), sends, stands);
+        })
 
     -- it has none, and this one is recorded
-    pub deposited : (new : OpenSite C) (datagrams : List (ℕ × List ℕ)) (result : Result Answer SiteFault)
+    pub deposited : (new : OpenSite C) (datagrams : List (ℕ × List ℕ))
+        (result : Result Answer SiteFault)
         → own ≡ None → datagrams ≡ []
         → Concludes device old new (Some (record { slot = slot; body = entry.Deposit bag }))
         (Some (lines.Registered bag)) datagrams result

@@ -1,5 +1,6 @@
 -- What a site reports is the bag of the slot's first Known record, which stays.
-use Rattle.std.proofs.Common.{◌≡◌, ◌⊎◌, inl, inr, ℕ, Bool, true, false, cond, List, [], ◌∷◌, ◌++◌, Option, Some, None}
+use Rattle.std.proofs.Common.{◌≡◌, ◌⊎◌, inl, inr, ℕ, Bool, true, false, cond, List, [], ◌∷◌, ◌++◌}
+use Rattle.std.proofs.Common.{Option, Some, None}
 use Rattle.std.proofs.Common.{Result, Ok, Err, refl, sym, ap, subst, ◌∙◌}
 use Rattle.std.specs.Option.{option_to_list}
 use Rattle.std.specs.Prelude.{IfOk}
@@ -33,12 +34,14 @@ use Rattle.site.specs.declared.fault.SiteFault.TheVariants as faults
 use Rattle.site.specs.Answered.{IsAnswered, Keeps, SaysWhatIsKnown}
 use Rattle.site.specs.Sites.{OpenSite, effect}
 use Rattle.site.specs.Arrivals.{on_arrival, on_body, learning, proposing, telling, is_member}
-use Rattle.site.specs.Calls.{Input, Deposits, Proposes, Asks, Arrives, effect_of, on_deposit, on_propose, on_ask}
+use Rattle.site.specs.Calls.{Input, Deposits, Proposes, Asks, Arrives, effect_of, on_deposit}
+use Rattle.site.specs.Calls.{on_propose, on_ask}
 use Rattle.site.specs.Calls.{registering, deposit_fault, other_than, issuing_if, reply_by, reply_of}
 use Rattle.site.specs.declared.answer.Line.TheVariants as lines
 use Rattle.site.specs.Effects.{Effect, only_says}
 use Rattle.site.specs.Reported.{Answered, Kept, Lost, Turn, Called, Queried, Report}
-use Rattle.site.specs.Reported.{line_report, reply_report, records_after, report_of, reports_of, Agree}
+use Rattle.site.specs.Reported.{line_report, reply_report, records_after, report_of, reports_of}
+use Rattle.site.specs.Reported.{Agree}
 
 -- a known bag stays, whatever is recorded
 pub known_stays : (slot : SlotName) (bag : BagId) (records : List Record) (new : Option Record)
@@ -63,7 +66,8 @@ known_noted slot bag records none =
     ∙ ap (λ k. with_one earlier k
     (said_in known_in slot (record { slot = slot; body = entry.Known bag }))) none
     ∙ ap (λ (t : Bool). with_one earlier None
-    (if_some known_in (cond t (Some (entry.Known bag)) None))) ((same_slot_decides slot slot).1 refl)
+    (if_some known_in (cond t (Some (entry.Known bag)) None)))
+    ((same_slot_decides slot slot).1 refl)
 
 -- what an effect reports is known once its record is kept
 abbrev IsKnown : List Record → Effect → Type 0
@@ -83,7 +87,8 @@ module _ (q : QuorumSystem) (site : ℕ) (records : List Record) (session : Sess
   learned slot (Some k) bag e = says_nothing records (learning slot None session) refl
   learned slot None None e = says_nothing records (learning slot None session) refl
   learned slot None (Some bag) e = λ r is.
-      subst (λ (x : Report). known_of x.slot (records ++ record { slot = slot; body = entry.Known bag } ∷ [])
+      subst (λ (x : Report). known_of x.slot
+      (records ++ record { slot = slot; body = entry.Known bag } ∷ [])
       ≡ Some x.bag) (same r is) (known_noted slot bag records e)
     where
       same : (r : Report) → Some (record { slot = slot; bag = bag }) ≡ Some r
@@ -92,22 +97,26 @@ module _ (q : QuorumSystem) (site : ℕ) (records : List Record) (session : Sess
 
   registered : (slot : SlotName) (own : Option BagId) (bag : BagId) (fault : Option SiteFault)
       → IsKnown records (registering slot own bag fault session)
-  registered slot own bag (Some fault) = says_nothing records (registering slot own bag (Some fault) session) refl
+  registered slot own bag (Some fault) =
+      says_nothing records (registering slot own bag (Some fault) session) refl
   registered slot own bag None = says_nothing records (registering slot own bag None session) refl
 
   deposited : (slot : SlotName) (checked : Result BagId BagFault)
       → IsKnown records (on_deposit records session slot checked)
   unfolding on_deposit
-  deposited slot (Err fault) = says_nothing records (on_deposit records session slot (Err fault)) refl
+  deposited slot (Err fault) =
+      says_nothing records (on_deposit records session slot (Err fault)) refl
   deposited slot (Ok bag) = registered slot (deposit_of slot records) bag
       (deposit_fault (other_than bag (deposit_of slot records))
       (other_than bag (known_of slot records)))
 
   issued : (slot : SlotName) (known own : Option BagId) (next : Option BallotNumber)
       → IsKnown records (issuing_if q slot known own next session)
-  issued slot (Some known) own next = says_nothing records (issuing_if q slot (Some known) own next session) refl
+  issued slot (Some known) own next =
+      says_nothing records (issuing_if q slot (Some known) own next session) refl
   issued slot None None next = says_nothing records (issuing_if q slot None None next session) refl
-  issued slot None (Some own) None = says_nothing records (issuing_if q slot None (Some own) None session) refl
+  issued slot None (Some own) None =
+      says_nothing records (issuing_if q slot None (Some own) None session) refl
   issued slot None (Some own) (Some ballot) =
       says_nothing records (issuing_if q slot None (Some own) (Some ballot) session) refl
 
@@ -123,12 +132,14 @@ module _ (q : QuorumSystem) (site : ℕ) (records : List Record) (session : Sess
   proposal : (slot : SlotName) (ballot : BallotNumber) (bag : Option BagId)
       → IsKnown records (proposing q slot ballot bag session)
   proposal slot ballot None = says_nothing records (proposing q slot ballot None session) refl
-  proposal slot ballot (Some bag) = says_nothing records (proposing q slot ballot (Some bag) session) refl
+  proposal slot ballot (Some bag) =
+      says_nothing records (proposing q slot ballot (Some bag) session) refl
 
   told : (slot : SlotName) (asker : ℕ) (bag : Option BagId)
       → IsKnown records (telling site slot asker bag session)
   told slot asker None = says_nothing records (telling site slot asker None session) refl
-  told slot asker (Some bag) = says_nothing records (telling site slot asker (Some bag) session) refl
+  told slot asker (Some bag) =
+      says_nothing records (telling site slot asker (Some bag) session) refl
 
   -- `session` has heard the message, and `old` is the one before it
   heard : (old : Session) (slot : SlotName) (body : Body)
@@ -145,16 +156,19 @@ module _ (q : QuorumSystem) (site : ℕ) (records : List Record) (session : Sess
       (chosen_by q slot (with_vote old.heard slot from vote) vote) refl
   heard old slot (bodies.Known from bag) = learned slot (known_of slot records) (Some bag) refl
   heard old slot (bodies.Refused from asked standing) =
-      says_nothing records (on_body q site records old session slot (bodies.Refused from asked standing)) refl
+      says_nothing records (on_body q site records old session slot
+      (bodies.Refused from asked standing)) refl
   heard old slot (bodies.Ask from) = told slot from (known_of slot records)
   heard old slot (bodies.Deposit path) =
       says_nothing records (on_body q site records old session slot (bodies.Deposit path)) refl
   heard old slot bodies.Query =
       says_nothing records (on_body q site records old session slot bodies.Query) refl
   heard old slot (bodies.DepositReply from answer) =
-      says_nothing records (on_body q site records old session slot (bodies.DepositReply from answer)) refl
+      says_nothing records (on_body q site records old session slot
+      (bodies.DepositReply from answer)) refl
   heard old slot (bodies.QueryReply from answer) =
-      says_nothing records (on_body q site records old session slot (bodies.QueryReply from answer)) refl
+      says_nothing records (on_body q site records old session slot (bodies.QueryReply from answer))
+      refl
 
 module _ (q : QuorumSystem) (site : ℕ) where
   arrived : (records : List Record) (session : Session) (message : Option Message)
@@ -183,7 +197,8 @@ module _ (q : QuorumSystem) (site : ℕ) where
   queried slot records (Some bag) own e r is =
       subst (λ (x : Report). known_of x.slot records ≡ Some x.bag) (same is) e
     where
-      same : Some (record { slot = slot; bag = bag }) ≡ Some r → record { slot = slot; bag = bag } ≡ r
+      same : Some (record { slot = slot; bag = bag }) ≡ Some r
+          → record { slot = slot; bag = bag } ≡ r
       same e = cc
   queried slot records None (Some own) e r is = absurd (differ is)
     where
@@ -274,16 +289,21 @@ module _ (q : QuorumSystem) (site : ℕ) where
       go : (Has r (reports_of q site (records_after q site records turn) turns)
           → Has s (reports_of q site (records_after q site records turn) turns) → r.bag ≡ s.bag)
           → (o : Option Report) → report_of q site records turn ≡ o
-          → Has r (option_to_list o) ⊎ Has r (reports_of q site (records_after q site records turn) turns)
-          → Has s (option_to_list o) ⊎ Has s (reports_of q site (records_after q site records turn) turns) → r.bag ≡ s.bag
+          → Has r (option_to_list o) ⊎ Has r
+          (reports_of q site (records_after q site records turn) turns)
+          → Has s (option_to_list o) ⊎ Has s
+          (reports_of q site (records_after q site records turn) turns) → r.bag ≡ s.bag
       go later None is (inl a) b = absurd (has_none a)
       go later None is (inr a) (inl b) = absurd (has_none b)
       go later None is (inr a) (inr b) = later a b
-      go later (Some x) is (inl a) (inl b) = ap (λ (z : Report). z.bag) (sym (has_one a) ∙ has_one b)
+      go later (Some x) is (inl a) (inl b) =
+          ap (λ (z : Report). z.bag) (sym (has_one a) ∙ has_one b)
       go later (Some x) is (inl a) (inr b) =
-          sym (names_known r.slot r.bag turns (records_after q site records turn) (known x r is (has_one a)) s b (sym e))
+          sym (names_known r.slot r.bag turns (records_after q site records turn)
+          (known x r is (has_one a)) s b (sym e))
       go later (Some x) is (inr a) (inl b) =
-          names_known s.slot s.bag turns (records_after q site records turn) (known x s is (has_one b)) r a e
+          names_known s.slot s.bag turns (records_after q site records turn)
+          (known x s is (has_one b)) r a e
       go later (Some x) is (inr a) (inr b) = later a b
 
   -- the records only grow

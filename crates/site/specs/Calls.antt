@@ -44,7 +44,8 @@ deposit_entry None bag = Some (entry.Deposit bag)
 deposit_entry (Some own) bag = None
 
 -- a valid bag is registered unless it is refused
-abbrev pub registering : SlotName → (own : Option BagId) → BagId → Option SiteFault → Session → Effect
+abbrev pub registering : SlotName → (own : Option BagId) → BagId → Option SiteFault → Session
+    → Effect
 registering slot own bag (Some fault) session = refuses fault session
 registering slot own bag None session =
     commits_and_says slot (deposit_entry own bag) (lines.Registered bag) session

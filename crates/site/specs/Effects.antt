@@ -48,7 +48,8 @@ commits_and_says slot entry line session =
 
 -- it says this, and nothing else comes of it
 abbrev pub only_says : Line → Session → Effect
-only_says line session = record { commits = None; sends = []; says = Ok (Some line); session = session }
+only_says line session =
+    record { commits = None; sends = []; says = Ok (Some line); session = session }
 
 -- it refuses, and nothing comes of it
 abbrev pub refuses : SiteFault → Session → Effect

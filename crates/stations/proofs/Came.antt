@@ -58,7 +58,8 @@ FailedIn (Some r) before old new told = (fires_within_two before ≡ true)
     × Failed old new told (records_kept before old.book.records r)
 
 -- one of the two, by the fuse before the call and after it
-abbrev pub Came : (before after : FuseState) → (old new : OpenSite MemoryCell) → Input → Told → Effect
+abbrev pub Came : (before after : FuseState) → (old new : OpenSite MemoryCell) → Input → Told
+    → Effect
     → Type 0
 Came before after old new input told e =
     (Done old new input told e × FuseAfter e.commits before after)
@@ -121,7 +122,8 @@ module _ (old new : OpenSite MemoryCell) (input : Input) (told : Told) (session 
   -- what a call of a site that needs no opening comes to
   pub came : (e : Effect) (result : Result Answer SiteFault) → RefusesOnly session e
       → old.book.needs_opening ≡ false → IsAnswered device_of old new session e result
-      → Tells result told → Came (fuse_of old.book.cell) (fuse_of new.book.cell) old new input told e
+      → Tells result told → Came (fuse_of old.book.cell)
+      (fuse_of new.book.cell) old new input told e
   came e (Ok answer) only opened a tells = inl (
     record {
       records = is.0;

@@ -68,7 +68,8 @@ stopped owner site cell same recovers s stands = go s.records s.session s.mode s
   where
     go : (records : List Record) (session : Session) (mode : Mode)
         → StandsFor owner (Running site) (state records session mode)
-        → StandsFor owner (AtRest cell) (goes_down owner.site (state records session mode) None []).site
+        → StandsFor owner (AtRest cell)
+        (goes_down owner.site (state records session mode) None []).site
     go records session Up (whose, up) = (
       rw (append-nil records) (subst (λ (rs : List Record). Keeps owner cell rs) up.records
           (subst (λ (o : Owner). Keeps o cell site.book.records) whose (recovers up.opened).0)),
@@ -89,7 +90,8 @@ rests owner cell s stands = go s.records s.session s.mode stands
   where
     go : (records : List Record) (session : Session) (mode : Mode)
         → StandsFor owner (AtRest cell) (state records session mode)
-        → StandsFor owner (AtRest cell) (goes_down owner.site (state records session mode) None []).site
+        → StandsFor owner (AtRest cell)
+        (goes_down owner.site (state records session mode) None []).site
     go records session Up up = absurd up
     go records session NeedsOpening needs = absurd needs
     go records session Down down = (rw (append-nil records) down.0, refl)

@@ -90,7 +90,8 @@ pub started : (owner : Owner) (old : Place) (cell : MemoryCell) (site : OpenSite
     → ((records : List Record) → Keeps owner cell records → IsOpened owner records site)
     → count ≡ length site.book.records
     → (s : SiteState) → StandsFor owner old s
-    → StandsFor owner (Running site) (networks.opened owner.site s).site × (count ≡ length s.records)
+    → StandsFor owner (Running site) (networks.opened owner.site s).site ×
+    (count ≡ length s.records)
 started owner old cell site count closes opens counts s stands =
     ((is.whose, is.up), counts ∙ ap (λ (rs : List Record). length rs) is.up.records)
   where

@@ -1,6 +1,7 @@
 -- What a station of a simulator stands for, and what comes of each of its calls, in the words of
 -- `Networks`.
-use Rattle.std.specs.Prelude.{◌≡◌, ℕ, true, false, List, [], map, Option, Some, None, Result, Ok, Err}
+use Rattle.std.specs.Prelude.{◌≡◌, ℕ, true, false, List, [], map, Option, Some, None, Result, Ok}
+use Rattle.std.specs.Prelude.{Err}
 use Rattle.fed_types.specs.Quorums.{QuorumSystem, quorums_of}
 use Rattle.fed_types.specs.Slots.{SlotName}
 use Rattle.cell_device.specs.declared.fuse.FuseState.TheVariants.{Clear}

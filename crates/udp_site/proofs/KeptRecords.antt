@@ -1,6 +1,7 @@
 -- No turn takes back a record, so that what is settled stays so.
 use Rattle.std.proofs.Common.{◌≡◌, inl, inr, ℕ, Bool, true, false, List, [], ◌∷◌, ◌++◌}
-use Rattle.std.proofs.Common.{append-nil, Option, Some, None, Result, Ok, Err, refl, sym, ap, subst, ◌∙◌}
+use Rattle.std.proofs.Common.{append-nil, Option, Some, None, Result, Ok, Err, refl, sym, ap, subst}
+use Rattle.std.proofs.Common.{◌∙◌}
 use Rattle.fed_types.specs.Slots.{SlotName}
 use Rattle.cell_device.specs.Devices.{Device}
 use Rattle.bag_tree.specs.declared.fault.TreeFault.{TreeFault}
@@ -84,7 +85,8 @@ module _ {C : Type 0} (device : C → Device) where
     idled_on false s (is, same) = unchanged_on s new same
 
     deposited_on : (old : Serving C) (port : ℕ) (slot : SlotName)
-        (read : Result TreeFacts TreeFault) → takes_tree device old port slot read done new → GoesOn old.site new.site
+        (read : Result TreeFacts TreeFault) → takes_tree device old port slot read done new
+        → GoesOn old.site new.site
     deposited_on old port slot (Err fault) (is, same) = unchanged_on old new same
     deposited_on old port slot (Ok facts) (result, called, is) =
         called_on old new (calls.Deposits slot (check_of facts)) result called

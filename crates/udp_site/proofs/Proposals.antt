@@ -112,12 +112,18 @@ module _ {C : Type 0} (device : C → Device) (s : OpenSite C) (session : Sessio
 
   by_bags : (q : QuorumSystem) (slot : SlotName) (known own : Option BagId)
       (next : Option BallotNumber) → CouldRefuse (issuing_if q slot known own next session)
-  by_bags q slot (Some known) own next =
-      (faults.AlreadyKnown, record { keeps = refl; gives = (refl, stands) }, answered faults.AlreadyKnown)
+  by_bags q slot (Some known) own next = (
+    faults.AlreadyKnown,
+    record { keeps = refl; gives = (refl, stands) },
+    answered faults.AlreadyKnown,
+  )
   by_bags q slot None None next =
       (faults.NoDeposit, record { keeps = refl; gives = (refl, stands) }, answered faults.NoDeposit)
-  by_bags q slot None (Some own) None =
-      (faults.RoundsSpent, record { keeps = refl; gives = (refl, stands) }, answered faults.RoundsSpent)
+  by_bags q slot None (Some own) None = (
+    faults.RoundsSpent,
+    record { keeps = refl; gives = (refl, stands) },
+    answered faults.RoundsSpent,
+  )
   by_bags q slot None (Some own) (Some ballot) = (
     faults.Memory,
     out_of_memory device s session (issuing q slot ballot session) stands,

@@ -58,7 +58,8 @@ posts_by : (ports : List ℕ) (items : List Sealed)
     → flat_map (sealed_posts ports) items
     ≡ flat_map (λ (out : ℕ × List ℕ). posts_to ports out.0 out.1) (map handed_out items)
 posts_by ports [] = refl
-posts_by ports (x ∷ items) = ap (λ (l : List Post). sealed_posts ports x ++ l) (posts_by ports items)
+posts_by ports (x ∷ items) =
+    ap (λ (l : List Post). sealed_posts ports x ++ l) (posts_by ports items)
 
 module _ {C : Type 0} (ports : List ℕ) (s : Serving C) (slot : SlotName) where
   asks_both : (xs ys : List ℕ) (one two : Done) → Asks ports s slot xs one
@@ -102,7 +103,8 @@ module _ {C : Type 0} (ports : List ℕ) (s : Serving C) (slot : SlotName) where
     grows_by_posts a b c one.posts two.posts handed handed2,
     notes_both l1 l2 l3 one.notices two.notices said said2,
   )
-  asks_then xs ys a b c l1 l2 l3 (one, asks, handed, said) (Err faults.Memory) (two, asks2, count, handed2) =
+  asks_then xs ys a b c l1 l2 l3 (one, asks, handed, said) (Err faults.Memory)
+      (two, asks2, count, handed2) =
       let part = then_part_of_posts a b c one.posts two.posts handed (count, handed2) in
       (both one two, asks_both xs ys one two asks asks2, part.0, part.1)
   asks_then xs ys a b c l1 l2 l3 p (Err faults.Port) q = absurd q
@@ -125,7 +127,8 @@ module _ {C : Type 0} (ports : List ℕ) (s : Serving C) (slot : SlotName) where
 
   -- those of one that are others
   pub not_asked : (member : ℕ) → (member == number s) ≡ true → (a : Option (List Move))
-      → (lines : List Line) → AsksFor ports s slot (others_of s (member ∷ [])) a a lines lines (Ok tt)
+      → (lines : List Line)
+      → AsksFor ports s slot (others_of s (member ∷ [])) a a lines lines (Ok tt)
   not_asked member is a lines =
       subst (λ (b : Bool). AsksFor ports s slot (cond (not b) (member ∷ []) []) a a lines lines
       (Ok tt)) (sym is) (asks_none a lines)

@@ -1,5 +1,6 @@
 -- What comes of what was asked; and that something can come of every request.
-use Rattle.std.proofs.Common.{◌≡◌, ℕ, List, [], ◌∷◌, ◌++◌, Option, Some, None, Result, Ok, Err, refl, sym, ap, subst}
+use Rattle.std.proofs.Common.{◌≡◌, ℕ, List, [], ◌∷◌, ◌++◌, Option, Some, None, Result, Ok, Err}
+use Rattle.std.proofs.Common.{refl, sym, ap, subst}
 use Rattle.std.proofs.Common.{inr}
 use Rattle.std.specs.Prelude.{IfSome}
 use Rattle.fed_types.specs.Slots.{SlotName}

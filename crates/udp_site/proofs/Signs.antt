@@ -49,7 +49,8 @@ module _ (pace : Pace) (first : pace.wait ≡ pace.waits.first) (rests : pace.un
           → hears pace (sign_in o) ≡ pace
       in_message None e = refl
       in_message (Some m) e =
-          by_body m.body (ap (λ (n : ℕ). n == DEPOSIT) (sym (kind_is federation bytes m are e)) ∙ isnt)
+          by_body m.body (ap (λ (n : ℕ). n == DEPOSIT) (sym (kind_is federation bytes m are e))
+          ∙ isnt)
 
       unless_own : (own : Bool) (s : Sign) → hears pace s ≡ pace
           → hears pace (cond own signs.Still s) ≡ pace

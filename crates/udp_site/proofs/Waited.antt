@@ -37,9 +37,11 @@ pub comes_through : {C : Type 0} (coming other : Coming C)
     → (a b : Option (List Move)) (before after : List Line) (site : OpenSite C)
     → (r : Result (Unit {0}) ServeFault) → ComesTo coming a b before after site r
     → ComesTo other a b before after site r
-comes_through coming other through a b before after site (Ok whole) (done, next, so, there, serves, handed, said) =
+comes_through coming other through a b before after site (Ok whole)
+    (done, next, so, there, serves, handed, said) =
     (done, next, through done next so, there, serves, handed, said)
-comes_through coming other through a b before after site (Err faults.Memory) (done, next, so, there, count, handed) =
+comes_through coming other through a b before after site (Err faults.Memory)
+    (done, next, so, there, count, handed) =
     (done, next, through done next so, there, count, handed)
 comes_through coming other through a b before after site (Err faults.Port) came = absurd came
 comes_through coming other through a b before after site (Err faults.Cell) came = absurd came
@@ -146,7 +148,8 @@ module _ {C : Type 0} (device : C → Device) (ports : List ℕ) (old : Serving 
         → at (idle + 1) (place + 1) (idles device ports old) done next
     idles_so done next (result, called, refuses, done_is) = (
       its_turn e done next
-          (proposes_at place (Some slot) is slot_there done next (result, called, refuses, done_is)),
+          (proposes_at place (Some slot) is slot_there done next
+          (result, called, refuses, done_is)),
       called.idle ∙ ap (λ (n : ℕ). n + 1) idle_is,
       called.tried,
     )

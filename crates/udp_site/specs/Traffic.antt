@@ -1,5 +1,6 @@
 -- What a port receives, and what is handed to it.
-use Rattle.std.specs.Prelude.{◌≡◌, ⊤, ℕ, List, [], ◌∷◌, ◌++◌, map, Option, Some, None, Result, Ok, Err}
+use Rattle.std.specs.Prelude.{◌≡◌, ⊤, ℕ, List, [], ◌∷◌, ◌++◌, map, Option, Some, None, Result, Ok}
+use Rattle.std.specs.Prelude.{Err}
 use Rattle.udp_site.specs.declared.port_fault.PortFault.{PortFault}
 use Rattle.udp_site.specs.declared.port_fault.PortFault.TheVariants as faults
 use Rattle.udp_site.specs.declared.turn.Turn.{Turn}

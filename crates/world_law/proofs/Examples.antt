@@ -319,7 +319,8 @@ pub record Examples : Type 0 where
       ∷ lines.Skip 16 reasons.Path ∷ lines.Skip 16 reasons.Site ∷ lines.Skip 16 reasons.Tree ∷ []
 
 pub all : Examples
-unfolding ballot_cmp is_in sites_to same_slot encoded checksum sha256 digest_bytes promised_of vote_of used_of deposit_of
+unfolding ballot_cmp is_in sites_to same_slot encoded checksum sha256 digest_bytes promised_of
+    vote_of used_of deposit_of
     known_of message_of bodies_of promises_for promisers priors voters_for floor_of
     prepare_decision accept_decision chosen_by next_ballot gathered highest_prior proposal on_body
     on_arrival on_deposit on_propose on_ask reply_of to_each new_site new_network outcome happens

@@ -205,7 +205,8 @@ module _ (plan : Plan) where
   pub reports_were_deposited : ReportsWereDeposited plan (run_of plan).lines
   unfolding run_of new_world
   reports_were_deposited earlier later l slot bag is e =
-      let p = printed_from plan.lines (first_number plan) (new_world plan.members) earlier later l is
+      let p = printed_from plan.lines (first_number plan)
+      (new_world plan.members) earlier later l is
       (omega arith) in (
         p.before,
         p.line,

@@ -1,4 +1,5 @@
-use Rattle.std.proofs.Common.{Option, ◌≡◌, ◌+◌, ◌++◌, List, ℕ, take, drop, sym, ap, subst, ◌∙◌, refl}
+use Rattle.std.proofs.Common.{Option, ◌≡◌, ◌+◌, ◌++◌, List, ℕ, take, drop, sym, ap, subst, ◌∙◌}
+use Rattle.std.proofs.Common.{refl}
 use Rattle.cell_device.specs.Images.{Image, IfKnown}
 use Rattle.records.specs.Layout.{header_bytes}
 use Rattle.records.specs.Journals.{Says}
@@ -48,7 +49,8 @@ returns-clause-repaired g c =
     let owner = c.args.owner in
     let rs = c.args.journal.now.records.items in
     let text = take mend.result.keep bytes in
-    let same : from c.args.header.now mend.result.from ≡ drop mend.result.from (header_bytes owner) =
+    let same : from c.args.header.now mend.result.from ≡ drop mend.result.from
+    (header_bytes owner) =
     from_is c.args.header.now mend.result.from ∙ ap (drop mend.result.from) c.requires.header in
     let rest = still_rests text (image c.args.cell.now) (image c.cut_synced.new.cell)
     c.in_ok-cut_synced.ensures.kept in

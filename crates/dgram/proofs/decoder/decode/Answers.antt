@@ -32,7 +32,8 @@ returns-in_err-read_datagram-clause-only c =
     (faulted c.args.bytes.now fault c.from_residual.result known.gives known.memory
     c.from_residual.ensures.1)
 
-pub returns-in_err-read_datagram-clause-malformed : goal.returns-in_err-read_datagram-clause-malformed
+pub returns-in_err-read_datagram-clause-malformed :
+    goal.returns-in_err-read_datagram-clause-malformed
 returns-in_err-read_datagram-clause-malformed c =
     let fault = c.in_err-read_datagram.field-0.0 in
     let known = c.in_err-read_datagram.ensures in

@@ -35,7 +35,8 @@ returns-clause-lines c =
     ∙ (c.into_lines.ensures
     ∙ (c.lines.invariant.lines
     ∙ ap (λ (w : World). w.lines)
-    (run_from-all plan c.first_line-first.result c.lines.index c.first_line-first.ensures.value past)))
+    (run_from-all plan c.first_line-first.result c.lines.index c.first_line-first.ensures.value
+    past)))
 
 pub returns-clause-agree : goal.returns-clause-agree
 returns-clause-agree c =

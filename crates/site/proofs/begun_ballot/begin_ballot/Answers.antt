@@ -47,7 +47,8 @@ returns c =
     _ c.in_ok-ballot.ballot
     (c.in_ok-ballot.ensures.of c.args.owner.now) c.in_ok-ballot.ensures.begun _ _ refl
     (record {
-      record_is = (λ i. record { slot = c.in_ok-slot.ensures i; body = entry.Round (c.of.ensures i) });
+      record_is = (λ i. record
+          { slot = c.in_ok-slot.ensures i; body = entry.Round (c.of.ensures i) });
       line = refl;
       sends = c.in_ok-sends.ensures ∙ ap (λ (s : SlotName).
           map (datagram c.args.owner.now.members.federation)

@@ -21,7 +21,8 @@ returns-in_err-noted g c =
     not_tried g.C.Cell.device (record { book = c.args.book.now; tables = c.args.tables.now })
     (record { book = c.args.book.now; tables = c.reserve.new.self }) c.args.new
     c.from_residual-in_err-noted.result
-    (err_of c.from_residual-in_err-noted.result faults.Memory c.from_residual-in_err-noted.ensures.1)
+    (err_of c.from_residual-in_err-noted.result faults.Memory
+    c.from_residual-in_err-noted.ensures.1)
     refl c.reserve.ensures.same
 
 pub returns-in_err-commit : goal.returns-in_err-commit
@@ -31,7 +32,8 @@ returns-in_err-commit g c =
     c.from_residual-in_err-commit.result c.in_err-commit.field-0.0
     (err_of c.from_residual-in_err-commit.result (commit_fault c.in_err-commit.field-0.0)
     c.from_residual-in_err-commit.ensures.1)
-    (λ e. is_open (sym (c.in_err-commit.ensures.needs_open.0 (ap (λ (f : CommitFault). Err f) e)) ∙ c.requires))
+    (λ e. is_open (sym (c.in_err-commit.ensures.needs_open.0 (ap (λ (f : CommitFault). Err f) e))
+    ∙ c.requires))
     (record {
       committed = c.in_err-commit.ensures.committed;
       durable = c.in_err-commit.ensures.durable;

@@ -20,7 +20,8 @@ returns g c old there serves traffic = (
   serves,
   grows_by_no_posts traffic,
   subst (λ (site : ℕ). Notes c.args.lines.now.items c.say_dropped.new.lines.items
-      (Dropped site ∷ [])) (c.number-2.ensures.value ∙ (c.number.ensures ∙ ap site_number (sym there)))
+      (Dropped site ∷ [])) (c.number-2.ensures.value
+      ∙ (c.number.ensures ∙ ap site_number (sym there)))
       c.in_ok-say_dropped.ensures,
 )
 

@@ -1,4 +1,5 @@
-use Rattle.std.proofs.Common.{◌≡◌, ℕ, Option, ◌-◌, ◌≤◌, length, map, None, ap, subst, sym, ◌∙◌, arith}
+use Rattle.std.proofs.Common.{◌≡◌, ℕ, Option, ◌-◌, ◌≤◌, length, map, None, ap, subst, sym, ◌∙◌}
+use Rattle.std.proofs.Common.{arith}
 use Rattle.std.specs.Prelude.{is_some, ltb}
 use Rattle.std.proofs.lemmas.Bool.{ltb-false}
 use Rattle.std.specs.Option.{option_to_list}
@@ -17,7 +18,8 @@ returns-in-None-clause-hands g c =
     let past : length c.args.ports.now ≤ c.args.site - 1 =
     omega (
       arith,
-      none_past (c.from.result - 1) (length c.args.ports.now) c.get.result c.get.ensures.lookup.0 c.in-None.is,
+      none_past (c.from.result - 1)
+          (length c.args.ports.now) c.get.result c.get.ensures.lookup.0 c.in-None.is,
       c.from.ensures,
       c.number.ensures.value,
     ) in

@@ -23,10 +23,13 @@ asked_of old federation bytes asked said same is p =
 pub returns-in-Hear-clause-comes : goal.returns-in-Hear-clause-comes
 returns-in-Hear-clause-comes g c old there serves =
     let asked = asked_of old c.federation.result c.args.bytes.now c.in_ok-message.field-0
-    (asks.Hear c.in-Hear.message) (same_federation old c.args.site.now there c.members.result c.federation.result
+    (asks.Hear c.in-Hear.message)
+    (same_federation old c.args.site.now there c.members.result c.federation.result
     c.federation.ensures c.members.ensures) c.in-Hear.is c.in_ok-message.ensures in
-    by_request g.C.Cell.device c.args.ports.now (g.F.Folders.gives c.args.folders.now) old c.args.from
-    (message_of (members old).federation c.args.bytes.now) (Says c.in-Hear.message) (asked c.args.from)
+    by_request g.C.Cell.device c.args.ports.now
+    (g.F.Folders.gives c.args.folders.now) old c.args.from
+    (message_of (members old).federation c.args.bytes.now) (Says c.in-Hear.message)
+    (asked c.args.from)
     (g.P.Port.traffic c.args.port.now) (g.P.Port.traffic c.hear.new.port) c.args.lines.now.items
     c.hear.new.lines.items c.hear.new.site c.hear.result
     (c.hear.ensures.comes old there serves)
@@ -37,7 +40,8 @@ returns-in-Deposit-clause-comes g c old there serves =
     (asks.Deposit c.in-Deposit.slot c.in-Deposit.path)
     (same_federation old c.args.site.now there c.members.result c.federation.result
     c.federation.ensures c.members.ensures) c.in-Deposit.is c.in_ok-message.ensures in
-    by_request g.C.Cell.device c.args.ports.now (g.F.Folders.gives c.args.folders.now) old c.args.from
+    by_request g.C.Cell.device c.args.ports.now
+    (g.F.Folders.gives c.args.folders.now) old c.args.from
     (message_of (members old).federation c.args.bytes.now)
     (Deposits c.args.from c.in-Deposit.slot c.in-Deposit.path) (asked c.args.from)
     (g.P.Port.traffic c.args.port.now) (g.P.Port.traffic c.take_folder.new.port)
@@ -50,7 +54,8 @@ returns-in-Query-clause-comes g c old there serves =
     (asks.Query c.in-Query.slot)
     (same_federation old c.args.site.now there c.members.result c.federation.result
     c.federation.ensures c.members.ensures) c.in-Query.is c.in_ok-message.ensures in
-    by_request g.C.Cell.device c.args.ports.now (g.F.Folders.gives c.args.folders.now) old c.args.from
+    by_request g.C.Cell.device c.args.ports.now
+    (g.F.Folders.gives c.args.folders.now) old c.args.from
     (message_of (members old).federation c.args.bytes.now) (Queries c.args.from c.in-Query.slot)
     (asked c.args.from) (g.P.Port.traffic c.args.port.now) (g.P.Port.traffic c.take_query.new.port)
     c.args.lines.now.items c.take_query.new.lines.items c.args.site.now c.take_query.result
@@ -63,7 +68,8 @@ returns-in-Nothing-clause-comes g c old there serves =
     c.federation.result c.federation.ensures c.members.ensures) c.in-Nothing.is
     c.in_ok-message.ensures in
     let traffic = g.P.Port.traffic c.args.port.now in
-    by_request g.C.Cell.device c.args.ports.now (g.F.Folders.gives c.args.folders.now) old c.args.from
+    by_request g.C.Cell.device c.args.ports.now
+    (g.F.Folders.gives c.args.folders.now) old c.args.from
     (message_of (members old).federation c.args.bytes.now) Noise (asked c.args.from) traffic traffic
     c.args.lines.now.items c.drop_noise.new.lines.items c.args.site.now c.drop_noise.result
     (c.drop_noise.ensures old there serves traffic)

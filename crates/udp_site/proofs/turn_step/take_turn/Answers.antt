@@ -18,7 +18,8 @@ returns-in-Idle-clause-comes g c old there idle tried serves are =
 
 pub returns-in-Got-clause-comes : goal.returns-in-Got-clause-comes
 returns-in-Got-clause-comes g c old there idle tried serves are =
-    let rule = turn_of g.C.Cell.device c.args.ports.now (g.F.Folders.gives c.args.folders.now) old in
+    let rule = turn_of g.C.Cell.device c.args.ports.now
+    (g.F.Folders.gives c.args.folders.now) old in
     let before = g.P.Port.traffic c.args.port.now in
     let after = g.P.Port.traffic c.take_in.new.port in
     let from = From c.in-Got.from c.in-Got.bytes.items in

@@ -20,14 +20,16 @@ loop-rest-init c =
 
 pub weight_at-requires : goal.weight_at-requires
 weight_at-requires c =
-    let k = lowest c.loop-rest.rest (omega (arith, c.loop-rest-test.true)) c.loop-rest.invariant.0 in
+    let k = lowest c.loop-rest.rest
+    (omega (arith, c.loop-rest-test.true)) c.loop-rest.invariant.0 in
     (k.0, omega (arith, k.1))
 
 pub overflow_add-sum : goal.overflow_add-sum
 overflow_add-sum c =
     let weights =
     subst AreWeights c.weights-weights.ensures.value c.weights-weights.ensures.in_range in
-    let k = lowest c.loop-rest.rest (omega (arith, c.loop-rest-test.true)) c.loop-rest.invariant.0 in
+    let k = lowest c.loop-rest.rest
+    (omega (arith, c.loop-rest-test.true)) c.loop-rest.invariant.0 in
     let most = among_most (weight_of c.args.members.now) (is_in c.args.self.now) 255
     (count_of c.args.members.now) (weight_most c.args.members.now weights) in
     let next = counted_next (weight_of c.args.members.now) c.loop-rest.rest
@@ -44,7 +46,8 @@ pub loop-rest-preserved : goal.loop-rest-preserved
 loop-rest-preserved c =
     let weights =
     subst AreWeights c.weights-weights.ensures.value c.weights-weights.ensures.in_range in
-    let k = lowest c.loop-rest.rest (omega (arith, c.loop-rest-test.true)) c.loop-rest.invariant.0 in
+    let k = lowest c.loop-rest.rest
+    (omega (arith, c.loop-rest-test.true)) c.loop-rest.invariant.0 in
     let next = counted_next (weight_of c.args.members.now) c.loop-rest.rest
     (trailing_zeros w64 c.loop-rest.rest) (count_of c.args.members.now)
     (omega (arith, weights.0.1)) k.0 k.2 k.3

@@ -11,5 +11,6 @@ returns-in-Some c =
 
 pub returns-in-None : goal.returns-in-None
 returns-in-None c w k d is at of =
-    nobody c.args.self.now c.args.self.now w c.args.number k c.args.to c.args.bytes.now c.args.fate d
+    nobody c.args.self.now c.args.self.now w c.args.number k c.args.to c.args.bytes.now c.args.fate
+    d
     is at of (sym c.in-None.ensures)

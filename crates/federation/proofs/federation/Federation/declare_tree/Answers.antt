@@ -5,7 +5,8 @@ use Rattle.federation.proofs.federation.Federation.declare_tree.Goals as goal
 
 pub returns-in-None : goal.returns-in-None
 returns-in-None c =
-    then_ok c.declare.result (λ new w is. tree_declared c.args.self.now _ w c.args.number c.args.tree
+    then_ok c.declare.result
+    (λ new w is. tree_declared c.args.self.now _ w c.args.number c.args.tree
     (record { members = refl; stations = refl; sent = refl; seen = refl; lines = refl })
     (sym c.in-None.ensures) new is) c.declare.ensures.ok
 

@@ -15,7 +15,8 @@ returns-in-Some c =
       seen = refl;
       lines = refl;
     })
-    c.in_ok-name.ensures.ok c.in_ok-to.ensures c.in-Some.field-0 c.in-Some.field-0.to c.deref.result.now
+    c.in_ok-name.ensures.ok c.in_ok-to.ensures c.in-Some.field-0 c.in-Some.field-0.to
+    c.deref.result.now
     c.in-Some.is refl
     c.deref.ensures.value arrived) c.arrive.ensures
 

@@ -13,9 +13,11 @@ returns-in_default c =
 
 pub returns : goal.returns
 returns c =
-    then_ok c.deposit_facts.result (λ done w is. deposit_of_files c.args.self.now _ w c.args.number _
+    then_ok c.deposit_facts.result
+    (λ done w is. deposit_of_files c.args.self.now _ w c.args.number _
     c.args.tree c.args.slot.now c.args.fate c.in-Some.files.now is c.in-Some.ensures
-    (subst (λ facts. StandsFor c.deposit_facts.new.self (on_checked w c.args.number (c.args.place + 1)
+    (subst (λ facts. StandsFor c.deposit_facts.new.self
+    (on_checked w c.args.number (c.args.place + 1)
     c.args.tree
     c.args.slot.now c.args.fate (check_of facts))) c.in_ok-facts.ensures (done w is)))
     c.deposit_facts.ensures

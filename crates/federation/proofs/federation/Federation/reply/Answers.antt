@@ -13,7 +13,8 @@ returns-in_ok-slot-in-Ok c =
     then_ok c.say.result (λ says w is so. subst (λ (v : World). StandsFor c.say.new.self v)
     (ap (λ (n : ℕ). with_line w (printed.Replied n c.in_ok-slot-in-Ok.slot
     c.named_reply-reply.result)) (c.site_at-site.ensures w is)
-    ∙ ap (λ (s : SlotName). with_line w (printed.Replied (c.args.place + 1) s c.named_reply-reply.result))
+    ∙ ap (λ (s : SlotName). with_line w
+    (printed.Replied (c.args.place + 1) s c.named_reply-reply.result))
     c.in_ok-slot-in-Ok.ensures
     ∙ ap (λ (r : NamedReply). with_line w (printed.Replied (c.args.place + 1) c.args.slot.now r))
     (c.named_reply-reply.ensures w.seen is.seen)

@@ -30,8 +30,11 @@ returns-in-Pump c = rw c.in-Pump.is c.pump.ensures
 pub returns-in-Some : goal.returns-in-Some
 unfolding after_command
 returns-in-Some c =
-    rw c.in-Query.is (then_ok c.query.result (λ done w is. at_place c.args.self.now _ w c.args.number
-    c.in-Query.site is c.in-Some.place (λ (n : ℕ). event_at w c.args.number n (Query n c.in-Query.slot)) c.in-Some.ensures (λ within. done w is)) c.query.ensures)
+    rw c.in-Query.is (then_ok c.query.result
+    (λ done w is. at_place c.args.self.now _ w c.args.number
+    c.in-Query.site is c.in-Some.place
+    (λ (n : ℕ). event_at w c.args.number n (Query n c.in-Query.slot)) c.in-Some.ensures
+    (λ within. done w is)) c.query.ensures)
 
 pub returns-in-None : goal.returns-in-None
 unfolding after_command
@@ -43,35 +46,47 @@ pub returns-in-Some-place_of : goal.returns-in-Some-place_of
 unfolding after_command
 returns-in-Some-place_of c =
     rw c.in-Raw.is (then_ok c.raw.result (λ done w is. at_place c.args.self.now _ w c.args.number
-    c.in-Raw.site is c.in-Some-place_of.place (λ (n : ℕ). on_raw w c.args.number n (message_of w.members.federation c.in-Raw.bytes)) c.in-Some-place_of.ensures (λ within. rw (← c.as_slice-in-Some-place_of.ensures)
+    c.in-Raw.site is c.in-Some-place_of.place
+    (λ (n : ℕ). on_raw w c.args.number n (message_of w.members.federation c.in-Raw.bytes))
+    c.in-Some-place_of.ensures (λ within. rw (← c.as_slice-in-Some-place_of.ensures)
     (done w is))) c.raw.ensures)
 
 pub returns-in-None-place_of : goal.returns-in-None-place_of
 unfolding after_command
 returns-in-None-place_of c =
-    rw c.in-Raw.is (then_ok c.skip-in-None-place_of.result (λ skips w is. nowhere c.args.self.now _ w c.args.number
+    rw c.in-Raw.is (then_ok c.skip-in-None-place_of.result
+    (λ skips w is. nowhere c.args.self.now _ w c.args.number
     c.in-Raw.site is _ c.in-None-place_of.ensures (skips w is)) c.skip-in-None-place_of.ensures)
 
 pub returns-in-Some-place_of-2 : goal.returns-in-Some-place_of-2
 unfolding after_command
 returns-in-Some-place_of-2 c =
     rw c.in-Stop.is (then_ok c.stop.result (λ done w is. at_place c.args.self.now _ w c.args.number
-    c.in-Stop.site is c.in-Some-place_of-2.place (λ (n : ℕ). event_at w c.args.number n (Stop n)) c.in-Some-place_of-2.ensures (λ within. done w is)) c.stop.ensures)
+    c.in-Stop.site is c.in-Some-place_of-2.place
+    (λ (n : ℕ). event_at w c.args.number n (Stop n)) c.in-Some-place_of-2.ensures
+    (λ within. done w is)) c.stop.ensures)
 
 pub returns-in-None-place_of-2 : goal.returns-in-None-place_of-2
 unfolding after_command
 returns-in-None-place_of-2 c =
-    rw c.in-Stop.is (then_ok c.skip-in-None-place_of-2.result (λ skips w is. nowhere c.args.self.now _ w c.args.number
-    c.in-Stop.site is _ c.in-None-place_of-2.ensures (skips w is)) c.skip-in-None-place_of-2.ensures)
+    rw c.in-Stop.is (then_ok c.skip-in-None-place_of-2.result
+    (λ skips w is. nowhere c.args.self.now _ w c.args.number
+    c.in-Stop.site is _ c.in-None-place_of-2.ensures (skips w is))
+    c.skip-in-None-place_of-2.ensures)
 
 pub returns-in-Some-place_of-3 : goal.returns-in-Some-place_of-3
 unfolding after_command
 returns-in-Some-place_of-3 c =
-    rw c.in-Start.is (then_ok c.start.result (λ done w is. at_place c.args.self.now _ w c.args.number
-    c.in-Start.site is c.in-Some-place_of-3.place (λ (n : ℕ). on_start w c.args.number n (mode_of w n)) c.in-Some-place_of-3.ensures (λ within. done w is)) c.start.ensures)
+    rw c.in-Start.is (then_ok c.start.result
+    (λ done w is. at_place c.args.self.now _ w c.args.number
+    c.in-Start.site is c.in-Some-place_of-3.place
+    (λ (n : ℕ). on_start w c.args.number n (mode_of w n)) c.in-Some-place_of-3.ensures
+    (λ within. done w is)) c.start.ensures)
 
 pub returns-in-None-place_of-3 : goal.returns-in-None-place_of-3
 unfolding after_command
 returns-in-None-place_of-3 c =
-    rw c.in-Start.is (then_ok c.skip-in-None-place_of-3.result (λ skips w is. nowhere c.args.self.now _ w c.args.number
-    c.in-Start.site is _ c.in-None-place_of-3.ensures (skips w is)) c.skip-in-None-place_of-3.ensures)
+    rw c.in-Start.is (then_ok c.skip-in-None-place_of-3.result
+    (λ skips w is. nowhere c.args.self.now _ w c.args.number
+    c.in-Start.site is _ c.in-None-place_of-3.ensures (skips w is))
+    c.skip-in-None-place_of-3.ensures)

@@ -31,11 +31,13 @@ returns-in_err-new g c = rw (← c.self.view_is) (record {
       (effect (record { book = c.self.inside.book; tables = c.self.inside.tables }) session
       (Proposes c.args.slot.now)) r)
       (sym (answer_err_of c.from_residual.result c.in_err-new.field-0.0 c.from_residual.ensures.1))
-      (not_issued g.C.Cell.device (record { book = c.self.inside.book; tables = c.self.inside.tables })
+      (not_issued g.C.Cell.device
+      (record { book = c.self.inside.book; tables = c.self.inside.tables })
       (record { book = c.self.inside.book; tables = c.begin_ballot.new.tables }) c.args.slot.now
       c.args.own refl c.begin_ballot.result
       (subst (λ (o : Owner). BeginsBallot o c.self.inside.tables c.begin_ballot.new.tables
-      c.args.slot.now c.args.own c.begin_ballot.result) c.owner-owner.ensures c.begin_ballot.ensures)
+      c.args.slot.now c.args.own c.begin_ballot.result) c.owner-owner.ensures
+      c.begin_ballot.ensures)
       c.self.invariant session stands known
       (subst (λ (s : OpenSite g.row.C.Denot). deposit_of c.args.slot.now s.book.records
       ≡ Some c.args.own) (sym c.self.view_is) c.requires.deposit)
@@ -45,7 +47,8 @@ returns-in_err-new g c = rw (← c.self.view_is) (record {
       (record { book = c.self.inside.book; tables = c.begin_ballot.new.tables }) c.args.slot.now
       c.args.own refl c.begin_ballot.result
       (subst (λ (o : Owner). BeginsBallot o c.self.inside.tables c.begin_ballot.new.tables
-      c.args.slot.now c.args.own c.begin_ballot.result) c.owner-owner.ensures c.begin_ballot.ensures)
+      c.args.slot.now c.args.own c.begin_ballot.result) c.owner-owner.ensures
+      c.begin_ballot.ensures)
       c.self.invariant session stands known
       (subst (λ (s : OpenSite g.row.C.Denot). deposit_of c.args.slot.now s.book.records
       ≡ Some c.args.own) (sym c.self.view_is) c.requires.deposit)
@@ -73,7 +76,8 @@ returns g c = rw (← c.self.view_is) (record {
       (record { book = c.self.inside.book; tables = c.begin_ballot.new.tables }) c.args.slot.now
       c.args.own refl c.begin_ballot.result
       (subst (λ (o : Owner). BeginsBallot o c.self.inside.tables c.begin_ballot.new.tables
-      c.args.slot.now c.args.own c.begin_ballot.result) c.owner-owner.ensures c.begin_ballot.ensures)
+      c.args.slot.now c.args.own c.begin_ballot.result) c.owner-owner.ensures
+      c.begin_ballot.ensures)
       c.self.invariant session stands known
       (subst (λ (s : OpenSite g.row.C.Denot). deposit_of c.args.slot.now s.book.records
       ≡ Some c.args.own) (sym c.self.view_is) c.requires.deposit)
@@ -84,7 +88,8 @@ returns g c = rw (← c.self.view_is) (record {
       (record { book = c.self.inside.book; tables = c.begin_ballot.new.tables }) c.args.slot.now
       c.args.own refl c.begin_ballot.result
       (subst (λ (o : Owner). BeginsBallot o c.self.inside.tables c.begin_ballot.new.tables
-      c.args.slot.now c.args.own c.begin_ballot.result) c.owner-owner.ensures c.begin_ballot.ensures)
+      c.args.slot.now c.args.own c.begin_ballot.result) c.owner-owner.ensures
+      c.begin_ballot.ensures)
       c.self.invariant session stands known
       (subst (λ (s : OpenSite g.row.C.Denot). deposit_of c.args.slot.now s.book.records
       ≡ Some c.args.own) (sym c.self.view_is) c.requires.deposit)

@@ -6,7 +6,8 @@ use Rattle.site.proofs.member_site.Site.query.Goals as goal
 pub returns-in-Some-clause-reply : goal.returns-in-Some-clause-reply
 returns-in-Some-clause-reply g c is = rw (← c.self.view_is) (ap (λ (r : Reply). Ok r)
     (reply_is c.args.slot.now c.self.inside.book.records (Some c.in-Some.known) _
-    (sym c.in-Some.is ∙ c.known.ensures c.self.inside.book.owner c.self.inside.book.records c.self.invariant.of)
+    (sym c.in-Some.is ∙ c.known.ensures c.self.inside.book.owner c.self.inside.book.records
+    c.self.invariant.of)
     refl))
 
 pub returns-in-Some-deposit-clause-reply : goal.returns-in-Some-deposit-clause-reply
