@@ -48,11 +48,15 @@ fn after_vote(
     ensures row { IfOk result (λ after. (given : List SiteRecord)
         → AreVoters votes.old.entries given → IsRowFor (quorums_of members) given cast.slot row
         → IsRowFor (quorums_of members)
-        (given ++ record { site = site; kept = record { slot = cast.slot; body = Entry.Vote cast.vote } } ∷ [])
+        (given
+        ++ record { site = site; kept = record { slot = cast.slot; body = Entry.Vote cast.vote } }
+        ∷ [])
         cast.slot after) }
     ensures voters { OnOk result ((given : List SiteRecord) → AreVoters votes.old.entries given
         → AreVoters votes.new.entries
-        (given ++ record { site = site; kept = record { slot = cast.slot; body = Entry.Vote cast.vote } } ∷ [])) }
+        (given
+        ++ record { site = site; kept = record { slot = cast.slot; body = Entry.Vote cast.vote } }
+        ∷ [])) }
 {
     let vote = cast.vote;
     let voters = count(votes, site, cast)?;

@@ -20,7 +20,8 @@ impl<'a> TextLines<'a> {
         }
     }
 
-    /// The line of this number, counted from 1, of the text of this name; empty where there is none.
+    /// The line of this number, counted from 1, of the text of this name; empty where there is
+    /// none.
     pub(crate) fn line(
         &mut self,
         bag: &Bag<'a, '_>,

@@ -16,7 +16,8 @@ const MOST_PIECES: u32 = 256;
 
 const PIECE: usize = 4096;
 
-/// Appends a warning where bag-info.txt says another Payload-Oxum than the files of the payload have.
+/// Appends a warning where bag-info.txt says another Payload-Oxum than the files of the payload
+/// have.
 pub(crate) fn push_oxum(
     text: &mut String,
     bag: &Bag<'_, '_>,

@@ -7,7 +7,8 @@ use std::collections::BTreeSet;
 use std::fs::Metadata;
 use std::io::{self, ErrorKind};
 
-/// A place that can't be read: its path below the folder, or `.` for the folder itself, and why not.
+/// A place that can't be read: its path below the folder, or `.` for the folder itself, and why
+/// not.
 #[derive(Drop)]
 pub(crate) struct Unread {
     pub(crate) path: String,

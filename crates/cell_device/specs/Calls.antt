@@ -1,6 +1,6 @@
--- What a call answers, and what it does. What it tries, and where it fails may have done in part, is
--- one thing, and what it has done where it answers Ok another: an append tries to append, and has
--- appended; a sync tries no change of the bytes, and has kept what a read gives.
+-- What a call answers, and what it does. What it tries, and where it fails may have done in part,
+-- is one thing, and what it has done where it answers Ok another: an append tries to append, and
+-- has appended; a sync tries no change of the bytes, and has kept what a read gives.
 use Rattle.std.specs.Prelude.{◌≡◌, ◌≢◌, ◌⊎◌, ◌≤◌, ◌+◌, ◌-◌, ◌^◌, min, ℕ, List, true, false}
 use Rattle.std.specs.Prelude.{Option, Some, None, Result, Ok, Err, IsErrOf}
 use Rattle.cell_device.specs.declared.fault.CellFault.{CellFault}

@@ -1,6 +1,6 @@
 -- What a fuse makes of the calls. A fuse, of a cell in memory, is set to make the call that it
--- counts down to fail, and to keep so many bytes that no sync has kept; the cell then goes on, or it
--- is stopped: every call fails until it is restarted, and then reads what the failure has left.
+-- counts down to fail, and to keep so many bytes that no sync has kept; the cell then goes on, or
+-- it is stopped: every call fails until it is restarted, and then reads what the failure has left.
 use Rattle.std.specs.Prelude.{◌-◌, Bool, true, false, ◌==◌, if◌then◌else◌}
 use Rattle.cell_device.specs.declared.fuse.How.{How}
 use Rattle.cell_device.specs.declared.fuse.How.TheVariants as how

@@ -15,7 +15,8 @@ const BEFORE_UNREAD: u8 = 20;
 const BEFORE_INVALID: u8 = 40;
 
 /// What a line that `check`, `run`, `site` or `send` prints says, if it has a code. Of a line
-/// `refused S 10 N`, or of a deposit's `refused S N`, it is what is wrong with the bag or the folder.
+/// `refused S 10 N`, or of a deposit's `refused S N`, it is what is wrong with the bag or the
+/// folder.
 pub fn meaning_of_line(alloc: Global, line: &str) -> Result<Option<&'static Meaning>, AllocError> {
     let words: Vec<&str> = line.split(' ').collect(alloc)?;
     Ok(match words.as_slice() {

@@ -36,8 +36,10 @@ impl Slot {
         ensures ok { IsOk result ↔ (IsObjectName (string_bytes object) × (1 ≤ version)) }
         ensures value { IfOk result (λ s. s ≡ slot_name (string_bytes object) version) }
         ensures greatest { IfOk result (λ s. s.version ≤ greatest_version) }
-        ensures bad_object { IsErrOf result TypeFault.BadObject ↔ ¬ IsObjectName (string_bytes object) }
-        ensures zero_version { IsErrOf result TypeFault.ZeroVersion ↔ (IsObjectName (string_bytes object) × (version ≡ 0)) }
+        ensures bad_object { IsErrOf result TypeFault.BadObject
+            ↔ ¬ IsObjectName (string_bytes object) }
+        ensures zero_version { IsErrOf result TypeFault.ZeroVersion
+            ↔ (IsObjectName (string_bytes object) × (version ≡ 0)) }
     {
         if object.is_empty() || LONGEST_OBJECT < object.len() {
             return Err(TypeFault::BadObject);

@@ -2,7 +2,8 @@
 
 ghost use Rattle.std.specs.Prelude.{◌<◌, ◌+◌, length, OnOk, IfOk};
 ghost use Rattle.world_law.specs.Networks.{Ask};
-ghost use Rattle.world_law.specs.Worlds.{World, after_line, after_command, on_call, at_member, event_at};
+ghost use Rattle.world_law.specs.Worlds.{World, after_line, after_command, on_call, at_member};
+ghost use Rattle.world_law.specs.Worlds.{event_at};
 ghost use Rattle.federation.specs.Federations.{StandsFor};
 
 use crate::federation::Federation;

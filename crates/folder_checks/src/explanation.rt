@@ -6,7 +6,8 @@ ghost use Rattle.outcomes.specs.Outcomes.{Writes, WritesPrefix};
 ghost use Rattle.bag_check.specs.Check.{check_of};
 ghost use Rattle.bag_explain.specs.Findings.{explanation_of};
 ghost use Rattle.folder_checks.specs.Verdicts.{verdict_of_check, IsOrMemory};
-ghost use Rattle.folder_checks.specs.Explanations.{ExplainsFor, IsAnswer, outcome_with, lines_after};
+ghost use Rattle.folder_checks.specs.Explanations.{ExplainsFor, IsAnswer, outcome_with};
+ghost use Rattle.folder_checks.specs.Explanations.{lines_after};
 ghost use Rattle.folder_checks.specs.Explanations.{unread_line};
 
 use crate::verdict::{Verdict, line_of};

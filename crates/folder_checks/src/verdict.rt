@@ -2,7 +2,8 @@
 
 ghost use Rattle.std.specs.Prelude.{◌≡◌, IfErr, IfOk, IfSome, IsErrOf, string_bytes};
 ghost use Rattle.outcomes.specs.Outcomes.{Writes, WritesPrefix};
-ghost use Rattle.folder_checks.specs.Verdicts.{verdict_of, IsOrMemory, AnswersFor, outcome_of_verdict};
+ghost use Rattle.folder_checks.specs.Verdicts.{verdict_of, IsOrMemory, AnswersFor};
+ghost use Rattle.folder_checks.specs.Verdicts.{outcome_of_verdict};
 
 use bag_check::{BagFault, check};
 use bag_folders::Folders;

@@ -73,7 +73,8 @@ impl<Q: Quorums + Drop> Learner<Q> {
     /// What is learned from a site that knows this bag. It takes no memory.
     pub fn told(&self, slot: &Slot, bag: BagId) -> Option<BagId>
         ensures { (records : List declared_record) (heard : List Message)
-            → StandsFor self.now.rows records heard → result ≡ learned_of_known slot.now records bag }
+            → StandsFor self.now.rows records heard
+            → result ≡ learned_of_known slot.now records bag }
     {
         match self.known(slot) {
             None => Some(bag),

@@ -62,7 +62,8 @@ fn push_form_words(
     Ok(())
 }
 
-/// Appends what is wrong with the first word that isn't of its kind, or is missing, if there is one.
+/// Appends what is wrong with the first word that isn't of its kind, or is missing, if there is
+/// one.
 pub(crate) fn push_first_fault(
     alloc: Global,
     text: &mut String,

@@ -1,5 +1,5 @@
-//! What is wrong with a line of a schedule or of a members file, in words: what was wanted, and what
-//! was found.
+//! What is wrong with a line of a schedule or of a members file, in words: what was wanted, and
+//! what was found.
 #![tactic(auto)]
 
 mod command_line;

@@ -42,8 +42,8 @@ fn is_printed(options: Options, line: &Line) -> bool
     }
 }
 
-/// Appends a line's text, ended by LF. It fails only where memory runs out, and then leaves the text
-/// as it was.
+/// Appends a line's text, ended by LF. It fails only where memory runs out, and then leaves the
+/// text as it was.
 pub fn push_line(
     alloc: Global,
     text: &mut String,

@@ -91,7 +91,8 @@ fn push_slot_and_reply(
 
 // The words of a site and a slot, and a space after each.
 fn push_slot(text: &mut String, site: u8, slot: &Slot) -> Result<(), AllocError>
-    ensures { Pushes result text.old text.new (join_with_byte 32 (slot_words site slot.now ([] ∷ []))) }
+    ensures { Pushes result text.old text.new
+        (join_with_byte 32 (slot_words site slot.now ([] ∷ []))) }
 {
     write!(text, "{site} ")?;
     push_escaped(text, slot.object())?;

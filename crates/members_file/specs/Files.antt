@@ -64,9 +64,9 @@ pub record IsTextOf (text : List ℕ) (file : MembersFile) : Type 0 where
   pub blank : are_blank rest ≡ true
 
 -- The text is no members file, and this is the number of its first line at fault. It is line 1 if
--- that isn't `federation F`, or isn't there. Else come the lines of sites, as many as can be, and it
--- is the line after them, which may not be there: unless there is a site, and all lines after the
--- sites' are blank.
+-- that isn't `federation F`, or isn't there. Else come the lines of sites, as many as can be, and
+-- it is the line after them, which may not be there: unless there is a site, and all lines after
+-- the sites' are blank.
 pub data HasFault : List ℕ → ℕ → Type 0 where
   no_federation : (text : List ℕ) (number : ℕ)
       → ((first : List ℕ) (later : List (List ℕ)) (f : ℕ) → lines text ≡ first ∷ later

@@ -1,5 +1,5 @@
-//! A tool of the tests, beside the crates `dgram`, `book`, `acceptor`, `proposer`, `learner`, `site`,
-//! `udp_site` and `schedule`.
+//! A tool of the tests, beside the crates `dgram`, `book`, `acceptor`, `proposer`, `learner`,
+//! `site`, `udp_site` and `schedule`.
 //! Without arguments it reads datagrams and cells from standard input, one a line, and prints what
 //! each says. Its tasks (`task` lists them) call those crates, some on files, time them, and let
 //! allocations fail.

@@ -5,8 +5,8 @@
 //!     PORT HEX     a datagram comes from this port
 //!
 //! The site has port 5001, and the folder `x` has the bag without a file. What is printed are the
-//! turns and datagrams in order, `turn` or `PORT HEX`; then `ended`, or why serving ended before; and
-//! then the lines of the site.
+//! turns and datagrams in order, `turn` or `PORT HEX`; then `ended`, or why serving ended before;
+//! and then the lines of the site.
 
 use crate::example::{FEDERATION, site};
 use crate::fault::Fault;

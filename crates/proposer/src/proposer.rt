@@ -100,8 +100,8 @@ impl<Q: Quorums + Drop> Proposer<Q> {
     }
 
     /// Hears a promise, and gives the bag to propose exactly when it makes the proposal ready: that
-    /// of the highest vote named, or the one that the ballot was begun with. Then the promise waits,
-    /// and counts once `issued` is called. It takes no memory.
+    /// of the highest vote named, or the one that the ballot was begun with. Then the promise
+    /// waits, and counts once `issued` is called. It takes no memory.
     pub fn promise(
         &mut self,
         from: SiteNo,

@@ -31,7 +31,8 @@ pub struct Scene<'a> {
 }
 
 impl<'a> Scene<'a> {
-    /// Of the event at a place, with the datagram that it delivered, or else the first that it sent.
+    /// Of the event at a place, with the datagram that it delivered, or else the first that it
+    /// sent.
     pub fn of(story: &'a Story, place: usize, event: &'a Event) -> Scene<'a> {
         let delivered = story.delivered(event);
         Scene {

@@ -46,8 +46,8 @@ device disk = record {
   failures = 0;
 }
 
--- What every cell keeps, this disk does: a read gives what a crash now may leave; this moment is one
--- of those since an earlier one; and since now there is no other.
+-- What every cell keeps, this disk does: a read gives what a crash now may leave; this moment is
+-- one of those since an earlier one; and since now there is no other.
 pub record AreLikeCells : Type 0 where
   pub seen_now : (disk : Disk) (i : Image) → (device disk).image ≡ Some i → Leaves i i.seen
   pub counts_now : (disk : Disk) (t : ℕ) (bytes : List ℕ) → t ≤ moment_of disk

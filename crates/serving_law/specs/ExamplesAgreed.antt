@@ -1,6 +1,6 @@
 -- Histories of three sites that serve, over disks of which all is known. The three agree; one is
--- killed between the record of its vote and the datagrams that say it; and a vote that is said again,
--- and late, counts once.
+-- killed between the record of its vote and the datagrams that say it; and a vote that is said
+-- again, and late, counts once.
 use Rattle.std.specs.Prelude.{◌≡◌, ℕ, List, [], ◌∷◌, ◌++◌, None}
 use Rattle.fed_types.specs.declared.bag_id.BagId.{BagId}
 use Rattle.fed_types.specs.declared.vote.Vote.{Vote}

@@ -26,11 +26,11 @@ pub record WasDeposited {C : Type 0} (federation : ℕ) (history : List (Happeni
 
 module _ {C : Type 0} (device : C → Device) (members : Membership) where
   -- Each turn of which `serve` tells is one that may happen, where what it took may come: with its
-  -- ports, and with what it is known that folders give, or, where that isn't known, some folders. It
-  -- goes on only where its site needs no opening; so each whole turn but the last is `Turns`, and
-  -- the last, of which perhaps only a part was done, is `Turns` or `Fails`. And its site stands for
-  -- what it has heard, as `serve` asks of one that begins: so after them it may be called again,
-  -- which is `Renews`.
+  -- ports, and with what it is known that folders give, or, where that isn't known, some folders.
+  -- It goes on only where its site needs no opening; so each whole turn but the last is `Turns`,
+  -- and the last, of which perhaps only a part was done, is `Turns` or `Fails`. And its site stands
+  -- for what it has heard, as `serve` asks of one that begins: so after them it may be called
+  -- again, which is `Renews`.
   abbrev pub TurnsMayHappen : Type 0
   TurnsMayHappen =
       (history : List (Happening C)) (n : ℕ) (old next : Serving C) (ports : List ℕ)

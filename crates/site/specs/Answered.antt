@@ -27,11 +27,11 @@ use Rattle.site.specs.Sites.{OpenSite, StandsFor}
 
 -- ---- the record
 
--- The book and its cell after the commit of a record that answered so: what the book promises. After
--- Ok every crash leaves the record, and the book has it; a crash at any moment leaves the records
--- from before, with the new one or without; Device comes where the device failed, and then the book
--- needs opening; where it is known which call fails, it is known what comes of it, and nothing is
--- called after that one.
+-- The book and its cell after the commit of a record that answered so: what the book promises.
+-- After Ok every crash leaves the record, and the book has it; a crash at any moment leaves the
+-- records from before, with the new one or without; Device comes where the device failed, and then
+-- the book needs opening; where it is known which call fails, it is known what comes of it, and
+-- nothing is called after that one.
 pub record Commits
     {C : Type 0} (device : C → Device) (old : Volume C) (r : Record)
     (result : Result (Unit {0}) CommitFault) (new : Volume C)
@@ -71,8 +71,8 @@ Keeps device (Some r) result old new =
 -- ---- the answer
 
 -- the call says what it has to and hands out the datagrams, in order; a refusal is that of the
--- definitions, and then, as where memory runs out, the site stands for what it stood for; Device can
--- come only where there is a record
+-- definitions, and then, as where memory runs out, the site stands for what it stood for; Device
+-- can come only where there is a record
 abbrev pub Gives :
     {C : Type 0} → (old new : OpenSite C) → Session → Effect → Result Answer SiteFault → Type 0
 Gives old new session e (Ok answer) =

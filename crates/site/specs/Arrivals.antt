@@ -63,8 +63,8 @@ telling site slot asker None session = quiet session
 telling site slot asker (Some bag) session =
     commits_and_sends slot None (Known site bag) (asker ∷ []) session
 
--- What a message of a member does, where `old` is the session before it came, and `now` has heard it
--- too. Requests of clients, and the replies to them, are dropped, and aren't heard.
+-- What a message of a member does, where `old` is the session before it came, and `now` has heard
+-- it too. Requests of clients, and the replies to them, are dropped, and aren't heard.
 unfoldable pub on_body :
     QuorumSystem → (site : ℕ) → List Record → (old now : Session) → SlotName → Body → Effect
 on_body q site records old now slot (Prepare ballot) =
@@ -92,8 +92,8 @@ abbrev pub is_member : QuorumSystem → Option ℕ → Bool
 is_member q None = false
 is_member q (Some site) = is_in q.members site
 
--- A message arrives, or (None) bytes that are no message of the federation: what doesn't come from a
--- member is dropped, and isn't heard.
+-- A message arrives, or (None) bytes that are no message of the federation: what doesn't come from
+-- a member is dropped, and isn't heard.
 unfoldable pub on_arrival :
     QuorumSystem → (site : ℕ) → List Record → Session → Option Message → Effect
 on_arrival q site records session None = only_says lines.Dropped session

@@ -108,8 +108,8 @@ impl<C: Cell> Site<C> {
         self.book.needs_opening()
     }
 
-    /// The slot at this place, counted from 0, of those that have a deposit among the records, in the
-    /// order of these.
+    /// The slot at this place, counted from 0, of those that have a deposit among the records, in
+    /// the order of these.
     pub fn deposited(&self, place: usize) -> Option<&Slot>
         ensures { option_copied result ≡ slot_at (deposits_of self.now.book.records) place }
     {

@@ -9,8 +9,8 @@ use std::alloc::{AllocError, Global};
 use std::fs::{File, Files};
 use std::io::{ErrorKind, Read};
 
-/// How many times a members file is read at most, up to 8192 bytes each time. What doesn't end then,
-/// as a device, isn't one.
+/// How many times a members file is read at most, up to 8192 bytes each time. What doesn't end
+/// then, as a device, isn't one.
 const MOST_READS: u32 = 4096;
 
 /// The members in the file of this path.

@@ -20,8 +20,8 @@ pub enum ToolFault {
     /// A call found no memory, and changed nothing.
     #[error("a call without memory")]
     Unchanged,
-    /// A call that found no memory changed what a query, the records or the cell show, or found none
-    /// again; or a call that is timed was refused.
+    /// A call that found no memory changed what a query, the records or the cell show, or found
+    /// none again; or a call that is timed was refused.
     #[error("a wrong answer")]
     Wrong,
 }

@@ -1,5 +1,5 @@
-//! Calls of a site to be timed, on so many slots. For each slot in turn the site proposes, and takes
-//! in what a round of Paxos brings it.
+//! Calls of a site to be timed, on so many slots. For each slot in turn the site proposes, and
+//! takes in what a round of Paxos brings it.
 
 use crate::calls::{FEDERATION, datagrams, deposit_all, propose_all, slots, take_all};
 use crate::fault::ToolFault;

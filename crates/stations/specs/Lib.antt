@@ -1,5 +1,5 @@
--- Stations says what a station stands for and what comes of each of its calls; before it come Calls,
--- and `Networks` of `world_law`.
+-- Stations says what a station stands for and what comes of each of its calls; before it come
+-- Calls, and `Networks` of `world_law`.
 pub mod Calls
 pub mod Told
 pub mod Fuses

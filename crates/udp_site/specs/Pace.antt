@@ -25,8 +25,8 @@ idles pace now = record pace {
 }
 
 -- Something comes. Where that moves something it waits for its first wait again; where a proposal
--- has got votes, or a bag is known, no proposal is under way any more; and where a bag is deposited,
--- the turns that a site needs to propose it are prompt.
+-- has got votes, or a bag is known, no proposal is under way any more; and where a bag is
+-- deposited, the turns that a site needs to propose it are prompt.
 abbrev pub hears : Pace → Sign → Pace
 hears pace signs.Still = pace
 hears pace signs.Moves = record pace { wait = pace.waits.first }
@@ -39,8 +39,9 @@ hands pace bytes = if is_prepare bytes then record pace { under_way = true } els
 
 -- How long after an idle turn the next one comes, whatever else does: one wait, and none where it
 -- is prompt; but where a proposal is under way ten first waits, and 250 ms at least, since a site
--- that is idle sooner outbids it. First waits, and not those that have grown: site N proposes in each
--- N-th idle turn, and where clients ask all the time site 3 would else wait for 10, 20 and 40 waits.
+-- that is idle sooner outbids it. First waits, and not those that have grown: site N proposes in
+-- each N-th idle turn, and where clients ask all the time site 3 would else wait for 10, 20 and 40
+-- waits.
 abbrev pub between : Pace → ℕ
 between pace =
     if pace.under_way then max pace.wait (max (10 * pace.waits.first) 250) else

@@ -104,9 +104,9 @@ module _ {C : Type 0} (rule : Rule C) (before after : Outside) where
       × (count : ℕ) × Shows before after turns (moves_of turn) (take count (text_of turn))
 
   -- Ok: so many turns, all whole. Port: fewer, all whole, and then a receive that failed. Cell: the
-  -- site needs opening, and that is why the last turn was the last; its text is whole but where that
-  -- couldn't be written either. Memory: fewer, all whole, and then none or one that is unwritten.
-  -- Output: the last turn's text failed to be written, and its cell had not failed it.
+  -- site needs opening, and that is why the last turn was the last; its text is whole but where
+  -- that couldn't be written either. Memory: fewer, all whole, and then none or one that is
+  -- unwritten. Output: the last turn's text failed to be written, and its cell had not failed it.
   abbrev pub Serves :
       (start end : Serving C) → (wanted : ℕ) → (turns : List Turned)
       → Result (Unit {0}) ServeFault → Type 0

@@ -75,7 +75,8 @@ fn leave_folder<C: Cell, P: Port>(
     slot: Slot,
     fault: TreeFault,
 ) -> Result<(), ServeFault>
-    ensures comes { (old : Serving C) → old.site ≡ site.now → IsServing old → (said : List lines.Line)
+    ensures comes { (old : Serving C) → old.site ≡ site.now → IsServing old
+        → (said : List lines.Line)
         → ComesTo (takes_tree C.device old client slot (Err fault)) (P.traffic port.old)
         (P.traffic port.new) said said site.now result }
     ensures later { P.failures port.old ≤ P.failures port.new }

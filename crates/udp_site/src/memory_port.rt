@@ -118,7 +118,8 @@ impl MemoryPort {
 
     /// Keeps what it did.
     fn keep(&mut self, done: PortMove) -> Result<(), AllocError>
-        ensures kept { OnOk result (traffic_of self.new ≡ traffic_of self.old ++ move_of done ∷ []) }
+        ensures kept { OnOk result
+            (traffic_of self.new ≡ traffic_of self.old ++ move_of done ∷ []) }
         ensures same { OnErr result (traffic_of self.new ≡ traffic_of self.old) }
         ensures failures { failures_of self.new ≡ failures_of self.old }
         ensures coming { coming_of self.new ≡ coming_of self.old }
@@ -174,7 +175,8 @@ impl Port for MemoryPort {
     }
 
     fn send(&mut self, to: u16, bytes: &[u8]) -> Result<(), PortFault>
-        ensures handed { IsHanded (Some (traffic_of self.old)) (Some (traffic_of self.new)) (to, bytes.now) result }
+        ensures handed { IsHanded (Some (traffic_of self.old)) (Some (traffic_of self.new))
+            (to, bytes.now) result }
         ensures cause { HasCause Device (failures_of self.old) (failures_of self.new) result }
         ensures answer { FailsAs (fails_of self.old) result }
         ensures coming { coming_of self.new ≡ coming_of self.old }

@@ -145,8 +145,8 @@ impl<R: Clock + Drop> PacedSocket<R> {
     }
 }
 
-/// Takes a datagram that is there. Where none is, it waits for so many microseconds at most until one
-/// may be. One from another address is passed over.
+/// Takes a datagram that is there. Where none is, it waits for so many microseconds at most until
+/// one may be. One from another address is passed over.
 fn taken_within(
     socket: &UdpSocket,
     micros: u64,

@@ -107,7 +107,8 @@ pub(crate) fn say_reply(
     slot: Slot,
     reply: Result<Reply, SiteFault>,
 ) -> Result<(), AllocError>
-    ensures { OnOk result (Notes lines.old.items lines.new.items (reply_notice site slot reply ∷ [])) }
+    ensures { OnOk result
+        (Notes lines.old.items lines.new.items (reply_notice site slot reply ∷ [])) }
 {
     match reply {
         Ok(reply) => say(

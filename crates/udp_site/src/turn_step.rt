@@ -20,8 +20,8 @@ use lines::Line;
 use site::Site;
 use std::alloc::Global;
 
-/// Does what a turn asks for: calls the site, hands out its datagrams and then replies, and adds the
-/// lines to write.
+/// Does what a turn asks for: calls the site, hands out its datagrams and then replies, and adds
+/// the lines to write.
 pub(crate) fn take_turn<C: Cell, P: Port, F: Folders>(
     alloc: Global,
     site: &mut Site<C>,

@@ -83,7 +83,8 @@ impl<R: Clock + Drop> Port for UdpPort<R> {
 
     fn receive(&mut self) -> Result<Turn, PortFault>
         ensures received { IsReceived None None result }
-        ensures cause { HasCause faults.Device (failures_of self.old) (failures_of self.new) result }
+        ensures cause { HasCause faults.Device (failures_of self.old)
+            (failures_of self.new) result }
         ensures paced { IsPaced self.old self.new result }
     {
         match turn_at(self.alloc, self.federation, self.number, &mut self.socket) {
@@ -94,7 +95,8 @@ impl<R: Clock + Drop> Port for UdpPort<R> {
 
     fn send(&mut self, to: u16, bytes: &[u8]) -> Result<(), PortFault>
         ensures handed { IsHanded None None (to, bytes.now) result }
-        ensures cause { HasCause faults.Device (failures_of self.old) (failures_of self.new) result }
+        ensures cause { HasCause faults.Device (failures_of self.old)
+            (failures_of self.new) result }
         ensures paced { pace_of self.new ≡ hands (pace_of self.old) bytes.now }
     {
         self.socket.hands(bytes);

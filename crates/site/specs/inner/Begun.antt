@@ -28,8 +28,8 @@ pub record IsOfBallot
       ≡ map (datagram owner.members.federation)
       (to_each slot (Prepare ballot) (members_of owner.members))
 
--- the next ballot is begun with this bag; or none is left; or one is, and memory ran out, before it was begun or
--- after
+-- the next ballot is begun with this bag; or none is left; or one is, and memory ran out, before it
+-- was begun or after
 abbrev pub Begins :
     Owner → Contents → SlotName → (own : BagId) → List Record → Session → UnderWay
     → Result (Record × Answer) SiteFault → Type 0

@@ -2,7 +2,6 @@ use Rattle.std.proofs.Common.{true, [], ◌∷◌, ◌++◌, sym, ap, ◌∙◌,
 use Rattle.folder_checks.proofs.Several.{byte_named, all_named}
 use Rattle.folder_checks.specs.Reports.{name_where, named_from}
 use Rattle.folder_checks.proofs.named.with_name.Goals.{else-begins}
-use Rattle.folder_checks.proofs.named.with_name.Goals.{}
 use Rattle.folder_checks.proofs.named.with_name.Goals.{then-begins+in_ok-extend_from_slice+in_ok-push}
 use Rattle.folder_checks.proofs.named.with_name.Goals as goal
 
