@@ -26,7 +26,8 @@ In a turn in which nothing comes it may propose one of its deposits to all. Whil
 each such turn waits twice as long as the one before, up to --wait-most; a deposit, a vote that
 another site asks for or gives, and a bag that it knows bring the first wait back. However much
 comes, such a turn is taken once its wait has passed since the last one; while a proposal of its own
-is under way, ten times --wait and 250 ms besides.
+is under way, ten times --wait and 250 ms besides. Unless one is, such turns are taken at once after
+a deposit, until the site may propose it.
 
 With --bags a path that is absolute or has `..` in it is that of a folder that isn't there.
 
