@@ -9,6 +9,10 @@ import threading
 from repository import PARTS, with_all_below
 
 
+# Where `rt` leaves a crate's library.
+BUILT = "out/rlib"
+
+
 class Cut(Exception):
     """The run ends: no check begins any more, and those that ran were ended."""
 
@@ -126,7 +130,8 @@ class Bases:
             if library.result():
                 return None, library.result()
         copy, own = self.room / crate, self.root / "crates" / crate
-        for part in (it for it in PARTS if (own / it).is_dir()):
+        # A library that the repository has built of these sources isn't built again: `rt` looks.
+        for part in (it for it in (*PARTS, BUILT) if (own / it).is_dir()):
             shutil.copytree(own / part, copy / "crates" / crate / part)
         for it in others:
             share(self.room / it, copy, it)
@@ -139,7 +144,7 @@ class Bases:
 
 def share(one, other, library):
     """Gives a copy a library that is built in another."""
-    for part in (*PARTS, "out/rlib"):
+    for part in (*PARTS, BUILT):
         source = one / "crates" / library / part
         if source.is_dir():
             to = other / "crates" / library / part
