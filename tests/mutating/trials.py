@@ -80,8 +80,9 @@ class Trial:
         return mutant.function and name_of(mutant.function, self.crate, self.said)
 
     def tried_alone(self, mutant):
-        """Why the mutant passes, or None where the check refuses it; and then, where no clause does,
-        the line of a proof by hand, which names what it took away, or that no proof was begun."""
+        """Why the mutant passes, or None where the check refuses it; and then, where no clause
+        does, the line of a proof by hand, which names what it took away, or that no proof was
+        begun."""
         said, why = self.check([mutant], is_whole=True)
         if why:
             return why, None
