@@ -14,8 +14,8 @@ use Rattle.ledger.specs.declared.ending.Ending.TheVariants.{Damaged}
 use Rattle.ledger.specs.Cells.{NamesWeights, EndsWith, IsCell}
 use Rattle.ledger.specs.inner.Found.{HasEnd, HasDamage, IsTextRead, ending_of}
 use Rattle.ledger.specs.inner.Named.{IsHeadedBy}
-use Rattle.ledger.proofs.Finding.{text_headed}
-use Rattle.ledger.proofs.Moving.{reaches_of, end_of, damage_of}
+use Rattle.ledger.proofs.TextEnds.{text_headed}
+use Rattle.ledger.proofs.SameOwners.{reaches_of, end_of, damage_of}
 
 pub weights_of : (start : Start) (weights : List ℕ) (named : Bool) → NamesWeights start weights named
     → HasWeights weights start

@@ -2,7 +2,7 @@ use Rattle.std.proofs.Common.{◌≡◌, ◌++◌, take}
 use Rattle.std.specs.List.{flat_map}
 use Rattle.std.specs.String.{string_bytes}
 use Rattle.ledger.specs.Lines.{weight_word}
-use Rattle.ledger.proofs.printing.push_weights.Given as goal
+use Rattle.ledger.proofs.cell_text.push_weights.Given as goal
 
 -- what was appended so far
 abbrev pub invariant-loop-weight : goal.invariant-loop-weight

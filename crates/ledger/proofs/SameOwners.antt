@@ -1,4 +1,5 @@
--- What bytes say of records is the same for owners of one federation and site, whatever the weights.
+-- What bytes say of records is the same for owners of one federation and site, whatever the
+-- weights.
 use Rattle.std.proofs.Common.{◌≡◌, ℕ, List, [], ◌∷◌, ◌++◌, length, sym, ap, ◌∙◌, inl, inr}
 use Rattle.std.specs.Int.{w64, to_be_bytes}
 use Rattle.records.specs.declared.owner.Owner.{Owner}

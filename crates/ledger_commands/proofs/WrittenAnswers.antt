@@ -1,5 +1,6 @@
 -- An answer that was written is one to what the reader had left.
-use Rattle.std.proofs.Common.{◌≡◌, ℕ, List, take, Option, None, Some, Result, Ok, Err, IfSome, inl, subst}
+use Rattle.std.proofs.Common.{◌≡◌, ℕ, List, take, Option, None, Some, Result, Ok, Err, IfSome, inl}
+use Rattle.std.proofs.Common.{subst}
 use Rattle.std.specs.Result.{IfOk, OnErr, IsErrOf}
 use Rattle.std.specs.Io.KnownBytes.{Appends}
 use Rattle.outcomes.specs.Outcomes.{Outcome, Writes, WritesPrefix}

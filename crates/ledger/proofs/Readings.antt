@@ -1,6 +1,7 @@
 -- What reading a journal says of a cell that begins with a header.
 use Rattle.std.proofs.Common.{◌≡◌, ℕ, List, length, take, Ok, Err}
-use Rattle.std.proofs.Common.{Option, Result, refl, sym, ap, subst, ◌∙◌, arith, inl, inr, length-append}
+use Rattle.std.proofs.Common.{Option, Result, refl, sym, ap, subst, ◌∙◌, arith, inl, inr}
+use Rattle.std.proofs.Common.{length-append}
 use Rattle.std.specs.Prelude.{IfOk, IsErr}
 use Rattle.std.specs.declared.alloc.AllocError.{AllocError}
 use Rattle.records.specs.declared.fault.JournalFault.{JournalFault}
@@ -45,7 +46,7 @@ says_end owner bytes records headed (inr j) = record {
 
 -- ---- faults
 
-no_header : (owner : Owner) (bytes : List ℕ) → IsHeaded owner bytes → HasNoHeader owner bytes → ⊥
+pub no_header : (owner : Owner) (bytes : List ℕ) → IsHeaded owner bytes → HasNoHeader owner bytes → ⊥
 no_header owner bytes headed (new, inl other) = other (headed_names owner bytes headed)
 no_header owner bytes (inl (rest, is)) (new, inr (m, its, none)) =
     magics_differ (sym m ∙ ap (take 4) is ∙ old_header_magic owner rest)

@@ -9,7 +9,7 @@ ghost use Rattle.ledger.specs.Lines.{weight_word, weight_words};
 use crate::contents::Contents;
 use crate::ending::Ending;
 use crate::record_line::push_record;
-use records::Record;
+use records::{Owner, Record};
 use std::alloc::{AllocError, Global};
 
 // The weights, with a space before each.
@@ -23,31 +23,36 @@ fn push_weights(text: &mut String, weights: &[u8]) -> Result<(), AllocError>
 }
 
 // The weights, where a header names them.
-fn push_named(text: &mut String, contents: &Contents) -> Result<(), AllocError>
-    ensures { Pushes result text.old text.new (weight_words contents.now) }
+fn push_named(text: &mut String, owner: Owner, named: bool) -> Result<(), AllocError>
+    ensures { Pushes result text.old text.new (weight_words owner named) }
 {
-    if !contents.names_weights {
+    if !named {
         return Ok(());
     }
-    let members = contents.owner.members;
+    let members = owner.members;
     push_weights(text, members.weights())
 }
 
-// The line of whose cell it is.
+/// Appends the line of whose cell it is, with the weights where a header names them.
 #[tactic(auto, unfolding(crate::specs::Lines::owner_line), using(std::proofs::Common::append_assoc))]
-fn push_owner(text: &mut String, contents: &Contents) -> Result<(), AllocError>
-    ensures { Pushes result text.old text.new (owner_line contents.now) }
+pub(crate) fn push_owner(text: &mut String, owner: Owner, named: bool) -> Result<(), AllocError>
+    ensures { Pushes result text.old text.new (owner_line owner named) }
 {
-    let federation = contents.owner.members.federation();
-    let site = contents.owner.site.number();
-    write!(text, "cell {federation} {site}")?;
-    push_named(text, contents)?;
+    let Owner { members, site } = owner;
+    let federation = members.federation();
+    let number = site.number();
+    write!(text, "cell {federation} {number}")?;
+    push_named(text, Owner { members, site }, named)?;
     text.push('\n')
 }
 
-// The lines of the records.
+/// Appends the lines of the records.
 #[tactic(auto, unfolding(crate::specs::Lines::records_text))]
-fn push_records(alloc: Global, text: &mut String, records: &[Record]) -> Result<(), AllocError>
+pub(crate) fn push_records(
+    alloc: Global,
+    text: &mut String,
+    records: &[Record],
+) -> Result<(), AllocError>
     ensures { Pushes result text.old text.new (records_text records.now) }
 {
     for kept in records {
@@ -69,12 +74,13 @@ pub(crate) fn push_ending(text: &mut String, ending: Ending) -> Result<(), Alloc
 
 /// The lines of a cell: whose it is, each record, and how it ends. It fails only where memory runs
 /// out.
-#[tactic(auto, unfolding(crate::specs::Lines::contents_text), using(std::proofs::Common::append_assoc))]
+#[tactic(auto, unfolding(crate::specs::Lines::said_text), using(std::proofs::Common::append_assoc))]
 pub fn journal_text(alloc: Global, contents: &Contents) -> Result<String, AllocError>
     ensures { IfOk result (λ text. string_bytes text ≡ contents_text contents.now) }
 {
     let mut text = String::new(alloc);
-    push_owner(&mut text, contents)?;
+    let Owner { members, site } = contents.owner;
+    push_owner(&mut text, Owner { members, site }, contents.names_weights)?;
     push_records(alloc, &mut text, &contents.records)?;
     push_ending(&mut text, contents.ending)?;
     Ok(text)

@@ -11,8 +11,8 @@ use Rattle.ledger.specs.declared.contents.Contents.{Contents}
 use Rattle.ledger.specs.declared.ending.Ending.{Ending}
 use Rattle.ledger.specs.declared.ending.Ending.TheVariants.{Whole, Torn, Damaged}
 use Rattle.ledger.specs.Cells.{EndsWith, IsCell}
-use Rattle.ledger.proofs.Reading.{says_all}
-use Rattle.ledger.proofs.Telling.{weights_of}
+use Rattle.ledger.proofs.Readings.{says_all}
+use Rattle.ledger.proofs.CellContents.{weights_of}
 
 end_of : (owner : Owner) (bytes : List ℕ) (start : Start) (rest : List ℕ) (ending : Ending)
     → EndsWith owner bytes start rest ending → ((place : ℕ) → ending ≢ Damaged place)

@@ -2,7 +2,7 @@ use Rattle.std.proofs.Common.{◌≡◌, ◌++◌, take}
 use Rattle.std.specs.List.{flat_map}
 use Rattle.std.specs.String.{string_bytes}
 use Rattle.ledger.specs.Lines.{record_line}
-use Rattle.ledger.proofs.printing.push_records.Given as goal
+use Rattle.ledger.proofs.cell_text.push_records.Given as goal
 
 -- what was appended so far
 abbrev pub invariant-loop-kept : goal.invariant-loop-kept

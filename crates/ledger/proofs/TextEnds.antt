@@ -1,6 +1,7 @@
 -- Where the text of a cell ends, and which members it names.
 use Rattle.std.proofs.Common.{◌≡◌, ℕ, ◌+◌, ◌≤◌, List, ◌++◌, length, drop, true, false}
-use Rattle.std.proofs.Common.{refl, sym, ap, subst, ◌∙◌, arith, inl, inr, append_assoc, length-append}
+use Rattle.std.proofs.Common.{refl, sym, ap, subst, ◌∙◌, arith, inl, inr, append_assoc}
+use Rattle.std.proofs.Common.{length-append}
 use Rattle.std.proofs.lemmas.List.{drop_at, drop-drop, length-drop}
 use Rattle.fed_types.specs.Sites.{Membership}
 use Rattle.records.specs.declared.layout.Layout.{Layout}
@@ -19,7 +20,7 @@ use Rattle.ledger.specs.inner.Found.{IsAllAfter, IsAllFound}
 use Rattle.ledger.specs.inner.Named.{IsHeadedBy, HasHeaderOf}
 use Rattle.ledger.specs.inner.Sizes.{Stops}
 use Rattle.ledger.proofs.Headers.{has_of}
-use Rattle.ledger.proofs.Passing.{end_stops, header_stops}
+use Rattle.ledger.proofs.Passages.{end_stops, header_stops}
 
 -- ---- the parts of texts
 
