@@ -1,3 +1,6 @@
+ghost use Rattle.std.specs.Prelude.{◌≡◌};
+ghost use Rattle.known_bags.specs.Lists.{known_for};
+
 use fed_types::{BagId, Slot};
 
 /// A version, and the bag that a source knows for it.
@@ -10,7 +13,9 @@ pub struct KnownBag {
 }
 
 impl KnownBag {
-    pub(crate) fn new(slot: Slot, bag: BagId) -> KnownBag {
+    pub(crate) fn new(slot: Slot, bag: BagId) -> KnownBag
+        ensures { result ≡ known_for slot bag }
+    {
         KnownBag {
             slot,
             bag,

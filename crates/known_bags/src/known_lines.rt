@@ -1,5 +1,12 @@
 //! Known bags, as the command `ledger` lists them.
 
+ghost use Rattle.std.specs.Prelude.{◌≡◌, ◌++◌, map, IfOk};
+ghost use Rattle.std.specs.Option.{option_to_list};
+ghost use Rattle.known_bags.specs.declared.known_lines.ListFault.TheVariants.{Memory};
+ghost use Rattle.known_bags.specs.Lists.{known_in, slot_of, bag_of, is_passed_over, known_by};
+ghost use Rattle.known_bags.specs.Lists.{is_line};
+ghost use Rattle.known_bags.specs.inner.Lists.{IsListOf};
+
 use crate::known_bag::KnownBag;
 use fed_types::{BAG_BYTES, BagId, Slot};
 use std::alloc::{AllocError, Global};
@@ -14,6 +21,8 @@ pub(crate) enum ListFault {
 }
 
 impl From<AllocError> for ListFault {
+    ghost from_gives = { λ _ e. e ≡ Memory };
+
     fn from(_: AllocError) -> ListFault {
         ListFault::Memory
     }
@@ -25,29 +34,42 @@ pub(crate) fn push_known_lines(
     alloc: Global,
     bags: &mut Vec<KnownBag>,
     text: &[u8],
-) -> Result<(), ListFault> {
+) -> Result<(), ListFault>
+    ensures { IsListOf text.now bags.old.items bags.new.items result }
+{
     let mut rest = text;
-    for number in 1..usize::MAX {
-        let Some((line, after)) = first_line(rest) else {
-            break;
-        };
-        let words = split_words(alloc, line)?;
-        match known_in(alloc, words.as_slice())? {
-            Some(known) => {
-                if bags.push(known).is_err() {
-                    return Err(ListFault::Memory);
-                }
-            }
-            None if is_passed_over(words.as_slice()) => {}
-            None => return Err(ListFault::Line(number)),
+    let mut number = 1;
+    while let Some((line, after)) = first_line(rest) {
+        if !push_line(alloc, bags, line)? {
+            return Err(ListFault::Line(number));
         }
         rest = after;
+        number += 1;
     }
     Ok(())
 }
 
+// Appends the bag of a line, if it knows one, and gives whether it is a ledger's.
+fn push_line(alloc: Global, bags: &mut Vec<KnownBag>, line: &[u8]) -> Result<bool, AllocError>
+    ensures is { IfOk result (λ is. is ≡ is_line line.now) }
+    ensures known { IfOk result (λ _. bags.new.items
+        ≡ bags.old.items ++ option_to_list (known_by line.now)) }
+{
+    let words = split_words(alloc, line)?;
+    match known_in(alloc, words.as_slice())? {
+        Some(known) => {
+            bags.push(known)?;
+            Ok(true)
+        }
+        None => Ok(is_passed_over(words.as_slice())),
+    }
+}
+
 // A line that says of no bag that it is known.
-fn is_passed_over(words: &[&[u8]]) -> bool {
+#[tactic(auto, unfolding(crate::specs::Lists::is_passed_over))]
+fn is_passed_over(words: &[&[u8]]) -> bool
+    ensures { result ≡ is_passed_over (map (λ word. word.now) words.now) }
+{
     match words {
         [] => true,
         [first, ..] => {
@@ -60,30 +82,42 @@ fn is_passed_over(words: &[&[u8]]) -> bool {
 }
 
 // The known bag of a line `known OBJ V HEX`.
-fn known_in(alloc: Global, words: &[&[u8]]) -> Result<Option<KnownBag>, AllocError> {
+#[tactic(auto, unfolding(crate::specs::Lists::known_in))]
+fn known_in(alloc: Global, words: &[&[u8]]) -> Result<Option<KnownBag>, AllocError>
+    ensures { IfOk result (λ known. known ≡ known_in (map (λ word. word.now) words.now)) }
+{
     let [name, object, version, digits] = words else {
         return Ok(None);
     };
     if *name != b"known".as_slice() {
         return Ok(None);
     }
-    let (Some(slot), Some(bag)) = (slot_of(alloc, object, version)?, bag_of(digits)) else {
+    let Some(slot) = slot_of(alloc, object, version)? else {
         return Ok(None);
     };
-    Ok(Some(KnownBag::new(slot, bag)))
-}
-
-fn slot_of(alloc: Global, object: &[u8], version: &[u8]) -> Result<Option<Slot>, AllocError> {
-    let Some(version) = parse_number(1, u64::from(u32::MAX), version) else {
-        return Ok(None);
-    };
-    match parse_text(alloc, object)? {
-        Some(object) => Ok(Slot::new(object, version as u32).ok()),
+    match bag_of(digits) {
+        Some(bag) => Ok(Some(KnownBag::new(slot, bag))),
         None => Ok(None),
     }
 }
 
-fn bag_of(digits: &[u8]) -> Option<BagId> {
+#[tactic(auto, unfolding(crate::specs::Lists::slot_of, crate::specs::Lists::object_of))]
+fn slot_of(alloc: Global, object: &[u8], version: &[u8]) -> Result<Option<Slot>, AllocError>
+    ensures { IfOk result (λ slot. slot ≡ slot_of object.now version.now) }
+{
+    let Some(name) = parse_text(alloc, object)? else {
+        return Ok(None);
+    };
+    let Some(version) = parse_number(1, u64::from(u32::MAX), version) else {
+        return Ok(None);
+    };
+    Ok(Slot::new(name, version as u32).ok())
+}
+
+#[tactic(auto, unfolding(crate::specs::Lists::bag_of))]
+fn bag_of(digits: &[u8]) -> Option<BagId>
+    ensures { result ≡ bag_of digits.now }
+{
     let mut bytes = [0; BAG_BYTES];
     match hex::decode_to_slice(digits, &mut bytes) {
         Ok(()) => Some(BagId(bytes)),

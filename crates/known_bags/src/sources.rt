@@ -1,10 +1,15 @@
 //! The files that say what is known: cells, and lists of their versions.
 
+ghost use Rattle.std.specs.Prelude.{◌≡◌, ◌++◌, true, false, OnOk};
+ghost use Rattle.std.specs.Option.{option_to_list};
+ghost use Rattle.known_bags.specs.Sources.{is_cell, known_by, known_of, IsSourceOf};
+ghost use Rattle.known_bags.specs.inner.Sources.{end_of, AreOfContents};
+
 use crate::known_bag::KnownBag;
 use crate::known_lines::{ListFault, push_known_lines};
 use ledger::{Contents, Ending, headless_ending, read_contents};
 use outcomes::{ReadFault, read_all};
-use records::Entry;
+use records::{Entry, Record};
 use std::alloc::{AllocError, Global};
 use std::fs::{self, File};
 use std::io::ErrorKind;
@@ -28,22 +33,55 @@ pub fn push_source(
     path: &str,
 ) -> Result<(), SourceFault> {
     let bytes = bytes_of(rt, path)?;
-    if !bytes.starts_with(b"BPJ") {
-        return match push_known_lines(rt.alloc(), bags, bytes.as_slice()) {
-            Ok(()) => Ok(()),
-            Err(ListFault::Line(line)) => Err(SourceFault::Line(line)),
-            Err(ListFault::Memory) => Err(SourceFault::Memory),
-        };
+    push_known(rt.alloc(), bags, bytes.as_slice())
+}
+
+/// Appends the bags that these bytes know: a cell's, or those of a list that `ledger` printed.
+pub fn push_known(alloc: Global, bags: &mut Vec<KnownBag>, bytes: &[u8]) -> Result<(), SourceFault>
+    ensures { IsSourceOf bytes.now bags.old.items bags.new.items result }
+{
+    if is_cell(bytes) {
+        push_cell(alloc, bags, bytes)
+    } else {
+        push_list(alloc, bags, bytes)
     }
-    match read_contents(rt.alloc(), bytes.as_slice()) {
-        Ok(Some(contents)) => push_contents(rt.alloc(), bags, &contents),
-        Ok(None) => end_of(headless_ending(bytes.as_slice())),
+}
+
+// Whether the bytes are read as a cell.
+fn is_cell(bytes: &[u8]) -> bool
+    ensures { result ≡ is_cell bytes.now }
+{
+    bytes.starts_with(b"BPJ")
+}
+
+// Those of a list.
+fn push_list(alloc: Global, bags: &mut Vec<KnownBag>, bytes: &[u8]) -> Result<(), SourceFault>
+    ensures { is_cell bytes.now ≡ false
+        → IsSourceOf bytes.now bags.old.items bags.new.items result }
+{
+    match push_known_lines(alloc, bags, bytes) {
+        Ok(()) => Ok(()),
+        Err(ListFault::Line(line)) => Err(SourceFault::Line(line)),
+        Err(ListFault::Memory) => Err(SourceFault::Memory),
+    }
+}
+
+// Those of a cell, or of bytes that begin with no whole header of one.
+fn push_cell(alloc: Global, bags: &mut Vec<KnownBag>, bytes: &[u8]) -> Result<(), SourceFault>
+    ensures { is_cell bytes.now ≡ true
+        → IsSourceOf bytes.now bags.old.items bags.new.items result }
+{
+    match read_contents(alloc, bytes) {
+        Ok(Some(contents)) => push_contents(alloc, bags, &contents),
+        Ok(None) => end_of(headless_ending(bytes)),
         Err(AllocError) => Err(SourceFault::Memory),
     }
 }
 
 // Whether a cell that ends so isn't damaged.
-fn end_of(ending: Ending) -> Result<(), SourceFault> {
+fn end_of(ending: Ending) -> Result<(), SourceFault>
+    ensures { result ≡ end_of ending }
+{
     match ending {
         Ending::Damaged(offset) => Err(SourceFault::Damaged(offset)),
         Ending::Whole | Ending::Torn(_) => Ok(()),
@@ -55,25 +93,43 @@ fn push_contents(
     alloc: Global,
     bags: &mut Vec<KnownBag>,
     contents: &Contents,
-) -> Result<(), SourceFault> {
+) -> Result<(), SourceFault>
+    ensures { AreOfContents contents.now bags.old.items bags.new.items result }
+{
     end_of(contents.ending)?;
-    match push_records(alloc, bags, contents) {
+    match push_records(alloc, bags, &contents.records) {
         Ok(()) => Ok(()),
         Err(AllocError) => Err(SourceFault::Memory),
     }
 }
 
+// Those that records know, in order.
+#[tactic(auto, unfolding(crate::specs::Sources::known_of))]
 fn push_records(
     alloc: Global,
     bags: &mut Vec<KnownBag>,
-    contents: &Contents,
-) -> Result<(), AllocError> {
-    for record in &contents.records {
-        if let Entry::Known(bag) = record.body {
-            bags.push(KnownBag::new(record.slot.copy(alloc)?, bag))?;
-        }
+    records: &[Record],
+) -> Result<(), AllocError>
+    ensures { OnOk result (bags.new.items ≡ bags.old.items ++ known_of records.now) }
+{
+    for kept in records {
+        push_record(alloc, bags, kept)?;
     }
     Ok(())
+}
+
+// That of a record, if it knows one.
+fn push_record(alloc: Global, bags: &mut Vec<KnownBag>, kept: &Record) -> Result<(), AllocError>
+    ensures { OnOk result (bags.new.items ≡ bags.old.items ++ option_to_list (known_by kept.now)) }
+{
+    match kept.body {
+        Entry::Known(bag) => {
+            let slot = kept.slot.copy(alloc)?;
+            bags.push(KnownBag::new(slot, bag))?;
+            Ok(())
+        }
+        _ => Ok(()),
+    }
 }
 
 // What isn't a file is refused before it is opened: opening a pipe would wait.

@@ -35,12 +35,42 @@ EndsWith owner bytes start rest (Torn count) =
 EndsWith owner bytes start rest (Damaged place) =
     IsDamage owner start rest × (place + length rest ≡ length bytes)
 
--- the bytes are headers and records, all of which the contents have, and an end
-pub record IsCell (bytes : List ℕ) (contents : Contents) : Type 0 where
+-- what a cell says: whose it is, by the header that names the weights or by an older one; its
+-- records; and how it ends
+pub record Said : Type 0 where
+  pub owner : Owner
+  pub names_weights : Bool
+  pub records : List Record
+  pub ending : Ending
+
+-- the same, as it is read
+abbrev pub said_in : Contents → Said
+said_in contents = record {
+  owner = contents.owner;
+  names_weights = contents.names_weights;
+  records = contents.records.items;
+  ending = contents.ending;
+}
+
+-- the bytes are headers and records, all of which are said, and an end
+pub record IsSaid (bytes : List ℕ) (said : Said) : Type 0 where
   pub start : Start
   pub records : List Record
   pub rest : List ℕ
-  pub reaches : Reaches contents.owner bytes start records rest
-  pub records_are : contents.records.items ≡ records_of start records
-  pub weights_are : NamesWeights start contents.owner.members.weights contents.names_weights
-  pub ends : EndsWith contents.owner bytes start rest contents.ending
+  pub reaches : Reaches said.owner bytes start records rest
+  pub records_are : said.records ≡ records_of start records
+  pub weights_are : NamesWeights start said.owner.members.weights said.names_weights
+  pub ends : EndsWith said.owner bytes start rest said.ending
+
+-- these are the contents of a cell
+abbrev pub IsCell : List ℕ → Contents → Type 0
+IsCell bytes contents = IsSaid bytes (said_in contents)
+
+-- the bytes begin with headers and these records, whatever follows
+pub record Begins (bytes : List ℕ) (owner : Owner) (named : Bool) (all : List Record) : Type 0 where
+  pub start : Start
+  pub records : List Record
+  pub rest : List ℕ
+  pub reaches : Reaches owner bytes start records rest
+  pub all_are : all ≡ records_of start records
+  pub weights_are : NamesWeights start owner.members.weights named

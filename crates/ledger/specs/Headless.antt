@@ -18,8 +18,8 @@ AreCut [] = ⊤
 AreCut (count ∷ weights) =
     (count ≤ most_members) × (length weights < count) × ¬ Contains weights 0
 
--- the bytes are those that a header begins with, of either layout: fewer than name the owner; or, in
--- the second, all that do, and fewer weights than there are members
+-- the bytes are those that a header begins with, of either layout: fewer than name the owner; or,
+-- in the second, all that do, and fewer weights than there are members
 abbrev pub BeginsHeader : List ℕ → Type 0
 BeginsHeader bytes =
     ((length bytes < front_len) × (AreFirst old_magic bytes ⊎ AreFirst magic bytes))

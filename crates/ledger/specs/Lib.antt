@@ -1,10 +1,11 @@
 -- Read in this order: Cells (what the bytes of a cell say), Headless (bytes
--- without a whole header), Lines (the text of its records), Versions (what
--- they say of each version), Ledgers (the text of that). inner/ is for
--- private contracts and proofs.
+-- without a whole header), Lines (the text of its records), Pieces (the same
+-- text, given piece by piece), Versions (what they say of each version),
+-- Ledgers (the text of that). inner/ is for private contracts and proofs.
 pub mod Cells
 pub mod Headless
 pub mod Lines
+pub mod Pieces
 pub mod Versions
 pub mod Ledgers
 pub mod inner

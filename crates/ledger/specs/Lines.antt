@@ -1,5 +1,5 @@
 -- The text of what a cell says: a line for whose it is, one for each record, and one for its end.
-use Rattle.std.specs.Prelude.{ℕ, if◌then◌else◌, List, [], ◌∷◌, ◌++◌, codes}
+use Rattle.std.specs.Prelude.{ℕ, Bool, if◌then◌else◌, List, [], ◌∷◌, ◌++◌, codes}
 use Rattle.std.specs.List.{flat_map}
 use Rattle.std.specs.Fmt.{decimal}
 use Rattle.hex.specs.Hex.{encode_lower}
@@ -10,10 +10,12 @@ use Rattle.words.specs.Escapes.{escaped_text}
 use Rattle.records.specs.declared.entry.Entry.{Entry}
 use Rattle.records.specs.declared.entry.Entry.TheVariants as entry
 use Rattle.records.specs.declared.entry.Entry.TheVariants.{Deposit, Round, Promise, Known}
+use Rattle.records.specs.declared.owner.Owner.{Owner}
 use Rattle.records.specs.declared.record.Record.{Record}
 use Rattle.ledger.specs.declared.contents.Contents.{Contents}
 use Rattle.ledger.specs.declared.ending.Ending.{Ending}
 use Rattle.ledger.specs.declared.ending.Ending.TheVariants.{Whole, Torn, Damaged}
+use Rattle.ledger.specs.Cells.{Said, said_in}
 
 -- what a record is
 abbrev pub kind_text : Entry → List ℕ
@@ -52,15 +54,14 @@ abbrev pub weight_word : ℕ → List ℕ
 weight_word weight = 32 ∷ decimal weight
 
 -- the weights, where a header names them
-abbrev pub weight_words : Contents → List ℕ
-weight_words contents =
-    if contents.names_weights then flat_map weight_word contents.owner.members.weights else []
+abbrev pub weight_words : Owner → Bool → List ℕ
+weight_words owner named = if named then flat_map weight_word owner.members.weights else []
 
 -- the federation, the site and the weights
-unfoldable pub owner_line : Contents → List ℕ
-owner_line contents =
-    codes "cell " ++ (decimal contents.owner.members.federation
-    ++ (32 ∷ (decimal contents.owner.site ++ (weight_words contents ++ 10 ∷ []))))
+unfoldable pub owner_line : Owner → Bool → List ℕ
+owner_line owner named =
+    codes "cell " ++ (decimal owner.members.federation
+    ++ (32 ∷ (decimal owner.site ++ (weight_words owner named ++ 10 ∷ []))))
 
 abbrev pub ending_line : Ending → List ℕ
 ending_line Whole = []
@@ -71,7 +72,12 @@ ending_line (Damaged place) = codes "damaged " ++ (decimal place ++ 10 ∷ [])
 unfoldable pub records_text : List Record → List ℕ
 records_text records = flat_map record_line records
 
--- the lines of a cell
-unfoldable pub contents_text : Contents → List ℕ
-contents_text contents =
-    owner_line contents ++ (records_text contents.records.items ++ ending_line contents.ending)
+-- the lines of what a cell says
+unfoldable pub said_text : Said → List ℕ
+said_text said =
+    owner_line said.owner said.names_weights
+    ++ (records_text said.records ++ ending_line said.ending)
+
+-- the lines of a cell that was read
+abbrev pub contents_text : Contents → List ℕ
+contents_text contents = said_text (said_in contents)

@@ -2,27 +2,32 @@
 //! what its records say of each version.
 #![tactic(auto)]
 
+mod batch;
+mod cell_text;
 mod contents;
 mod ending;
 mod headless;
+mod journal_lines;
 mod law;
 mod listing;
 mod named;
-mod printing;
 mod read;
 mod record_line;
 mod row;
 mod sizes;
 mod standing;
+mod steps;
 mod version_line;
 mod versions;
 
+pub use cell_text::{ending_text, journal_text};
 pub use contents::Contents;
 pub use ending::Ending;
 pub use headless::headless_ending;
+pub use journal_lines::{JournalLines, Lines};
 pub use law::contents_are_what_opening_gives;
 pub use listing::Listing;
-pub use printing::{ending_text, journal_text};
 pub use read::read_contents;
 pub use standing::Standing;
+pub use steps::LastLines;
 pub use version_line::ledger_text;

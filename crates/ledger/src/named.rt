@@ -1,6 +1,7 @@
 //! Whose cell it is, by the header that its bytes begin with.
 
-ghost use Rattle.std.specs.Prelude.{◌≡◌, ◌≤◌, ◌↔◌, [], ◌∷◌, IfOk, IsTrue, MatchOption, length, take};
+ghost use Rattle.std.specs.Prelude.{◌≡◌, ◌≤◌, ◌↔◌, [], ◌∷◌, IfOk, IsTrue, MatchOption, length};
+ghost use Rattle.std.specs.Prelude.{take};
 ghost use Rattle.std.specs.Prelude.{slice_index};
 ghost use Rattle.fed_types.specs.Sites.{IsSiteNumber};
 ghost use Rattle.records.specs.Journals.{HasHeader, IsOfOwner};

@@ -100,9 +100,9 @@ fn find_all(alloc: Global, owner: Owner, bytes: &[u8]) -> Result<Found, AllocErr
     }
 }
 
-// The records of a cell that isn't damaged. Under the weights that it names it says records, so
-// this fails only where memory runs out.
-fn read_all(alloc: Global, owner: Owner, bytes: &[u8]) -> Result<Vec<Record>, AllocError>
+/// The records of a cell that isn't damaged. Under the weights that it names it says records, so
+/// this fails only where memory runs out.
+pub(crate) fn read_all(alloc: Global, owner: Owner, bytes: &[u8]) -> Result<Vec<Record>, AllocError>
     ensures { IfOk result (λ records. AreRecordsRead owner bytes.now records.items) }
 {
     match read_journal(alloc, owner, bytes) {
@@ -111,8 +111,8 @@ fn read_all(alloc: Global, owner: Owner, bytes: &[u8]) -> Result<Vec<Record>, Al
     }
 }
 
-// How a cell ends that isn't damaged.
-fn ending_at(end: usize, len: usize) -> Ending
+/// How a cell ends that isn't damaged.
+pub(crate) fn ending_at(end: usize, len: usize) -> Ending
     requires { end ≤ len }
     ensures { result ≡ ending_of (len - end) }
 {

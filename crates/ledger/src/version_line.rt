@@ -8,9 +8,9 @@ ghost use Rattle.words.specs.Pushes.{Pushes};
 ghost use Rattle.ledger.specs.Ledgers.{word_of, bag_text, version_line, listed_line, ledger_text};
 ghost use Rattle.ledger.specs.inner.Rows.{listed_in, slot_at, text_if};
 
+use crate::cell_text::push_ending;
 use crate::contents::Contents;
 use crate::listing::Listing;
-use crate::printing::push_ending;
 use crate::record_line::push_bag;
 use crate::standing::Standing;
 use crate::versions::{Versions, slot_at, standing_in, versions_of};

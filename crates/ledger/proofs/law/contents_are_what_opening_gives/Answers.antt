@@ -1,4 +1,4 @@
-use Rattle.ledger.proofs.Opening.{opens, damaged}
+use Rattle.ledger.proofs.Openings.{opens, damaged}
 use Rattle.ledger.proofs.law.contents_are_what_opening_gives.Goals as goal
 
 pub returns-clause-records : goal.returns-clause-records

@@ -2,7 +2,7 @@ use Rattle.std.proofs.Common.{arith, subst}
 use Rattle.std.specs.Prelude.{MatchOption}
 use Rattle.records.specs.Journals.{HasHeader}
 use Rattle.ledger.specs.inner.Named.{HasHeaderOf}
-use Rattle.ledger.proofs.Finding.{header_fits, headed_long, first_found}
+use Rattle.ledger.proofs.TextEnds.{header_fits, headed_long, first_found}
 use Rattle.ledger.proofs.read.find_all.Goals as goal
 
 pub found_after-requires : goal.found_after-requires

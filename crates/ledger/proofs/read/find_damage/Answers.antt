@@ -1,7 +1,7 @@
 use Rattle.std.proofs.Common.{sym, subst}
 use Rattle.std.specs.Prelude.{IfOk}
 use Rattle.ledger.specs.inner.Found.{IsDamageFound}
-use Rattle.ledger.proofs.Reading.{says_end, found_damage}
+use Rattle.ledger.proofs.Readings.{says_end, found_damage}
 use Rattle.ledger.proofs.read.find_damage.Goals as goal
 use Rattle.ledger.proofs.read.find_damage.Goals.{in-Ok, in-Err}
 

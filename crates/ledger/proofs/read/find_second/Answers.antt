@@ -4,7 +4,7 @@ use Rattle.std.specs.Prelude.{MatchOption}
 use Rattle.records.specs.Journals.{HasHeader}
 use Rattle.records.proofs.Walk.{from, from_is}
 use Rattle.ledger.specs.inner.Named.{HasHeaderOf}
-use Rattle.ledger.proofs.Finding.{Passes, header_fits, second_found, none_found}
+use Rattle.ledger.proofs.TextEnds.{Passes, header_fits, second_found, none_found}
 use Rattle.ledger.proofs.read.find_second.Goals as goal
 
 pub found_after-requires : goal.found_after-requires

@@ -1,6 +1,6 @@
 use Rattle.std.proofs.Common.{Ok}
 use Rattle.records.specs.Starts.{records_of}
-use Rattle.ledger.proofs.Reading.{says_all, same_items}
+use Rattle.ledger.proofs.Readings.{says_all, same_items}
 use Rattle.ledger.proofs.read.read_all.Goals as goal
 
 pub returns-in-Ok : goal.returns-in-Ok

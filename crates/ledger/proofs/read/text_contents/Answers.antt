@@ -1,8 +1,8 @@
 use Rattle.std.proofs.Common.{◌≡◌, ◌-◌, ◌∙◌, length, arith, ap, refl, sym}
 use Rattle.records.specs.declared.owner.Owner.{Owner}
 use Rattle.ledger.specs.inner.Found.{ending_of}
-use Rattle.ledger.proofs.Moving.{reaches_of, end_of}
-use Rattle.ledger.proofs.Telling.{weights_of}
+use Rattle.ledger.proofs.SameOwners.{reaches_of, end_of}
+use Rattle.ledger.proofs.CellContents.{weights_of}
 use Rattle.ledger.proofs.read.text_contents.Goals as goal
 
 pub returns : goal.returns

@@ -2,7 +2,7 @@ use Rattle.std.proofs.Common.{arith, subst, Some, None}
 use Rattle.std.proofs.lemmas.List.{length-drop}
 use Rattle.records.proofs.Walk.{from_is}
 use Rattle.ledger.specs.inner.Sizes.{IsSizeAt}
-use Rattle.ledger.proofs.Passing.{left_next, left_end}
+use Rattle.ledger.proofs.Passages.{left_next, left_end}
 use Rattle.ledger.proofs.sizes.pass_sizes.Goals as goal
 
 pub loop-size-preserved : goal.loop-size-preserved

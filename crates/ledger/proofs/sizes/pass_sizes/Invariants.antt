@@ -4,7 +4,7 @@ use Rattle.records.specs.declared.record.Record.{Record}
 use Rattle.records.specs.Layout.{all_encoded}
 use Rattle.records.specs.Records.{AreRecords}
 use Rattle.ledger.specs.inner.Sizes.{Stops}
-use Rattle.ledger.proofs.Passing.{Left}
+use Rattle.ledger.proofs.Passages.{Left}
 use Rattle.ledger.proofs.sizes.pass_sizes.Given as goal
 
 abbrev pub invariant-loop-size : goal.invariant-loop-size

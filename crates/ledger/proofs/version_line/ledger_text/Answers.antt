@@ -4,7 +4,7 @@ use Rattle.std.specs.Map.{keys_of}
 use Rattle.ledger.specs.inner.Rows.{listed_in, StandsFor}
 use Rattle.ledger.specs.Ledgers.{ledger_text}
 use Rattle.ledger.specs.Lines.{ending_line}
-use Rattle.ledger.proofs.Printed.{lines_are}
+use Rattle.ledger.proofs.VersionLines.{lines_are}
 use Rattle.ledger.proofs.version_line.ledger_text.Goals as goal
 
 pub returns : goal.returns

@@ -3,7 +3,7 @@ use Rattle.std.specs.List.{flat_map}
 use Rattle.std.specs.Map.{keys_of}
 use Rattle.std.specs.String.{string_bytes}
 use Rattle.ledger.specs.inner.Rows.{listed_in, slot_at, text_if}
-use Rattle.ledger.proofs.Printed.{text_next}
+use Rattle.ledger.proofs.VersionLines.{text_next}
 use Rattle.ledger.proofs.version_line.push_versions.Goals as goal
 
 pub loop-place-preserved : goal.loop-place-preserved

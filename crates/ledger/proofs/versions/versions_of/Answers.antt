@@ -4,7 +4,7 @@ use Rattle.records.specs.declared.record.Record.{Record}
 use Rattle.slot_table.specs.Rows.{Rows}
 use Rattle.ledger.specs.declared.row.Row.{Row}
 use Rattle.ledger.specs.inner.Rows.{StandsFor}
-use Rattle.ledger.proofs.Noting.{none_stand, one_more}
+use Rattle.ledger.proofs.Notes.{none_stand, one_more}
 use Rattle.ledger.proofs.versions.versions_of.Goals as goal
 
 pub loop-kept-init : goal.loop-kept-init

@@ -1,0 +1,16 @@
+use Rattle.std.proofs.Common.{◌≡◌, ◌+◌, ◌++◌, ◌∷◌, [], ◌∙◌, ap, sym, take}
+use Rattle.std.proofs.lemmas.List.{take_more}
+use Rattle.records.specs.declared.record.Record.{Record}
+use Rattle.known_bags.proofs.Lists.{next_record}
+use Rattle.known_bags.proofs.sources.push_records.Goals as goal
+
+pub loop-kept-preserved : goal.loop-kept-preserved
+loop-kept-preserved c =
+    let records = c.args.records.now in
+    let i = c.loop-kept.kept-index in
+    let r : Record = c.kept-item.result in
+    let more : take (i + 1) records ≡ take i records ++ r ∷ [] =
+    take_more records i r c.loop-kept-test.true
+    ∙ ap (λ (x : Record). take i records ++ x ∷ []) (sym c.kept-item.is) in
+    next_record records i r c.args.bags.now.items c.loop-kept.bags.items
+    c.push_record.new.bags.items more c.loop-kept.invariant c.in_ok-push_record.ensures

@@ -1,0 +1,104 @@
+-- What was found and read of a cell, as its contents.
+use Rattle.std.proofs.Common.{◌≡◌, ℕ, List, [], ◌∷◌, length, take, Ok, Err, Bool}
+use Rattle.std.proofs.Common.{Result, refl, sym, ap, subst, ◌∙◌, arith, inl, inr, length-append}
+use Rattle.std.specs.Prelude.{IfOk}
+use Rattle.std.specs.List.{All}
+use Rattle.std.specs.declared.alloc.AllocError.{AllocError}
+use Rattle.std.proofs.lemmas.List.{append-nil, take_at}
+use Rattle.std.proofs.lemmas.List.Elements.{All-replicate}
+use Rattle.records.specs.declared.owner.Owner.{Owner}
+use Rattle.records.specs.Starts.{Start, Old, New, Carried, HasWeights, text_bytes}
+use Rattle.records.specs.Journals.{Reaches, IsEnd}
+use Rattle.ledger.specs.declared.contents.Contents.{Contents}
+use Rattle.ledger.specs.declared.ending.Ending.TheVariants.{Damaged}
+use Rattle.ledger.specs.Cells.{NamesWeights, EndsWith, IsCell}
+use Rattle.ledger.specs.inner.Found.{HasEnd, HasDamage, IsTextRead, ending_of}
+use Rattle.ledger.specs.inner.Named.{IsHeadedBy}
+use Rattle.ledger.proofs.TextEnds.{text_headed}
+use Rattle.ledger.proofs.SameOwners.{reaches_of, end_of, damage_of}
+
+pub weights_of : (start : Start) (weights : List ℕ) (named : Bool) → NamesWeights start weights named
+    → HasWeights weights start
+weights_of Old weights named h =
+    subst (All (λ (w : ℕ). w ≡ 1)) (sym h.0) (All-replicate (λ (w : ℕ). w ≡ 1) 1 1 refl)
+weights_of (New its) weights named h = sym h.0
+weights_of (Carried rs its) weights named h = sym h.0
+
+ends_with : (owner : Owner) (bytes : List ℕ) (start : Start) (rest : List ℕ)
+    → IsEnd owner start rest → EndsWith owner bytes start rest (ending_of (length rest))
+ends_with owner bytes start [] h = refl
+ends_with owner bytes start (a ∷ rest) (inl none) = absurd (cc none)
+ends_with owner bytes start (a ∷ rest) (inr torn) = (torn, refl)
+
+told : (owner : Owner) (bytes : List ℕ) (e : HasEnd owner bytes) (contents : Contents)
+    → IsTextRead owner bytes contents → IsCell bytes contents
+told owner bytes e contents t =
+    let all = t.all e.start e.records e.rest e.reaches e.ends in
+    let f = sym t.federation in
+    let s = sym t.site in
+    record {
+      start = e.start;
+      records = e.records;
+      rest = e.rest;
+      reaches = reaches_of owner contents.owner f s bytes e.start e.records e.rest e.reaches;
+      records_are = all.0;
+      weights_are = all.1;
+      ends = subst (EndsWith contents.owner bytes e.start e.rest) (sym all.2)
+          (ends_with contents.owner bytes e.start e.rest
+          (end_of owner contents.owner f s e.start e.rest e.ends));
+    }
+
+pub tells : (owner : Owner) (bytes : List ℕ) → HasEnd owner bytes
+    → (r : Result Contents AllocError) → IfOk r (IsTextRead owner bytes) → IfOk r (IsCell bytes)
+tells owner bytes e (Ok contents) t = told owner bytes e contents t
+tells owner bytes e (Err fault) t = tt
+
+-- ---- damage
+
+module _ (owner : Owner) (bytes : List ℕ) (place : ℕ) (d : HasDamage owner bytes place) where
+  text_reaches : Reaches owner (take place bytes) d.start d.records []
+  text_reaches =
+      let text = text_bytes owner d.start d.records in record {
+        is_start = d.reaches.is_start;
+        are_records = d.reaches.are_records;
+        bytes_are = ap (take place) d.reaches.bytes_are
+            ∙ take_at text d.rest place (omega (
+              arith,
+              d.place_is,
+              ap length d.reaches.bytes_are,
+              length-append text d.rest,
+            ))
+            ∙ sym (append-nil text);
+      }
+
+  pub text_ends : HasEnd owner (take place bytes)
+  text_ends = record {
+    start = d.start;
+    records = d.records;
+    rest = [];
+    reaches = text_reaches;
+    ends = inl refl;
+  }
+
+  pub text_headed_by : IsHeadedBy owner bytes → IsHeadedBy owner (take place bytes)
+  text_headed_by h = record {
+    headed = text_headed owner (take place bytes) d.start d.records [] text_reaches;
+    single = h.single;
+    site = h.site;
+  }
+
+  pub damage_told : (text : Contents) → IsTextRead owner (take place bytes) text
+      → IsCell bytes (record text { ending = Damaged place })
+  damage_told text t =
+      let all = t.all d.start d.records [] text_reaches (inl refl) in
+      let f = sym t.federation in
+      let s = sym t.site in
+      record {
+        start = d.start;
+        records = d.records;
+        rest = d.rest;
+        reaches = reaches_of owner text.owner f s bytes d.start d.records d.rest d.reaches;
+        records_are = all.0;
+        weights_are = all.1;
+        ends = (damage_of owner text.owner f s d.start d.rest d.damage, d.place_is);
+      }

@@ -1,0 +1,114 @@
+-- What reading a journal says of a cell that begins with a header.
+use Rattle.std.proofs.Common.{◌≡◌, ℕ, List, length, take, Ok, Err}
+use Rattle.std.proofs.Common.{Option, Result, refl, sym, ap, subst, ◌∙◌, arith, inl, inr}
+use Rattle.std.proofs.Common.{length-append}
+use Rattle.std.specs.Prelude.{IfOk, IsErr}
+use Rattle.std.specs.declared.alloc.AllocError.{AllocError}
+use Rattle.records.specs.declared.fault.JournalFault.{JournalFault}
+use Rattle.records.specs.declared.fault.JournalFault.TheVariants as faults
+use Rattle.records.specs.declared.owner.Owner.{Owner}
+use Rattle.records.specs.declared.record.Record.{Record}
+use Rattle.records.specs.Answers.{IsReading}
+use Rattle.records.specs.Faults.{IsOrMemory}
+use Rattle.records.specs.Layout.{old_header, header_of}
+use Rattle.records.specs.Starts.{Start, HasWeights, records_of, text_bytes}
+use Rattle.records.specs.Journals.{NamesOwner, HasNoHeader, Reaches, IsEnd, Says}
+use Rattle.records.specs.Journals.{IsDamagedAt}
+use Rattle.records.proofs.Apart.{header_magic, header_size, old_header_magic, old_header_size}
+use Rattle.records.proofs.OneReading.{new_not_headed}
+use Rattle.records.proofs.Texts.{magics_differ}
+use Rattle.ledger.specs.Cells.{IsHeaded}
+use Rattle.ledger.specs.inner.Found.{HasEnd, HasDamage, IsDamageIn, IsDamageFound}
+use Rattle.ledger.proofs.Headers.{headed_owner}
+
+headed_names : (owner : Owner) (bytes : List ℕ) → IsHeaded owner bytes → NamesOwner bytes
+headed_names owner bytes (inl (rest, is)) = inl (
+  omega (arith, ap length is, length-append (old_header owner) rest, old_header_size owner),
+  ap (take 4) is ∙ old_header_magic owner rest,
+)
+headed_names owner bytes (inr (ws, rest, are, is)) = inr (
+  omega (arith, ap length is, length-append (header_of owner ws) rest, header_size owner ws),
+  ap (take 4) is ∙ header_magic owner ws rest,
+)
+
+pub says_end : (owner : Owner) (bytes : List ℕ) (records : List Record) → IsHeaded owner bytes
+    → Says owner bytes (Ok records) → HasEnd owner bytes
+unfolding Says
+says_end owner bytes records headed (inl (none, new)) =
+    absurd (new_not_headed owner bytes new headed)
+says_end owner bytes records headed (inr j) = record {
+  start = j.start;
+  records = j.records;
+  rest = j.end;
+  reaches = j.reaches;
+  ends = j.ends;
+}
+
+-- ---- faults
+
+pub no_header : (owner : Owner) (bytes : List ℕ) → IsHeaded owner bytes → HasNoHeader owner bytes → ⊥
+no_header owner bytes headed (new, inl other) = other (headed_names owner bytes headed)
+no_header owner bytes (inl (rest, is)) (new, inr (m, its, none)) =
+    magics_differ (sym m ∙ ap (take 4) is ∙ old_header_magic owner rest)
+no_header owner bytes (inr has) (new, inr (m, its, none)) = none has
+
+damaged : (owner : Owner) (bytes : List ℕ) (place : ℕ) → IsHeaded owner bytes
+    → IsDamagedAt owner place bytes → HasDamage owner bytes place
+damaged owner bytes place headed (inl (zero, none)) = absurd (no_header owner bytes headed none)
+damaged owner bytes place headed (inr d) = record {
+  start = d.start;
+  records = d.records;
+  rest = d.rest;
+  reaches = d.reaches;
+  damage = d.damage;
+  place_is = omega (
+    arith,
+    d.place_is,
+    ap length d.reaches.bytes_are,
+    length-append (text_bytes owner d.start d.records) d.rest,
+  );
+}
+
+memory : (r : Result (Option ℕ) AllocError) (P : Option ℕ → Type 0) → IsErr r → IfOk r P
+memory (Ok x) P h = absurd (cc h)
+memory (Err e) P h = tt
+
+pub found_damage : (owner : Owner) (bytes : List ℕ) (fault : JournalFault)
+    (r : Result (Option ℕ) AllocError) → IsHeaded owner bytes → IsReading owner bytes (Err fault)
+    → IsDamageIn fault r → IfOk r (IsDamageFound owner bytes)
+unfolding Says
+found_damage owner bytes faults.OtherFederation r headed said e =
+    absurd (said.1 (headed_owner owner bytes headed).0)
+found_damage owner bytes faults.OtherSite r headed said e =
+    absurd (said.2 (headed_owner owner bytes headed).1)
+found_damage owner bytes (faults.Damaged place) r headed said e =
+    subst (λ r. IfOk r (IsDamageFound owner bytes)) (sym e) (damaged owner bytes place headed said)
+found_damage owner bytes faults.OtherWeights r headed said e =
+    subst (λ r. IfOk r (IsDamageFound owner bytes)) (sym e) (record {
+      start = said.start;
+      records = said.records;
+      rest = said.end;
+      reaches = said.reaches;
+      ends = said.ends;
+    })
+found_damage owner bytes faults.Memory r headed said e = memory r (IsDamageFound owner bytes) e
+
+-- ---- records
+
+pub says_all : (owner : Owner) (bytes : List ℕ) (start : Start) (rs : List Record) (rest : List ℕ)
+    → Reaches owner bytes start rs rest → IsEnd owner start rest
+    → HasWeights owner.members.weights start → Says owner bytes (Ok (records_of start rs))
+unfolding Says
+says_all owner bytes start rs rest reaches ends has = inr (record {
+  start = start;
+  records = rs;
+  end = rest;
+  reaches = reaches;
+  ends = ends;
+  all_are = refl;
+  weights = inr has;
+})
+
+pub same_items : (xs ys : List Record) → IsOrMemory (Ok xs) (Ok ys) → xs ≡ ys
+same_items xs ys (inl e) = cc e
+same_items xs ys (inr e) = absurd (cc e)

@@ -1,0 +1,80 @@
+-- What the steps of giving lines answer.
+use Rattle.std.specs.Prelude.{◌≡◌, ◌≤◌, ◌+◌, ◌-◌, ℕ, ⊤, Bool, true, false, min, List, [], ◌∷◌, ◌++◌}
+use Rattle.std.specs.Prelude.{length}
+use Rattle.std.specs.Prelude.{Option, Some, None, string_bytes}
+use Rattle.fed_types.specs.Sites.{AreWeights}
+use Rattle.records.specs.declared.layout.Layout.TheVariants.{Second}
+use Rattle.records.specs.declared.owner.Owner.{Owner}
+use Rattle.records.specs.declared.record.Record.{Record}
+use Rattle.records.specs.Layout.{all_encoded, header_bytes}
+use Rattle.records.specs.Records.{AreRecords}
+use Rattle.records.specs.inner.Steps.{Follows}
+use Rattle.ledger.specs.declared.batch.Batch.{Batch}
+use Rattle.ledger.specs.declared.ending.Ending.{Ending}
+use Rattle.ledger.specs.declared.ending.Ending.TheVariants.{Whole, Torn, Damaged}
+use Rattle.ledger.specs.declared.steps.Kept.{Kept}
+use Rattle.ledger.specs.declared.steps.LastLines.{LastLines}
+use Rattle.ledger.specs.declared.steps.Step.{Step}
+use Rattle.ledger.specs.declared.steps.Step.TheVariants.{Wait, Next, End}
+use Rattle.ledger.specs.Lines.{ending_line, records_text}
+use Rattle.ledger.specs.Pieces.{IsGiven, IsWholeText}
+use Rattle.ledger.specs.inner.Found.{ending_of}
+
+-- where a text of these records ends
+abbrev pub end_by : Owner → List Record → (end len : ℕ) → ℕ
+end_by owner [] end len = min (14 + length owner.members.weights) len
+end_by owner (r ∷ rs) end len = min end len
+
+-- all records that come after a header, and what follows them
+pub record AreNext (bytes : List ℕ) (batch : Batch) (after : List ℕ) : Type 0 where
+  pub rest : List ℕ
+  pub are : AreRecords batch.records.items
+  pub after_is : after ≡ all_encoded Second batch.records.items ++ rest
+  pub end_is : batch.end + length rest ≡ length bytes
+  pub follows : Follows Second rest batch.is_damaged
+
+pub record IsBatch (owner : Owner) (bytes : List ℕ) (batch : Batch) : Type 0 where
+  pub in_range : batch.end ≤ length bytes
+  pub next : (after : List ℕ) → AreWeights owner.members.weights
+      → bytes ≡ header_bytes owner ++ after → AreNext bytes batch after
+
+-- how many bytes a batch has
+abbrev pub batch_size : Owner → Batch → ℕ
+batch_size owner batch = batch.end - (14 + length owner.members.weights)
+
+-- how a cell ends after a batch
+abbrev pub ending_by : Bool → (size left : ℕ) → Ending
+ending_by false size left = ending_of left
+ending_by true size left = Damaged size
+
+abbrev pub ending_after : Owner → (passed : ℕ) → Batch → (len : ℕ) → Ending
+ending_after owner passed batch len =
+    ending_by batch.is_damaged (passed + batch_size owner batch) (len - batch.end)
+
+-- the lines of the records of a batch, and how a cell ends after it
+abbrev pub IsEndOfBatch : Batch → Ending → LastLines → Type 0
+IsEndOfBatch batch ending last =
+    (last.ending ≡ ending)
+    × (string_bytes last.text ≡ records_text batch.records.items ++ ending_line ending)
+
+-- where headers and records end in so many bytes of a cell that isn't damaged
+abbrev pub text_end : Ending → ℕ → Option ℕ
+text_end Whole len = Some len
+text_end (Torn count) len = Some (len - count)
+text_end (Damaged place) len = None
+
+-- lines, and what is kept after them
+pub record Keeps (owner : Owner) (text : List ℕ) (passed : ℕ) (rest : List ℕ) (kept : Kept)
+    : Type 0 where
+  pub owner_is : kept.owner ≡ owner
+  pub text_is : string_bytes kept.text ≡ text
+  pub passed_is : kept.passed ≡ passed
+  pub bytes_are : kept.bytes.items ≡ header_bytes owner ++ rest
+
+-- what the bytes that were taken give, after these lines
+abbrev pub IsStep : (taken text : List ℕ) → Step → Type 0
+IsStep taken text Wait = ⊤
+IsStep taken text (Next kept) =
+    IsGiven kept.owner kept.passed kept.bytes.items taken (text ++ string_bytes kept.text)
+IsStep taken text (End last) =
+    (more : List ℕ) → IsWholeText (taken ++ more) last.ending (text ++ string_bytes last.text)
