@@ -91,8 +91,9 @@ class Bases:
     """Of each crate a copy, made where it is asked for, in which all that it stands on is built.
     So each library is proved once in a run, and the copies share what was built of it."""
 
-    def __init__(self, root, below, lanes, room, ranks):
-        self.root, self.below, self.lanes, self.room, self.ranks = root, below, lanes, room, ranks
+    def __init__(self, root, built, below, lanes, room, ranks):
+        self.root, self.built, self.below = root, built, below
+        self.lanes, self.room, self.ranks = lanes, room, ranks
         self.pool = concurrent.futures.ThreadPoolExecutor(2 * len(below))
         # One command at a time works in a copy.
         self.turns = {it: threading.Lock() for it in below}
@@ -130,9 +131,12 @@ class Bases:
             if library.result():
                 return None, library.result()
         copy, own = self.room / crate, self.root / "crates" / crate
-        # A library that the repository has built of these sources isn't built again: `rt` looks.
-        for part in (it for it in (*PARTS, BUILT) if (own / it).is_dir()):
+        for part in (it for it in PARTS if (own / it).is_dir()):
             shutil.copytree(own / part, copy / "crates" / crate / part)
+        # A library that the repository has built of these sources isn't built again: `rt` looks.
+        built = self.built / "crates" / crate / BUILT
+        if built.is_dir():
+            shutil.copytree(built, copy / "crates" / crate / BUILT)
         for it in others:
             share(self.room / it, copy, it)
         shutil.copy(self.root / "HANDLES", copy)
