@@ -25,9 +25,9 @@ In each turn the site waits for one datagram, and prints a line for what it does
 In a turn in which nothing comes it may propose one of its deposits to all. While nothing moves,
 each such turn waits twice as long as the one before, up to --wait-most; a deposit, a vote that
 another site asks for or gives, and a bag that it knows bring the first wait back. However much
-comes, such a turn is taken once its wait has passed since the last one; while a proposal of its own
-is under way, ten times --wait and 250 ms besides. Unless one is, such turns are taken at once after
-a deposit, until the site may propose it.
+comes, such a turn is taken once ten times --wait, 250 ms and its wait have passed since the last
+one. After a deposit such turns are taken at once, until the site may propose it; but not while a
+proposal of its own is under way.
 
 With --bags a path that is absolute or has `..` in it is that of a folder that isn't there.
 

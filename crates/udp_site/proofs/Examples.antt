@@ -47,22 +47,23 @@ in_the_second_turn = refl
 pub and_no_third : left (idles (idles deposited 7100) 7200) 7200 7200 ≡ 4000
 and_no_third = refl
 
--- what else moves brings back the first wait, which may have passed
-pub wait_has_passed : left (hears rested Moves) 9000 9000 ≡ 0
-wait_has_passed = refl
+-- another deposit makes two more
+pub two_deposits : left (idles (idles (hears deposited Deposits) 7100) 7100) 7100 7100 ≡ 0
+two_deposits = refl
 
-pub wait_has_not_passed : left (hears rested Moves) 7100 7100 ≡ 900
-wait_has_not_passed = refl
+-- what else moves something brings back the first wait alone
+pub waits_again : left (hears rested Moves) 9000 9000 ≡ 1000
+waits_again = refl
 
--- a question moves nothing; but the turn is idle 5 ms after the last that was, whatever comes
-pub asked : left (hears rested Still) 9000 9000 ≡ 3000
+-- a question moves nothing; but the turn is idle 250 ms after the last that was, whatever comes
+pub asked : left (hears rested Still) 9000 9000 ≡ 5000
 asked = refl
 
-pub asked_all_the_time : left (hears rested Still) 12000 12000 ≡ 0
+pub asked_all_the_time : left (hears rested Still) 257000 257000 ≡ 0
 asked_all_the_time = refl
 
--- while a proposal is under way a turn is idle 1 ms after the last that came, or 250 ms after the
--- last idle turn
+-- while a proposal is under way no turn is prompt: one is idle 1 ms after the last that came, or
+-- 250 ms after the last idle turn
 pub proposes : left (hands deposited prepare) 9000 9000 ≡ 1000
 proposes = refl
 
@@ -72,6 +73,6 @@ proposes_and_is_asked = refl
 pub is_idle_at_last : left (hands deposited prepare) 257000 257000 ≡ 0
 is_idle_at_last = refl
 
--- a vote of another site: no proposal is under way any more
-pub voted : left (hears (hands (hears rested Moves) prepare) Decides) 9000 9000 ≡ 0
+-- a vote of another site: no proposal is under way any more, and the turns that are left are prompt
+pub voted : left (hears (hands deposited prepare) Decides) 9000 9000 ≡ 0
 voted = refl

@@ -15,6 +15,9 @@ const FIRST_WAITS: u64 = 10;
 /// How many milliseconds at least.
 const LEAST_BETWEEN: u64 = 250;
 
+/// How many turns are prompt at most: nothing is taken in meanwhile.
+const MOST_PROMPT: u32 = 1000;
+
 const MICROS: u64 = 1000;
 
 /// How long a port waits next. Moments are microseconds.
@@ -27,7 +30,7 @@ pub(crate) struct Pace {
     pub(crate) idle_at: u64,
     /// A Prepare was handed out, and no votes of others, nor a known bag, have come since then.
     pub(crate) under_way: bool,
-    /// How many turns are idle at once while no proposal is under way, since a Deposit came.
+    /// How many turns are idle at once where no proposal is under way, since Deposits came.
     pub(crate) prompt: u32,
 }
 
@@ -80,7 +83,10 @@ impl Pace {
             }
             Sign::Deposits => {
                 self.wait = self.waits.first;
-                self.prompt = self.waits.prompt;
+                self.prompt = self
+                    .prompt
+                    .saturating_add(self.waits.prompt)
+                    .min(MOST_PROMPT);
             }
         }
     }
@@ -112,11 +118,10 @@ impl Pace {
         ensures between { result ≡ between self.now }
         ensures within { result ≤ 10 * 4294967295 }
     {
-        let wait = u64::from(self.wait);
-        if self.under_way {
-            let waits = FIRST_WAITS * u64::from(self.waits.first);
-            return wait.max(waits.max(LEAST_BETWEEN));
+        if self.prompt != 0 && !self.under_way {
+            return 0;
         }
-        if self.prompt == 0 { wait } else { 0 }
+        let waits = FIRST_WAITS * u64::from(self.waits.first);
+        u64::from(self.wait).max(waits.max(LEAST_BETWEEN))
     }
 }
