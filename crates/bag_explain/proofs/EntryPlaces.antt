@@ -1,8 +1,9 @@
 -- The entries that are found to be astray, missing or of another digest are all that are.
 use Rattle.std.proofs.Common.{◌≡◌, Bool, true, List, [], ◌∷◌, refl, sym, subst}
+use Rattle.std.specs.Prelude.{Contains}
 use Rattle.std.specs.List.{flat_map}
 use Rattle.bag_text.specs.declared.algorithm.Algorithm.{Algorithm}
-use Rattle.bag_tree.specs.Facts.{FileFact, TreeFacts}
+use Rattle.bag_tree.specs.Facts.{TreeFacts}
 use Rattle.bag_check.specs.declared.fault.BagFault.TheVariants.{UnsafePath, MissingFile}
 use Rattle.bag_check.specs.declared.fault.BagFault.TheVariants.{WrongDigest}
 use Rattle.bag_check.specs.Manifests.{Manifest, manifests_of, manifest_name}
@@ -12,14 +13,15 @@ use Rattle.bag_explain.specs.Listings.{Listing, listing_of, listings_of}
 use Rattle.bag_explain.specs.Places.{Place, at_entry, at_digest}
 use Rattle.bag_explain.specs.Places.{when, entry_place, digest_place, astray_places}
 use Rattle.bag_explain.specs.Places.{missing_places, wrong_places}
-use Rattle.bag_explain.specs.Wrong.{ListsNumbered, IsWrongAt}
+use Rattle.bag_explain.specs.Wrong.{IsNamed, ListsNumbered, IsWrongAt}
 use Rattle.bag_explain.proofs.Members.{In, contained_in, in_contained, in_some, some_in}
 use Rattle.bag_explain.proofs.Members.{in_when, when_in}
 use Rattle.bag_explain.proofs.ListedEntries.{entry_listed, listed_entry, of_manifest, manifest_of}
 
 -- ---- the entries that pass a test
 
-module _ (test : Listing → NumberedFile → Bool) (at : Listing → NumberedFile → Place) where
+module _ (facts : TreeFacts) (test : Listing → NumberedFile → Bool)
+    (at : Listing → NumberedFile → Place) where
   abbrev each : Listing → NumberedFile → List Place
   each listing entry = when (test listing entry) (at listing entry ∷ [])
 
@@ -27,28 +29,36 @@ module _ (test : Listing → NumberedFile → Bool) (at : Listing → NumberedFi
   places listing = flat_map (each listing) listing.files
 
   -- a place is that of an entry that passes
-  passes_at : (files : List FileFact) (place : Place)
-      → In place (flat_map places (listings_of files))
-      → (manifest : Manifest) × (entry : NumberedFile) × In manifest (manifests_of files)
+  passes_at : (place : Place) → In place (flat_map places (listings_of facts.files))
+      → (manifest : Manifest) × (entry : NumberedFile)
+      × IsNamed facts (manifest_name manifest.kind manifest.algorithm) manifest
       × ListsNumbered manifest entry × (test (listing_of manifest) entry ≡ true)
       × (at (listing_of manifest) entry ≡ place)
-  passes_at files place h =
-      let one = of_manifest places files place h in
-      let found = in_some (each (listing_of one.0)) (listing_of one.0).files place one.2 in
-      let passed =
-      in_when (test (listing_of one.0) found.0) (at (listing_of one.0) found.0) place found.2 in
-      (one.0, found.0, one.1, entry_listed one.0 found.0 found.1, passed.0, passed.1)
+  passes_at place h =
+      let (manifest, m, here) = of_manifest places facts.files place h in
+      let listing = listing_of manifest in
+      let (entry, listed, found) = in_some (each listing) listing.files place here in
+      let (passed, is) = in_when (test listing entry) (at listing entry) place found in (
+        manifest,
+        entry,
+        (in_contained (manifests_of facts.files) manifest m, refl),
+        entry_listed manifest entry listed,
+        passed,
+        is,
+      )
 
   -- an entry that passes has a place
-  at_passes : (files : List FileFact) (manifest : Manifest) (entry : NumberedFile)
-      → In manifest (manifests_of files) → ListsNumbered manifest entry
-      → test (listing_of manifest) entry ≡ true
-      → In (at (listing_of manifest) entry) (flat_map places (listings_of files))
-  at_passes files manifest entry m lists passed =
+  at_passes : (manifest : Manifest) (entry : NumberedFile) (place : Place)
+      → Contains (manifests_of facts.files) manifest → ListsNumbered manifest entry
+      → test (listing_of manifest) entry ≡ true → at (listing_of manifest) entry ≡ place
+      → In place (flat_map places (listings_of facts.files))
+  at_passes manifest entry place c lists passed is =
       let listing = listing_of manifest in
-      manifest_of places files (at listing entry) manifest m
+      subst (λ p. In p (flat_map places (listings_of facts.files))) is
+      (manifest_of places facts.files (at listing entry) manifest
+      (contained_in (manifests_of facts.files) manifest c)
       (some_in (each listing) listing.files entry (at listing entry)
-      (listed_entry manifest entry lists) (when_in (test listing entry) (at listing entry) passed))
+      (listed_entry manifest entry lists) (when_in (test listing entry) (at listing entry) passed)))
 
 module _ (facts : TreeFacts) where
   -- ---- an entry whose path is astray
@@ -61,26 +71,15 @@ module _ (facts : TreeFacts) where
       → IsWrongAt UnsafePath facts place
   unfolding IsWrongAt listing_of
   astray_is place h =
-      let (manifest, entry, m, lists, passed, is) =
-      passes_at astray entry_place facts.files place h in
-      subst (IsWrongAt UnsafePath facts) is (
-        manifest,
-        entry.file,
-        (in_contained (manifests_of facts.files) manifest m, refl),
-        lists,
-        refl,
-        passed,
-      )
+      let (manifest, entry, m, lists, passed, is) = passes_at facts astray entry_place place h in
+      subst (IsWrongAt UnsafePath facts) is (manifest, entry.file, m, lists, refl, passed)
 
   pub is_astray_there : (place : Place) → IsWrongAt UnsafePath facts place
       → In place (flat_map astray_places (listings_of facts.files))
   unfolding IsWrongAt listing_of
   is_astray_there (at_entry path name line) (manifest, file, (c, named), lists, same, passed) =
-      let e : at_entry file.path (manifest_name manifest.kind manifest.algorithm) line
-      ≡ at_entry path name line = cc in
-      subst (λ p. In p (flat_map astray_places (listings_of facts.files))) e
-      (at_passes astray entry_place facts.files manifest (record { line = line; file = file })
-      (contained_in (manifests_of facts.files) manifest c) lists passed)
+      at_passes facts astray entry_place manifest (record { line = line; file = file })
+      (at_entry path name line) c lists passed cc
   is_astray_there place h = absurd h
 
   -- ---- an entry whose file is missing
@@ -93,26 +92,15 @@ module _ (facts : TreeFacts) where
       → IsWrongAt MissingFile facts place
   unfolding IsWrongAt listing_of
   missing_is place h =
-      let (manifest, entry, m, lists, passed, is) =
-      passes_at missing entry_place facts.files place h in
-      subst (IsWrongAt MissingFile facts) is (
-        manifest,
-        entry.file,
-        (in_contained (manifests_of facts.files) manifest m, refl),
-        lists,
-        refl,
-        passed,
-      )
+      let (manifest, entry, m, lists, passed, is) = passes_at facts missing entry_place place h in
+      subst (IsWrongAt MissingFile facts) is (manifest, entry.file, m, lists, refl, passed)
 
   pub is_missing_there : (place : Place) → IsWrongAt MissingFile facts place
       → In place (flat_map (missing_places facts.files) (listings_of facts.files))
   unfolding IsWrongAt listing_of
   is_missing_there (at_entry path name line) (manifest, file, (c, named), lists, same, passed) =
-      let e : at_entry file.path (manifest_name manifest.kind manifest.algorithm) line
-      ≡ at_entry path name line = cc in
-      subst (λ p. In p (flat_map (missing_places facts.files) (listings_of facts.files))) e
-      (at_passes missing entry_place facts.files manifest (record { line = line; file = file })
-      (contained_in (manifests_of facts.files) manifest c) lists passed)
+      at_passes facts missing entry_place manifest (record { line = line; file = file })
+      (at_entry path name line) c lists passed cc
   is_missing_there place h = absurd h
 
   -- ---- an entry whose file has another digest
@@ -125,27 +113,15 @@ module _ (facts : TreeFacts) where
       → IsWrongAt WrongDigest facts place
   unfolding IsWrongAt listing_of
   wrong_is place h =
-      let (manifest, entry, m, lists, passed, is) =
-      passes_at wrong digest_place facts.files place h in
-      subst (IsWrongAt WrongDigest facts) is (
-        manifest,
-        entry.file,
-        (in_contained (manifests_of facts.files) manifest m, refl),
-        lists,
-        refl,
-        (refl, passed),
-      )
+      let (manifest, entry, m, lists, passed, is) = passes_at facts wrong digest_place place h in
+      subst (IsWrongAt WrongDigest facts) is (manifest, entry.file, m, lists, refl, (refl, passed))
 
   pub is_wrong_there : (place : Place) → IsWrongAt WrongDigest facts place
       → In place (flat_map (wrong_places facts.files) (listings_of facts.files))
   unfolding IsWrongAt listing_of
   is_wrong_there (at_digest path algorithm name line)
       (manifest, file, (c, named), lists, same, (by, passed)) =
-      let e : at_digest file.path manifest.algorithm
-      (manifest_name manifest.kind manifest.algorithm) line
-      ≡ at_digest path algorithm name line = cc in
-      subst (λ p. In p (flat_map (wrong_places facts.files) (listings_of facts.files))) e
-      (at_passes wrong digest_place facts.files manifest (record { line = line; file = file })
-      (contained_in (manifests_of facts.files) manifest c) lists
-      (subst (λ (a : Algorithm). is_wrong a facts.files file ≡ true) (sym by) passed))
+      at_passes facts wrong digest_place manifest (record { line = line; file = file })
+      (at_digest path algorithm name line) c lists
+      (subst (λ (a : Algorithm). is_wrong a facts.files file ≡ true) (sym by) passed) cc
   is_wrong_there place h = absurd h

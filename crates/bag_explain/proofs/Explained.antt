@@ -8,14 +8,15 @@ use Rattle.bag_tree.specs.Facts.{FileFact, TreeFacts}
 use Rattle.bag_check.specs.declared.fault.BagFault.{BagFault}
 use Rattle.bag_check.specs.Check.{all_faults}
 use Rattle.bag_explain.specs.declared.entries.ListingFault.{ListingFault}
-use Rattle.bag_explain.specs.declared.entries.ListingFault.TheVariants.{Malformed, Astray, Repeated}
-use Rattle.bag_explain.specs.declared.entries.ListingFault.TheVariants.{Missing, Unlisted, Wrong}
+use Rattle.bag_explain.specs.declared.entries.ListingFault.TheVariants.{Malformed, OfEntry}
+use Rattle.bag_explain.specs.declared.entries.ListingFault.TheVariants.{Repeated, Unlisted}
+use Rattle.bag_explain.specs.declared.entry_fault.EntryFault.TheVariants.{Astray, Missing, Wrong}
 use Rattle.bag_explain.specs.Listings.{Listing, listings_of}
-use Rattle.bag_explain.specs.Places.{Place, places_of, malformed_places, astray_places}
-use Rattle.bag_explain.specs.Places.{repeated_places, missing_places, unlisted_places, wrong_places}
+use Rattle.bag_explain.specs.Places.{Place, places_of}
 use Rattle.bag_explain.specs.Findings.{Finding, findings_by, findings_of, printed_fault}
 use Rattle.bag_explain.specs.Findings.{printed_places, explanation_of}
-use Rattle.bag_explain.specs.inner.Stages.{fault_of, printed_in, tree_of, printed_faults}
+use Rattle.bag_explain.specs.inner.Stages.{fault_of, places_in, printed_in, tree_of}
+use Rattle.bag_explain.specs.inner.Stages.{printed_faults}
 use Rattle.bag_explain.proofs.FaultLines.{after_both}
 use Rattle.bag_explain.specs.inner.Stages.{first_faults, listing_faults, printed_listings}
 
@@ -48,27 +49,24 @@ by_faults facts =
     ∙ flat_map-same (λ (fault : BagFault). flat_map printed (findings_by facts fault))
     (λ (fault : BagFault). printed_places fault (places_of fault facts)) (by_fault facts) all_faults
 
+all_places : (facts : TreeFacts) (fault : ListingFault)
+    → places_of (fault_of fault) facts
+    ≡ flat_map (places_in fault facts.files) (listings_of facts.files)
+unfolding places_of
+all_places facts Malformed = refl
+all_places facts (OfEntry Astray) = refl
+all_places facts (OfEntry Missing) = refl
+all_places facts (OfEntry Wrong) = refl
+all_places facts Repeated = refl
+all_places facts Unlisted = refl
+
 -- the lines of one fault of what manifests list
 by_listings : (facts : TreeFacts) (fault : ListingFault)
     → printed_places (fault_of fault) (places_of (fault_of fault) facts)
     ≡ printed_in fault facts.files (listings_of facts.files)
-unfolding places_of
-by_listings facts Malformed =
-    flat_map-flat_map (printed_fault (fault_of Malformed)) malformed_places
-    (listings_of facts.files)
-by_listings facts Astray =
-    flat_map-flat_map (printed_fault (fault_of Astray)) astray_places (listings_of facts.files)
-by_listings facts Repeated =
-    flat_map-flat_map (printed_fault (fault_of Repeated)) repeated_places
-    (listings_of facts.files)
-by_listings facts Missing =
-    flat_map-flat_map (printed_fault (fault_of Missing)) (missing_places facts.files)
-    (listings_of facts.files)
-by_listings facts Unlisted =
-    flat_map-flat_map (printed_fault (fault_of Unlisted)) (unlisted_places facts.files)
-    (listings_of facts.files)
-by_listings facts Wrong =
-    flat_map-flat_map (printed_fault (fault_of Wrong)) (wrong_places facts.files)
+by_listings facts fault =
+    ap (printed_places (fault_of fault)) (all_places facts fault)
+    ∙ flat_map-flat_map (printed_fault (fault_of fault)) (places_in fault facts.files)
     (listings_of facts.files)
 
 explanation-is : (facts : TreeFacts) → explanation_of facts

@@ -6,18 +6,17 @@ ghost use Rattle.std.specs.BTreeSet.{contains_by};
 ghost use Rattle.bag_tree.specs.Path.{is_payload};
 ghost use Rattle.bag_check.specs.Manifests.{is_listed};
 ghost use Rattle.words.specs.Pushes.{Pushes};
-ghost use Rattle.bag_explain.specs.Places.{when, entry_place, at_unlisted, files_in};
-ghost use Rattle.bag_explain.specs.Places.{astray_at, repeated_at, missing_at, unlisted_at};
-ghost use Rattle.bag_explain.specs.Places.{wrong_at};
-ghost use Rattle.bag_explain.specs.Places.{malformed_places, astray_places, repeated_places};
-ghost use Rattle.bag_explain.specs.Places.{missing_places, unlisted_places, wrong_places};
+ghost use Rattle.bag_explain.specs.Places.{when, at_unlisted, files_in, repeated_at, unlisted_at};
+ghost use Rattle.bag_explain.specs.Places.{malformed_places, repeated_places, unlisted_places};
 ghost use Rattle.bag_explain.specs.Places.{repeated_after};
 ghost use Rattle.bag_explain.specs.Findings.{printed_places};
+ghost use Rattle.bag_explain.specs.declared.entries.ListingFault.TheVariants.{OfEntry};
 ghost use Rattle.bag_explain.specs.inner.Stages.{fault_of, places_in, printed_in, printed_listings};
 
+use crate::entry_fault::{EntryFault, push_if_faulty, push_path_if};
 use crate::listing::{Listing, NumberedEntry};
-use crate::print::{push_digest, push_entry, push_line, push_unlisted};
-use bag_check::{BagFault, FilesByPath, Kind, is_astray, is_wrong};
+use crate::print::{push_line, push_unlisted};
+use bag_check::{BagFault, FilesByPath, Kind};
 use bag_tree::{FileFacts, is_payload};
 use std::alloc::{AllocError, Global};
 use std::collections::BTreeSet;
@@ -27,16 +26,12 @@ use std::collections::BTreeSet;
 pub enum ListingFault {
     /// A line is malformed.
     Malformed,
-    /// A path is unsafe, or on the wrong side of the payload's folder.
-    Astray,
+    /// An entry is at fault, whatever the others are.
+    OfEntry(EntryFault),
     /// A payload manifest lists a path again.
     Repeated,
-    /// A listed file isn't there.
-    Missing,
     /// A payload manifest doesn't list a payload file.
     Unlisted,
-    /// A digest isn't that of its file.
-    Wrong,
 }
 
 /// Appends the lines of the faults of what manifests list.
@@ -49,11 +44,29 @@ pub(crate) fn push_listings(
     ensures { Pushes result text.old text.new (printed_listings files.now listings.now) }
 {
     push_fault(alloc, text, ListingFault::Malformed, files, listings)?;
-    push_fault(alloc, text, ListingFault::Astray, files, listings)?;
+    push_fault(
+        alloc,
+        text,
+        ListingFault::OfEntry(EntryFault::Astray),
+        files,
+        listings,
+    )?;
     push_fault(alloc, text, ListingFault::Repeated, files, listings)?;
-    push_fault(alloc, text, ListingFault::Missing, files, listings)?;
+    push_fault(
+        alloc,
+        text,
+        ListingFault::OfEntry(EntryFault::Missing),
+        files,
+        listings,
+    )?;
     push_fault(alloc, text, ListingFault::Unlisted, files, listings)?;
-    push_fault(alloc, text, ListingFault::Wrong, files, listings)
+    push_fault(
+        alloc,
+        text,
+        ListingFault::OfEntry(EntryFault::Wrong),
+        files,
+        listings,
+    )
 }
 
 // Appends the lines of a fault in these manifests.
@@ -85,11 +98,9 @@ fn push_places(
 {
     match fault {
         ListingFault::Malformed => push_malformed(text, listing),
-        ListingFault::Astray => push_astray(text, listing),
+        ListingFault::OfEntry(fault) => push_entries(text, fault, files, listing),
         ListingFault::Repeated => push_repeated(alloc, text, listing),
-        ListingFault::Missing => push_missing(text, files, listing),
         ListingFault::Unlisted => push_all_unlisted(alloc, text, files.files(), listing),
-        ListingFault::Wrong => push_wrong(text, files, listing),
     }
 }
 
@@ -106,50 +117,21 @@ fn push_malformed(text: &mut String, listing: &Listing) -> Result<(), AllocError
     Ok(())
 }
 
-// ---- paths that are unsafe, or on the wrong side of the payload's folder
+// ---- entries that are at fault by themselves
 
-fn push_astray(text: &mut String, listing: &Listing) -> Result<(), AllocError>
-    ensures { Pushes result text.old text.new
-        (printed_places BagFault.UnsafePath (astray_places listing.now)) }
+fn push_entries(
+    text: &mut String,
+    fault: EntryFault,
+    files: &FilesByPath<'_>,
+    listing: &Listing,
+) -> Result<(), AllocError>
+    ensures { Pushes result text.old text.new (printed_places (fault_of (OfEntry fault))
+        (places_in (OfEntry fault) files.now listing.now)) }
 {
     for entry in listing.entries() {
-        push_if_astray(text, listing, entry)?;
+        push_if_faulty(text, fault, files, listing, entry)?;
     }
     Ok(())
-}
-
-fn push_if_astray(
-    text: &mut String,
-    listing: &Listing,
-    entry: &NumberedEntry,
-) -> Result<(), AllocError>
-    ensures { Pushes result text.old text.new
-        (printed_places BagFault.UnsafePath
-        (astray_at listing.now entry.now)) }
-{
-    if !is_astray(listing.kind(), entry.entry()) {
-        return Ok(());
-    }
-    push_listed(text, BagFault::UnsafePath, listing, entry)
-}
-
-// Appends the line of a fault of the path of an entry.
-fn push_listed(
-    text: &mut String,
-    fault: BagFault,
-    listing: &Listing,
-    entry: &NumberedEntry,
-) -> Result<(), AllocError>
-    ensures { Pushes result text.old text.new
-        (printed_places fault (entry_place listing.now entry.now ∷ [])) }
-{
-    push_entry(
-        text,
-        fault,
-        entry.entry().path(),
-        listing.name(),
-        entry.line(),
-    )
 }
 
 // ---- paths that a payload manifest lists again
@@ -171,56 +153,9 @@ fn push_all_repeated(alloc: Global, text: &mut String, listing: &Listing) -> Res
     let mut seen = BTreeSet::new(alloc);
     for entry in listing.entries() {
         let added = seen.insert(entry.entry().path())?;
-        push_if_repeated(text, listing, entry, !added)?;
+        push_path_if(text, !added, BagFault::DuplicateEntry, listing, entry)?;
     }
     Ok(())
-}
-
-fn push_if_repeated(
-    text: &mut String,
-    listing: &Listing,
-    entry: &NumberedEntry,
-    repeated: bool,
-) -> Result<(), AllocError>
-    ensures { Pushes result text.old text.new (printed_places BagFault.DuplicateEntry
-        (when repeated (repeated_at listing.now entry.now))) }
-{
-    if !repeated {
-        return Ok(());
-    }
-    push_listed(text, BagFault::DuplicateEntry, listing, entry)
-}
-
-// ---- listed files that aren't there
-
-fn push_missing(
-    text: &mut String,
-    files: &FilesByPath<'_>,
-    listing: &Listing,
-) -> Result<(), AllocError>
-    ensures { Pushes result text.old text.new
-        (printed_places BagFault.MissingFile (missing_places files.now listing.now)) }
-{
-    for entry in listing.entries() {
-        push_if_missing(text, files, listing, entry)?;
-    }
-    Ok(())
-}
-
-fn push_if_missing(
-    text: &mut String,
-    files: &FilesByPath<'_>,
-    listing: &Listing,
-    entry: &NumberedEntry,
-) -> Result<(), AllocError>
-    ensures { Pushes result text.old text.new
-        (printed_places BagFault.MissingFile
-        (missing_at files.now listing.now entry.now)) }
-{
-    if files.has_file(entry.entry().path()) {
-        return Ok(());
-    }
-    push_listed(text, BagFault::MissingFile, listing, entry)
 }
 
 // ---- files of the payload that a payload manifest doesn't list
@@ -292,45 +227,4 @@ fn listed_paths(alloc: Global, entries: &[NumberedEntry]) -> Result<BTreeSet<&st
         listed.insert(entry.entry().path())?;
     }
     Ok(listed)
-}
-
-// ---- digests that aren't those of their files
-
-fn push_wrong(
-    text: &mut String,
-    files: &FilesByPath<'_>,
-    listing: &Listing,
-) -> Result<(), AllocError>
-    ensures { Pushes result text.old text.new
-        (printed_places BagFault.WrongDigest (wrong_places files.now listing.now)) }
-{
-    for entry in listing.entries() {
-        push_if_wrong(text, files, listing, entry)?;
-    }
-    Ok(())
-}
-
-fn push_if_wrong(
-    text: &mut String,
-    files: &FilesByPath<'_>,
-    listing: &Listing,
-    entry: &NumberedEntry,
-) -> Result<(), AllocError>
-    ensures { Pushes result text.old text.new
-        (printed_places BagFault.WrongDigest
-        (wrong_at files.now listing.now entry.now)) }
-{
-    let algorithm = listing.algorithm();
-    if !is_wrong(algorithm, files, entry.entry()) {
-        return Ok(());
-    }
-    let path = entry.entry().path();
-    push_digest(
-        text,
-        BagFault::WrongDigest,
-        path,
-        algorithm,
-        listing.name(),
-        entry.line(),
-    )
 }

@@ -3,6 +3,7 @@
 #![tactic(auto)]
 
 mod entries;
+mod entry_fault;
 mod explain_bag;
 mod law;
 mod listing;

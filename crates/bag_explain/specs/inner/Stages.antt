@@ -13,27 +13,38 @@ use Rattle.bag_check.specs.declared.fault.BagFault.TheVariants.{DuplicateEntry, 
 use Rattle.bag_check.specs.declared.fault.BagFault.TheVariants.{UnlistedFile, WrongDigest}
 use Rattle.bag_explain.specs.declared.entries.ListingFault.{ListingFault}
 use Rattle.bag_explain.specs.declared.entries.ListingFault.TheVariants as listings
+use Rattle.bag_explain.specs.declared.entry_fault.EntryFault.{EntryFault}
+use Rattle.bag_explain.specs.declared.entry_fault.EntryFault.TheVariants.{Astray, Missing, Wrong}
+use Rattle.bag_explain.specs.Lines.{NumberedFile}
 use Rattle.bag_explain.specs.Listings.{Listing}
-use Rattle.bag_explain.specs.Places.{Place, places_of, malformed_places, astray_places}
-use Rattle.bag_explain.specs.Places.{repeated_places, missing_places, unlisted_places, wrong_places}
+use Rattle.bag_explain.specs.Places.{Place, places_of, astray_at, missing_at, wrong_at}
+use Rattle.bag_explain.specs.Places.{malformed_places, repeated_places, unlisted_places}
 use Rattle.bag_explain.specs.Findings.{printed_places}
+
+-- the place of an entry, where it has the fault
+abbrev pub faulty_at : EntryFault → List FileFact → Listing → NumberedFile → List Place
+faulty_at Astray files listing = astray_at listing
+faulty_at Missing files listing = missing_at files listing
+faulty_at Wrong files listing = wrong_at files listing
+
+abbrev pub entry_fault_of : EntryFault → BagFault
+entry_fault_of Astray = UnsafePath
+entry_fault_of Missing = MissingFile
+entry_fault_of Wrong = WrongDigest
 
 -- the places of a fault in one manifest
 abbrev pub places_in : ListingFault → List FileFact → Listing → List Place
 places_in listings.Malformed files listing = malformed_places listing
-places_in listings.Astray files listing = astray_places listing
+places_in (listings.OfEntry fault) files listing =
+    flat_map (faulty_at fault files listing) listing.files
 places_in listings.Repeated files listing = repeated_places listing
-places_in listings.Missing files listing = missing_places files listing
 places_in listings.Unlisted files listing = unlisted_places files listing
-places_in listings.Wrong files listing = wrong_places files listing
 
 abbrev pub fault_of : ListingFault → BagFault
 fault_of listings.Malformed = MalformedLine
-fault_of listings.Astray = UnsafePath
+fault_of (listings.OfEntry fault) = entry_fault_of fault
 fault_of listings.Repeated = DuplicateEntry
-fault_of listings.Missing = MissingFile
 fault_of listings.Unlisted = UnlistedFile
-fault_of listings.Wrong = WrongDigest
 
 -- the lines of a fault in these manifests
 abbrev pub printed_in : ListingFault → List FileFact → List Listing → List ℕ
@@ -61,8 +72,8 @@ first_faults =
 
 abbrev pub listing_faults : List ListingFault
 listing_faults =
-    listings.Malformed ∷ listings.Astray ∷ listings.Repeated ∷ listings.Missing
-    ∷ listings.Unlisted ∷ listings.Wrong ∷ []
+    listings.Malformed ∷ listings.OfEntry Astray ∷ listings.Repeated ∷ listings.OfEntry Missing
+    ∷ listings.Unlisted ∷ listings.OfEntry Wrong ∷ []
 
 -- the lines of all faults of what manifests list
 abbrev pub printed_listings : List FileFact → List Listing → List ℕ

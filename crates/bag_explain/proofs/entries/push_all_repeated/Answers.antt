@@ -36,11 +36,11 @@ loop-entry-preserved c =
       printed =
           repeated_more c.args.listing.now c.entries-entry-items.result.now i same
           (string_bytes c.args.text.now) (string_bytes c.loop-entry.text)
-          c.loop-entry.invariant.printed entry (string_bytes c.push_if_repeated.new.text)
+          c.loop-entry.invariant.printed entry (string_bytes c.push_path_if.new.text)
           (not c.in_ok-added.added) c.loop-entry-test.true c.entry-item.is
           (by_negation c.in_ok-added.added _ _ c.in_ok-added.ensures.added
           (ap (λ p. has_text p before) named ∙ c.loop-entry.invariant.seen entry.file.path))
-          c.in_ok-push_if_repeated.ensures;
+          c.in_ok-push_path_if.ensures;
     }
 
 pub returns : goal.returns

@@ -1,0 +1,111 @@
+ghost use Rattle.std.specs.Prelude.{[], ◌∷◌};
+ghost use Rattle.words.specs.Pushes.{Pushes};
+ghost use Rattle.bag_explain.specs.Places.{when, entry_place, astray_at, missing_at, wrong_at};
+ghost use Rattle.bag_explain.specs.Findings.{printed_places};
+ghost use Rattle.bag_explain.specs.inner.Stages.{entry_fault_of, faulty_at};
+
+use crate::listing::{Listing, NumberedEntry};
+use crate::print::{push_digest, push_entry};
+use bag_check::{BagFault, FilesByPath, is_astray, is_wrong};
+use std::alloc::AllocError;
+
+/// A fault of an entry, whatever else its manifest lists.
+#[derive(Clone, Copy, Debug)]
+pub enum EntryFault {
+    /// Its path is unsafe, or on the wrong side of the payload's folder.
+    Astray,
+    /// Its file isn't there.
+    Missing,
+    /// Its digest isn't that of its file.
+    Wrong,
+}
+
+/// Appends the line of the fault, where the entry has it.
+pub(crate) fn push_if_faulty(
+    text: &mut String,
+    fault: EntryFault,
+    files: &FilesByPath<'_>,
+    listing: &Listing,
+    entry: &NumberedEntry,
+) -> Result<(), AllocError>
+    ensures { Pushes result text.old text.new (printed_places (entry_fault_of fault)
+        (faulty_at fault files.now listing.now entry.now)) }
+{
+    match fault {
+        EntryFault::Astray => push_if_astray(text, listing, entry),
+        EntryFault::Missing => push_if_missing(text, files, listing, entry),
+        EntryFault::Wrong => push_if_wrong(text, files, listing, entry),
+    }
+}
+
+fn push_if_astray(
+    text: &mut String,
+    listing: &Listing,
+    entry: &NumberedEntry,
+) -> Result<(), AllocError>
+    ensures { Pushes result text.old text.new
+        (printed_places BagFault.UnsafePath (astray_at listing.now entry.now)) }
+{
+    let is_faulty = is_astray(listing.kind(), entry.entry());
+    push_path_if(text, is_faulty, BagFault::UnsafePath, listing, entry)
+}
+
+fn push_if_missing(
+    text: &mut String,
+    files: &FilesByPath<'_>,
+    listing: &Listing,
+    entry: &NumberedEntry,
+) -> Result<(), AllocError>
+    ensures { Pushes result text.old text.new
+        (printed_places BagFault.MissingFile (missing_at files.now listing.now entry.now)) }
+{
+    let is_faulty = !files.has_file(entry.entry().path());
+    push_path_if(text, is_faulty, BagFault::MissingFile, listing, entry)
+}
+
+/// Appends the line of a fault of the path of an entry, if that is at fault.
+pub(crate) fn push_path_if(
+    text: &mut String,
+    is_faulty: bool,
+    fault: BagFault,
+    listing: &Listing,
+    entry: &NumberedEntry,
+) -> Result<(), AllocError>
+    ensures { Pushes result text.old text.new
+        (printed_places fault (when is_faulty (entry_place listing.now entry.now ∷ []))) }
+{
+    if !is_faulty {
+        return Ok(());
+    }
+    push_entry(
+        text,
+        fault,
+        entry.entry().path(),
+        listing.name(),
+        entry.line(),
+    )
+}
+
+fn push_if_wrong(
+    text: &mut String,
+    files: &FilesByPath<'_>,
+    listing: &Listing,
+    entry: &NumberedEntry,
+) -> Result<(), AllocError>
+    ensures { Pushes result text.old text.new
+        (printed_places BagFault.WrongDigest (wrong_at files.now listing.now entry.now)) }
+{
+    let algorithm = listing.algorithm();
+    if !is_wrong(algorithm, files, entry.entry()) {
+        return Ok(());
+    }
+    let path = entry.entry().path();
+    push_digest(
+        text,
+        BagFault::WrongDigest,
+        path,
+        algorithm,
+        listing.name(),
+        entry.line(),
+    )
+}
