@@ -1,26 +1,16 @@
 -- What a run reports is what cells show.
-use Rattle.std.proofs.Common.{◌≡◌, inl, inr, refl, ap, subst, List, [], ◌∷◌, ◌++◌, Option, None}
-use Rattle.std.proofs.Common.{Some}
-use Rattle.std.specs.Option.{option_to_list}
+use Rattle.std.proofs.Common.{◌≡◌, refl, subst, List, [], ◌∷◌, ◌++◌}
 use Rattle.fed_types.specs.declared.bag_id.BagId.{BagId}
-use Rattle.fed_types.specs.Lists.{Has}
 use Rattle.fed_types.specs.Quorums.{QuorumSystem, AreQuorums}
 use Rattle.fed_types.specs.Slots.{SlotName}
-use Rattle.fed_types.specs.Laws.Lists.{has_cases, has_one, has_none}
-use Rattle.lines.specs.Notices.{Notice}
-use Rattle.world_law.specs.Laws.{IsChosen, Report, report_of, notices_of}
+use Rattle.world_law.specs.Laws.{IsChosen, notices_of}
 use Rattle.world_law.specs.Networks.{Network, Event, new_network, happens, run}
-use Rattle.world_law.proofs.Grows.{chosen_grows}
 use Rattle.world_law.proofs.Induction.{chosen_once}
-use Rattle.world_law.proofs.Kept.{Kept}
-use Rattle.world_law.proofs.Runs.{happens_kept, new_kept, run_kept}
+use Rattle.world_law.proofs.Runs.{new_kept, run_kept}
 use Rattle.audit.specs.Evidence.{SiteRecord, AreOf}
 use Rattle.audit.specs.Laws.{ShowChosen, ReportNoOther}
 use Rattle.audit.proofs.Shown.{shown_is_chosen}
-
-has_notice : (o : Option Notice) (m : Notice) → Has m (option_to_list o) → o ≡ Some m
-has_notice None m h = absurd (has_none h)
-has_notice (Some l) m h = ap Some (has_one h)
+use Rattle.world_law.proofs.Reports.{chosen_from, reported_from}
 
 -- events, and more
 run_on : (q : QuorumSystem) (events later : List Event) (w : Network)
@@ -30,31 +20,6 @@ run_on q [] later w = refl
 run_on q (e ∷ events) later w = run_on q events later (happens q w e).network
 
 module _ (q : QuorumSystem) (laws : AreQuorums q) where
-  -- what is chosen stays so
-  chosen_from : (events : List Event) (w : Network) → Kept q w → (slot : SlotName) (bag : BagId)
-      → IsChosen q w slot bag → IsChosen q (run q w events) slot bag
-  unfolding run
-  chosen_from [] w inv slot bag c = c
-  chosen_from (e ∷ es) w inv slot bag c =
-      let next = happens_kept q laws w inv e in
-      chosen_from es (happens q w e).network next.kept slot bag (chosen_grows next.grows c)
-
-  -- what is reported was chosen
-  reported_from : (events : List Event) (w : Network) → Kept q w → (m : Notice) (r : Report)
-      → Has m (notices_of q w events) → report_of m ≡ Some r
-      → IsChosen q (run q w events) r.slot r.bag
-  unfolding run notices_of
-  reported_from [] w inv m r h is = absurd (has_none h)
-  reported_from (e ∷ es) w inv m r h is =
-      let next = happens_kept q laws w inv e in
-      elim (has_cases (option_to_list (happens q w e).notice) _ h) [
-        | inl first ↦
-            chosen_from es (happens q w e).network next.kept r.slot r.bag
-            (chosen_grows next.grows
-            (next.reports.chosen m r (has_notice (happens q w e).notice m first) is))
-        | inr later ↦ reported_from es (happens q w e).network next.kept m r later is
-      ]
-
   pub no_other : (events later : List Event) (given : List SiteRecord) (slot : SlotName)
       (bag : BagId) → AreOf (run q new_network events) given → ShowChosen q given slot bag
       → ReportNoOther (notices_of q new_network (events ++ later)) slot bag
@@ -62,6 +27,7 @@ module _ (q : QuorumSystem) (laws : AreQuorums q) where
       let all = events ++ later in
       let then = shown_is_chosen q (run q new_network events) given slot bag are shown in
       let still = subst (λ (w : Network). IsChosen q w slot bag) (run_on q events later new_network)
-      (chosen_from later (run q new_network events) (run_kept q laws events) slot bag then) in
+      (chosen_from q laws later (run q new_network events) (run_kept q laws events) slot bag
+      then) in
       chosen_once q (run q new_network all) laws (run_kept q laws all) slot other bag
-      (reported_from all new_network (new_kept q) m _ h is) still
+      (reported_from q laws all new_network (new_kept q) m _ h is) still

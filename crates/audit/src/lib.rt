@@ -1,4 +1,5 @@
-//! What the cells of several sites show together: which bags were chosen.
+//! What the cells of several sites show together: which bags were chosen. It works on records that
+//! were read; `audit_command` reads the cells and prints.
 #![tactic(auto)]
 
 mod cells;

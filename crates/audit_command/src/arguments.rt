@@ -13,8 +13,8 @@ site count as one. For each version, in the order in which the cells name them, 
                             record, in the ballot of round R of site S: no other bag is ever known
   known OBJ V HEX           a cell says that this bag is known; these cells don't show why
   open OBJ V                these cells show no bag
-  conflict OBJ V HEX HEX    they show two: they aren't those of sites that kept their word
-and at last how many of each there are: C chosen, K known, O open, X conflicts. Before that there is
+  conflict OBJ V HEX HEX    they show two bags: a site's cell was lost, replaced or altered
+and finally how many of each there are: C chosen, K known, O open, X conflicts. Before that there is
 a line for each cell that can't be used as it is:
   unread CELL               it can't be read, or begins with no header
   foreign CELL              it is of another federation, of no member, or of other weights

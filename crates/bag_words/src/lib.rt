@@ -1,5 +1,5 @@
-//! What a check of a folder found, in words: each place with the names as they are, what was wanted
-//! and what was found, and what is no fault but worth knowing.
+//! What a check of a folder found, in words, for `check --words`: each place with the names as they
+//! are, what was wanted and what was found, and what is no fault but worth knowing.
 #![tactic(auto)]
 
 mod bag;

@@ -9,7 +9,7 @@ use std::io::IsTerminal;
 
 /// Folders that say on standard error what a check of each finds, where that is asked for: of a
 /// folder that was read when the next one is, or at the end, so that its words come after its line.
-/// They are the folders otherwise.
+/// Otherwise it delegates to the folders.
 #[derive(Drop)]
 pub struct SpokenFolders<'a, F> {
     folders: F,

@@ -16,7 +16,7 @@ const EXAMPLE: &str = "A schedule is a text of commands, one a line:
   deposit S T OBJ V     deposits the tree at site S, as version V of the object OBJ
   propose S OBJ V       site S proposes its deposit to all
   deliver K             the K-th datagram that was sent arrives
-  pump N                N times: the first datagram arrives that none of these has named
+  pump N                N times: the oldest datagram arrives that no deliver or pump has named
   ask S TO OBJ V        site S asks site TO which bag it knows
   query S OBJ V         asks site S which bag is version V of OBJ
   raw S HEX             bytes that no site sent arrive at site S
@@ -31,7 +31,7 @@ Lines that are blank, or begin with `#`, are skipped.
 With `--words` standard error says, once the lines are printed, what each command did, with its own
 line below it, and which datagrams were never delivered; or, where the text is no schedule, what is
 wrong with its first line at fault. With `--draw` a picture of the run is written to a file, in
-place of what is there: a column a site, time downwards, an arrow a datagram.
+place of what is there: one column per site, time downwards, one arrow per datagram.
 
 The exit status is 0; 1 where the text is no schedule (`schedule line N`), memory runs out
 (`memory`), the schedule can't be read (`input unread`), or standard output or the picture can't be

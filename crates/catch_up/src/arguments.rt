@@ -11,11 +11,11 @@ const EXAMPLE: &str =
     "Each file is a cell, which may be in use and is never changed, or a list that `ledger` printed. The
 site is asked for each version for which one of them knows a bag. It asks the other sites for what
 it doesn't know; so it is asked again, after pauses of 20 ms to a second, until it knows all, or
---for is over. For each known bag of each file it prints
+until --for seconds have passed. For each known bag of each file it prints
   known OBJ V HEX       the site knows the bag that the file knows
   other OBJ V HEX HEX   it knows the first, and the file knows the second
   open OBJ V            it didn't know the version when time was over
-and at last `K of N`: so many of all it knows as the files do.
+and finally `K of N`: of K of the N versions it knows the bag that the file knows.
 
 The exit status is 0 where that is all of them; 1 where it isn't, or a last line says why nobody
 was asked:

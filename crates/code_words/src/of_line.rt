@@ -8,10 +8,10 @@ use crate::refusal_codes::{FIRST_REFUSAL, REFUSED};
 use crate::schedule_codes::SKIPPED;
 use std::alloc::{AllocError, Global};
 
-/// Of what is between these two numbers a site says in `refused S N` that a folder can't be read;
-/// above the second that it is no valid bag.
+/// In a deposit's `refused S N` a number above this one says that a folder can't be read.
 const BEFORE_UNREAD: u8 = 20;
 
+/// Above this one it says that a bag isn't valid.
 const BEFORE_INVALID: u8 = 40;
 
 /// What a line that `check`, `run`, `site` or `send` prints says, if it has a code. Of a line

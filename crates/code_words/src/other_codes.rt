@@ -62,7 +62,7 @@ pub static OTHERS: [Meaning; 19] = [
     Meaning {
         code: "socket",
         words: "the port can't be had: another process has it",
-        advice: "find that one: `ss -lunp`",
+        advice: "find that process: `ss -lunp`",
     },
     Meaning {
         code: "torn BYTES",

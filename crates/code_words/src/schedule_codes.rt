@@ -17,7 +17,7 @@ pub static SKIPPED: [Meaning; 7] = [
     Meaning {
         code: "skip L path",
         words: "the tree can have no file of this path",
-        advice: "look for a file of this path, one where a folder is, and `..`",
+        advice: "check for a duplicate path, a file in place of a folder, or `..`",
     },
     Meaning {
         code: "skip L datagram",

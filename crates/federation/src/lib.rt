@@ -1,5 +1,5 @@
-//! A federation of sites that a schedule runs, line by line: real sites over cells in memory, the
-//! datagrams that they sent, the declared trees, and what was said.
+//! The simulator's federation, which a schedule runs line by line: real sites over cells in memory,
+//! the datagrams that they sent, the declared trees, and what was said.
 #![tactic(auto)]
 
 mod arrival;

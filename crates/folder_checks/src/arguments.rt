@@ -12,7 +12,7 @@ const EXAMPLE: &str = "It prints one line:
                   1 no bagit.txt                 8 a manifest of an unknown algorithm
                   2 bagit.txt is malformed       9 a malformed line in a manifest
                   3 neither BagIt 1.0 nor 0.97  10 an unsafe path in a manifest
-                  4 an encoding but UTF-8       11 a path twice in a payload manifest
+                  4 an encoding not UTF-8       11 a path twice in a payload manifest
                   5 there is a fetch.txt        12 a listed file is missing
                   6 no payload folder data      13 a payload file is not listed
                   7 no manifest-sha512.txt      14 a file has another digest than the listed one
@@ -113,7 +113,7 @@ pub fn check_command<'a>(alloc: Global) -> Result<Command<'a>, AllocError> {
     let explain = Arg::new(alloc, "explain")
         .long("explain")
         .action(ArgAction::SetTrue)
-        .help("Then print a line for each thing that is wrong");
+        .help("Also print a line for each thing that is wrong");
     let progress = Arg::new(alloc, "progress")
         .long("progress")
         .action(ArgAction::SetTrue)

@@ -26,8 +26,8 @@ pub fn check_folders(rt: &HostRuntime, task: &CheckTask<'_>) -> Result<u8, Progr
     }
 }
 
-/// These folders; on standard error it is said in words what each check finds, where that is asked
-/// for: after the line of its folder, of the last folder by `say`.
+/// These folders; where that is asked for, they explain each check in words on standard error,
+/// after the folder's line: that of the last folder once `say` is called.
 pub fn spoken_folders<'a, F: Folders>(
     rt: &'a HostRuntime,
     task: &CheckTask<'_>,

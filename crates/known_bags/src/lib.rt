@@ -1,4 +1,5 @@
-//! The bags that are known for versions, as cells say, or lists of their versions.
+//! Which bags are known for which versions, by what cells and printed ledgers say: read for
+//! `catch-up` and `check --registered`.
 #![tactic(auto)]
 
 mod known_bag;

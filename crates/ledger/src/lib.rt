@@ -1,5 +1,5 @@
-//! What a cell's bytes say to whoever reads them: whose cell it is, its records, how it ends, and
-//! what its records say of each version.
+//! A reader of cells, which changes none: whose cell it is, its records, how it ends, and what its
+//! records say of each version.
 #![tactic(auto)]
 
 mod batch;

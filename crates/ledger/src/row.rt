@@ -16,7 +16,7 @@ pub(crate) struct Row {
 }
 
 impl Row {
-    /// Of a version without records.
+    /// The row of a version without records.
     pub(crate) const EMPTY: Row = Row {
         known: None,
         deposit: None,

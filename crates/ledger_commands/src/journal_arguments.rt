@@ -15,7 +15,7 @@ and then a line for each record, in order:
   promise OBJ V R S         it promised the ballot of round R of site S
   vote OBJ V R S HEX        it voted for this bag in that ballot
   known OBJ V HEX           it knows that this bag was chosen
-and at last, unless the cell ends with a whole record:
+and finally, unless the cell ends with a whole record:
   torn BYTES                so many bytes of a record that was cut short; opening cuts them off
   damaged OFFSET            from this byte on there is neither a record nor a part of one
 

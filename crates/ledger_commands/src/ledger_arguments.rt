@@ -11,9 +11,9 @@ const EXAMPLE: &str =
 line for each version, in the order in which the versions come first in the cell:
   known OBJ V HEX           the site knows that this bag was chosen
   pending OBJ V HEX         it knows of none, and has registered this bag as its own deposit
-  voted OBJ V HEX           neither; its vote, that of the greatest ballot, is for this bag
+  voted OBJ V HEX           no known bag and no deposit; it voted for this, in its greatest ballot
   asked OBJ V               neither, and no vote: it has promised or issued a ballot, no more
-and at last, unless the cell ends with a whole record:
+and finally, unless the cell ends with a whole record:
   torn BYTES                so many bytes of a record that was cut short; opening cuts them off
   damaged OFFSET            from this byte on there is neither a record nor a part of one
 The versions are then those of the records before that. With `--known`, `--pending` or both, only

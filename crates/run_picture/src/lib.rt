@@ -1,4 +1,5 @@
-//! A run as a picture: a column a site, time downwards, an arrow a datagram.
+//! A run as a picture in SVG, for `run --draw`: one column per site, time downwards, one arrow per
+//! datagram.
 #![tactic(auto)]
 
 mod arrows;

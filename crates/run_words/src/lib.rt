@@ -1,4 +1,5 @@
-//! A run in words: under each event what it did, and at the end what was never delivered.
+//! A run in words, for `run --words`: under each event what it did, and at the end what was never
+//! delivered.
 #![tactic(auto)]
 
 mod arrivals;

@@ -1,9 +1,7 @@
 -- Three sites that serve agree: their turns, one by one.
-use Rattle.std.proofs.Common.{ℕ, zero, suc, ◌≡◌, ◌<◌, ◌^◌, refl, sym, ap, subst, ◌∙◌, true, false}
-use Rattle.std.proofs.Common.{List, [], ◌∷◌, length, Option, None, Some, arith}
-use Rattle.std.specs.Prelude.{Result, Ok, slice_index_or, bytes_eq}
-use Rattle.std.proofs.lemmas.Slice.Eq.{bytes_eq-Decides}
-use Rattle.fed_types.specs.declared.bag_id.BagId.{BagId}
+use Rattle.std.proofs.Common.{ℕ, zero, suc, ◌≡◌, ◌<◌, ◌^◌, refl}
+use Rattle.std.proofs.Common.{List, [], ◌∷◌, length, Option, Some, arith}
+use Rattle.std.specs.Prelude.{slice_index_or}
 use Rattle.fed_types.specs.Lists.{Has}
 use Rattle.fed_types.specs.Quorums.{quorums_of}
 use Rattle.fed_types.specs.Sites.{IsWeight, members_of}
@@ -105,26 +103,41 @@ answer_in h = answer_of h.line (seals 7 h.sends h.ms) h.few
 abbrev pub step_of : Hearing → Step Disk
 step_of h = heard_step three three_are h.n ports (m h.body) (answer_in h) (next_of h)
 
-module _ (h : Hearing) (are : AreRecords (records_of a h.old.es)) (is : IsMessage (m h.body))
-    (says : requests.request_by 0 (m h.body) h.body ≡ requests.Says (m h.body))
-    (fits : AreBytes (datagram_of 7 (m h.body)))
-    (effect_is : effect_of (quorums_of three) h.n (records_of a h.old.es)
-    (session_of h.old.bs h.old.current) (calls.Arrives (Some (m h.body))) ≡ comes_to h)
-    (keep : IsKept h.commits) (under : UnderWay)
-    (stands : StandsFor (tables a three h.n h.rows) (kept (records_of a h.old.es) h.commits)
-    (session_of h.bs h.old.current) under)
-    (f : Federation Disk) (port : ℕ) (handed : Has (port, datagram_of 7 (m h.body)) f.handed) where
+-- the rules say that it comes to this
+abbrev pub Answers : Hearing → Type 0
+Answers h =
+    effect_of (quorums_of three) h.n (records_of a h.old.es)
+    (session_of h.old.bs h.old.current) (calls.Arrives (Some (m h.body))) ≡ comes_to h
+
+-- and the rows then stand for what is on record and was heard
+abbrev pub Stands : Hearing → UnderWay → Type 0
+Stands h under =
+    StandsFor (tables a three h.n h.rows) (kept (records_of a h.old.es) h.commits)
+    (session_of h.bs h.old.current) under
+
+-- what is on record, comes and is recorded is well-formed
+pub record Fits (h : Hearing) : Type 0 where
+  pub are : AreRecords (records_of a h.old.es)
+  pub is : IsMessage (m h.body)
+  pub says : requests.request_by 0 (m h.body) h.body ≡ requests.Says (m h.body)
+  pub fits : AreBytes (datagram_of 7 (m h.body))
+  pub keep : IsKept h.commits
+
+module _ (h : Hearing) (fits : Fits h) (answers : Answers h) (under : UnderWay)
+    (stands : Stands h under) (f : Federation Disk) (port : ℕ)
+    (handed : Has (port, datagram_of 7 (m h.body)) f.handed) where
   pub takes : Takes device three f (serves h.n h.old) (step_of h)
   takes = record {
-    may_come = (fits, λ message e. (port, handed));
+    may_come = (fits.fits, λ message e. (port, handed));
     comes =
         hears three three_are h.n ports (records_of a h.old.es) (tables a three h.n h.old.rows)
-        (session_of h.old.bs h.old.current) h.old.turns h.old.turns (next_of h) (m h.body) is says
-        (answer_in h)
-        (called three three_are h.n (records_of a h.old.es) are (tables a three h.n h.old.rows)
-        (tables a three h.n h.rows) (session_of h.old.bs h.old.current) h.old.turns h.old.turns
-        (calls.Arrives (Some (m h.body))) (comes_to h) h.line effect_is refl keep h.ms h.few under
-        stands);
+        (session_of h.old.bs h.old.current) h.old.turns h.old.turns (next_of h) (m h.body) fits.is
+        fits.says (answer_in h)
+        (called three three_are h.n (records_of a h.old.es) fits.are
+        (tables a three h.n h.old.rows) (tables a three h.n h.rows)
+        (session_of h.old.bs h.old.current) h.old.turns h.old.turns
+        (calls.Arrives (Some (m h.body))) (comes_to h) h.line answers refl fits.keep h.ms h.few
+        under stands);
   }
 
   pub may_turn : Has h.n (members_of three) → f.members h.n ≡ Serves (serves h.n h.old)

@@ -1,8 +1,8 @@
 -- The bytes of datagrams are bytes.
-use Rattle.std.proofs.Common.{ℕ, zero, suc, ◌≡◌, ◌<◌, refl, sym, ap, subst, ◌∙◌, List, [], ◌∷◌}
+use Rattle.std.proofs.Common.{ℕ, zero, suc, ◌≡◌, ◌<◌, subst, List, [], ◌∷◌}
 use Rattle.std.proofs.Common.{◌++◌}
-use Rattle.std.proofs.Common.{get_or, take, Option, None, Some, arith}
-use Rattle.std.specs.Prelude.{Ok, slice_index, unwrap_or}
+use Rattle.std.proofs.Common.{take, Option, None, Some, arith}
+use Rattle.std.specs.Prelude.{Ok, slice_index}
 use Rattle.std.specs.Int.{w32, w64, to_be_bytes, bytes_high_first, byte_at}
 use Rattle.std.specs.List.{AllByRecursion}
 use Rattle.sha2.specs.Sha256 as sha256

@@ -1,9 +1,9 @@
 -- A site dies in the call of a deposit.
 use Rattle.std.proofs.Common.{ℕ, ◌≡◌, ◌≤◌, refl, sym, ap, subst, ◌∙◌, Bool, true, false, cond, max}
-use Rattle.std.proofs.Common.{List, [], ◌∷◌, ◌++◌, Option, None, Some, arith}
+use Rattle.std.proofs.Common.{List, [], ◌∷◌, ◌++◌, None, Some, arith}
 use Rattle.std.specs.Prelude.{Result, Ok}
 use Rattle.fed_types.specs.declared.bag_id.BagId.{BagId}
-use Rattle.fed_types.specs.Lists.{Has, here}
+use Rattle.fed_types.specs.Lists.{Has}
 use Rattle.dgram.specs.declared.message.Message.{Message}
 use Rattle.fed_types.specs.Sites.{Membership, members_of, count_of}
 use Rattle.fed_types.specs.Slots.{SlotName, same_slot}
@@ -43,7 +43,7 @@ use Rattle.serving_law.proofs.Answers.{answer_of}
 use Rattle.serving_law.proofs.DiskJournals.{holds, opens_new, says}
 use Rattle.serving_law.proofs.Replies.{checked_is}
 use Rattle.serving_law.proofs.Requests.{deposit_is_slot}
-use Rattle.serving_law.proofs.Tables.{Rows, records_of, tables, begun_with, stands}
+use Rattle.serving_law.proofs.Tables.{records_of, tables, begun_with, stands}
 
 module _ (members : Membership) (is_membership : IsMembership members) (slot : SlotName)
     (bag : BagId) where

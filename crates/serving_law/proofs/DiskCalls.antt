@@ -1,6 +1,6 @@
 -- A site over a disk of which all is known is called, and takes a turn.
 use Rattle.std.proofs.Common.{ℕ, ◌≡◌, ◌<◌, ◌^◌, inr, refl, sym, ap, subst, ◌∙◌, List, [], ◌∷◌}
-use Rattle.std.proofs.Common.{◌++◌, length, Option, None, Some, false}
+use Rattle.std.proofs.Common.{◌++◌, length, Option, None, Some}
 use Rattle.std.specs.Bool.{⊤}
 use Rattle.std.specs.Prelude.{Result, Ok, Err}
 use Rattle.bag_tree.specs.declared.fault.TreeFault.{TreeFault}
@@ -23,7 +23,7 @@ use Rattle.site.specs.Answered.{IsAnswered, Keeps}
 use Rattle.site.specs.Calls.{Input}
 use Rattle.site.specs.Calls as calls
 use Rattle.site.specs.Effects.{Effect}
-use Rattle.site.specs.Sites.{OpenSite, effect}
+use Rattle.site.specs.Sites.{effect}
 use Rattle.site_tables.specs.Contents.{Contents, StandsFor}
 use Rattle.udp_site.specs.Traffic.{Taken, From}
 use Rattle.udp_site.specs.Requests as requests

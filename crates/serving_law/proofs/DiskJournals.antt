@@ -1,6 +1,6 @@
 -- A disk of which all is known: a site's book is opened on it, and commits a record.
 use Rattle.std.proofs.Common.{ℕ, zero, suc, ◌≡◌, ◌⊎◌, ◌≤◌, inl, inr, refl, sym, ap, subst, ◌∙◌}
-use Rattle.std.proofs.Common.{false, List, [], ◌∷◌, ◌++◌, Some, arith, length, take, length-append}
+use Rattle.std.proofs.Common.{false, List, [], ◌∷◌, ◌++◌, Some, arith, length, length-append}
 use Rattle.std.specs.Prelude.{Ok}
 use Rattle.std.proofs.lemmas.Bool.{cases_lt}
 use Rattle.std.proofs.lemmas.List.{append-nil, take_all, take-append-le}

@@ -1,6 +1,6 @@
 -- A site that takes a message that nobody has sent.
-use Rattle.std.proofs.Common.{ℕ, ◌≡◌, ◌≤◌, refl, sym, ap, subst, ◌∙◌, Bool, true, false, cond, max}
-use Rattle.std.proofs.Common.{List, [], ◌∷◌, Option, None, Some, arith}
+use Rattle.std.proofs.Common.{◌≡◌, ◌≤◌, refl, sym, ap, subst, ◌∙◌, Bool, true, false, cond, max}
+use Rattle.std.proofs.Common.{[], ◌∷◌, None, Some, arith}
 use Rattle.std.specs.Prelude.{Ok}
 use Rattle.fed_types.specs.declared.bag_id.BagId.{BagId}
 use Rattle.fed_types.specs.Lists.{Has, here, there}
@@ -42,7 +42,7 @@ use Rattle.serving_law.specs.Reports.{step_of}
 use Rattle.serving_law.proofs.DiskCalls.{owner, serving, called, hears, heard_step, no_folders}
 use Rattle.serving_law.proofs.Answers.{answer_of}
 use Rattle.serving_law.proofs.DiskJournals.{holds, opens_new}
-use Rattle.serving_law.proofs.Tables.{Rows, records_of, tables, begun_with, stands}
+use Rattle.serving_law.proofs.Tables.{records_of, tables, begun_with, stands}
 
 module _ (members : Membership) (is_membership : IsMembership members) (two : 2 ≤ count_of members)
     (slot : SlotName) (is_slot : IsSlot slot) (bag : BagId) (is_bag : IsBag bag) where

@@ -20,6 +20,8 @@ pub mod Tables
 pub mod DiskCalls
 pub mod Sites
 pub mod Agreement
+pub mod AgreedMessages
+pub mod AgreedTurns
 pub mod Agreed
 pub mod Deaths
 pub mod Kills

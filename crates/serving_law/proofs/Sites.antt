@@ -1,16 +1,13 @@
 -- A site of three that serves, between two turns of an agreement, and what it has of its slot then.
 use Rattle.std.proofs.Common.{ℕ, ◌≡◌, refl, sym, ap, ◌∙◌, Bool, true, false, cond, List, [], ◌∷◌}
-use Rattle.std.proofs.Common.{Option, None, Some, arith, map}
-use Rattle.std.specs.List.{cons_option}
+use Rattle.std.proofs.Common.{Option, None, Some, arith}
 use Rattle.fed_types.specs.declared.bag_id.BagId.{BagId}
 use Rattle.fed_types.specs.declared.vote.Vote.{Vote}
 use Rattle.fed_types.specs.Lists.{is_in}
 use Rattle.fed_types.specs.Slots.{SlotName, same_slot}
 use Rattle.records.specs.declared.entry.Entry.{Entry}
-use Rattle.records.specs.declared.record.Record.{Record}
 use Rattle.records.specs.Words.{known_of, used_of, deposit_of}
 use Rattle.dgram.specs.declared.body.Body.{Body}
-use Rattle.dgram.specs.declared.body.Body.TheVariants as bodies
 use Rattle.dgram.specs.Heard.{same_vote, bodies_of, floor_of, voters_for, promisers}
 use Rattle.learner.specs.Ledgers as ledgers
 use Rattle.learner.specs.declared.row.Row.{Row as heard_row}
@@ -18,11 +15,10 @@ use Rattle.learner.specs.declared.row.Row.TheVariants as rows
 use Rattle.learner.proofs.HeardVotes.{same_vote_decides}
 use Rattle.proposer.specs.declared.row.Row.{Row as own_row}
 use Rattle.proposer.specs.Proposals.{Current, gathered, highest_prior}
-use Rattle.proposer.specs.Rows.{Knows}
 use Rattle.proposer.specs.Sessions.{Session, at_slot}
 use Rattle.site_tables.specs.Contents.{StandsFor}
 use Rattle.serving_law.specs.ExamplesAgreed.{three, a, ballot, vote}
-use Rattle.serving_law.proofs.Tables.{Rows, records_of, heard_of, tables, begun_with, stands}
+use Rattle.serving_law.proofs.Tables.{records_of, heard_of, tables, begun_with, stands}
 
 -- ---- what it has heard, and which ballot is current
 

@@ -12,7 +12,6 @@ use Rattle.records.specs.declared.entry.Entry.{Entry}
 use Rattle.records.specs.declared.entry.Entry.TheVariants as entry
 use Rattle.records.specs.declared.record.Record.{Record}
 use Rattle.records.specs.Words.{known_of}
-use Rattle.dgram.specs.declared.body.Body.{Body}
 use Rattle.dgram.specs.declared.body.Body.TheVariants.{Accepted}
 use Rattle.dgram.specs.Encoding.{datagram_of}
 use Rattle.lines.specs.Notices.{Learned}

@@ -8,7 +8,7 @@ const ABOUT: &str = "Reads a members file, or writes one";
 
 const EXAMPLE: &str = "Of a members file it prints
   ok F N Q HEX      the federation's number, the number of its sites, the weight that decides, and
-                    a digest of what the file says. Where sites differ in it they mustn't run
+                    a digest of what the file says. Sites with different digests mustn't be run
                     together: compare it before the first start, and after every copy of the file.
 With --new it prints a members file for sites on these ports, that of site 1 first, each with its
 weight where one is given. The federation's number comes from this list, so that sites with

@@ -10,11 +10,11 @@ const ABOUT: &str = "Deposits a bag at a site that serves, or asks it for one";
 
 const EXAMPLE: &str =
     "With PATH it deposits the folder of this path, which the site reads, as version V of the object
-OBJ; without it asks which bag is version V of OBJ. It prints one line, of site N:
+OBJ. Without PATH it asks which bag is version V of OBJ. It prints one line, of site N:
   registered N OBJ V HEX       the bag of this identity is deposited
   reply N OBJ V known HEX      the bag of this identity is version V of OBJ
-  reply N OBJ V pending HEX    the site deposited this bag, and doesn't know which one it is
-  reply N OBJ V nothing        the site doesn't know which bag it is
+  reply N OBJ V pending HEX    the site deposited this bag, and nothing is known yet
+  reply N OBJ V nothing        nothing is known yet, and the site has no deposit
   refused N CODE               11 another bag is deposited       14 out of memory
                                12 another bag is known           15 the site has to be restarted
                                13 the site's cell failed

@@ -18,18 +18,18 @@ The cell is the file in which the site keeps its word; it is made where it is mi
 In each turn the site waits for one datagram, and prints a line for what it does:
   registered N OBJ V HEX        a bag was deposited, of this identity
   known N OBJ V HEX             the site learned which bag is version V of OBJ
-  reply N OBJ V known HEX       it was asked, and knows the bag; so with `pending`, its own
-                                deposit, of which nothing is known, and `nothing`
+  reply N OBJ V known HEX       it was asked, and this bag is version V of OBJ
+  reply N OBJ V pending HEX     .. nothing is known yet, and this is its own deposit
+  reply N OBJ V nothing         .. nothing is known yet, and it has no deposit
   refused N CODE                it refused a call
   dropped N                     what came was no message for it
 In a turn in which nothing comes it may propose one of its deposits to all. While nothing moves,
-each such turn waits twice as long as the one before, up to --wait-most; a deposit, a vote that
-another site asks for or gives, and a bag that it knows bring the first wait back. However much
-comes, such a turn is taken once ten times --wait, 250 ms and its wait have passed since the last
+each such turn waits twice as long as the one before, up to --wait-most; a deposit, and from another
+site an Accept, a vote or a known bag, bring the first wait back. However much comes, such a turn is taken once ten times --wait, 250 ms and its wait have passed since the last
 one. After a deposit such turns are taken at once, until the site may propose it; but not while a
 proposal of its own is under way.
 
-With --bags a path that is absolute or has `..` in it is that of a folder that isn't there.
+With --bags a path that is absolute or has `..` in it is refused as a missing folder (21).
 
 With --log each line is also written to a file, which grows: after the time in UTC and the port
 from which came what it is about (`-` in a turn in which nothing came). After `refused` comes what
@@ -39,8 +39,8 @@ was asked for, and a folder that can't be read has a line of its own:
   TIME 51234 unread 1 21 deposit OBJ V PATH PLACE
 Where the log can't be written, standard error says so once, and the site goes on.
 
-With --words standard error has a line after each line that says what is refused, dropped or why it
-stopped: in words, with names. `bagpaxos help codes` lists what each says.
+With --words standard error has a line after each line `refused` or `dropped`, and after the one
+that says why it stopped: in words, with names. `bagpaxos help codes` lists what each says.
 
 The exit status is 0 after the last turn; 1 where a last line says why it stopped:
   members unread    the members file can't be read

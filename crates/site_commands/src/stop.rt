@@ -19,7 +19,7 @@ pub enum Stop {
     BagsUnread,
     /// The file of the cell can't be opened.
     CellUnopened,
-    /// There is no socket.
+    /// The socket can't be opened.
     Socket,
     /// An allocation failed.
     Memory,

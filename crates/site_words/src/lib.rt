@@ -1,5 +1,5 @@
-//! What the lines of `site` and `send` say, in words on standard error: with the names of the
-//! files, the port and the folder that they are about.
+//! What the lines of `site` and `send` say, in words on standard error, for their `--words`: with
+//! the names of the files, the port and the folder that they are about.
 #![tactic(auto)]
 
 mod asked;

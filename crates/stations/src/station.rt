@@ -80,8 +80,8 @@ impl Station {
         }
     }
 
-    /// Takes the station out of its place among others, until it is put back: a station at rest,
-    /// over a cell with no bytes, is left there.
+    /// Moves the station out of its place among others, until it is put back, and leaves an empty
+    /// one there: at rest, over a cell with no bytes.
     pub fn take(&mut self) -> Station
         ensures { result ≡ self.old }
     {

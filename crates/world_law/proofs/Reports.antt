@@ -21,7 +21,7 @@ has_notice (Some l) m h = ap Some (has_one h)
 
 module _ (q : QuorumSystem) (laws : AreQuorums q) where
   -- what is chosen stays so
-  chosen_from : (events : List Event) (w : Network) → Kept q w → (slot : SlotName) (bag : BagId)
+  pub chosen_from : (events : List Event) (w : Network) → Kept q w → (slot : SlotName) (bag : BagId)
       → IsChosen q w slot bag → IsChosen q (run q w events) slot bag
   unfolding run
   chosen_from [] w inv slot bag c = c
@@ -29,7 +29,8 @@ module _ (q : QuorumSystem) (laws : AreQuorums q) where
       let next = happens_kept q laws w inv e in
       chosen_from es (happens q w e).network next.kept slot bag (chosen_grows next.grows c)
 
-  reported_from : (events : List Event) (w : Network) → Kept q w → (m : Notice) (r : Report)
+  -- what is reported was chosen
+  pub reported_from : (events : List Event) (w : Network) → Kept q w → (m : Notice) (r : Report)
       → Has m (notices_of q w events) → report_of m ≡ Some r
       → IsChosen q (run q w events) r.slot r.bag
   unfolding run notices_of

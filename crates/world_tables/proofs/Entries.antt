@@ -54,6 +54,23 @@ put_of number files (e ∷ es) = go (eqb e.0 number) refl (put_of number files e
         rw (eqb-either number e.0, is)
         (ap (λ (trees : List NumberedTree). record { number = e.0; files = e.1 } ∷ trees) later)
 
+-- a look-up by a key, in the entries that are seen as these trees
+module _ (key number : ℕ) (es : List (ℕ × Files)) (trees : List NumberedTree)
+    (keyed : key ≡ number) (seen : declared_trees es ≡ trees) where
+  pub looked_up : (found : Option Files) → found ≡ lookup (nat_eq key) es
+      → found ≡ tree_at number trees
+  looked_up found is =
+      is ∙ (ap (λ (n : ℕ). lookup (nat_eq n) es) keyed
+      ∙ (tree_of number es ∙ ap (tree_at number) seen))
+
+  -- and a change of what it finds
+  pub changed : (files : Files) (after : List (ℕ × Files)) → after ≡ set_value (nat_eq key) es files
+      → declared_trees after ≡ put_tree number files trees
+  changed files after is =
+      ap declared_trees is
+      ∙ (ap (λ (n : ℕ). declared_trees (set_value (nat_eq n) es files)) keyed
+      ∙ (put_of number files es ∙ ap (put_tree number files) seen))
+
 -- one more tree is declared
 pub declared_more : (es : List (ℕ × Files)) (number : ℕ) (files : Files)
     → declared_trees (es ++ (number, files) ∷ [])

@@ -1,6 +1,7 @@
 -- The least number that nothing has named.
 use Rattle.std.proofs.Common.{◌≡◌, ℕ, zero, suc, ◌+◌, ◌<◌, ◌≤◌, Bool, true, false, cond, not}
 use Rattle.std.proofs.Common.{List, [], ◌∷◌, ◌++◌, length, Option, Some, None, refl, sym, ap, ◌∙◌}
+use Rattle.std.proofs.Common.{subst}
 use Rattle.std.proofs.Common.{arith, inl, inr, ◌⊎◌}
 use Rattle.std.specs.List.{find}
 use Rattle.std.specs.Option.{option_or}
@@ -45,16 +46,29 @@ find_next test (suc n) last within all not_it =
           (find_next test n last (omega (arith, other.1)) all not_it)
     ]
 
--- the next number, or none, where each number up to this one was named
-module _ {T : Type 0} (d : Sending T) (named : List ℕ) (count last : ℕ) (stands : StandsFor d named)
-    (is : IsLast d.marks d.others count last) where
-  pub next_found : last < count → Some (last + 1) ≡ next_unnamed named count
+-- The next number, or none, where each number up to this one was named. The table is seen as what
+-- is sent.
+module _ {T : Type 0} (table sending : Sending T) (marks : List Bool) (named : List ℕ)
+    (count last : ℕ) (seen : table ≡ sending) (same : marks ≡ table.marks)
+    (many : count ≡ length table.sent) (last_is : IsLast marks table.others count last)
+    (stands : StandsFor sending named) where
+  all_sent : count ≡ length sending.sent
+  all_sent = many ∙ ap (λ (d : Sending T). length d.sent) seen
+
+  is : IsLast sending.marks sending.others count last
+  is =
+      subst (λ (d : Sending T). IsLast d.marks d.others count last) seen
+      (subst (λ (m : List Bool). IsLast m table.others count last) same last_is)
+
+  pub next_found : last < count → Some (last + 1) ≡ next_unnamed named (length sending.sent)
   next_found less =
       sym (find_next (is_in named) count last less
       (λ k one within. sym (stands k) ∙ is.0 k one within)
       (sym (stands (last + 1)) ∙ is.1 less))
+      ∙ ap (next_unnamed named) all_sent
 
-  pub next_none : count ≤ last → None ≡ next_unnamed named count
+  pub next_none : count ≤ last → None ≡ next_unnamed named (length sending.sent)
   next_none all =
       sym (find_none (is_in named) count last all
       (λ k one within. sym (stands k) ∙ is.0 k one within))
+      ∙ ap (next_unnamed named) all_sent
