@@ -2,6 +2,7 @@
 more. They check nothing, keep no journal that could be read again, and wait for no idle turn."""
 import multiprocessing
 import os
+import time
 
 from messages import ACCEPT, ACCEPTED, ASK, DEPOSIT, KNOWN, PREPARE, PROMISE
 from messages import Message, ballot, message
@@ -73,6 +74,31 @@ class BareSite:
                 self.send(self.clients.pop(slot, []), KNOWN, slot, VALUE)
         elif asked.kind == ASK:
             self.send([sender], KNOWN, slot, VALUE)
+
+
+def count_syncs(path, seconds, counts):
+    """Puts the number of records of a vote's length that one process appends and syncs."""
+    file, count = os.open(path, os.O_WRONLY | os.O_CREAT | os.O_APPEND), 0
+    end = time.monotonic() + seconds
+    while time.monotonic() < end:
+        os.write(file, bytes(BYTES[ACCEPT]))
+        os.fdatasync(file)
+        count += 1
+    counts.put(count)
+
+
+def syncs_a_second(room, seconds):
+    """How many records a second three processes append and sync, each to its file, and no more."""
+    counts = multiprocessing.Queue()
+    paths = [room / f"synced-{site}" for site in SITES]
+    processes = [
+        multiprocessing.Process(target=count_syncs, args=(it, seconds, counts)) for it in paths
+    ]
+    for it in processes:
+        it.start()
+    for it in processes:
+        it.join()
+    return sum(counts.get() for _ in processes) / seconds
 
 
 def second(counts, slot):

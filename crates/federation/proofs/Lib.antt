@@ -6,5 +6,6 @@ pub mod Sound
 pub mod Trees
 pub mod Arrivals
 pub mod Called
+pub mod Named
 pub mod Delivered
 pub mod Pumped

@@ -1,14 +1,14 @@
 -- The entries of a table of trees, as the trees that were declared.
 use Rattle.std.proofs.Common.{◌≡◌, ℕ, Bool, true, false, cond, List, [], ◌∷◌, ◌++◌, eqb, Option}
-use Rattle.std.proofs.Common.{Some, None, refl, sym, ap, ◌∙◌, arith, inl, inr, eq-eqb}
+use Rattle.std.proofs.Common.{Some, None, refl, sym, ap, ◌∙◌, inl, inr, eq-eqb}
 use Rattle.std.specs.Prelude.{nat_eq}
 use Rattle.std.specs.Map.{lookup, set_value}
-use Rattle.std.proofs.lemmas.Bool.Decides.{eqb_tells, nat_tests}
+use Rattle.std.proofs.lemmas.Bool.Decides.{eqb_tells}
 use Rattle.std.proofs.lemmas.Bool.{eqb-true}
 use Rattle.bag_tree.specs.declared.fault.TreeFault.{TreeFault}
-use Rattle.bag_tree.specs.Tree.{Files, with_folder, with_file, fault_of_added}
+use Rattle.bag_tree.specs.Tree.{Files, fault_of_added}
 use Rattle.world_law.specs.Trees.{NumberedTree, tree_at, put_tree}
-use Rattle.world_tables.specs.Changes.{declared_trees, trees_with_folder, trees_with_file}
+use Rattle.world_tables.specs.Changes.{declared_trees, trees_with_file}
 use Rattle.world_tables.specs.Changes.{trees_with_file_unless, files_after, files_unless}
 
 eqb-either : (a b : ℕ) → eqb a b ≡ eqb b a

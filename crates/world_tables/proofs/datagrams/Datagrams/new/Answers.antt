@@ -1,4 +1,4 @@
-use Rattle.std.proofs.Common.{◌≡◌, ◌∙◌, ap, ℕ, Bool, List, []}
+use Rattle.std.proofs.Common.{◌∙◌, ap, ℕ, Bool, List, []}
 use Rattle.world_tables.specs.Numbers.{is_named}
 use Rattle.world_tables.proofs.Named.{named_nothing}
 use Rattle.world_tables.proofs.datagrams.Datagrams.new.Goals as goal

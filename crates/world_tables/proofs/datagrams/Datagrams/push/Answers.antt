@@ -1,4 +1,4 @@
-use Rattle.std.proofs.Common.{◌≡◌, ◌∙◌, ap, sym, subst, ℕ, Bool, List}
+use Rattle.std.proofs.Common.{◌∙◌, ap, Bool, List}
 use Rattle.world_tables.specs.Numbers.{Sending, is_named}
 use Rattle.world_tables.proofs.Named.{named_push}
 use Rattle.world_tables.proofs.datagrams.Datagrams.push.Goals as goal

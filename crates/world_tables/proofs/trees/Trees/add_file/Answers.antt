@@ -1,7 +1,7 @@
 use Rattle.std.proofs.Common.{◌≡◌, Option, Some, None, sym, ap, subst, ◌∙◌}
 use Rattle.std.specs.Prelude.{IfOk}
 use Rattle.bag_tree.specs.Tree.{Files}
-use Rattle.world_law.specs.Trees.{tree_at, put_tree}
+use Rattle.world_law.specs.Trees.{put_tree}
 use Rattle.std.proofs.lemmas.Result.{on_ok_weaker, on_err_weaker}
 use Rattle.world_tables.specs.declared.trees.Added.{Added}
 use Rattle.world_tables.specs.Changes.{trees_with_file, outcome_of_adding}

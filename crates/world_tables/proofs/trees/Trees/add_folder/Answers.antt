@@ -1,4 +1,4 @@
-use Rattle.std.proofs.Common.{Option, Some, None, is_some, ap, sym, ◌∙◌}
+use Rattle.std.proofs.Common.{Option, Some, None, is_some, ap, ◌∙◌}
 use Rattle.bag_tree.specs.Tree.{Files}
 use Rattle.world_law.specs.Trees.{put_tree}
 use Rattle.world_tables.specs.Changes.{trees_with_folder}
