@@ -455,7 +455,7 @@ module _ {C : Type 0} (device : C → Device) (members : Membership)
 
       starts : (n : ℕ) (cell : C) (site : OpenSite C) (records : List Record)
           → records ≡ (w.sites n).records
-          → rules.ReadSays (owner_of device members n) (device cell) records
+          → rules.ReadGives (owner_of device members n) (device cell) records
           → Opens device (owner_of device members n) cell (Ok site.book)
           → (x : Network) × Moves device members w x n (Serves (begins site new_session)) Nothing
       starts n cell site records same reads opens = (

@@ -7,7 +7,7 @@ use Rattle.cell_device.specs.Devices.{Device}
 use Rattle.cell_device.specs.Images.{Image}
 use Rattle.records.specs.declared.owner.Owner.{Owner}
 use Rattle.records.specs.declared.record.Record.{Record}
-use Rattle.records.specs.Journals.{Says as SaysRecords}
+use Rattle.records.specs.Journals.{Says as JournalSays}
 use Rattle.dgram.specs.declared.message.Message.{Message}
 use Rattle.site.specs.Opened.{Opens}
 use Rattle.udp_site.specs.Traffic.{Post, Taken, Nothing, From}
@@ -45,13 +45,13 @@ pub record MayRecoverTo (owner : Owner) (old now : Device) (records : List Recor
   pub told : IsSome old.image
   pub bytes : List ℕ
   pub left : now.left_since old.moment bytes
-  pub says : SaysRecords owner bytes (Ok records)
+  pub says : JournalSays owner bytes (Ok records)
 
--- a read gives bytes that say these records
-pub record ReadSays (owner : Owner) (device : Device) (records : List Record) : Type 0 where
+-- it is known what a read gives: bytes that say these records
+pub record ReadGives (owner : Owner) (device : Device) (records : List Record) : Type 0 where
   pub image : Image
   pub told : device.image ≡ Some image
-  pub says : SaysRecords owner image.seen (Ok records)
+  pub says : JournalSays owner image.seen (Ok records)
 
 -- ---- what may happen
 
@@ -98,7 +98,7 @@ module _ {C : Type 0} (device : C → Device) (members : Membership) where
   May f (Starts n cell site) =
       Has n (members_of members)
       × ((records : List Record) × (f.members n ≡ Down records)
-      × ReadSays (owner_of n) (device cell) records)
+      × ReadGives (owner_of n) (device cell) records)
       × Opens device (owner_of n) cell (Ok site.book)
 
   -- all of these happen, one after another

@@ -60,8 +60,9 @@ pub record Hands
   pub valid : IsValid (facts_of_tree files)
   pub identity : bag ≡ identity_of (facts_of_tree files)
 
--- The line, which has this number, deposits the bag for the slot: after it the site has the deposit
--- on record, whatever it answered, and also where it was stopped or its device failed.
+-- The line, which has this number, deposits the bag for the slot: it hands the site a valid tree of
+-- that bag, and after it the site has that deposit on record, by this line or an earlier one,
+-- whatever it answered, and also where it was stopped or its device failed.
 pub record DepositedBy
     (w : World) (number : ℕ) (line : Option Command) (slot : SlotName) (bag : BagId)
     : Type 0 where
@@ -101,8 +102,8 @@ LinesStay =
     (w : World) (number : ℕ) (line : Option Command)
     → (after_line w number line).lines ≡ w.lines ++ printed w number line
 
--- What a run has printed in this place is printed by this line of the schedule, with these before
--- it: they print no more than what stands before the place, and with the line it is there.
+-- This line of the schedule, with these before it, prints what the run has in this place, counted
+-- from 0: before the line at most so many lines are printed, and after it more.
 pub record IsPrintedBy
     (plan : Plan) (place : ℕ) (before : List (Option Command)) (line : Option Command)
     : Type 0 where

@@ -33,10 +33,10 @@ pub record SiteState : Type 0 where
   pub session : Session
   pub mode : Mode
 
--- Each site by its number: numbers that are no member's are there too, and stay new. And all
--- datagrams, in the order in which they were sent, each as the message that its bytes decode to
--- (`message_of_its_datagram` of `dgram`); its sender is the site that the message names. None is
--- ever taken away: it may arrive once, often or never, in any order.
+-- Each site by its number: numbers that are no member's are there too, and `run` leaves them new.
+-- And all datagrams, in the order in which they were sent, each as the message that its bytes decode
+-- to (`message_of_its_datagram` of `dgram`); its sender is the site that the message names. `run`
+-- takes none away: one may arrive once, often or never, in any order.
 pub record Network : Type 0 where
   pub sites : ℕ → SiteState
   pub sent : List Send
