@@ -1,9 +1,7 @@
 //! The command `check --registered`.
 
-use crate::noting::NotedFolders;
-use crate::words_for::compare;
-use bag_folders::DiskFolders;
-use folder_checks::{CheckTask, check_all_on, spoken_folders, watched_folders};
+use crate::known_checks::check_known_on;
+use folder_checks::{CheckTask, spoken_folders, watched_folders};
 use known_bags::{KnownBag, SourceFault, push_source};
 use outcomes::{ProgramFault, write_answer};
 use std::alloc::{AllocError, Global};
@@ -21,7 +19,7 @@ pub fn check_registered(
     let mut output = io::writer(rt);
     let mut known = Vec::new(rt.alloc());
     match push_source(rt, &mut known, list) {
-        Ok(()) => check_against(rt, task, &mut known, &mut output),
+        Ok(()) => check_against(rt, task, known.as_slice(), &mut output),
         Err(fault) => write_fault(rt.alloc(), &mut output, fault),
     }
 }
@@ -29,27 +27,18 @@ pub fn check_registered(
 fn check_against<W: Write>(
     rt: &HostRuntime,
     task: &CheckTask<'_>,
-    known: &mut Vec<KnownBag>,
+    known: &[KnownBag],
     output: &mut W,
 ) -> Result<u8, ProgramFault> {
-    let alloc = rt.alloc();
     let Ok(folders) = watched_folders(rt, task) else {
         return write_answer(output, 1, "memory\n");
     };
-    let mut folders = spoken_folders(rt, task, NotedFolders::new(alloc, folders));
+    let folders = spoken_folders(rt, task, folders);
     let paths = task.paths.as_slice();
-    let status = check_all_on(alloc, &mut folders, paths, task.report, output)?;
-    folders.say();
-    let Some(held) = folders.folders().held() else {
-        return write_answer(output, 1, "memory\n");
-    };
-    match compare(alloc, held, known) {
-        Ok(found) => {
-            let is_said = rt.eprint(found.text.as_str()).is_ok();
-            Ok(if is_said && found.is_equal { status } else { 1 })
-        }
-        Err(AllocError) => write_answer(output, 1, "memory\n"),
-    }
+    let mut checked = check_known_on(rt.alloc(), folders, paths, task.report, known, output)?;
+    checked.folders.say();
+    let is_said = rt.eprint(checked.answer.text.as_str()).is_ok();
+    Ok(if is_said { checked.answer.status } else { 1 })
 }
 
 fn write_fault<W: Write>(

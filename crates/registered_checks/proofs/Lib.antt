@@ -1,0 +1,4 @@
+pub mod Noted
+pub mod Compared
+pub mod Agreed
+pub mod Paths

@@ -1,0 +1,7 @@
+-- Read in this order: Held (the bags that folders hold), Comparisons (whether they are those that
+-- are known, and what is said of it), Checks (what a check against known bags comes to). inner/ is
+-- for private contracts and proofs.
+pub mod Held
+pub mod Comparisons
+pub mod Checks
+pub mod inner
