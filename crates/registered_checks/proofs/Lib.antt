@@ -2,3 +2,4 @@ pub mod Noted
 pub mod Compared
 pub mod Agreed
 pub mod Paths
+pub mod Listed

@@ -1,10 +1,12 @@
 //! The command `check --registered`.
 
-use crate::known_checks::check_known_on;
+ghost use Rattle.std.specs.Prelude.{◌≡◌, ◌⊎◌, ℕ, take, string_bytes};
+ghost use Rattle.std.specs.Io.KnownBytes.{Appends};
+
+use crate::list_checks::{check_list_on, write_fault};
 use folder_checks::{CheckTask, spoken_folders, watched_folders};
-use known_bags::{KnownBag, SourceFault, push_source};
-use outcomes::{ProgramFault, write_answer};
-use std::alloc::{AllocError, Global};
+use known_bags::source_bytes;
+use outcomes::{Answer, ProgramFault, write_all, write_answer};
 use std::io;
 use std::io::Write;
 
@@ -17,9 +19,8 @@ pub fn check_registered(
     list: &str,
 ) -> Result<u8, ProgramFault> {
     let mut output = io::writer(rt);
-    let mut known = Vec::new(rt.alloc());
-    match push_source(rt, &mut known, list) {
-        Ok(()) => check_against(rt, task, known.as_slice(), &mut output),
+    match source_bytes(rt, list) {
+        Ok(bytes) => check_against(rt, task, bytes.as_slice(), &mut output),
         Err(fault) => write_fault(rt.alloc(), &mut output, fault),
     }
 }
@@ -27,7 +28,7 @@ pub fn check_registered(
 fn check_against<W: Write>(
     rt: &HostRuntime,
     task: &CheckTask<'_>,
-    known: &[KnownBag],
+    list: &[u8],
     output: &mut W,
 ) -> Result<u8, ProgramFault> {
     let Ok(folders) = watched_folders(rt, task) else {
@@ -35,25 +36,20 @@ fn check_against<W: Write>(
     };
     let folders = spoken_folders(rt, task, folders);
     let paths = task.paths.as_slice();
-    let mut checked = check_known_on(rt.alloc(), folders, paths, task.report, known, output)?;
+    let mut checked = check_list_on(rt.alloc(), list, folders, paths, task.report, output)?;
     checked.folders.say();
-    let is_said = rt.eprint(checked.answer.text.as_str()).is_ok();
-    Ok(if is_said { checked.answer.status } else { 1 })
+    Ok(say_on(&checked.answer, &mut rt.stderr()))
 }
 
-fn write_fault<W: Write>(
-    alloc: Global,
-    output: &mut W,
-    fault: SourceFault,
-) -> Result<u8, ProgramFault> {
-    let line = match fault {
-        SourceFault::Unread => return write_answer(output, 1, "open 4\n"),
-        SourceFault::Memory => return write_answer(output, 1, "memory\n"),
-        SourceFault::Damaged(offset) => format!(in alloc; "damaged {offset}\n"),
-        SourceFault::Line(line) => format!(in alloc; "ledger line {line}\n"),
-    };
-    match line {
-        Ok(line) => write_answer(output, 1, line.as_str()),
-        Err(AllocError) => write_answer(output, 1, "memory\n"),
+/// Says what is to be said. The status is the answer's, but 1 where not all of it can be written.
+pub fn say_on<E: Write>(answer: &Answer, errors: &mut E) -> u8
+    ensures { ((result ≡ answer.now.status)
+        × Appends (E.contents errors.old) (E.contents errors.new) (string_bytes answer.now.text))
+        ⊎ ((result ≡ 1) × ((n : ℕ) × Appends (E.contents errors.old) (E.contents errors.new)
+        (take n (string_bytes answer.now.text)))) }
+{
+    match write_all(errors, answer.text.as_bytes()) {
+        Ok(()) => answer.status,
+        Err(_) => 1,
     }
 }
