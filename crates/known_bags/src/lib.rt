@@ -7,4 +7,4 @@ mod known_lines;
 mod sources;
 
 pub use known_bag::KnownBag;
-pub use sources::{SourceFault, push_known, push_source};
+pub use sources::{SourceFault, push_known, push_source, source_bytes};

@@ -32,7 +32,7 @@ pub fn push_source(
     bags: &mut Vec<KnownBag>,
     path: &str,
 ) -> Result<(), SourceFault> {
-    let bytes = bytes_of(rt, path)?;
+    let bytes = source_bytes(rt, path)?;
     push_known(rt.alloc(), bags, bytes.as_slice())
 }
 
@@ -132,8 +132,9 @@ fn push_record(alloc: Global, bags: &mut Vec<KnownBag>, kept: &Record) -> Result
     }
 }
 
-// What isn't a file is refused before it is opened: opening a pipe would wait.
-fn bytes_of(rt: &HostRuntime, path: &str) -> Result<Vec<u8>, SourceFault> {
+/// All bytes of the file of this path; `Unread` or `Memory` where it can't be read. What isn't a
+/// file is refused before it is opened: opening a pipe would wait.
+pub fn source_bytes(rt: &HostRuntime, path: &str) -> Result<Vec<u8>, SourceFault> {
     match fs::metadata(rt, path) {
         Ok(found) if found.is_file() => {}
         Ok(_) => return Err(SourceFault::Unread),

@@ -2,8 +2,18 @@
 //! that were agreed on?
 #![tactic(auto)]
 
-mod checking;
-mod noting;
-mod words_for;
+mod command;
+mod comparison_lines;
+mod equality;
+mod held_bag;
+mod known_checks;
+mod list_checks;
+mod noted_folders;
+mod notes;
 
-pub use checking::check_registered;
+pub use command::{check_registered, say_on};
+pub use comparison_lines::comparison_text;
+pub use equality::are_equal;
+pub use held_bag::HeldBag;
+pub use known_checks::{Checked, check_known_on};
+pub use list_checks::check_list_on;

@@ -1,0 +1,5 @@
+pub mod Noted
+pub mod Compared
+pub mod Agreed
+pub mod Paths
+pub mod Listed

@@ -1,0 +1,45 @@
+-- A check against a source.
+use Rattle.std.proofs.Common.{◌≡◌, ◌⊎◌, ℕ, List, [], Option, IfSome, Result, Ok, Err}
+use Rattle.std.proofs.Common.{inl, inr, subst}
+use Rattle.std.specs.Prelude.{IsTrue, IfOk}
+use Rattle.folder_checks.specs.declared.report.Report.{Report}
+use Rattle.known_bags.specs.declared.known_bag.KnownBag.{KnownBag}
+use Rattle.known_bags.specs.declared.sources.SourceFault.{SourceFault}
+use Rattle.known_bags.specs.declared.sources.SourceFault.TheVariants as faults
+use Rattle.known_bags.specs.Sources.{Knows, IsNoSource, IsSourceOf}
+use Rattle.outcomes.specs.Outcomes.{Writes, WritesPrefix, no_memory}
+use Rattle.registered_checks.specs.Held.{Given}
+use Rattle.registered_checks.specs.Checks.{Ends, agree}
+use Rattle.registered_checks.specs.Lists.{AnswersTo, AnswersFirst, fault_outcome}
+
+-- the bags that a source knows are the held ones where the status is 0
+pub agreed_to : {T E : Type 0} (checked : Result T E) (status : T → ℕ) (source : List ℕ)
+    (given : Option Given) (paths : List (List ℕ)) (bags : List KnownBag)
+    → IsSourceOf source [] bags (Ok tt)
+    → IfOk checked (λ it. status it ≡ 0
+    → IfSome given (λ gives. IsTrue (agree gives paths bags)))
+    → IfOk checked (λ it. status it ≡ 0
+    → (known : List KnownBag) × Knows source known
+    × IfSome given (λ gives. IsTrue (agree gives paths known)))
+agreed_to (Err e) status source given paths bags is agreed = tt
+agreed_to (Ok it) status source given paths bags is agreed =
+    λ zero. (
+      is.0,
+      is.1,
+      subst (λ known. IfSome given (λ gives. IsTrue (agree gives paths known))) is.2 (agreed zero),
+    )
+
+-- a source knows nothing
+module _ (source : List ℕ) (report : Report) (given : Option Given) (place : Option (List ℕ))
+    (paths : List (List ℕ)) (fault : SourceFault) (is : IsNoSource source fault)
+    (old new : Option (List ℕ)) where
+  pub refused : (status : ℕ) (said : List ℕ)
+      → Writes old new status (fault_outcome fault) ⊎ Writes old new status no_memory
+      → said ≡ [] → AnswersTo source report given place paths (Ends old new status said)
+  refused status said (inl writes) none = inr (fault, is, (writes, none))
+  refused status said (inr writes) none = inr (faults.Memory, tt, (writes, none))
+
+  pub refused_at : WritesPrefix old new (fault_outcome fault) ⊎ WritesPrefix old new no_memory
+      → AnswersFirst source report given place paths (WritesPrefix old new)
+  refused_at (inl part) = inr (fault, is, part)
+  refused_at (inr part) = inr (faults.Memory, tt, part)

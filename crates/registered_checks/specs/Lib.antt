@@ -1,0 +1,8 @@
+-- Read in this order: Held (the bags that folders hold), Comparisons (whether they are those that
+-- are known, and what is said of it), Checks (what a check against known bags comes to), Lists (and
+-- against the bytes of a list). inner/ is for private contracts and proofs.
+pub mod Held
+pub mod Comparisons
+pub mod Checks
+pub mod Lists
+pub mod inner

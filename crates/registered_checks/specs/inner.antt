@@ -1,0 +1,4 @@
+-- What only private contracts and proofs speak of.
+pub mod Answers
+pub mod Notes
+pub mod Lines

@@ -1,0 +1,101 @@
+//! Checks of folders against the bags that a source knows: a cell, or a list.
+
+ghost use Rattle.std.specs.Prelude.{◌≡◌, ◌⊎◌, List, map, IfOk, IfErr, IfSome, OnErr, IsErrOf};
+ghost use Rattle.std.specs.Prelude.{IsTrue, string_bytes};
+ghost use Rattle.known_bags.specs.declared.known_bag.KnownBag.{KnownBag};
+ghost use Rattle.known_bags.specs.Sources.{Knows};
+ghost use Rattle.outcomes.specs.Outcomes.{Writes, WritesPrefix, no_memory};
+ghost use Rattle.registered_checks.specs.Checks.{Ends, agree};
+ghost use Rattle.registered_checks.specs.Lists.{AnswersTo, AnswersFirst, fault_outcome};
+ghost use Rattle.registered_checks.specs.inner.Lines.{IsWritten};
+
+use crate::known_checks::{Checked, check_known_on};
+use bag_folders::Folders;
+use folder_checks::Report;
+use known_bags::{SourceFault, push_known};
+use outcomes::{Answer, ProgramFault, write_answer};
+use std::alloc::{AllocError, Global};
+use std::io::Write;
+
+/// Checks the folders of these paths, as `check_known_on` does, against the bags that these bytes
+/// know, of a cell or of a list that `ledger` printed. Where they are neither, no folder is
+/// checked: a line says why, nothing is to be said of bags, and the status is 1.
+pub fn check_list_on<F: Folders + Drop, W: Write>(
+    alloc: Global,
+    source: &[u8],
+    folders: F,
+    paths: &[&str],
+    report: Report,
+    output: &mut W,
+) -> Result<Checked<F>, ProgramFault>
+    ensures ok { IfOk result (λ checked.
+        AnswersTo source.now report (F.gives folders) (F.fails_at folders)
+        (map (λ path. path.now) paths.now)
+        (Ends (W.contents output.old) (W.contents output.new) checked.answer.status
+        (string_bytes checked.answer.text))) }
+    // The status 0 says that each folder is a valid bag, and that these are those that are known.
+    ensures zero { IfOk result (λ checked. checked.answer.status ≡ 0
+        → (known : List KnownBag) × Knows source.now known
+        × IfSome (F.gives folders) (λ gives.
+        IsTrue (agree gives (map (λ path. path.now) paths.now) known))) }
+    ensures output { IsErrOf result ProgramFault.Output
+        → AnswersFirst source.now report (F.gives folders) (F.fails_at folders)
+        (map (λ path. path.now) paths.now)
+        (WritesPrefix (W.contents output.old) (W.contents output.new)) }
+    ensures kept { IfOk result (λ checked. F.gives checked.folders ≡ F.gives folders) }
+    ensures fault { IfErr result (λ fault. fault ≡ ProgramFault.Output) }
+{
+    let mut known = Vec::new(alloc);
+    match push_known(alloc, &mut known, source) {
+        Ok(()) => check_known_on(alloc, folders, paths, report, known.as_slice(), output),
+        Err(fault) => {
+            let status = write_fault(alloc, output, fault)?;
+            let text = String::new(alloc);
+            Ok(Checked {
+                folders,
+                answer: Answer { status, text },
+            })
+        }
+    }
+}
+
+/// Writes why a source knows nothing, or that memory ran out; the status is 1.
+pub(crate) fn write_fault<W: Write>(
+    alloc: Global,
+    output: &mut W,
+    fault: SourceFault,
+) -> Result<u8, ProgramFault>
+    ensures ok { IfOk result (λ status.
+        Writes (W.contents output.old) (W.contents output.new) status (fault_outcome fault)
+        ⊎ Writes (W.contents output.old) (W.contents output.new) status no_memory) }
+    ensures output { OnErr result (
+        WritesPrefix (W.contents output.old) (W.contents output.new) (fault_outcome fault)
+        ⊎ WritesPrefix (W.contents output.old) (W.contents output.new) no_memory) }
+    ensures fault { IfErr result (λ fault. fault ≡ ProgramFault.Output) }
+{
+    match fault {
+        SourceFault::Unread => write_answer(output, 1, "open 4\n"),
+        SourceFault::Memory => write_answer(output, 1, "memory\n"),
+        SourceFault::Damaged(offset) => {
+            write_line(output, format!(in alloc; "damaged {offset}\n"))
+        }
+        SourceFault::Line(line) => write_line(output, format!(in alloc; "ledger line {line}\n")),
+    }
+}
+
+// Writes a line, or that there was no memory for it; the status is 1.
+fn write_line<W: Write>(
+    output: &mut W,
+    line: Result<String, AllocError>,
+) -> Result<u8, ProgramFault>
+    ensures ok { IfOk result (λ status. IsWritten line (λ outcome.
+        Writes (W.contents output.old) (W.contents output.new) status outcome)) }
+    ensures output { OnErr result (IsWritten line (λ outcome.
+        WritesPrefix (W.contents output.old) (W.contents output.new) outcome)) }
+    ensures fault { IfErr result (λ fault. fault ≡ ProgramFault.Output) }
+{
+    match line {
+        Ok(line) => write_answer(output, 1, line.as_str()),
+        Err(AllocError) => write_answer(output, 1, "memory\n"),
+    }
+}
