@@ -7,5 +7,6 @@ pub mod ballots;
 pub mod books;
 pub mod cells;
 pub mod quorums;
+pub mod runs;
 pub mod slots;
 pub mod texts;

@@ -1,4 +1,10 @@
-//! A federation of sites, run by a schedule, and the text of what the run says.
+//! A federation of sites, run by a schedule, and the text of what the run says:
+//!
+//! ```
+//! let schedule = parse(alloc, schedule).ok()?;
+//! let trace = run(alloc, &schedule).ok()?;
+//! text(alloc, &trace, options).ok()
+//! ```
 #![tactic(auto)]
 
 mod fault;
