@@ -10,8 +10,6 @@ use Rattle.fed_types.specs.Sites.{members_of, sites_to}
 use Rattle.fed_types.specs.Slots.{same_slot}
 use Rattle.bag_check.specs.declared.fault.BagFault.{BagFault}
 use Rattle.bag_check.specs.Check.{check_of}
-use Rattle.records.specs.declared.entry.Entry.{Entry}
-use Rattle.records.specs.declared.entry.Entry.TheVariants as entry
 use Rattle.records.specs.declared.record.Record.{Record}
 use Rattle.records.specs.Records.{IsRecord, AreRecords}
 use Rattle.records.specs.Words.{known_of, used_of, deposit_of}
@@ -36,16 +34,14 @@ use Rattle.udp_site.specs.Turns.{posts_of, proposal_notices}
 use Rattle.site.specs.declared.answer.Answer.{Answer}
 use Rattle.site.specs.declared.fault.SiteFault.{SiteFault}
 use Rattle.site_tables.specs.Contents.{deposits_of}
-use Rattle.cell_device.specs.Images.{at_rest}
-use Rattle.records.proofs.Texts.{nothing_says}
 use Rattle.fed_types.specs.Laws.Sites.{sites_to_has}
-use Rattle.serving_law.specs.Disks.{Disk, Blank, Holds, bytes_at, journal, device}
-use Rattle.serving_law.specs.Federations.{Down, Federation, Step, Happening, Turns, Dies, Starts}
+use Rattle.serving_law.specs.Disks.{Disk, Holds, bytes_at, journal, device}
+use Rattle.serving_law.specs.Federations.{Down, Federation, Step, Happening, Turns, Dies}
 use Rattle.serving_law.specs.Federations.{new_federation, after, after_all}
 use Rattle.serving_law.specs.Rules.{MayAll}
 use Rattle.serving_law.proofs.Answers.{AreMessages, seals, answer_of}
 use Rattle.serving_law.proofs.DiskCalls.{owner, serving, called, no_folders}
-use Rattle.serving_law.proofs.DiskJournals.{holds, opens_new, says}
+use Rattle.serving_law.proofs.DiskJournals.{says}
 use Rattle.serving_law.proofs.Agreement.{three_are, ports, step_of, may_turn, takes, serves}
 use Rattle.serving_law.specs.Examples.{Request}
 use Rattle.serving_law.specs.ExamplesAgreed.{three, a, ballot, vote, Agree, DiesVoting, says_vote}
@@ -68,6 +64,8 @@ use Rattle.serving_law.proofs.AgreedTurns.{Votes2}
 use Rattle.serving_law.proofs.AgreedTurns.{Hears11, Hears12, Hears21, Hears22, Hears31, Hears32}
 use Rattle.serving_law.proofs.AgreedTurns.{HearsAgain, HearsOther, HearsLate, hearing, fits}
 use Rattle.serving_law.proofs.AgreedTurns.{answers, under, stands, unheard, own_rows}
+use Rattle.serving_law.proofs.NewSites.{starts_new, may_start}
+use Rattle.serving_law.proofs.AgreedMessages.{deposited, proposed, promised, voted}
 
 -- by its place, counted from 0
 at_index : {X : Type 0} (k : ℕ) (xs : List X) (x : X) → slice_get xs k ≡ Some x → Has x xs
@@ -76,18 +74,6 @@ at_index zero (y ∷ ys) x e = let f : y ≡ x = cc in here f
 at_index (suc k) (y ∷ ys) x e = there (at_index k ys x e)
 
 module _ (bag : BagId) (request : Request 7 a bag) where
-  abbrev deposited : Entry
-  deposited = entry.Deposit bag
-
-  abbrev proposed : Entry
-  proposed = entry.Round 1
-
-  abbrev promised : Entry
-  promised = entry.Promise ballot
-
-  abbrev voted : Entry
-  voted = entry.Vote (vote bag)
-
   abbrev none_heard : Rows
   none_heard = unheard bag request
 
@@ -98,7 +84,7 @@ module _ (bag : BagId) (request : Request 7 a bag) where
 
   abbrev registering : Effect
   registering = record {
-    commits = Some (r deposited);
+    commits = Some (r (deposited bag));
     sends = [];
     says = Ok (Some (lines.Registered bag));
     session = session_of [] None;
@@ -114,11 +100,11 @@ module _ (bag : BagId) (request : Request 7 a bag) where
       ap (λ (c : Result BagId BagFault). on_deposit [] (session_of [] None) a c) request.checked
       ∙ on_deposit_is
 
-  deposited_stands : StandsFor (tables a three 1 none_heard) (records_of a (deposited ∷ []))
+  deposited_stands : StandsFor (tables a three 1 none_heard) (records_of a (deposited bag ∷ []))
       (session_of [] None) (begun_with a None)
   unfolding known_of used_of voters_for bodies_of floor_of is_in same_slot
   deposited_stands =
-      stands_idle 1 (deposited ∷ []) [] rows.Unheard refl (λ none u k. refl) refl refl
+      stands_idle 1 (deposited bag ∷ []) [] rows.Unheard refl (λ none u k. refl) refl refl
 
   abbrev deposit_answer_is : Answer
   deposit_answer_is = answer_of (Some (lines.Registered bag)) [] (omega arith)
@@ -128,7 +114,7 @@ module _ (bag : BagId) (request : Request 7 a bag) where
 
   abbrev has_deposit : Serving Disk
   has_deposit =
-      serving three three_are 1 (r deposited ∷ []) (tables a three 1 none_heard)
+      serving three three_are 1 (r (deposited bag) ∷ []) (tables a three 1 none_heard)
       (session_of [] None)
       0 0
 
@@ -165,25 +151,25 @@ module _ (bag : BagId) (request : Request 7 a bag) where
 
   abbrev preparing : Effect
   preparing = record {
-    commits = Some (r proposed);
+    commits = Some (r (proposed bag));
     sends = to_all (Prepare ballot);
     says = Ok None;
     session = session_of [] (Some issued);
   }
 
-  proposes_it : effect_of (quorums_of three) 1 (records_of a (deposited ∷ [])) (session_of [] None)
+  proposes_it : effect_of (quorums_of three) 1 (records_of a (deposited bag ∷ [])) (session_of [] None)
       (calls.Proposes a) ≡ preparing
   unfolding on_propose known_of deposit_of next_ballot used_of floor_of bodies_of to_each sites_to
       same_slot
   proposes_it = refl
 
   prepared_stands : StandsFor (tables a three 1 none_promised)
-      (records_of a (deposited ∷ proposed ∷ [])) (session_of [] (Some issued))
+      (records_of a (deposited bag ∷ proposed bag ∷ [])) (session_of [] (Some issued))
       (begun_with a (Some bag))
   unfolding known_of used_of deposit_of voters_for bodies_of floor_of is_in same_slot gathered
       promises_for promisers priors highest_prior
   prepared_stands =
-      stands_issued 1 (deposited ∷ proposed ∷ []) [] rows.Unheard refl (λ none u k. refl) refl
+      stands_issued 1 (deposited bag ∷ proposed bag ∷ []) [] rows.Unheard refl (λ none u k. refl) refl
       bag [] refl refl refl refl
 
   abbrev three_prepares : AreMessages (to_all (Prepare ballot))
@@ -194,7 +180,7 @@ module _ (bag : BagId) (request : Request 7 a bag) where
 
   abbrev has_proposed : Serving Disk
   has_proposed =
-      serving three three_are 1 (r deposited ∷ r proposed ∷ [])
+      serving three three_are 1 (r (deposited bag) ∷ r (proposed bag) ∷ [])
       (tables a three 1 none_promised) (session_of [] (Some issued)) 1 1
 
   abbrev propose_done : Done
@@ -218,7 +204,7 @@ module _ (bag : BagId) (request : Request 7 a bag) where
   unfolding next_waiting deposits_of known_of same_slot
   proposes = (
     Ok prepare_answer,
-    called three three_are 1 (r deposited ∷ []) (is_d bag request, tt) (tables a three 1 none_heard)
+    called three three_are 1 (r (deposited bag) ∷ []) (is_d bag request, tt) (tables a three 1 none_heard)
         (tables a three 1 none_promised) (session_of [] None) 1 1 (calls.Proposes a)
         preparing None proposes_it refl (is_r bag request) three_prepares (omega arith)
         (begun_with a (Some bag)) prepared_stands,
@@ -230,11 +216,7 @@ module _ (bag : BagId) (request : Request 7 a bag) where
   -- ---- what may happen
 
   abbrev started : (n : ℕ) → Happening Disk
-  started n =
-      Starts n Blank (record {
-        book = holds (owner three three_are n) [];
-        tables = tables a three n none_heard;
-      })
+  started n = starts_new three three_are n (tables a three n none_heard)
 
   member : (n : ℕ) → 1 ≤ n → n ≤ 3 → Has n (members_of three)
   member n from to = sites_to_has 3 n from to
@@ -247,22 +229,8 @@ module _ (bag : BagId) (request : Request 7 a bag) where
       → f.members n ≡ Down [] → MayAll device three (after f (started n)) later
       → MayAll device three f (started n ∷ later)
   unfolding MayAll
-  starts n from to f later down rest = (
-    (
-      member n from to,
-      (
-        [],
-        down,
-        record {
-          image = at_rest [];
-          told = refl;
-          says = nothing_says (owner three three_are n);
-        },
-      ),
-      opens_new (owner three three_are n) three_are.1,
-    ),
-    rest,
-  )
+  starts n from to f later down rest =
+      (may_start three three_are n (tables a three n none_heard) f (member n from to) down, rest)
 
   is_asked : (f : Federation Disk) (later : List (Happening Disk)) → f.members 1 ≡ Serves asked
       → MayAll device three (after f (Turns 1 deposit_step 1 0)) later
@@ -401,7 +369,7 @@ module _ (bag : BagId) (request : Request 7 a bag) where
   two = owner three three_are 2
 
   dies : (records : List Record) → AreRecords records → (k : ℕ) → 2 ≤ k → k ≤ 3
-      → journal two records ≡ bytes_at (Holds two (r promised ∷ r voted ∷ [])) k
+      → journal two records ≡ bytes_at (Holds two (r (promised bag) ∷ r (voted bag) ∷ [])) k
       → DiesVoting bag records
   unfolding MayAll new_federation after_all
   dies records are k from to is = record {
@@ -429,14 +397,14 @@ module _ (bag : BagId) (request : Request 7 a bag) where
     nothing = refl;
   }
 
-  pub killed : DiesVoting bag (r promised ∷ [])
-      × DiesVoting bag (r promised ∷ r voted ∷ [])
+  pub killed : DiesVoting bag (r (promised bag) ∷ [])
+      × DiesVoting bag (r (promised bag) ∷ r (voted bag) ∷ [])
   killed = (
-    dies (r promised ∷ []) (p, tt) 2 (omega arith) (omega arith) refl,
-    dies (r promised ∷ r voted ∷ []) (p, (is_v bag request, tt)) 3 (omega arith) (omega arith) refl,
+    dies (r (promised bag) ∷ []) (p, tt) 2 (omega arith) (omega arith) refl,
+    dies (r (promised bag) ∷ r (voted bag) ∷ []) (p, (is_v bag request, tt)) 3 (omega arith) (omega arith) refl,
   )
     where
-      p : IsRecord (r promised)
+      p : IsRecord (r (promised bag))
       p = is_p bag request
 
   -- ---- site 3 hears a vote again

@@ -23,6 +23,22 @@ use Rattle.serving_law.proofs.Replies.{checked_is}
 use Rattle.serving_law.proofs.Requests.{deposit_is_slot}
 use Rattle.std.specs.Int.{bytes_high_first}
 
+module _ (bag : BagId) where
+  abbrev pub deposited : Entry
+  deposited = entry.Deposit bag
+
+  abbrev pub proposed : Entry
+  proposed = entry.Round 1
+
+  abbrev pub promised : Entry
+  promised = entry.Promise ballot
+
+  abbrev pub voted : Entry
+  voted = entry.Vote (vote bag)
+
+  abbrev pub known : Entry
+  known = entry.Known bag
+
 module _ (bag : BagId) (request : Request 7 a bag) where
   abbrev v : Vote
   v = vote bag
@@ -98,32 +114,17 @@ module _ (bag : BagId) (request : Request 7 a bag) where
   pub is_accepted_2 : IsMessage (m (Accepted 2 v))
   is_accepted_2 = (is_slot, ((omega arith, omega arith), is_vote))
 
-  abbrev deposited : Entry
-  deposited = entry.Deposit bag
-
-  abbrev proposed : Entry
-  proposed = entry.Round 1
-
-  abbrev promised : Entry
-  promised = entry.Promise ballot
-
-  abbrev voted : Entry
-  voted = entry.Vote v
-
-  abbrev known : Entry
-  known = entry.Known bag
-
-  pub is_d : IsRecord (r deposited)
+  pub is_d : IsRecord (r (deposited bag))
   is_d = (is_slot, is_bag)
 
-  pub is_r : IsRecord (r proposed)
+  pub is_r : IsRecord (r (proposed bag))
   is_r = (is_slot, (omega arith, omega arith))
 
-  pub is_p : IsRecord (r promised)
+  pub is_p : IsRecord (r (promised bag))
   is_p = (is_slot, is_ballot)
 
-  pub is_v : IsRecord (r voted)
+  pub is_v : IsRecord (r (voted bag))
   is_v = (is_slot, is_vote)
 
-  pub is_k : IsRecord (r known)
+  pub is_k : IsRecord (r (known bag))
   is_k = (is_slot, is_bag)

@@ -9,7 +9,6 @@ use Rattle.fed_types.specs.Sites.{Membership, members_of, count_of}
 use Rattle.fed_types.specs.Slots.{SlotName, same_slot}
 use Rattle.fed_types.specs.Values.{IsMembership}
 use Rattle.fed_types.specs.Laws.Sites.{sites_to_has}
-use Rattle.cell_device.specs.Images.{at_rest}
 use Rattle.bag_check.specs.declared.fault.BagFault.{BagFault}
 use Rattle.bag_check.specs.Check.{check_of}
 use Rattle.records.specs.declared.entry.Entry.TheVariants as entry
@@ -18,7 +17,6 @@ use Rattle.records.specs.Records.{IsRecord, AreRecords}
 use Rattle.records.specs.Words.{known_of, used_of, deposit_of, with_one, if_some, round_in}
 use Rattle.records.specs.Words.{known_in, earlier}
 use Rattle.records.proofs.Words.{used-push, known-push}
-use Rattle.records.proofs.Texts.{nothing_says}
 use Rattle.dgram.specs.Heard.{bodies_of, floor_of, voters_for}
 use Rattle.learner.specs.declared.row.Row.TheVariants as rows
 use Rattle.proposer.specs.Rows.{empty_row}
@@ -40,10 +38,11 @@ use Rattle.serving_law.specs.Federations.{Step, Happening, Starts, Dies, new_fed
 use Rattle.serving_law.specs.Rules.{MayAll, MayCome, IsHistory}
 use Rattle.serving_law.proofs.DiskCalls.{owner, serving, called}
 use Rattle.serving_law.proofs.Answers.{answer_of}
-use Rattle.serving_law.proofs.DiskJournals.{holds, opens_new, says}
+use Rattle.serving_law.proofs.DiskJournals.{holds, says}
 use Rattle.serving_law.proofs.Replies.{checked_is}
 use Rattle.serving_law.proofs.Requests.{deposit_is_slot}
 use Rattle.serving_law.proofs.Tables.{records_of, tables, begun_with, stands}
+use Rattle.serving_law.proofs.NewSites.{may_start}
 
 module _ (members : Membership) (is_membership : IsMembership members) (slot : SlotName)
     (bag : BagId) where
@@ -191,19 +190,7 @@ module _ (members : Membership) (is_membership : IsMembership members) (slot : S
         → IsHistory device members (before ++ dies records ∷ [])
     unfolding MayAll new_federation
     may_die records are k from to is = (
-      (
-        one,
-        (
-          [],
-          refl,
-          record {
-            image = at_rest [];
-            told = refl;
-            says = nothing_says (owner members is_membership 1);
-          },
-        ),
-        opens_new (owner members is_membership 1) is_membership.1,
-      ),
+      may_start members is_membership 1 its_tables new_federation one refl,
       (
         (
           old,

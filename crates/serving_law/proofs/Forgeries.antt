@@ -12,13 +12,11 @@ use Rattle.fed_types.specs.Laws.Slots.{same_slot_decides}
 use Rattle.fed_types.specs.Laws.Lists.{is_in_decides}
 use Rattle.fed_types.specs.Quorums.{quorums_of}
 use Rattle.std.specs.List.{cons_option}
-use Rattle.cell_device.specs.Images.{at_rest}
 use Rattle.records.specs.declared.entry.Entry.TheVariants as entry
 use Rattle.records.specs.declared.record.Record.{Record}
 use Rattle.records.specs.Words.{known_of, used_of, with_one, if_some, round_in}
 use Rattle.records.specs.Words.{known_in, earlier}
 use Rattle.records.proofs.Words.{used-push, known-push}
-use Rattle.records.proofs.Texts.{nothing_says}
 use Rattle.dgram.specs.declared.body.Body.TheVariants.{Known}
 use Rattle.dgram.specs.declared.message.Message.{Message}
 use Rattle.dgram.specs.Heard.{bodies_of, floor_of}
@@ -41,8 +39,9 @@ use Rattle.serving_law.specs.Rules.{MayAll}
 use Rattle.serving_law.specs.Reports.{step_of}
 use Rattle.serving_law.proofs.DiskCalls.{owner, serving, called, hears, heard_step, no_folders}
 use Rattle.serving_law.proofs.Answers.{answer_of}
-use Rattle.serving_law.proofs.DiskJournals.{holds, opens_new}
+use Rattle.serving_law.proofs.DiskJournals.{holds}
 use Rattle.serving_law.proofs.Tables.{records_of, tables, begun_with, stands}
+use Rattle.serving_law.proofs.NewSites.{may_start}
 
 module _ (members : Membership) (is_membership : IsMembership members) (two : 2 ≤ count_of members)
     (slot : SlotName) (is_slot : IsSlot slot) (bag : BagId) (is_bag : IsBag bag) where
@@ -170,19 +169,7 @@ module _ (members : Membership) (is_membership : IsMembership members) (two : 2 
   fooled = record {
     before = starts ∷ [];
     happens = (
-      (
-        one,
-        (
-          [],
-          refl,
-          record {
-            image = at_rest [];
-            told = refl;
-            says = nothing_says (owner members is_membership 1);
-          },
-        ),
-        opens_new (owner members is_membership 1) is_membership.1,
-      ),
+      may_start members is_membership 1 before_tables new_federation one refl,
       tt,
     );
     no_turn = no_turn;

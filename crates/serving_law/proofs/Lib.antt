@@ -18,6 +18,7 @@ pub mod DiskJournals
 pub mod DatagramBytes
 pub mod Tables
 pub mod DiskCalls
+pub mod NewSites
 pub mod Sites
 pub mod Agreement
 pub mod AgreedMessages
