@@ -3,10 +3,10 @@ pub mod Reported
 pub mod Decided
 pub mod Found
 pub mod Outcomes
-pub mod Naming
-pub mod Growing
-pub mod Counting
-pub mod Filling
-pub mod Voting
+pub mod NamedBags
+pub mod GivenRecords
+pub mod CountedVotes
+pub mod KeptVersions
+pub mod GivenVotes
 pub mod Answered
-pub mod Beginning
+pub mod NoRecords

@@ -14,7 +14,7 @@ use Rattle.audit.specs.Evidence.{SiteRecord}
 use Rattle.audit.specs.Tables.{StandsFor}
 use Rattle.audit_command.specs.declared.evidence.Evidence.{Evidence}
 use Rattle.audit_command.specs.declared.version.Version.{Version}
-use Rattle.audit_command.specs.Readings.{of_site}
+use Rattle.audit_command.specs.CellReadings.{of_site}
 use Rattle.audit_command.specs.inner.Gathered.{IsEvidence}
 
 slots_push : (records : List Record) (r : Record)

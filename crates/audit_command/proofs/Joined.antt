@@ -15,7 +15,7 @@ use Rattle.audit_command.specs.declared.gathered.Gathered.{Gathered}
 use Rattle.audit_command.specs.declared.version.Version.{Version}
 use Rattle.audit_command.specs.Audits.{Files, IsRead, AreReadings, all_used, status_of}
 use Rattle.audit_command.specs.Lines.{reading_line, version_line, counts_line, audit_text}
-use Rattle.audit_command.specs.Readings.{Reading, all_given}
+use Rattle.audit_command.specs.CellReadings.{Reading, all_given}
 use Rattle.audit_command.specs.Versions.{count_of, is_conflict}
 use Rattle.audit_command.specs.inner.Gathered.{IsEvidence, IsGathered}
 

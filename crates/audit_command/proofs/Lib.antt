@@ -1,3 +1,3 @@
 pub mod Counted
 pub mod Joined
-pub mod Answering
+pub mod WrittenAnswers

@@ -7,7 +7,7 @@ use Rattle.fed_types.specs.Sites.{Membership}
 use Rattle.outcomes.specs.Outcomes.{Outcome, no_memory}
 use Rattle.audit_command.specs.declared.version.Version.{Version}
 use Rattle.audit_command.specs.Lines.{audit_text}
-use Rattle.audit_command.specs.Readings.{Reading, IsReadingOf, all_given}
+use Rattle.audit_command.specs.CellReadings.{Reading, IsReadingOf, all_given}
 use Rattle.audit_command.specs.Versions.{AreVersions, count_of, is_conflict}
 
 -- what the files of these paths have, where that is known; none inside where one can't be read

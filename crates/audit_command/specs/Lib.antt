@@ -1,7 +1,7 @@
--- Read in this order: Readings (what each cell is good for), Versions (what is found of each
+-- Read in this order: CellReadings (what each cell is good for), Versions (what is found of each
 -- version), Lines (the text of both), Audits (what the command answers). inner/ is for private
 -- contracts and proofs.
-pub mod Readings
+pub mod CellReadings
 pub mod Versions
 pub mod Lines
 pub mod Audits

@@ -13,7 +13,7 @@ use Rattle.audit.specs.declared.finding.Finding.TheVariants.{Chosen, Known, Open
 use Rattle.audit_command.specs.declared.cell_fault.CellFault.{CellFault}
 use Rattle.audit_command.specs.declared.cell_fault.CellFault.TheVariants as faults
 use Rattle.audit_command.specs.declared.version.Version.{Version}
-use Rattle.audit_command.specs.Readings.{Reading}
+use Rattle.audit_command.specs.CellReadings.{Reading}
 use Rattle.audit_command.specs.Versions.{is_chosen, is_known, is_open, is_conflict, count_of}
 
 -- ---- cells

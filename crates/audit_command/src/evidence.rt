@@ -7,7 +7,7 @@ ghost use Rattle.fed_types.specs.Slots.{same_slot};
 ghost use Rattle.indexmap.specs.IndexSet.{insert_key};
 ghost use Rattle.audit.specs.Evidence.{SiteRecord};
 ghost use Rattle.audit.specs.Findings.{IsFinding};
-ghost use Rattle.audit_command.specs.Readings.{of_site};
+ghost use Rattle.audit_command.specs.CellReadings.{of_site};
 ghost use Rattle.audit_command.specs.Versions.{AreVersions};
 ghost use Rattle.audit_command.specs.inner.Gathered.{IsEvidence};
 

@@ -6,15 +6,15 @@ ghost use Rattle.audit.specs.Evidence.{SiteRecord};
 ghost use Rattle.words.specs.Pushes.{Pushes};
 ghost use Rattle.audit_command.specs.Audits.{AreReadings, IsRead};
 ghost use Rattle.audit_command.specs.Lines.{line_if};
-ghost use Rattle.audit_command.specs.Readings.{Reading};
+ghost use Rattle.audit_command.specs.CellReadings.{Reading};
 ghost use Rattle.audit_command.specs.inner.Gathered.{IsEvidence, IsGathered, given_in};
 ghost use Rattle.audit_command.specs.inner.Gathered.{reading_at};
 
 use crate::cell_fault::CellFault;
 use crate::cell_files::CellFiles;
+use crate::cell_reading::{CellReading, reading_of};
 use crate::evidence::{Evidence, add_records, no_evidence};
 use crate::finding_lines::push_fault;
-use crate::reading::{CellReading, reading_of};
 use fed_types::Members;
 use ledger::Contents;
 use std::alloc::{AllocError, Global};

@@ -2,19 +2,19 @@
 #![tactic(auto)]
 
 mod arguments;
-mod auditing;
 mod cell_fault;
 mod cell_files;
+mod cell_reading;
+mod cells_audit;
+mod command;
 mod counts;
 mod disk_cells;
 mod evidence;
 mod finding_lines;
 mod gathered;
-mod printing;
-mod reading;
 mod version;
 
 pub use arguments::{AuditTask, audit_command, audit_task};
-pub use auditing::audit_on;
 pub use cell_files::CellFiles;
-pub use printing::print_audit;
+pub use cells_audit::audit_on;
+pub use command::print_audit;

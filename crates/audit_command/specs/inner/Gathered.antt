@@ -10,10 +10,10 @@ use Rattle.audit.specs.Evidence.{SiteRecord}
 use Rattle.audit.specs.Tables.{StandsFor}
 use Rattle.audit_command.specs.declared.evidence.Evidence.{Evidence}
 use Rattle.audit_command.specs.declared.gathered.Gathered.{Gathered}
-use Rattle.audit_command.specs.declared.reading.CellReading.{CellReading}
+use Rattle.audit_command.specs.declared.cell_reading.CellReading.{CellReading}
 use Rattle.audit_command.specs.Audits.{all_used}
 use Rattle.audit_command.specs.Lines.{reading_line}
-use Rattle.audit_command.specs.Readings.{Reading, all_given, of_site}
+use Rattle.audit_command.specs.CellReadings.{Reading, all_given, of_site}
 
 -- the evidence is that of these records
 pub record IsEvidence (members : Membership) (e : Evidence) (given : List SiteRecord)

@@ -4,8 +4,8 @@ use Rattle.fed_types.specs.Laws.Quorums.{are_quorums}
 use Rattle.records.specs.declared.entry.Entry.TheVariants as entry
 use Rattle.audit.specs.declared.row.Row.{Row}
 use Rattle.audit.specs.Tables.{IsRowFor}
-use Rattle.audit.proofs.Counting.{given_entry, vote_counted}
-use Rattle.audit.proofs.Voting.{vote_filled}
+use Rattle.audit.proofs.CountedVotes.{given_entry, vote_counted}
+use Rattle.audit.proofs.GivenVotes.{vote_filled}
 use Rattle.audit.proofs.rows.after_vote.Goals as goal
 
 pub returns-then-is_quorum-clause-row : goal.returns-then-is_quorum-clause-row

@@ -5,7 +5,7 @@ use Rattle.slot_table.specs.Rows.{IsWith}
 use Rattle.audit.specs.declared.row.Row.{Row}
 use Rattle.audit.specs.Tables.{IsRowFor}
 use Rattle.audit.proofs.Outcomes.{one_ok}
-use Rattle.audit.proofs.Voting.{rows_filled}
+use Rattle.audit.proofs.GivenVotes.{rows_filled}
 use Rattle.audit.proofs.rows.fill.Goals as goal
 
 pub returns-in-Ok-clause-rows : goal.returns-in-Ok-clause-rows

@@ -4,8 +4,8 @@ use Rattle.records.specs.declared.entry.Entry.{Entry}
 use Rattle.records.specs.declared.entry.Entry.TheVariants as entry
 use Rattle.audit.specs.declared.row.Row.{Row}
 use Rattle.audit.specs.Tables.{AreVoters, IsRowFor}
-use Rattle.audit.proofs.Counting.{given_entry, no_vote}
-use Rattle.audit.proofs.Voting.{known_filled, nothing_filled}
+use Rattle.audit.proofs.CountedVotes.{given_entry, no_vote}
+use Rattle.audit.proofs.GivenVotes.{known_filled, nothing_filled}
 use Rattle.audit.proofs.rows.row_after.Goals as goal
 
 pub returns-in-Known-clause-row : goal.returns-in-Known-clause-row

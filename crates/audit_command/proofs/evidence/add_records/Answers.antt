@@ -1,7 +1,7 @@
 use Rattle.std.proofs.Common.{◌++◌, List, ℕ, subst, append-nil, sym, take}
 use Rattle.std.proofs.lemmas.List.{take_all}
 use Rattle.records.specs.declared.record.Record.{Record}
-use Rattle.audit_command.specs.Readings.{of_site}
+use Rattle.audit_command.specs.CellReadings.{of_site}
 use Rattle.audit_command.specs.inner.Gathered.{IsEvidence}
 use Rattle.audit_command.proofs.Counted.{next_record}
 use Rattle.audit_command.proofs.evidence.add_records.Goals as goal

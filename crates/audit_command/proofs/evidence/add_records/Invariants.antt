@@ -1,7 +1,7 @@
 use Rattle.std.proofs.Common.{List, ◌++◌, take}
 use Rattle.fed_types.specs.Sites.{Membership}
 use Rattle.audit.specs.Evidence.{SiteRecord}
-use Rattle.audit_command.specs.Readings.{of_site}
+use Rattle.audit_command.specs.CellReadings.{of_site}
 use Rattle.audit_command.specs.inner.Gathered.{IsEvidence}
 use Rattle.audit_command.proofs.evidence.add_records.Given as goal
 

@@ -1,6 +1,6 @@
 use Rattle.std.proofs.Common.{List, ℕ, Option, refl}
 use Rattle.std.specs.Prelude.{option_map}
-use Rattle.audit_command.specs.Readings.{IsReadingOf}
+use Rattle.audit_command.specs.CellReadings.{IsReadingOf}
 use Rattle.audit_command.specs.inner.Gathered.{given_in, reading_at}
 use Rattle.audit_command.proofs.Counted.{on_ok, if_known}
 use Rattle.audit_command.proofs.gathered.add_cell.Goals as goal

@@ -1,4 +1,4 @@
-use Rattle.audit_command.specs.Readings.{all_given}
+use Rattle.audit_command.specs.CellReadings.{all_given}
 use Rattle.audit_command.specs.inner.Gathered.{reading_at}
 use Rattle.audit_command.proofs.Joined.{one_reading}
 use Rattle.audit_command.proofs.gathered.add_reading.Goals as goal

@@ -1,7 +1,7 @@
 use Rattle.std.proofs.Common.{List, take}
 use Rattle.std.specs.Prelude.{map}
 use Rattle.audit_command.specs.Audits.{AreReadings}
-use Rattle.audit_command.specs.Readings.{Reading}
+use Rattle.audit_command.specs.CellReadings.{Reading}
 use Rattle.audit_command.specs.inner.Gathered.{IsGathered}
 use Rattle.audit_command.proofs.gathered.gather.Given as goal
 

@@ -3,7 +3,7 @@ use Rattle.slot_table.specs.Rows.{Rows}
 use Rattle.audit.specs.declared.row.Row.{Row}
 use Rattle.audit.specs.inner.Casts.{Casts}
 use Rattle.audit.specs.Tables.{StandsFor}
-use Rattle.audit.proofs.Beginning.{nothing_given}
+use Rattle.audit.proofs.NoRecords.{nothing_given}
 use Rattle.audit.proofs.cells.Cells.new.Goals as goal
 
 pub returns-clause-nothing : goal.returns-clause-nothing

@@ -1,7 +1,7 @@
 use Rattle.std.proofs.Common.{inr, subst}
 use Rattle.std.specs.Prelude.{MatchOption}
 use Rattle.ledger.specs.Cells.{HasNoOwner, IsCell}
-use Rattle.audit_command.proofs.reading.reading_in.Goals as goal
+use Rattle.audit_command.proofs.cell_reading.reading_in.Goals as goal
 
 pub returns-in-Some : goal.returns-in-Some
 returns-in-Some c =

@@ -1,7 +1,7 @@
 //! What a cell is good for.
 
 ghost use Rattle.std.specs.Prelude.{◌≡◌, ◌↔◌, IfOk, IsTrue, option_map};
-ghost use Rattle.audit_command.specs.Readings.{IsMembers, IsWorth, IsReadingOf, damage_of};
+ghost use Rattle.audit_command.specs.CellReadings.{IsMembers, IsWorth, IsReadingOf, damage_of};
 ghost use Rattle.audit_command.specs.inner.Gathered.{given_in};
 
 use crate::cell_fault::CellFault;

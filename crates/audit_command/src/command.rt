@@ -1,7 +1,7 @@
 //! The command `audit`: over the files of cells.
 
 use crate::arguments::AuditTask;
-use crate::auditing::audit_on;
+use crate::cells_audit::audit_on;
 use crate::disk_cells::DiskCells;
 use outcomes::ProgramFault;
 use site_commands::{members_at, write_stop};

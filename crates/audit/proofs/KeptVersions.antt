@@ -17,7 +17,7 @@ use Rattle.audit.specs.Evidence.{SiteRecord, records_at, network_of}
 use Rattle.audit.specs.Laws.{IsNamed}
 use Rattle.audit.specs.inner.Rows.{named, chosen_in, IsRowOf}
 use Rattle.audit.specs.Tables.{ChosenBy}
-use Rattle.audit.proofs.Naming.{row_same, row_named, row_chosen}
+use Rattle.audit.proofs.NamedBags.{row_same, row_named, row_chosen}
 
 -- an entry of a site's is on record, by what was given
 abbrev pub Given : List SiteRecord → ℕ → SlotName → Entry → Type 0

@@ -20,9 +20,9 @@ use Rattle.audit.specs.Laws.{IsNamed}
 use Rattle.audit.specs.inner.Casts.{Casts, cast_of, voters_in, IsCounted}
 use Rattle.audit.specs.inner.Rows.{empty_row, named, chosen_in, IsRowOf}
 use Rattle.audit.specs.Tables.{ChosenBy, AreVoters, AreRows}
-use Rattle.audit.proofs.Counting.{given_entry, parts_are, vote_counted, voters_new}
-use Rattle.audit.proofs.Filling.{Given, on_is, is_on, same, known_now, chosen_now, not_chosen_now}
-use Rattle.audit.proofs.Growing.{old_or_new, still, newest}
+use Rattle.audit.proofs.CountedVotes.{given_entry, parts_are, vote_counted, voters_new}
+use Rattle.audit.proofs.KeptVersions.{Given, on_is, is_on, same, known_now, chosen_now, not_chosen_now}
+use Rattle.audit.proofs.GivenRecords.{old_or_new, still, newest}
 
 -- an entry is old, or it is the new one
 entry_back : (given : List SiteRecord) (n : ℕ) (slot : SlotName) (e : Entry) (m : ℕ)

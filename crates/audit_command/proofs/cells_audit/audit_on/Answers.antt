@@ -6,8 +6,8 @@ use Rattle.std.specs.Io.KnownBytes.{Appends}
 use Rattle.outcomes.specs.Outcomes.{Outcome}
 use Rattle.outcomes.specs.declared.fault.ProgramFault.TheVariants as ProgramFaults
 use Rattle.audit_command.specs.Audits.{IsAudit}
-use Rattle.audit_command.proofs.Answering.{answered, stopped}
-use Rattle.audit_command.proofs.auditing.audit_on.Goals as goal
+use Rattle.audit_command.proofs.WrittenAnswers.{answered, stopped}
+use Rattle.audit_command.proofs.cells_audit.audit_on.Goals as goal
 
 pub returns-in-Ok-clause-ok : goal.returns-in-Ok-clause-ok
 returns-in-Ok-clause-ok g c =

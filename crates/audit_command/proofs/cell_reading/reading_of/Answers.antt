@@ -1,8 +1,8 @@
 use Rattle.std.proofs.Common.{◌≡◌, ℕ, List, Option, Some, Vec, Global, ap, sym, subst, ◌∙◌}
 use Rattle.std.specs.Prelude.{IfOk, option_map}
-use Rattle.audit_command.specs.Readings.{IsReadingOf}
+use Rattle.audit_command.specs.CellReadings.{IsReadingOf}
 use Rattle.audit_command.specs.inner.Gathered.{given_in}
-use Rattle.audit_command.proofs.reading.reading_of.Goals as goal
+use Rattle.audit_command.proofs.cell_reading.reading_of.Goals as goal
 
 pub returns-in-Some : goal.returns-in-Some
 returns-in-Some c =

@@ -11,8 +11,8 @@ use Rattle.fed_types.specs.Laws.Quorums.{are_quorums}
 use Rattle.records.specs.declared.entry.Entry.TheVariants as entry
 use Rattle.audit.specs.Laws.{IsNamed}
 use Rattle.audit.specs.Tables.{ChosenBy, StandsFor}
-use Rattle.audit.proofs.Filling.{is_on}
-use Rattle.audit.proofs.Naming.{nothing_named}
+use Rattle.audit.proofs.KeptVersions.{is_on}
+use Rattle.audit.proofs.NamedBags.{nothing_named}
 
 none_chosen : (q : QuorumSystem) → AreQuorums q → (slot : SlotName) (vote : Vote)
     → ¬ ChosenBy q [] slot vote

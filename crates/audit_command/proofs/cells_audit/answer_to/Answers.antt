@@ -3,10 +3,10 @@ use Rattle.std.specs.List.{flat_map}
 use Rattle.std.specs.String.{string_bytes}
 use Rattle.audit_command.specs.declared.version.Version.{Version}
 use Rattle.audit_command.specs.Lines.{version_line, counts_line}
-use Rattle.audit_command.specs.Readings.{all_given}
+use Rattle.audit_command.specs.CellReadings.{all_given}
 use Rattle.audit_command.specs.Versions.{count_of, is_conflict}
 use Rattle.audit_command.proofs.Joined.{status_as, text_as}
-use Rattle.audit_command.proofs.auditing.answer_to.Goals as goal
+use Rattle.audit_command.proofs.cells_audit.answer_to.Goals as goal
 
 pub returns : goal.returns
 returns g c =

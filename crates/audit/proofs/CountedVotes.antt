@@ -20,7 +20,7 @@ use Rattle.audit.specs.declared.votes.Cast.{Cast}
 use Rattle.audit.specs.Evidence.{SiteRecord, records_at}
 use Rattle.audit.specs.inner.Casts.{Casts, cast_of, same_cast, voters_in, IsCounted}
 use Rattle.audit.specs.Tables.{AreVoters}
-use Rattle.audit.proofs.Growing.{old_or_new, still, newest}
+use Rattle.audit.proofs.GivenRecords.{old_or_new, still, newest}
 
 -- a site's entry of a version
 abbrev pub given_entry : ℕ → SlotName → Entry → SiteRecord
