@@ -54,6 +54,6 @@ Ends old new status said outcome words = Writes old new status outcome × (said 
 abbrev pub are_valid : Given → (paths : List (List ℕ)) → Bool
 are_valid gives paths = list_all (λ path. is_some (bag_in (gives path))) paths
 
--- and these bags are those that are known
+-- each of these folders is a valid bag, and these bags are those that are known
 abbrev pub agree : Given → (paths : List (List ℕ)) → List KnownBag → Bool
 agree gives paths known = are_valid gives paths && are_equal (held_of gives paths) known
