@@ -1,7 +1,7 @@
 //! The command `catch-up`.
 
 use crate::arguments::CatchUpTask;
-use crate::asking::{AskFault, Asked, catch_up_on};
+use crate::rounds::{Asked, catch_up_on};
 use known_bags::{KnownBag, SourceFault, push_source};
 use outcomes::{ProgramFault, write_answer};
 use site_commands::{Stop, members_at, port_of, socket, write_numbered, write_stop};
@@ -46,12 +46,7 @@ fn ask_all<W: Write>(
     match socket(rt, asked.federation, 0, Waits::always(task.wait)) {
         Ok(mut port) => {
             let alloc = rt.alloc();
-            let ended = catch_up_on(alloc, rt, &mut port, &asked, versions, task.seconds, output);
-            match ended {
-                Ok(status) => Ok(status),
-                Err(AskFault::Memory) => write_answer(output, 1, "memory\n"),
-                Err(AskFault::Output) => Err(ProgramFault::Output),
-            }
+            catch_up_on(alloc, rt, &mut port, &asked, versions, task.seconds, output)
         }
         Err(stop) => write_stop(rt.alloc(), output, stop),
     }

@@ -2,9 +2,10 @@
 #![tactic(auto)]
 
 mod arguments;
-mod asking;
 mod command;
 mod progress;
+mod rounds;
 
 pub use arguments::{CatchUpTask, catch_up_command, catch_up_task};
 pub use command::catch_up_site;
+pub use rounds::{Asked, catch_up_on};

@@ -1,4 +1,8 @@
-//! What is said of each version.
+//! What is said of each version, and at last of all.
+
+ghost use Rattle.std.specs.Prelude.{◌≡◌, ◌++◌, IfOk, string_bytes};
+ghost use Rattle.words.specs.Pushes.{Pushes};
+ghost use Rattle.catch_up.specs.Lines.{slot_text, bag_text, known_line, open_line, count_line};
 
 use fed_types::{BagId, Slot};
 use std::alloc::{AllocError, Global};
@@ -6,12 +10,15 @@ use words::push_escaped;
 
 /// `known OBJ V HEX`: the site knows the bag that the source knows; or `other OBJ V HEX HEX`: it
 /// knows the first, and the source knows the second.
+#[tactic(auto, unfolding(crate::specs::Lines::known_line))]
 pub(crate) fn known_line(
     alloc: Global,
     slot: &Slot,
     bag: BagId,
     wanted: BagId,
-) -> Result<String, AllocError> {
+) -> Result<String, AllocError>
+    ensures { IfOk result (λ line. string_bytes line ≡ known_line slot.now bag wanted) }
+{
     let mut line = String::new(alloc);
     line.push_str(if bag == wanted { "known " } else { "other " })?;
     push_slot(&mut line, slot)?;
@@ -24,7 +31,10 @@ pub(crate) fn known_line(
 }
 
 /// `open OBJ V`: the site doesn't know the version.
-pub(crate) fn open_line(alloc: Global, slot: &Slot) -> Result<String, AllocError> {
+#[tactic(auto, unfolding(crate::specs::Lines::open_line))]
+pub(crate) fn open_line(alloc: Global, slot: &Slot) -> Result<String, AllocError>
+    ensures { IfOk result (λ line. string_bytes line ≡ open_line slot.now) }
+{
     let mut line = String::new(alloc);
     line.push_str("open ")?;
     push_slot(&mut line, slot)?;
@@ -32,13 +42,25 @@ pub(crate) fn open_line(alloc: Global, slot: &Slot) -> Result<String, AllocError
     Ok(line)
 }
 
-fn push_slot(line: &mut String, slot: &Slot) -> Result<(), AllocError> {
+/// `K of N`.
+#[tactic(auto, unfolding(crate::specs::Lines::count_line))]
+pub(crate) fn count_line(alloc: Global, same: usize, count: usize) -> Result<String, AllocError>
+    ensures { IfOk result (λ line. string_bytes line ≡ count_line same count) }
+{
+    format!(in alloc; "{same} of {count}\n")
+}
+
+fn push_slot(line: &mut String, slot: &Slot) -> Result<(), AllocError>
+    ensures { Pushes result line.old line.new (slot_text slot.now) }
+{
     push_escaped(line, slot.object())?;
     let version = slot.version();
     write!(line, " {version}")
 }
 
-fn push_bag(alloc: Global, line: &mut String, bag: BagId) -> Result<(), AllocError> {
+fn push_bag(alloc: Global, line: &mut String, bag: BagId) -> Result<(), AllocError>
+    ensures { Pushes result line.old line.new (bag_text bag) }
+{
     let digits = hex::encode(alloc, bag.0)?;
     line.push(' ')?;
     line.push_str(digits.as_str())

@@ -1,55 +1,36 @@
-//! A client of a site: what it asks, and the answer.
+//! A client of a site: what it asks, and what it writes of the answer.
+
+ghost use Rattle.std.specs.Prelude.{◌≡◌, IfOk, Some};
+ghost use Rattle.site_commands.specs.Replies.{question_of};
+ghost use Rattle.site_commands.specs.Exchanges.{IsAskedForBag};
+ghost use Rattle.site_commands.specs.Answers.{IsSent, IsWritten, outcome_of};
+ghost use Rattle.site_commands.specs.inner.Written.{outcome_to, outcome_in, IsAnswered};
 
 use crate::client_answer::{deposit_text, query_text};
-use dgram::{
-    Body, DepositAnswer, DgramFault, FolderPath, LONGEST_DATAGRAM, Message, QueryAnswer, decode,
-    encode,
-};
-use fed_types::{SiteNo, Slot};
+use crate::exchange::{ask, ask_again, datagram};
+use crate::reply::{Reply, Wanted, query_in, wanted_for};
+use crate::request::Request;
+use dgram::{FolderPath, QueryAnswer};
 use outcomes::{Answer, ProgramFault, write_answer};
 use std::alloc::{AllocError, Global};
 use std::io::Write;
-use udp_site::{Port, Turn};
-
-/// How many datagrams are taken in, of which one is to be the answer.
-const MOST_DATAGRAMS: u32 = 16;
-
-/// Whom a client asks for what.
-#[derive(Clone, Copy)]
-pub struct Request<'a> {
-    pub federation: u64,
-    /// The site, and its port.
-    pub to: SiteNo,
-    pub target: u16,
-    pub slot: &'a Slot,
-}
-
-/// What a site replies.
-#[derive(Clone, Copy)]
-pub(crate) enum Reply {
-    ToDeposit(DepositAnswer),
-    ToQuery(QueryAnswer),
-}
-
-/// Which replies are looked for.
-#[derive(Clone, Copy, PartialEq, Eq)]
-pub(crate) enum Wanted {
-    ToDeposit,
-    ToQuery,
-    Any,
-}
+use udp_site::Port;
 
 /// Sends a deposit of the folder of this path to a site, or without a path a query, and writes the
 /// answer as one line: `registered ..` or `reply ..` with status 0, `refused N CODE` with status 1.
 /// It is the first datagram that is the reply of this site for this slot. Where nothing came in one
 /// turn, the port failed or sixteen other datagrams came, the line is `no answer`, with status 1.
+/// Where memory runs out, it is `memory`, with status 1.
 pub fn send_on<P: Port, W: Write>(
     alloc: Global,
     port: &mut P,
     request: &Request<'_>,
     path: Option<FolderPath>,
     output: &mut W,
-) -> Result<u8, ProgramFault> {
+) -> Result<u8, ProgramFault>
+    ensures { IsSent (question_of request.now) path (P.traffic port.old) (P.traffic port.new)
+        (W.contents output.old) (W.contents output.new) result }
+{
     write_reply(output, answer(alloc, port, request, path))
 }
 
@@ -57,7 +38,10 @@ pub fn send_on<P: Port, W: Write>(
 pub(crate) fn write_reply<W: Write>(
     output: &mut W,
     answer: Result<Option<Answer>, AllocError>,
-) -> Result<u8, ProgramFault> {
+) -> Result<u8, ProgramFault>
+    ensures { IsWritten (W.contents output.old) (W.contents output.new) result
+        (outcome_to answer) }
+{
     match answer {
         Ok(Some(answer)) => write_answer(output, answer.status, answer.text.as_str()),
         Ok(None) => write_answer(output, 1, "no answer\n"),
@@ -71,12 +55,11 @@ fn answer<P: Port>(
     port: &mut P,
     request: &Request<'_>,
     path: Option<FolderPath>,
-) -> Result<Option<Answer>, AllocError> {
-    let wanted = if path.is_some() {
-        Wanted::ToDeposit
-    } else {
-        Wanted::ToQuery
-    };
+) -> Result<Option<Answer>, AllocError>
+    ensures { IsAnswered (question_of request.now) path
+        (P.traffic port.old) (P.traffic port.new) result }
+{
+    let wanted = wanted_for(&path);
     let bytes = datagram(alloc, request, path)?;
     match ask(alloc, port, request, wanted, bytes.as_slice())? {
         Some(reply) => Ok(Some(answer_of(alloc, request, reply)?)),
@@ -89,12 +72,13 @@ pub fn ask_for_bag<P: Port>(
     alloc: Global,
     port: &mut P,
     request: &Request<'_>,
-) -> Result<Option<QueryAnswer>, AllocError> {
+) -> Result<Option<QueryAnswer>, AllocError>
+    ensures { IsAskedForBag (question_of request.now)
+        (P.traffic port.old) (P.traffic port.new) result }
+{
     let bytes = datagram(alloc, request, None)?;
-    match ask_again(alloc, port, request, Wanted::ToQuery, bytes.as_slice())? {
-        Some(Reply::ToQuery(answer)) => Ok(Some(answer)),
-        _ => Ok(None),
-    }
+    let reply = ask_again(alloc, port, request, Wanted::ToQuery, bytes.as_slice())?;
+    Ok(query_in(reply))
 }
 
 /// What a reply says.
@@ -102,105 +86,13 @@ pub(crate) fn answer_of(
     alloc: Global,
     request: &Request<'_>,
     reply: Reply,
-) -> Result<Answer, AllocError> {
+) -> Result<Answer, AllocError>
+    ensures { IfOk result
+        (λ answer. outcome_in answer ≡ outcome_of (question_of request.now) (Some reply)) }
+{
     let slot = request.slot.copy(alloc)?;
     match reply {
         Reply::ToDeposit(answer) => deposit_text(alloc, request.to, slot, answer),
         Reply::ToQuery(answer) => query_text(alloc, request.to, slot, answer),
-    }
-}
-
-/// Sends a datagram, and gives the reply that is wanted, if it comes before a turn is idle.
-fn ask<P: Port>(
-    alloc: Global,
-    port: &mut P,
-    request: &Request<'_>,
-    wanted: Wanted,
-    bytes: &[u8],
-) -> Result<Option<Reply>, AllocError> {
-    if port.send(request.target, bytes).is_err() {
-        return Ok(None);
-    }
-    hear(alloc, port, request, wanted)
-}
-
-/// Asks at a port that was used before. There a turn is idle at once, if the port's wait has passed
-/// since an earlier one, so that only the second idle turn says that nothing came.
-pub(crate) fn ask_again<P: Port>(
-    alloc: Global,
-    port: &mut P,
-    request: &Request<'_>,
-    wanted: Wanted,
-    bytes: &[u8],
-) -> Result<Option<Reply>, AllocError> {
-    match ask(alloc, port, request, wanted, bytes)? {
-        Some(reply) => Ok(Some(reply)),
-        None => hear(alloc, port, request, wanted),
-    }
-}
-
-// The reply that is wanted, if it comes before a turn is idle.
-fn hear<P: Port>(
-    alloc: Global,
-    port: &mut P,
-    request: &Request<'_>,
-    wanted: Wanted,
-) -> Result<Option<Reply>, AllocError> {
-    for _ in 0..MOST_DATAGRAMS {
-        let Ok(Turn::Got(_, bytes)) = port.receive() else {
-            return Ok(None);
-        };
-        if let Some(reply) = reply_in(alloc, request, wanted, bytes.as_slice())? {
-            return Ok(Some(reply));
-        }
-    }
-    Ok(None)
-}
-
-/// The datagram of a deposit of the folder of this path, or of a query.
-pub(crate) fn datagram(
-    alloc: Global,
-    request: &Request<'_>,
-    path: Option<FolderPath>,
-) -> Result<Vec<u8>, AllocError> {
-    let slot = request.slot.copy(alloc)?;
-    let body = match path {
-        Some(path) => Body::Deposit { path },
-        None => Body::Query,
-    };
-    let mut bytes = Vec::with_capacity(alloc, LONGEST_DATAGRAM)?;
-    encode(request.federation, &Message { slot, body }, &mut bytes)?;
-    Ok(bytes)
-}
-
-// The reply of the site for the slot in these bytes, if it is one that is wanted.
-fn reply_in(
-    alloc: Global,
-    request: &Request<'_>,
-    wanted: Wanted,
-    bytes: &[u8],
-) -> Result<Option<Reply>, AllocError> {
-    match decode(alloc, request.federation, bytes) {
-        Ok(Message { slot, body }) => {
-            if slot != *request.slot {
-                return Ok(None);
-            }
-            Ok(reply_by(request.to, wanted, &body))
-        }
-        Err(DgramFault::Memory) => Err(AllocError),
-        Err(DgramFault::NotOurs | DgramFault::Malformed) => Ok(None),
-    }
-}
-
-// The reply of the site, if this is one that is wanted.
-fn reply_by(to: SiteNo, wanted: Wanted, body: &Body) -> Option<Reply> {
-    match body {
-        Body::DepositReply { from, answer } if wanted != Wanted::ToQuery && *from == to => {
-            Some(Reply::ToDeposit(*answer))
-        }
-        Body::QueryReply { from, answer } if wanted != Wanted::ToDeposit && *from == to => {
-            Some(Reply::ToQuery(*answer))
-        }
-        _ => None,
     }
 }

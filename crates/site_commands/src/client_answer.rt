@@ -1,5 +1,10 @@
 //! What a client is told by a site, as a status and a line.
 
+ghost use Rattle.std.specs.Prelude.{◌≡◌, IfOk};
+ghost use Rattle.site_commands.specs.Answers.{deposit_outcome, query_outcome, said, refused};
+ghost use Rattle.site_commands.specs.Answers.{named_bag};
+ghost use Rattle.site_commands.specs.inner.Written.{outcome_in};
+
 use dgram::{DepositAnswer, QueryAnswer};
 use fed_types::{BagId, SiteNo, Slot};
 use lines::{Line, NamedBag, NamedReply, Options, push_line};
@@ -12,7 +17,9 @@ pub(crate) fn deposit_text(
     to: SiteNo,
     slot: Slot,
     answer: DepositAnswer,
-) -> Result<Answer, AllocError> {
+) -> Result<Answer, AllocError>
+    ensures { IfOk result (λ given. outcome_in given ≡ deposit_outcome to slot answer) }
+{
     let site = to.number();
     match answer {
         DepositAnswer::Registered(bag) => {
@@ -35,7 +42,9 @@ pub(crate) fn query_text(
     to: SiteNo,
     slot: Slot,
     answer: QueryAnswer,
-) -> Result<Answer, AllocError> {
+) -> Result<Answer, AllocError>
+    ensures { IfOk result (λ given. outcome_in given ≡ query_outcome to slot answer) }
+{
     let site = to.number();
     let reply = match answer {
         QueryAnswer::Known(bag) => NamedReply::Known(named(bag)),
@@ -47,7 +56,9 @@ pub(crate) fn query_text(
 }
 
 // A line, in which the bag has its identity.
-fn line_text(alloc: Global, line: &Line) -> Result<Answer, AllocError> {
+fn line_text(alloc: Global, line: &Line) -> Result<Answer, AllocError>
+    ensures { IfOk result (λ given. outcome_in given ≡ said line.now) }
+{
     let options = Options {
         sent: false,
         identities: true,
@@ -58,13 +69,17 @@ fn line_text(alloc: Global, line: &Line) -> Result<Answer, AllocError> {
 }
 
 // The site refuses, for the reason of this code.
-fn refused(alloc: Global, site: u8, code: u8) -> Result<Answer, AllocError> {
+fn refused(alloc: Global, site: u8, code: u8) -> Result<Answer, AllocError>
+    ensures { IfOk result (λ given. outcome_in given ≡ refused site code) }
+{
     Ok(Answer {
         status: 1,
         text: format!(in alloc; "refused {site} {code}\n")?,
     })
 }
 
-fn named(bag: BagId) -> NamedBag {
+fn named(bag: BagId) -> NamedBag
+    ensures { result ≡ named_bag bag }
+{
     NamedBag { bag, tree: 0 }
 }

@@ -1,7 +1,8 @@
 //! The command `send`: a client of a site of the members file.
 
-use crate::client::{Request, send_on};
+use crate::client::send_on;
 use crate::file_members::{members_at, port_of};
+use crate::request::Request;
 use crate::send_arguments::SendTask;
 use crate::serving_command::socket;
 use crate::stop::{Stop, write_stop};

@@ -1,5 +1,8 @@
 //! Folders below one.
 
+ghost use Rattle.std.specs.Prelude.{◌≡◌};
+ghost use Rattle.site_commands.specs.Paths.{leads_out, goes_up, is_parent};
+
 use bag_folders::Folders;
 use bag_tree::{Facts, TreeFault};
 use std::alloc::{AllocError, Global};
@@ -16,11 +19,16 @@ pub(crate) struct FoldersBelow<'a, F> {
 }
 
 impl<'a, F: Folders> FoldersBelow<'a, F> {
-    ghost use Rattle.std.specs.Prelude.{◌≢◌, IfErr};
-    ghost use Rattle.bag_tree.specs.declared.fault.TreeFault.TheVariants.{BadPath};
+    ghost use Rattle.std.specs.Prelude.{◌≡◌, ◌≢◌, true, Some, Err, IfErr, IfSome};
+    ghost use Rattle.bag_tree.specs.declared.fault.TreeFault.TheVariants.{BadPath, Listing};
+    ghost use Rattle.bag_tree.specs.Fault.{IsOrMemory};
+    ghost use Rattle.site_commands.specs.Paths.{leads_out, reads_below};
 
     /// These folders, below this one.
-    pub(crate) fn new(alloc: Global, top: Option<&'a str>, folders: F) -> FoldersBelow<'a, F> {
+    pub(crate) fn new(alloc: Global, top: Option<&'a str>, folders: F) -> FoldersBelow<'a, F>
+        ensures top { result.top ≡ top.entry }
+        ensures folders { result.folders ≡ folders }
+    {
         FoldersBelow {
             alloc,
             top,
@@ -29,11 +37,19 @@ impl<'a, F: Folders> FoldersBelow<'a, F> {
         }
     }
 
-    // The facts of the tree in the folder of this path from the top.
+    // The facts of the tree in the folder of this path from the top. Of one that leads out the
+    // folders aren't asked.
     fn read_below(&mut self, top: &str, path: &str) -> Result<Facts, TreeFault>
+        ensures known { IfSome (F.gives self.old.folders)
+            (λ reads. IsOrMemory result (reads_below (Some top.now) reads path.now)) }
+        ensures kept { F.gives self.new.folders ≡ F.gives self.old.folders }
+        ensures place { F.fails_at self.new.folders ≡ F.fails_at self.old.folders }
+        ensures top { self.new.top ≡ self.old.top }
+        ensures unasked { leads_out path.now ≡ true → self.new.folders ≡ self.old.folders }
+        ensures refused { leads_out path.now ≡ true → result ≡ Err Listing }
         ensures faults { IfErr result (λ fault. fault ≢ BadPath) }
     {
-        if leads_out(path) {
+        if leads_out(path.as_bytes()) {
             self.has_left = true;
             return Err(TreeFault::Listing);
         }
@@ -45,7 +61,28 @@ impl<'a, F: Folders> FoldersBelow<'a, F> {
 }
 
 impl<F: Folders> Folders for FoldersBelow<'_, F> {
-    fn read(&mut self, path: &str) -> Result<Facts, TreeFault> {
+    ghost use Rattle.std.specs.Prelude.{◌≡◌, ◌≢◌, true, Err, IfErr, IfSome, OnSome, option_copied};
+    ghost use Rattle.bag_tree.specs.declared.fault.TreeFault.TheVariants.{BadPath, Listing};
+    ghost use Rattle.bag_tree.specs.Fault.{IsOrMemory};
+    ghost use Rattle.site_commands.specs.Paths.{leads_out, known_below, place_below};
+
+    ghost gives = { λ f. known_below (option_copied f.top) (F.gives f.folders) };
+
+    ghost fails_at = { λ f. place_below (F.fails_at f.folders) };
+
+    fn read(&mut self, path: &str) -> Result<Facts, TreeFault>
+        ensures known { IfSome (known_below (option_copied self.old.top) (F.gives self.old.folders))
+            (λ reads. IsOrMemory result (reads path.now)) }
+        ensures kept { known_below (option_copied self.new.top) (F.gives self.new.folders)
+            ≡ known_below (option_copied self.old.top) (F.gives self.old.folders) }
+        ensures place { place_below (F.fails_at self.new.folders)
+            ≡ place_below (F.fails_at self.old.folders) }
+        // With a top no path that leads out is ever read.
+        ensures unasked { OnSome self.old.top
+            (leads_out path.now ≡ true → self.new.folders ≡ self.old.folders) }
+        ensures refused { OnSome self.old.top (leads_out path.now ≡ true → result ≡ Err Listing) }
+        ensures faults { IfErr result (λ fault. fault ≢ BadPath) }
+    {
         self.has_left = false;
         match self.top {
             Some(top) => self.read_below(top, path),
@@ -62,6 +99,21 @@ impl<F: Folders> Folders for FoldersBelow<'_, F> {
 }
 
 // Whether a path may lead out of the folder from which it is taken.
-fn leads_out(path: &str) -> bool {
-    path.starts_with('/') || path.split('/').any(|name| name == "..")
+fn leads_out(path: &[u8]) -> bool
+    ensures { result ≡ leads_out path.now }
+{
+    path.starts_with(b"/") || goes_up(path)
+}
+
+// Whether one of its parts leads up.
+fn goes_up(path: &[u8]) -> bool
+    ensures { result ≡ goes_up path.now }
+{
+    path.split(|byte| *byte == b'/').any(|part| is_parent(part))
+}
+
+fn is_parent(part: &[u8]) -> bool
+    ensures { result ≡ is_parent part.now }
+{
+    part == b"..".as_slice()
 }

@@ -1,5 +1,7 @@
 //! The command `site`: a site of the members file, over a file and a socket.
 
+ghost use Rattle.std.specs.Prelude.{◌≡◌, IfOk};
+
 use crate::file_members::{expect_listed, members_at, port_of, ports_of};
 use crate::folders_below::FoldersBelow;
 use crate::service::{Service, site_on};
@@ -55,7 +57,9 @@ struct Means<'a> {
 }
 
 // All that is needed, in the order in which it is looked for.
-fn equip<'a>(rt: &HostRuntime, task: &SiteTask<'a>) -> Result<Means<'a>, Stop> {
+fn equip<'a>(rt: &HostRuntime, task: &SiteTask<'a>) -> Result<Means<'a>, Stop>
+    ensures { IfOk result (λ means. means.folders.top ≡ task.now.bags) }
+{
     let file = members_at(rt, task.members)?;
     if task.listed {
         expect_listed(rt.alloc(), &file)?;
@@ -154,11 +158,13 @@ fn serve_logged(
     )
 }
 
-// The folders that clients may have deposited.
+// The folders that clients may have deposited: those below the one that is asked for, if one is.
 fn folders_of<'a>(
     rt: &HostRuntime,
     task: &SiteTask<'a>,
-) -> Result<FoldersBelow<'a, DiskFolders<HostRuntime>>, Stop> {
+) -> Result<FoldersBelow<'a, DiskFolders<HostRuntime>>, Stop>
+    ensures { IfOk result (λ folders. folders.top ≡ task.now.bags) }
+{
     if let Some(top) = task.bags {
         find_folder(rt, top)?;
     }

@@ -1,6 +1,17 @@
 //! A client that asks until a bag is known.
 
-use crate::client::{Reply, Request, Wanted, answer_of, ask_again, datagram, write_reply};
+ghost use Rattle.std.specs.Prelude.{◌≡◌, ℕ, List, IfOk, Some, Option};
+ghost use Rattle.std.specs.Option.{option_or};
+ghost use Rattle.site_commands.specs.Replies.{Question, question_of, datagram_to};
+ghost use Rattle.site_commands.specs.Repeats.{is_known, is_last, next_path, until_outcome};
+ghost use Rattle.site_commands.specs.Repeats.{IsSentUntilKnown};
+ghost use Rattle.site_commands.specs.inner.Repeated.{AreQuestions, ends, IsLastReply, IsLastAnswer};
+ghost use Rattle.site_commands.specs.inner.Written.{outcome_in};
+
+use crate::client::{answer_of, write_reply};
+use crate::exchange::{ask_again, datagram};
+use crate::reply::{Reply, Wanted};
+use crate::request::Request;
 use dgram::{DepositAnswer, FolderPath, QueryAnswer};
 use outcomes::{Answer, ProgramFault};
 use std::alloc::{AllocError, Global};
@@ -19,7 +30,8 @@ const LONGEST_PAUSE: u64 = 1000;
 /// answer that there was as one line: `reply .. known ..` with status 0, any other with status 1.
 /// With a path the folder is deposited first, and again where the site then knows nothing of it. A
 /// deposit that is refused ends it at once. After each question it pauses, first for 20 ms, then
-/// for twice as long each time, and for a second at most.
+/// for twice as long each time, and for a second at most. Where memory runs out the line is
+/// `memory`, with status 1.
 pub fn send_until_known<P: Port, C: Clock, W: Write>(
     alloc: Global,
     clock: &C,
@@ -28,7 +40,11 @@ pub fn send_until_known<P: Port, C: Clock, W: Write>(
     path: Option<FolderPath>,
     seconds: u32,
     output: &mut W,
-) -> Result<u8, ProgramFault> {
+) -> Result<u8, ProgramFault>
+    ensures { IsSentUntilKnown (question_of request.now) path
+        (P.traffic port.old) (P.traffic port.new)
+        (W.contents output.old) (W.contents output.new) result }
+{
     write_reply(
         output,
         last_answer(alloc, clock, port, request, path, seconds),
@@ -43,16 +59,25 @@ fn last_answer<P: Port, C: Clock>(
     request: &Request<'_>,
     path: Option<FolderPath>,
     seconds: u32,
-) -> Result<Option<Answer>, AllocError> {
+) -> Result<Option<Answer>, AllocError>
+    ensures { IsLastAnswer (question_of request.now) path
+        (P.traffic port.old) (P.traffic port.new) result }
+{
     let questions = Questions::new(alloc, request, path)?;
     match last_reply(alloc, clock, port, request, &questions, seconds)? {
-        Some(reply) => {
-            let status = if is_known(&reply) { 0 } else { 1 };
-            let Answer { text, .. } = answer_of(alloc, request, reply)?;
-            Ok(Some(Answer { status, text }))
-        }
+        Some(reply) => Ok(Some(answer_to(alloc, request, reply)?)),
         None => Ok(None),
     }
+}
+
+// What a reply says, with the status 0 only where the bag is known.
+fn answer_to(alloc: Global, request: &Request<'_>, reply: Reply) -> Result<Answer, AllocError>
+    ensures { IfOk result
+        (λ answer. outcome_in answer ≡ until_outcome (question_of request.now) (Some reply)) }
+{
+    let Answer { text, .. } = answer_of(alloc, request, reply)?;
+    let status = if is_known(&reply) { 0 } else { 1 };
+    Ok(Answer { status, text })
 }
 
 // The reply that says which bag is known or that a deposit is refused; or the last in this time.
@@ -63,7 +88,11 @@ fn last_reply<P: Port, C: Clock>(
     request: &Request<'_>,
     questions: &Questions,
     seconds: u32,
-) -> Result<Option<Reply>, AllocError> {
+) -> Result<Option<Reply>, AllocError>
+    ensures { (path : Option (List ℕ)) → AreQuestions (question_of request.now) path questions.now
+        → IsLastReply (question_of request.now) path
+        (P.traffic port.old) (P.traffic port.new) result }
+{
     let Ok(pauses) = Pauses::new(clock, seconds) else {
         return Ok(None);
     };
@@ -71,29 +100,45 @@ fn last_reply<P: Port, C: Clock>(
     let mut last = None;
     let mut bytes = questions.first();
     for _ in 0..u32::MAX {
-        let Some(reply) = ask_again(alloc, port, request, Wanted::Any, bytes)? else {
-            bytes = questions.query.as_slice();
-            if !pauses.pause(clock) {
-                break;
-            }
-            continue;
-        };
-        bytes = questions.after(&reply);
-        let is_over = is_the_end(&reply) || !pauses.pause(clock);
-        last = Some(reply);
-        if is_over {
-            break;
+        let reply = ask_again(alloc, port, request, Wanted::Any, bytes)?;
+        last = or(reply, last);
+        if ends(&reply) || !pauses.pause(clock) {
+            return Ok(last);
         }
+        bytes = questions.after(&reply);
     }
     Ok(last)
 }
 
-fn is_known(reply: &Reply) -> bool {
+// The reply, or an earlier one.
+fn or(reply: Option<Reply>, earlier: Option<Reply>) -> Option<Reply>
+    ensures { result ≡ option_or reply earlier }
+{
+    match reply {
+        Some(_) => reply,
+        None => earlier,
+    }
+}
+
+fn is_known(reply: &Reply) -> bool
+    ensures { result ≡ is_known reply.now }
+{
     matches!(reply, Reply::ToQuery(QueryAnswer::Known(_)))
 }
 
 // Whether nothing else is to be waited for.
-fn is_the_end(reply: &Reply) -> bool {
+fn ends(reply: &Option<Reply>) -> bool
+    ensures { result ≡ ends reply.now }
+{
+    match reply {
+        Some(reply) => is_last(reply),
+        None => false,
+    }
+}
+
+fn is_last(reply: &Reply) -> bool
+    ensures { result ≡ is_last reply.now }
+{
     match reply {
         Reply::ToDeposit(DepositAnswer::Registered(_)) => false,
         Reply::ToDeposit(_) => true,
@@ -109,11 +154,19 @@ struct Questions {
 }
 
 impl Questions {
+    ghost use Rattle.std.specs.Prelude.{◌≡◌, ℕ, List, IfOk, Option};
+    ghost use Rattle.site_commands.specs.Replies.{Question, question_of, datagram_to};
+    ghost use Rattle.site_commands.specs.Repeats.{next_path};
+    ghost use Rattle.site_commands.specs.inner.Repeated.{AreQuestions};
+
     fn new(
         alloc: Global,
         request: &Request<'_>,
         path: Option<FolderPath>,
-    ) -> Result<Questions, AllocError> {
+    ) -> Result<Questions, AllocError>
+        ensures { IfOk result (λ questions.
+            AreQuestions (question_of request.now) path questions) }
+    {
         let query = datagram(alloc, request, None)?;
         let deposit = match path {
             Some(path) => Some(datagram(alloc, request, Some(path))?),
@@ -123,7 +176,10 @@ impl Questions {
     }
 
     // The deposit, if there is one.
-    fn first(&self) -> &[u8] {
+    fn first(&self) -> &[u8]
+        ensures { (q : Question) (path : Option (List ℕ)) → AreQuestions q path self.now
+            → result.now ≡ datagram_to q path }
+    {
         match &self.deposit {
             Some(deposit) => deposit.as_slice(),
             None => self.query.as_slice(),
@@ -131,9 +187,12 @@ impl Questions {
     }
 
     // What is sent after this reply. A site that knows nothing hasn't got the deposit.
-    fn after(&self, reply: &Reply) -> &[u8] {
+    fn after(&self, reply: &Option<Reply>) -> &[u8]
+        ensures { (q : Question) (path : Option (List ℕ)) → AreQuestions q path self.now
+            → result.now ≡ datagram_to q (next_path path reply.now) }
+    {
         match reply {
-            Reply::ToQuery(QueryAnswer::Nothing) => self.first(),
+            Some(Reply::ToQuery(QueryAnswer::Nothing)) => self.first(),
             _ => self.query.as_slice(),
         }
     }

@@ -1,0 +1,5 @@
+pub mod Parts
+pub mod Questions
+pub mod Versions
+pub mod OneVersion
+pub mod Reports

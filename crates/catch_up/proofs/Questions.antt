@@ -1,0 +1,318 @@
+-- A site that is asked for some versions, and then for others.
+use Rattle.std.proofs.Common.{◌≡◌, ℕ, ◌+◌, ◌≤◌, Bool, true, false, not, cond, List, [], ◌∷◌, ◌++◌}
+use Rattle.std.proofs.Common.{length}
+use Rattle.std.proofs.Common.{Option, Some, None, Result, Ok, Err, refl, sym, ap, subst, ◌∙◌}
+use Rattle.std.proofs.Common.{append_assoc, append-nil}
+use Rattle.std.proofs.Common.{arith}
+use Rattle.std.proofs.KnownBytes.{Appends-nil, Appends-trans}
+use Rattle.std.proofs.lemmas.List.{length-append}
+use Rattle.std.proofs.lemmas.List.Filters.{length-filter_both}
+use Rattle.std.specs.Prelude.{IsErrAnd}
+use Rattle.std.specs.Io.KnownBytes.{Appends}
+use Rattle.known_bags.specs.declared.known_bag.KnownBag.{KnownBag}
+use Rattle.udp_site.specs.Traffic.{Move, Grows}
+use Rattle.udp_site.proofs.Growth.{Grows-trans, Grows-none}
+use Rattle.catch_up.specs.declared.rounds.AskFault.{AskFault}
+use Rattle.catch_up.specs.declared.rounds.Asked.{Asked}
+use Rattle.catch_up.specs.Rounds.{Answer, AreAnswers, answer_line, answer_lines, is_same, same_in}
+use Rattle.catch_up.specs.Rounds.{left_by, left_of, AreRounds, AreWhole, round_lines, same_after}
+use Rattle.catch_up.specs.Rounds.{left_after, open_of}
+use Rattle.catch_up.specs.inner.Progress.{GoesOn, StopsIn, GoesOnRounds, StopsInRounds}
+use Rattle.catch_up.specs.inner.Progress.{AppendsPart, IsRound, AreAsked}
+use Rattle.catch_up.proofs.Parts.{then_part}
+
+-- ---- some versions, and others
+
+answers_then : (asked : Asked) (xs ys : List KnownBag) (us bs : List Answer) (m n : List Move)
+    → length us ≡ length xs → AreAnswers asked xs us m → AreAnswers asked ys bs n
+    → AreAnswers asked (xs ++ ys) (us ++ bs) (m ++ n)
+answers_then asked [] ys [] bs m n count p q =
+    subst (λ (k : List Move). AreAnswers asked ys bs (k ++ n)) (sym p) q
+answers_then asked [] ys (a ∷ us) bs m n count p q = absurd p
+answers_then asked (v ∷ xs) ys [] bs m n count p q = absurd (omega arith)
+answers_then asked (v ∷ xs) ys (a ∷ us) bs m n count (first, rest, is, one, more) q = (
+  first,
+  rest ++ n,
+  ap (λ (k : List Move). k ++ n) is ∙ append_assoc first rest n,
+  one,
+  answers_then asked xs ys us bs rest n (omega arith) more q,
+)
+
+-- the others may not be asked for
+answers_within : (asked : Asked) (xs ys : List KnownBag) (us : List Answer) (m : List Move)
+    → AreAnswers asked xs us m → AreAnswers asked (xs ++ ys) us m
+answers_within asked [] ys [] m p = none_asked asked ys m p
+  where
+    none_asked : (asked : Asked) (ys : List KnownBag) (m : List Move) → m ≡ []
+        → AreAnswers asked ys [] m
+    none_asked asked [] m p = p
+    none_asked asked (y ∷ ys) m p = p
+answers_within asked [] ys (a ∷ us) m p = absurd p
+answers_within asked (v ∷ xs) ys [] m p = p
+answers_within asked (v ∷ xs) ys (a ∷ us) m (first, rest, is, one, more) =
+    (first, rest, is, one, answers_within asked xs ys us rest more)
+
+lines_then : (xs ys : List KnownBag) (us bs : List Answer) → length us ≡ length xs
+    → answer_lines (xs ++ ys) (us ++ bs) ≡ answer_lines xs us ++ answer_lines ys bs
+lines_then [] ys [] bs count = refl
+lines_then [] ys (a ∷ us) bs count = absurd (omega arith)
+lines_then (v ∷ xs) ys [] bs count = absurd (omega arith)
+lines_then (v ∷ xs) ys (a ∷ us) bs count =
+    ap (λ (l : List ℕ). answer_line v a ++ l) (lines_then xs ys us bs (omega arith))
+    ∙ sym (append_assoc (answer_line v a) (answer_lines xs us) (answer_lines ys bs))
+
+lines_within : (asked : Asked) (xs ys : List KnownBag) (us : List Answer) (m : List Move)
+    → AreAnswers asked xs us m → answer_lines xs us ≡ answer_lines (xs ++ ys) us
+lines_within asked [] ys [] m p = no_lines ys
+  where
+    no_lines : (ys : List KnownBag) → answer_lines [] [] ≡ answer_lines ys []
+    no_lines [] = refl
+    no_lines (y ∷ ys) = refl
+lines_within asked [] ys (a ∷ us) m p = absurd p
+lines_within asked (v ∷ xs) ys [] m p = refl
+lines_within asked (v ∷ xs) ys (a ∷ us) m (first, rest, is, one, more) =
+    ap (λ (l : List ℕ). answer_line v a ++ l) (lines_within asked xs ys us rest more)
+
+left_both : (v : KnownBag) (a : Answer) (xs ys : List KnownBag)
+    → left_by v a (xs ++ ys) ≡ left_by v a xs ++ ys
+left_both v None xs ys = refl
+left_both v (Some bag) xs ys = refl
+
+pub left_then : (xs ys : List KnownBag) (us bs : List Answer) → length us ≡ length xs
+    → left_of (xs ++ ys) (us ++ bs) ≡ left_of xs us ++ left_of ys bs
+left_then [] ys [] bs count = refl
+left_then [] ys (a ∷ us) bs count = absurd (omega arith)
+left_then (v ∷ xs) ys [] bs count = absurd (omega arith)
+left_then (v ∷ xs) ys (a ∷ us) bs count =
+    ap (left_by v a) (left_then xs ys us bs (omega arith))
+    ∙ left_both v a (left_of xs us) (left_of ys bs)
+
+pub same_then : (xs ys : List KnownBag) (us bs : List Answer) → length us ≡ length xs
+    → same_in (xs ++ ys) (us ++ bs) ≡ same_in xs us + same_in ys bs
+same_then [] ys [] bs count = omega arith
+same_then [] ys (a ∷ us) bs count = absurd (omega arith)
+same_then (v ∷ xs) ys [] bs count = absurd (omega arith)
+same_then (v ∷ xs) ys (a ∷ us) bs count =
+    omega (arith, same_then xs ys us bs (omega arith))
+
+-- no more are the same than are asked for
+one_at_most : (b : Bool) → cond b 1 0 ≤ 1
+one_at_most true = omega arith
+one_at_most false = omega arith
+
+pub same_bound : (xs : List KnownBag) (us : List Answer)
+    → same_in xs us + length (left_of xs us) ≤ length xs
+same_bound [] [] = omega arith
+same_bound (v ∷ xs) [] = omega arith
+same_bound [] (a ∷ us) = omega arith
+same_bound (v ∷ xs) (None ∷ us) = omega (arith, same_bound xs us)
+same_bound (v ∷ xs) (Some bag ∷ us) =
+    omega (arith, same_bound xs us, one_at_most (is_same v (Some bag)))
+
+-- no more are open than there are
+pub open_at_most : (xs : List KnownBag) → length (open_of xs) ≤ length xs
+unfolding open_of
+open_at_most xs =
+    omega (
+      arith,
+      length-filter_both (λ (v : KnownBag). not v.is_found) (λ (v : KnownBag). not (not v.is_found))
+          (λ _. refl) xs,
+    )
+
+module _ (asked : Asked) where
+  -- nobody is asked
+  pub goes_on_none : (a : Option (List Move)) (o : Option (List ℕ)) → GoesOn asked [] a a o o []
+  goes_on_none a o = ([], Grows-none a, refl, refl, Appends-nil o)
+
+  pub goes_on : (xs ys : List KnownBag) (a b c : Option (List Move)) (o n p : Option (List ℕ))
+      (us bs : List Answer) → GoesOn asked xs a b o n us → GoesOn asked ys b c n p bs
+      → GoesOn asked (xs ++ ys) a c o p (us ++ bs)
+  goes_on xs ys a b c o n p us bs (moves, grows, are, count, lines)
+      (others, more, are_more, count_more, lines_more) = (
+        moves ++ others,
+        Grows-trans a b c moves others grows more,
+        answers_then asked xs ys us bs moves others count are are_more,
+        length-append us bs
+            ∙ (ap (λ (k : ℕ). k + length bs) count ∙ ap (λ (k : ℕ). length xs + k) count_more)
+            ∙ sym (length-append xs ys),
+        subst (Appends o p) (sym (lines_then xs ys us bs count))
+            (Appends-trans o n p (answer_lines xs us) (answer_lines ys bs) lines lines_more),
+      )
+
+  pub stops_then : (xs ys : List KnownBag) (a b c : Option (List Move)) (o n p : Option (List ℕ))
+      (us : List Answer) (fault : AskFault) → GoesOn asked xs a b o n us
+      → StopsIn asked ys b c n p fault → StopsIn asked (xs ++ ys) a c o p fault
+  stops_then xs ys a b c o n p us fault (moves, grows, are, count, lines)
+      (bs, some, others, more, are_more, only, part) = (
+        us ++ bs,
+        moves ++ some,
+        others,
+        subst (Grows a c) (sym (append_assoc moves some others))
+            (Grows-trans a b c moves (some ++ others) grows more),
+        answers_then asked xs ys us bs moves some count are are_more,
+        only,
+        subst (λ (l : List ℕ). AppendsPart o p l) (sym (lines_then xs ys us bs count))
+            (then_part o n p (answer_lines xs us) (answer_lines ys bs) lines part),
+      )
+
+  pub stops_within : (xs ys : List KnownBag) (a b : Option (List Move)) (o n : Option (List ℕ))
+      (fault : AskFault) → StopsIn asked xs a b o n fault → StopsIn asked (xs ++ ys) a b o n fault
+  stops_within xs ys a b o n fault (us, moves, others, grows, are, only, part) = (
+    us,
+    moves,
+    others,
+    grows,
+    answers_within asked xs ys us moves are,
+    only,
+    subst (λ (l : List ℕ). AppendsPart o n l) (lines_within asked xs ys us moves are) part,
+  )
+
+-- ---- one more round
+
+rounds_then : (asked : Asked) (vs : List KnownBag) (rounds : List (List Answer))
+    (us : List Answer) (m n : List Move) → AreRounds asked vs rounds m
+    → AreAnswers asked (left_after vs rounds) us n
+    → AreRounds asked vs (rounds ++ us ∷ []) (m ++ n)
+rounds_then asked vs [] us m n p q =
+    (n, [], ap (λ (k : List Move). k ++ n) p ∙ sym (append-nil n), q, refl)
+rounds_then asked vs (bs ∷ rounds) us m n (first, rest, is, one, more) q = (
+  first,
+  rest ++ n,
+  ap (λ (k : List Move). k ++ n) is ∙ append_assoc first rest n,
+  one,
+  rounds_then asked (left_of vs bs) rounds us rest n more q,
+)
+
+whole_then : (vs : List KnownBag) (rounds : List (List Answer)) (us : List Answer)
+    → AreWhole vs rounds → length us ≡ length (left_after vs rounds)
+    → AreWhole vs (rounds ++ us ∷ [])
+whole_then vs [] us whole count = (count, tt)
+whole_then vs (bs ∷ rounds) us (one, whole) count =
+    (one, whole_then (left_of vs bs) rounds us whole count)
+
+round_lines_then : (vs : List KnownBag) (rounds : List (List Answer)) (us : List Answer)
+    → round_lines vs (rounds ++ us ∷ [])
+    ≡ round_lines vs rounds ++ answer_lines (left_after vs rounds) us
+round_lines_then vs [] us = append-nil (answer_lines vs us)
+round_lines_then vs (bs ∷ rounds) us =
+    ap (λ (l : List ℕ). answer_lines vs bs ++ l) (round_lines_then (left_of vs bs) rounds us)
+    ∙ sym (append_assoc (answer_lines vs bs) (round_lines (left_of vs bs) rounds)
+    (answer_lines (left_after (left_of vs bs) rounds) us))
+
+pub same_after_then : (vs : List KnownBag) (rounds : List (List Answer)) (us : List Answer)
+    → same_after vs (rounds ++ us ∷ [])
+    ≡ same_after vs rounds + same_in (left_after vs rounds) us
+same_after_then vs [] us = omega arith
+same_after_then vs (bs ∷ rounds) us = omega (arith, same_after_then (left_of vs bs) rounds us)
+
+pub left_after_then : (vs : List KnownBag) (rounds : List (List Answer)) (us : List Answer)
+    → left_after vs (rounds ++ us ∷ []) ≡ left_of (left_after vs rounds) us
+left_after_then vs [] us = refl
+left_after_then vs (bs ∷ rounds) us = left_after_then (left_of vs bs) rounds us
+
+pub same_after_bound : (vs : List KnownBag) (rounds : List (List Answer))
+    → same_after vs rounds + length (left_after vs rounds) ≤ length vs
+same_after_bound vs [] = omega arith
+same_after_bound vs (bs ∷ rounds) =
+    omega (arith, same_bound vs bs, same_after_bound (left_of vs bs) rounds)
+
+module _ (asked : Asked) (vs : List KnownBag) where
+  pub no_rounds : (a : Option (List Move)) (o : Option (List ℕ))
+      → GoesOnRounds asked vs a a o o []
+  no_rounds a o = ([], Grows-none a, refl, tt, Appends-nil o)
+
+  pub one_more_round : (a b c : Option (List Move)) (o n p : Option (List ℕ))
+      (rounds : List (List Answer)) (us : List Answer) → GoesOnRounds asked vs a b o n rounds
+      → GoesOn asked (left_after vs rounds) b c n p us
+      → GoesOnRounds asked vs a c o p (rounds ++ us ∷ [])
+  one_more_round a b c o n p rounds us (moves, grows, are, whole, lines)
+      (others, more, are_more, count, lines_more) = (
+        moves ++ others,
+        Grows-trans a b c moves others grows more,
+        rounds_then asked vs rounds us moves others are are_more,
+        whole_then vs rounds us whole count,
+        subst (Appends o p) (sym (round_lines_then vs rounds us))
+            (Appends-trans o n p (round_lines vs rounds) (answer_lines (left_after vs rounds) us)
+            lines lines_more),
+      )
+
+  pub stops_in_round : (a b c : Option (List Move)) (o n p : Option (List ℕ))
+      (rounds : List (List Answer)) (fault : AskFault) → GoesOnRounds asked vs a b o n rounds
+      → StopsIn asked (left_after vs rounds) b c n p fault
+      → StopsInRounds asked vs a c o p fault
+  stops_in_round a b c o n p rounds fault (moves, grows, are, whole, lines)
+      (us, some, others, more, are_more, only, part) = (
+        rounds ++ us ∷ [],
+        moves ++ some,
+        others,
+        subst (Grows a c) (sym (append_assoc moves some others))
+            (Grows-trans a b c moves (some ++ others) grows more),
+        rounds_then asked vs rounds us moves some are are_more,
+        only,
+        subst (λ (l : List ℕ). AppendsPart o p l) (sym (round_lines_then vs rounds us))
+            (then_part o n p (round_lines vs rounds) (answer_lines (left_after vs rounds) us) lines
+            part),
+      )
+
+-- ---- the rounds so far
+
+-- so many rounds
+abbrev pub RoundsSoFar : Asked → (old now : List KnownBag) → (before after : Option (List Move))
+    → (written next : Option (List ℕ)) → (same count : ℕ) → Type 0
+RoundsSoFar asked old now before after written next same count =
+    (rounds : List (List Answer)) × (length rounds ≡ count)
+    × GoesOnRounds asked (open_of old) before after written next rounds
+    × (open_of now ≡ left_after (open_of old) rounds)
+    × (same ≡ same_after (open_of old) rounds)
+
+module _ (asked : Asked) (old : List KnownBag) (a : Option (List Move)) (o : Option (List ℕ)) where
+  pub at_first_round : RoundsSoFar asked old old a a o o 0 0
+  at_first_round = ([], refl, no_rounds asked (open_of old) a o, refl, refl)
+
+  pub next_round : (now next : List KnownBag) (b c : Option (List Move)) (n p : Option (List ℕ))
+      (same count more : ℕ) → RoundsSoFar asked old now a b o n same count
+      → IsRound asked now next b c n p (Ok more)
+      → RoundsSoFar asked old next a c o p (same + more) (count + 1)
+  next_round now next b c n p same count more (rounds, so_many, gone, kept, is)
+      (answers, goes, left, counted) = (
+        rounds ++ answers ∷ [],
+        length-append rounds (answers ∷ []) ∙ ap (λ (k : ℕ). k + 1) so_many,
+        one_more_round asked (open_of old) a b c o n p rounds answers gone
+            (subst (λ (vs : List KnownBag). GoesOn asked vs b c n p answers) kept goes),
+        left ∙ (ap (λ (vs : List KnownBag). left_of vs answers) kept
+            ∙ sym (left_after_then (open_of old) rounds answers)),
+        ap (λ (k : ℕ). same + k)
+            (counted ∙ ap (λ (vs : List KnownBag). same_in vs answers) kept)
+            ∙ (ap (λ (k : ℕ). k + same_in (left_after (open_of old) rounds) answers) is
+            ∙ sym (same_after_then (open_of old) rounds answers)),
+      )
+
+  pub stops_at_round : (now next : List KnownBag) (b c : Option (List Move))
+      (n p : Option (List ℕ)) (same count : ℕ) (fault : AskFault)
+      → RoundsSoFar asked old now a b o n same count
+      → IsRound asked now next b c n p (Err fault)
+      → StopsInRounds asked (open_of old) a c o p fault
+  stops_at_round now next b c n p same count fault (rounds, so_many, gone, kept, is) stops =
+      stops_in_round asked (open_of old) a b c o n p rounds fault gone
+      (subst (λ (vs : List KnownBag). StopsIn asked vs b c n p fault) kept stops)
+
+  -- no more are the same than there are
+  pub same_at_most : (now : List KnownBag) (b : Option (List Move)) (n : Option (List ℕ))
+      (same count : ℕ) → RoundsSoFar asked old now a b o n same count → same ≤ length old
+  same_at_most now b n same count (rounds, so_many, gone, kept, is) =
+      omega (arith, is, same_after_bound (open_of old) rounds, open_at_most old)
+
+  pub asked_all : (now : List KnownBag) (b : Option (List Move)) (n : Option (List ℕ))
+      (same count : ℕ) → 1 ≤ count → length now ≡ length old
+      → RoundsSoFar asked old now a b o n same count
+      → AreAsked asked old now a b o n (Ok same)
+  asked_all now b n same count some as_long (rounds, so_many, gone, kept, is) =
+      (rounds, omega arith, gone, kept, as_long, is)
+
+  -- why it was asked in no more rounds
+  pub ends_rounds : (now : List KnownBag) (b : Option (List Move)) (n : Option (List ℕ))
+      (result : Result ℕ AskFault) (fault : AskFault) → IsErrAnd result (λ e. e ≡ fault)
+      → StopsInRounds asked (open_of old) a b o n fault → AreAsked asked old now a b o n result
+  ends_rounds now b n (Ok same) fault is stops = absurd is
+  ends_rounds now b n (Err e) fault is stops =
+      subst (λ (f : AskFault). StopsInRounds asked (open_of old) a b o n f) (sym is) stops

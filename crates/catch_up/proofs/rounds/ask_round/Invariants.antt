@@ -1,0 +1,8 @@
+use Rattle.catch_up.proofs.Versions.{SoFar}
+use Rattle.catch_up.proofs.rounds.ask_round.Given as goal
+
+-- a round of the versions so far
+abbrev pub invariant-loop-version : goal.invariant-loop-version
+invariant-loop-version g l =
+    SoFar l.asked l.fn.versions l.versions l.version-index (g.P.Port.traffic l.fn.port)
+    (g.P.Port.traffic l.port) (g.W.Write.contents l.fn.output) (g.W.Write.contents l.output) l.same

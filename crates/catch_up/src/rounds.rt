@@ -1,0 +1,290 @@
+//! A site that is asked for each version, until it knows them.
+
+ghost use Rattle.std.specs.Prelude.{◌≡◌, if◌then◌else◌, [], ◌∷◌, Err, OnOk, OnErr, IfOk};
+ghost use Rattle.std.specs.Io.KnownBytes.{Appends};
+ghost use Rattle.fed_types.specs.Bags.{same_bag};
+ghost use Rattle.catch_up.specs.Lines.{count_line};
+ghost use Rattle.catch_up.specs.Rounds.{bag_by, open_of};
+ghost use Rattle.catch_up.specs.Reports.{open_lines, status_of, IsCaughtUp};
+ghost use Rattle.catch_up.specs.inner.Progress.{AppendsPart, IsAskedFor, IsAskedOnce, IsRound};
+ghost use Rattle.catch_up.specs.inner.Progress.{AreAsked, AreReported};
+ghost use Rattle.catch_up.specs.declared.rounds.AskFault.TheVariants.{Memory, Output};
+
+use crate::progress::{count_line, known_line, open_line};
+use dgram::QueryAnswer;
+use fed_types::{BagId, SiteNo};
+use known_bags::KnownBag;
+use outcomes::{ProgramFault, write_all, write_answer};
+use site_commands::{Request, ask_for_bag};
+use std::alloc::{AllocError, Global};
+use std::io::Write;
+use std::thread;
+use std::time::{Clock, Duration, Instant};
+use udp_site::Port;
+
+/// How many milliseconds are between two rounds of questions at first, and at most.
+const FIRST_PAUSE: u64 = 20;
+
+const LONGEST_PAUSE: u64 = 1000;
+
+/// The site that is asked.
+#[derive(Clone, Copy)]
+pub struct Asked {
+    pub federation: u64,
+    pub to: SiteNo,
+    /// Its port.
+    pub target: u16,
+}
+
+/// Why it isn't asked to the end.
+#[derive(Clone, Copy)]
+pub(crate) enum AskFault {
+    Memory,
+    Output,
+}
+
+impl From<AllocError> for AskFault {
+    ghost use Rattle.catch_up.specs.declared.rounds.AskFault.TheVariants.{Memory};
+
+    ghost from_gives = { λ _ e. e ≡ Memory };
+
+    fn from(_: AllocError) -> AskFault {
+        AskFault::Memory
+    }
+}
+
+/// Asks for each version, again and again for so many seconds at most, and writes a line for each
+/// as soon as the site knows it; then one for each that is left, and how many of how many it knows
+/// as the sources do. The status is 0 where that is all. Where memory runs out, the line `memory`
+/// follows what was written, and the status is 1.
+pub fn catch_up_on<P: Port, C: Clock, W: Write>(
+    alloc: Global,
+    clock: &C,
+    port: &mut P,
+    asked: &Asked,
+    versions: &mut [KnownBag],
+    seconds: u32,
+    output: &mut W,
+) -> Result<u8, ProgramFault>
+    ensures { IsCaughtUp asked.now versions.old (P.traffic port.old) (P.traffic port.new)
+        (W.contents output.old) (W.contents output.new) result }
+{
+    match report_on(alloc, clock, port, asked, versions, seconds, output) {
+        Ok(status) => Ok(status),
+        Err(AskFault::Memory) => write_answer(output, 1, "memory\n"),
+        Err(AskFault::Output) => Err(ProgramFault::Output),
+    }
+}
+
+// Asks, and writes the lines.
+fn report_on<P: Port, C: Clock, W: Write>(
+    alloc: Global,
+    clock: &C,
+    port: &mut P,
+    asked: &Asked,
+    versions: &mut [KnownBag],
+    seconds: u32,
+    output: &mut W,
+) -> Result<u8, AskFault>
+    ensures { AreReported asked.now versions.old (P.traffic port.old) (P.traffic port.new)
+        (W.contents output.old) (W.contents output.new) result }
+{
+    let same = ask_rounds(alloc, clock, port, asked, versions, seconds, output)?;
+    write_open(alloc, versions, output)?;
+    write_count(alloc, same, versions.len(), output)
+}
+
+// Asks in rounds, and gives how many the site knows as the sources do.
+fn ask_rounds<P: Port, C: Clock, W: Write>(
+    alloc: Global,
+    clock: &C,
+    port: &mut P,
+    asked: &Asked,
+    versions: &mut [KnownBag],
+    seconds: u32,
+    output: &mut W,
+) -> Result<usize, AskFault>
+    ensures { AreAsked asked.now versions.old versions.new (P.traffic port.old)
+        (P.traffic port.new) (W.contents output.old) (W.contents output.new) result }
+{
+    let mut same = 0usize;
+    let mut millis = FIRST_PAUSE;
+    let start = Instant::now(clock).ok();
+    for _ in 0..u32::MAX {
+        same += ask_round(alloc, port, asked, versions, output)?;
+        if versions.iter().all(|it| it.is_found) || is_over(clock, start, seconds) {
+            return Ok(same);
+        }
+        thread::sleep(clock, Duration::from_millis(millis));
+        millis = millis.saturating_mul(2).min(LONGEST_PAUSE);
+    }
+    Ok(same)
+}
+
+fn is_over<C: Clock>(clock: &C, start: Option<Instant>, seconds: u32) -> bool {
+    match start {
+        Some(start) => match start.elapsed(clock) {
+            Ok(elapsed) => Duration::from_secs(u64::from(seconds)) <= elapsed,
+            Err(_) => true,
+        },
+        None => true,
+    }
+}
+
+// Asks once for each that isn't known, and gives how many the site now knows as the sources do.
+fn ask_round<P: Port, W: Write>(
+    alloc: Global,
+    port: &mut P,
+    asked: &Asked,
+    versions: &mut [KnownBag],
+    output: &mut W,
+) -> Result<usize, AskFault>
+    ensures { IsRound asked.now versions.old versions.new (P.traffic port.old)
+        (P.traffic port.new) (W.contents output.old) (W.contents output.new) result }
+{
+    let mut same = 0usize;
+    for version in versions.iter_mut() {
+        same += ask_unless_known(alloc, port, asked, version, output)?;
+    }
+    Ok(same)
+}
+
+// The same of one version.
+fn ask_unless_known<P: Port, W: Write>(
+    alloc: Global,
+    port: &mut P,
+    asked: &Asked,
+    version: &mut KnownBag,
+    output: &mut W,
+) -> Result<usize, AskFault>
+    ensures { IsRound asked.now (version.old ∷ []) (version.new ∷ []) (P.traffic port.old)
+        (P.traffic port.new) (W.contents output.old) (W.contents output.new) result }
+{
+    if version.is_found {
+        return Ok(0);
+    }
+    ask_version(alloc, port, asked, version, output)
+}
+
+// Asks for a version that isn't known, and writes its line if it is now. Gives 1 where it is known
+// as its source knows it.
+fn ask_version<P: Port, W: Write>(
+    alloc: Global,
+    port: &mut P,
+    asked: &Asked,
+    version: &mut KnownBag,
+    output: &mut W,
+) -> Result<usize, AskFault>
+    ensures { IsAskedOnce asked.now version.old version.new (P.traffic port.old)
+        (P.traffic port.new) (W.contents output.old) (W.contents output.new) result }
+{
+    let Some(bag) = known_bag(alloc, port, asked, version)? else {
+        return Ok(0);
+    };
+    version.is_found = true;
+    let line = known_line(alloc, &version.slot, bag, version.bag)?;
+    say(output, line.as_str())?;
+    Ok(one_if_same(bag, version.bag))
+}
+
+fn one_if_same(bag: BagId, wanted: BagId) -> usize
+    ensures { result ≡ (if same_bag bag wanted then 1 else 0) }
+{
+    if bag == wanted { 1 } else { 0 }
+}
+
+// The bag that the site knows for the version, if it answers that.
+fn known_bag<P: Port>(
+    alloc: Global,
+    port: &mut P,
+    asked: &Asked,
+    version: &KnownBag,
+) -> Result<Option<BagId>, AllocError>
+    ensures { IsAskedFor asked.now version.now.slot (P.traffic port.old) (P.traffic port.new)
+        result }
+{
+    let request = Request {
+        federation: asked.federation,
+        to: asked.to,
+        target: asked.target,
+        slot: &version.slot,
+    };
+    match ask_for_bag(alloc, port, &request)? {
+        Some(answer) => Ok(bag_by(answer)),
+        None => Ok(None),
+    }
+}
+
+fn bag_by(answer: QueryAnswer) -> Option<BagId>
+    ensures { result ≡ bag_by answer }
+{
+    match answer {
+        QueryAnswer::Known(bag) => Some(bag),
+        _ => None,
+    }
+}
+
+// A line for each version that is left.
+fn write_open<W: Write>(
+    alloc: Global,
+    versions: &[KnownBag],
+    output: &mut W,
+) -> Result<(), AskFault>
+    ensures ok { OnOk result (Appends (W.contents output.old) (W.contents output.new)
+        (open_lines (open_of versions.now))) }
+    ensures err { OnErr result (AppendsPart (W.contents output.old) (W.contents output.new)
+        (open_lines (open_of versions.now))) }
+{
+    for version in versions {
+        write_unless_known(alloc, version, output)?;
+    }
+    Ok(())
+}
+
+// The same of one version.
+fn write_unless_known<W: Write>(
+    alloc: Global,
+    known: &KnownBag,
+    output: &mut W,
+) -> Result<(), AskFault>
+    ensures ok { OnOk result (Appends (W.contents output.old) (W.contents output.new)
+        (open_lines (open_of (known.now ∷ [])))) }
+    ensures err { OnErr result (AppendsPart (W.contents output.old) (W.contents output.new)
+        (open_lines (open_of (known.now ∷ [])))) }
+{
+    if known.is_found {
+        return Ok(());
+    }
+    let line = open_line(alloc, &known.slot)?;
+    say(output, line.as_str())
+}
+
+// How many of how many, and the status.
+fn write_count<W: Write>(
+    alloc: Global,
+    same: usize,
+    count: usize,
+    output: &mut W,
+) -> Result<u8, AskFault>
+    ensures status { IfOk result (λ status. status ≡ status_of same count) }
+    ensures ok { OnOk result (Appends (W.contents output.old) (W.contents output.new)
+        (count_line same count)) }
+    ensures err { OnErr result (AppendsPart (W.contents output.old) (W.contents output.new)
+        (count_line same count)) }
+{
+    let line = count_line(alloc, same, count)?;
+    say(output, line.as_str())?;
+    Ok(if same == count { 0 } else { 1 })
+}
+
+fn say<W: Write>(output: &mut W, line: &str) -> Result<(), AskFault>
+    ensures ok { OnOk result (Appends (W.contents output.old) (W.contents output.new) line.now) }
+    ensures err { OnErr result (result ≡ Err Output) }
+    ensures part { OnErr result
+        (AppendsPart (W.contents output.old) (W.contents output.new) line.now) }
+{
+    match write_all(output, line.as_bytes()) {
+        Ok(()) => Ok(()),
+        Err(_) => Err(AskFault::Output),
+    }
+}

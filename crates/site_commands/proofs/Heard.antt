@@ -1,0 +1,234 @@
+-- Datagrams that are taken in one after another, and the first reply among them.
+use Rattle.std.proofs.Common.{◌≡◌, ℕ, List, [], ◌∷◌, ◌++◌, Option, Some, None, Result, Ok, Err}
+use Rattle.std.proofs.Common.{refl, sym, ap, subst, ◌∙◌, Bool, true, false, ◌&&◌, ◌==◌, cond}
+use Rattle.std.specs.Prelude.{IfOk, IsErrAnd}
+use Rattle.std.specs.Option.{option_or, option_map}
+use Rattle.dgram.specs.declared.answers.DepositAnswer.{DepositAnswer}
+use Rattle.dgram.specs.declared.answers.QueryAnswer.{QueryAnswer}
+use Rattle.std.specs.declared.alloc.AllocError.{AllocError}
+use Rattle.fed_types.specs.Slots.{same_slot}
+use Rattle.dgram.specs.declared.body.Body.{Body}
+use Rattle.dgram.specs.declared.body.Body.TheVariants as bodies
+use Rattle.dgram.specs.declared.message.Message.{Message}
+use Rattle.dgram.specs.Decoded.{message_of}
+use Rattle.udp_site.specs.Traffic.{Nothing, From, Move, Took, Failed, Handed}
+use Rattle.udp_site.specs.Traffic.{IsHanded}
+use Rattle.udp_site.specs.declared.port_fault.PortFault.{PortFault}
+use Rattle.udp_site.specs.declared.port_fault.PortFault.TheVariants as faults
+use Rattle.udp_site.proofs.Growth.{Grows-trans, Grows-none}
+use Rattle.site_commands.specs.declared.reply.Reply.{Reply}
+use Rattle.site_commands.specs.declared.reply.Reply.TheVariants.{ToDeposit, ToQuery}
+use Rattle.site_commands.specs.declared.reply.Wanted.{Wanted}
+use Rattle.site_commands.specs.declared.reply.Wanted.TheVariants as wanted
+use Rattle.site_commands.specs.Replies.{Question, datagram_to, reply_by, reply_of, reply_in}
+use Rattle.site_commands.specs.Replies.{reply_at, first_reply}
+use Rattle.site_commands.specs.Exchanges.{OnlyTakes, Asks, IsAsked, IsAskedForBag}
+use Rattle.site_commands.specs.inner.Heard.{BringsNone, TakesOne, Hears, query_in}
+
+pub takes_both : (m n : List Move) → OnlyTakes m → OnlyTakes n → OnlyTakes (m ++ n)
+takes_both [] n p q = q
+takes_both (Took taken ∷ m) n p q = takes_both m n p q
+takes_both (Failed ∷ m) n p q = takes_both m n p q
+takes_both (Handed post ∷ m) n p q = absurd p
+
+pub or_assoc : (a b c : Option Reply) → option_or a (option_or b c) ≡ option_or (option_or a b) c
+or_assoc None b c = refl
+or_assoc (Some x) b c = refl
+
+-- the first of both is that of the first part, or else that of the second
+pub first_of_both : (q : Question) (kind : Wanted) (m n : List Move)
+    → first_reply q kind (m ++ n) ≡ option_or (first_reply q kind m) (first_reply q kind n)
+first_of_both q kind [] n = refl
+first_of_both q kind (move ∷ m) n =
+    ap (option_or (reply_at q kind move)) (first_of_both q kind m n)
+    ∙ or_assoc (reply_at q kind move) (first_reply q kind m) (first_reply q kind n)
+
+-- where the first part has none, it is that of the second
+pub first_of_second : (q : Question) (kind : Wanted) (m n : List Move)
+    → None ≡ first_reply q kind m → first_reply q kind n ≡ first_reply q kind (m ++ n)
+first_of_second q kind m n none =
+    ap (λ (r : Option Reply). option_or r (first_reply q kind n)) none
+    ∙ sym (first_of_both q kind m n)
+
+pub none_takes : (moves : List Move) → BringsNone moves → OnlyTakes moves
+none_takes [] p = tt
+none_takes (Took Nothing ∷ moves) p = none_takes moves p
+none_takes (Took (From port bytes) ∷ moves) p = absurd p
+none_takes (Failed ∷ moves) p = none_takes moves p
+none_takes (Handed post ∷ moves) p = absurd p
+
+pub none_replies : (q : Question) (kind : Wanted) (moves : List Move) → BringsNone moves
+    → None ≡ first_reply q kind moves
+none_replies q kind [] p = refl
+none_replies q kind (Took Nothing ∷ moves) p = none_replies q kind moves p
+none_replies q kind (Took (From port bytes) ∷ moves) p = absurd p
+none_replies q kind (Failed ∷ moves) p = none_replies q kind moves p
+none_replies q kind (Handed post ∷ moves) p = absurd p
+
+pub or_none : (a : Option Reply) → a ≡ option_or a None
+or_none None = refl
+or_none (Some x) = refl
+
+-- ---- waiting
+
+module _ (q : Question) (kind : Wanted) where
+  pub hears_nothing : (a : Option (List Move)) → Hears q kind a a (Ok None)
+  hears_nothing a = ([], Grows-none a, tt, refl)
+
+  -- after moves without a reply others come
+  pub hears_more : (a b c : Option (List Move)) → Hears q kind a b (Ok None)
+      → (result : Result (Option Reply) AllocError) → Hears q kind b c result
+      → Hears q kind a c result
+  hears_more a b c (m, grows, takes, none) result (n, more, takes_more, reply) = (
+    m ++ n,
+    Grows-trans a b c m n grows more,
+    takes_both m n takes takes_more,
+    go result reply,
+  )
+    where
+      go : (result : Result (Option Reply) AllocError)
+          → IfOk result (λ r. r ≡ first_reply q kind n)
+          → IfOk result (λ r. r ≡ first_reply q kind (m ++ n))
+      go (Ok reply) is = is ∙ first_of_second q kind m n none
+      go (Err fault) is = tt
+
+  -- no datagram came
+  pub hears_none : (a b : Option (List Move)) → TakesOne a b None → Hears q kind a b (Ok None)
+  hears_none a b (moves, grows, none) =
+      (moves, grows, none_takes moves none, none_replies q kind moves none)
+
+  -- a datagram came
+  pub hears_one : (a b : Option (List Move)) (bytes : List ℕ) → TakesOne a b (Some bytes)
+      → (result : Result (Option Reply) AllocError) → IfOk result (λ r. r ≡ reply_in q kind bytes)
+      → Hears q kind a b result
+  hears_one a b bytes (port, grows) result is =
+      (Took (From port bytes) ∷ [], grows, tt, go result is)
+    where
+      go : (result : Result (Option Reply) AllocError)
+          → IfOk result (λ r. r ≡ reply_in q kind bytes)
+          → IfOk result (λ r. r ≡ option_or (reply_in q kind bytes) None)
+      go (Ok reply) is = is ∙ or_none (reply_in q kind bytes)
+      go (Err fault) is = tt
+
+-- an error has no value
+pub err_if_ok : {T E : Type 0} (r : Result T E) (P : E → Type 0) (Q : T → Type 0) → IsErrAnd r P
+    → IfOk r Q
+err_if_ok (Ok x) P Q is = absurd is
+err_if_ok (Err e) P Q is = tt
+
+-- ---- asking
+
+module _ (q : Question) (kind : Wanted) (bytes : List ℕ) where
+  only_takes_asks : (moves : List Move) → OnlyTakes moves → Asks (q.target, bytes) moves
+  only_takes_asks [] p = tt
+  only_takes_asks (Took taken ∷ moves) p = p
+  only_takes_asks (Failed ∷ moves) p = p
+  only_takes_asks (Handed post ∷ moves) p = absurd p
+
+  -- a datagram was handed out, or not for want of memory, and then some are taken in
+  pub asks_then : (a b c : Option (List Move)) (sent : Result (Unit {0}) PortFault)
+      → IsHanded a b (q.target, bytes) sent → (result : Result (Option Reply) AllocError)
+      → Hears q kind b c result → IsAsked q kind bytes a c result
+  asks_then a b c (Ok u) handed result (moves, grows, takes, reply) = (
+    Handed (q.target, bytes) ∷ moves,
+    Grows-trans a b c _ moves handed grows,
+    (refl, takes),
+    reply,
+  )
+  asks_then a b c (Err faults.Device) handed result (moves, grows, takes, reply) = (
+    Handed (q.target, bytes) ∷ moves,
+    Grows-trans a b c _ moves handed grows,
+    (refl, takes),
+    reply,
+  )
+  asks_then a b c (Err faults.Memory) handed result (moves, grows, takes, reply) =
+      (moves, Grows-trans a b c _ moves handed grows, only_takes_asks moves takes, reply)
+
+  asks_both : (m n : List Move) → Asks (q.target, bytes) m → OnlyTakes n
+      → Asks (q.target, bytes) (m ++ n)
+  asks_both [] n p takes = only_takes_asks n takes
+  asks_both (Handed post ∷ m) n (is, p) takes = (is, takes_both m n p takes)
+  asks_both (Took taken ∷ m) n p takes = takes_both m n p takes
+  asks_both (Failed ∷ m) n p takes = takes_both m n p takes
+
+  -- no reply came to what was asked, and more is waited for
+  pub asks_again : (a b c : Option (List Move)) → IsAsked q kind bytes a b (Ok None)
+      → (result : Result (Option Reply) AllocError) → Hears q kind b c result
+      → IsAsked q kind bytes a c result
+  asks_again a b c (m, grows, asks, none) result (n, more, takes, reply) = (
+    m ++ n,
+    Grows-trans a b c m n grows more,
+    asks_both m n asks takes,
+    go result reply,
+  )
+    where
+      go : (result : Result (Option Reply) AllocError)
+          → IfOk result (λ r. r ≡ first_reply q kind n)
+          → IfOk result (λ r. r ≡ first_reply q kind (m ++ n))
+      go (Ok reply) is = is ∙ first_of_second q kind m n none
+      go (Err fault) is = tt
+
+-- ---- a bag that is asked for
+
+-- it is the reply to a query, or none
+IsOfQuery : Option Reply → Type 0
+IsOfQuery reply = option_map ToQuery (query_in reply) ≡ reply
+
+query_if : (b : Bool) (answer : QueryAnswer) → IsOfQuery (cond b (Some (ToQuery answer)) None)
+unfolding IsOfQuery
+query_if true answer = refl
+query_if false answer = refl
+
+no_deposit : (b : Bool) (answer : DepositAnswer)
+    → IsOfQuery (cond (b && false) (Some (ToDeposit answer)) None)
+unfolding IsOfQuery
+no_deposit true answer = refl
+no_deposit false answer = refl
+
+none_of_query : IsOfQuery None
+unfolding IsOfQuery
+none_of_query = refl
+
+of_query_if : (b : Bool) (reply : Option Reply) → IsOfQuery reply
+    → IsOfQuery (cond b reply None)
+of_query_if true reply is = is
+of_query_if false reply is = none_of_query
+
+either_of_query : (a b : Option Reply) → IsOfQuery a → IsOfQuery b → IsOfQuery (option_or a b)
+either_of_query None b p r = r
+either_of_query (Some x) b p r = p
+
+by_query : (to : ℕ) (body : Body) → IsOfQuery (reply_by to wanted.ToQuery body)
+by_query to (bodies.DepositReply from answer) = no_deposit (from == to) answer
+by_query to (bodies.QueryReply from answer) = query_if ((from == to) && true) answer
+by_query to body = none_of_query
+
+of_query : (q : Question) (m : Option Message) → IsOfQuery (reply_of q wanted.ToQuery m)
+of_query q None = none_of_query
+of_query q (Some m) = of_query_if (same_slot m.slot q.slot) _ (by_query q.to m.body)
+
+at_query : (q : Question) (move : Move) → IsOfQuery (reply_at q wanted.ToQuery move)
+at_query q (Took (From port bytes)) = of_query q (message_of q.federation bytes)
+at_query q (Took Nothing) = none_of_query
+at_query q Failed = none_of_query
+at_query q (Handed post) = none_of_query
+
+first_of_query : (q : Question) (moves : List Move)
+    → IsOfQuery (first_reply q wanted.ToQuery moves)
+first_of_query q [] = none_of_query
+first_of_query q (move ∷ moves) =
+    either_of_query (reply_at q wanted.ToQuery move) (first_reply q wanted.ToQuery moves)
+    (at_query q move) (first_of_query q moves)
+
+-- what is replied to a query is its answer
+pub bag_asked : (q : Question) (bytes : List ℕ) → bytes ≡ datagram_to q None
+    → (a b : Option (List Move)) (reply : Option Reply) (answer : Option QueryAnswer)
+    → answer ≡ query_in reply → IsAsked q wanted.ToQuery bytes a b (Ok reply)
+    → IsAskedForBag q a b (Ok answer)
+unfolding IsOfQuery
+bag_asked q bytes are a b reply answer is (moves, grows, asks, first) = (
+  moves,
+  grows,
+  subst (λ (sent : List ℕ). Asks (q.target, sent) moves) are asks,
+  ap (option_map ToQuery) (is ∙ ap query_in first) ∙ first_of_query q moves,
+)

@@ -1,0 +1,171 @@
+-- Questions one after another, and the last reply.
+use Rattle.std.proofs.Common.{◌≡◌, ℕ, true, false, List, [], ◌∷◌, ◌++◌, Option, Some, None}
+use Rattle.std.proofs.Common.{Result, Ok, Err, inl, inr}
+use Rattle.std.proofs.Common.{refl, sym, ap, subst, ◌∙◌, append_assoc, append-nil}
+use Rattle.std.specs.Prelude.{⊤, IfSome, IsErr}
+use Rattle.std.specs.Option.{option_or}
+use Rattle.std.specs.declared.alloc.AllocError.{AllocError}
+use Rattle.outcomes.specs.declared.answer.Answer.{Answer}
+use Rattle.outcomes.specs.declared.fault.ProgramFault.{ProgramFault}
+use Rattle.udp_site.specs.Traffic.{Move, Grows}
+use Rattle.udp_site.proofs.Growth.{Grows-trans, Grows-none}
+use Rattle.site_commands.specs.declared.reply.Reply.{Reply}
+use Rattle.site_commands.specs.declared.reply.Wanted.TheVariants as wanted
+use Rattle.site_commands.specs.Replies.{Question, datagram_to, first_reply}
+use Rattle.site_commands.specs.Exchanges.{Asks, IsAsked}
+use Rattle.site_commands.specs.Repeats.{next_path, is_last, AreReplies, last_of}
+use Rattle.site_commands.specs.Repeats.{IsSentUntilKnown}
+use Rattle.site_commands.specs.Answers.{IsWritten}
+use Rattle.site_commands.specs.inner.Repeated.{ends, path_after, IsLastReply, IsLastAnswer}
+use Rattle.site_commands.specs.inner.Written.{outcome_to}
+use Rattle.site_commands.proofs.Heard.{or_assoc, or_none}
+
+-- none of these is the last
+abbrev pub NoneEnds : List (Option Reply) → Type 0
+NoneEnds [] = ⊤
+NoneEnds (reply ∷ replies) = (ends reply ≡ false) × NoneEnds replies
+
+none_ends_then : (replies : List (Option Reply)) (reply : Option Reply) → NoneEnds replies
+    → ends reply ≡ false → NoneEnds (replies ++ reply ∷ [])
+none_ends_then [] reply p is = (is, tt)
+none_ends_then (r ∷ replies) reply (one, p) is = (one, none_ends_then replies reply p is)
+
+-- nothing follows
+at_last : (reply : Option Reply)
+    → IfSome reply (λ r. is_last r ≡ true → ◌≡◌ {A = List (Option Reply)} [] [])
+at_last None = tt
+at_last (Some r) = λ _. refl
+
+-- something may follow
+not_last : (reply : Option Reply) (replies : List (Option Reply)) → ends reply ≡ false
+    → IfSome reply (λ r. is_last r ≡ true → replies ≡ [])
+not_last None replies is = tt
+not_last (Some r) replies is = λ last. absurd (cc (is, last))
+
+replies_then : (q : Question) (path next : Option (List ℕ)) (replies : List (Option Reply))
+    (m n : List Move) (reply : Option Reply) → AreReplies q path next replies m
+    → NoneEnds replies → Asks (q.target, datagram_to q (path_after path next replies)) n
+    → reply ≡ first_reply q wanted.Any n
+    → AreReplies q path next (replies ++ reply ∷ []) (m ++ n)
+replies_then q path next [] m n reply p none asks is = (
+  n,
+  [],
+  ap (λ (k : List Move). k ++ n) p ∙ sym (append-nil n),
+  asks,
+  is,
+  at_last reply,
+  refl,
+)
+replies_then q path next (r ∷ replies) m n reply (first, rest, parts, one, given, last, more)
+    (goes_on, none) asks is = (
+      first,
+      rest ++ n,
+      ap (λ (k : List Move). k ++ n) parts ∙ append_assoc first rest n,
+      one,
+      given,
+      not_last r (replies ++ reply ∷ []) goes_on,
+      replies_then q path (next_path path r) replies rest n reply more none asks is,
+    )
+
+last_then : (replies : List (Option Reply)) (reply : Option Reply)
+    → last_of (replies ++ reply ∷ []) ≡ option_or reply (last_of replies)
+last_then [] reply = or_none reply
+last_then (r ∷ replies) reply =
+    ap (λ (last : Option Reply). option_or last r) (last_then replies reply)
+    ∙ sym (or_assoc reply (last_of replies) r)
+
+path_then : (path next : Option (List ℕ)) (replies : List (Option Reply)) (reply : Option Reply)
+    → path_after path next (replies ++ reply ∷ []) ≡ next_path path reply
+path_then path next [] reply = refl
+path_then path next (r ∷ replies) reply = path_then path (next_path path r) replies reply
+
+-- the replies so far, of which none is the last, and what is sent next
+abbrev pub SoFar : Question → (path : Option (List ℕ)) → (before after : Option (List Move))
+    → (last : Option Reply) → (bytes : List ℕ) → Type 0
+SoFar q path before after last bytes =
+    (replies : List (Option Reply)) × (moves : List Move) × Grows before after moves
+    × AreReplies q path path replies moves × NoneEnds replies × (last ≡ last_of replies)
+    × (bytes ≡ datagram_to q (path_after path path replies))
+
+module _ (q : Question) (path : Option (List ℕ)) (a : Option (List Move)) where
+  pub at_first : (bytes : List ℕ) → bytes ≡ datagram_to q path → SoFar q path a a None bytes
+  at_first bytes is = ([], [], Grows-none a, refl, tt, refl, is)
+
+  pub none_asked : IsLastReply q path a a (Ok None)
+  none_asked = ([], [], Grows-none a, refl, refl)
+
+  module _ (b c : Option (List Move)) (last : Option Reply) (bytes : List ℕ)
+      (far : SoFar q path a b last bytes) (reply : Option Reply)
+      (asked : IsAsked q wanted.Any bytes b c (Ok reply)) where
+    -- the next reply is the last
+    pub then_last : (new : Option Reply) → new ≡ option_or reply last
+        → IsLastReply q path a c (Ok new)
+    then_last new is_new = go far asked
+      where
+        go : SoFar q path a b last bytes → IsAsked q wanted.Any bytes b c (Ok reply)
+            → IsLastReply q path a c (Ok new)
+        go (replies, m, grows, are, none, was, sent) (n, more, asks, is) = (
+          replies ++ reply ∷ [],
+          m ++ n,
+          Grows-trans a b c m n grows more,
+          replies_then q path path replies m n reply are none
+              (subst (λ (l : List ℕ). Asks (q.target, l) n) sent asks) is,
+          is_new ∙ (ap (option_or reply) was ∙ sym (last_then replies reply)),
+        )
+
+    -- it isn't
+    pub then_more : (new : Option Reply) (next : List ℕ) → new ≡ option_or reply last
+        → ends reply ≡ false → next ≡ datagram_to q (next_path path reply)
+        → SoFar q path a c new next
+    then_more new next is_new goes_on is_next = go far asked
+      where
+        go : SoFar q path a b last bytes → IsAsked q wanted.Any bytes b c (Ok reply)
+            → SoFar q path a c new next
+        go (replies, m, grows, are, none, was, sent) (n, more, asks, is) = (
+          replies ++ reply ∷ [],
+          m ++ n,
+          Grows-trans a b c m n grows more,
+          replies_then q path path replies m n reply are none
+              (subst (λ (l : List ℕ). Asks (q.target, l) n) sent asks) is,
+          none_ends_then replies reply none goes_on,
+          is_new ∙ (ap (option_or reply) was ∙ sym (last_then replies reply)),
+          is_next ∙ sym (ap (datagram_to q) (path_then path path replies reply)),
+        )
+
+  -- memory ran out
+  pub then_stopped : (b c : Option (List Move)) (last : Option Reply) (bytes : List ℕ)
+      (fault : AllocError) (result : Result (Option Reply) AllocError)
+      → SoFar q path a b last bytes → IsAsked q wanted.Any bytes b c (Err fault)
+      → IsErr result → IsLastReply q path a c result
+  then_stopped b c last bytes fault (Ok given) far asked err = absurd (cc err)
+  then_stopped b c last bytes fault (Err e) (replies, m, grows, are, none, was, sent)
+      (n, more, asks, is) err =
+      (replies, m, n, Grows-trans a b c m n grows more, are, (_, asks))
+
+  -- time is over
+  pub no_more : (b : Option (List Move)) (last : Option Reply) (bytes : List ℕ)
+      → SoFar q path a b last bytes → IsLastReply q path a b (Ok last)
+  no_more b last bytes (replies, m, grows, are, none, was, sent) = (replies, m, grows, are, was)
+
+-- ---- what is told
+
+module _ (q : Question) (path : Option (List ℕ)) (a b : Option (List Move)) where
+  -- nothing was asked
+  pub not_begun : (result : Result (Option Answer) AllocError) → IsErr result
+      → IsLastAnswer q path a a result
+  not_begun (Ok given) err = absurd (cc err)
+  not_begun (Err e) err = ([], [], [], Grows-none a, refl, ((0, []), tt))
+
+  -- there was a reply, and no memory for its line
+  pub no_room : (last : Option Reply) (result : Result (Option Answer) AllocError) → IsErr result
+      → IsLastReply q path a b (Ok last) → IsLastAnswer q path a b result
+  no_room last (Ok given) err is = absurd (cc err)
+  no_room last (Err e) err (replies, m, grows, are, was) =
+      (replies, m, [], subst (Grows a b) (sym (append-nil m)) grows, are, ((0, []), tt))
+
+  pub told : (old new : Option (List ℕ)) (result : Result ℕ ProgramFault)
+      (answer : Result (Option Answer) AllocError) → IsLastAnswer q path a b answer
+      → IsWritten old new result (outcome_to answer) → IsSentUntilKnown q path a b old new result
+  told old new result (Ok answer) (replies, m, grows, are, is) written =
+      inl (replies, m, grows, are, subst (IsWritten old new result) is written)
+  told old new result (Err e) broken written = inr (broken, written)

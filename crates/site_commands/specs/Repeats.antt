@@ -1,0 +1,76 @@
+-- A client that asks again and again, until a bag is known.
+use Rattle.std.specs.Prelude.{◌≡◌, ◌⊎◌, ℕ, Bool, true, false, if◌then◌else◌, List, [], ◌∷◌, ◌++◌}
+use Rattle.std.specs.Prelude.{Option, Some, None, Result, IfSome}
+use Rattle.std.specs.Option.{option_or}
+use Rattle.dgram.specs.declared.answers.DepositAnswer.TheVariants as deposit
+use Rattle.dgram.specs.declared.answers.QueryAnswer.TheVariants as query
+use Rattle.outcomes.specs.declared.fault.ProgramFault.{ProgramFault}
+use Rattle.outcomes.specs.Outcomes.{Outcome, no_memory}
+use Rattle.udp_site.specs.Traffic.{Move, Grows}
+use Rattle.site_commands.specs.declared.reply.Reply.{Reply}
+use Rattle.site_commands.specs.declared.reply.Reply.TheVariants.{ToDeposit, ToQuery}
+use Rattle.site_commands.specs.declared.reply.Wanted.TheVariants as wanted
+use Rattle.site_commands.specs.Replies.{Question, datagram_to, first_reply}
+use Rattle.site_commands.specs.Exchanges.{Asks, IsOneQuestion}
+use Rattle.site_commands.specs.Answers.{no_answer, reply_outcome, IsWritten}
+
+-- the site knows the bag
+abbrev pub is_known : Reply → Bool
+is_known (ToQuery (query.Known bag)) = true
+is_known reply = false
+
+-- nothing else is to be waited for: the bag is known, or the deposit is refused
+abbrev pub is_last : Reply → Bool
+is_last (ToDeposit (deposit.Registered bag)) = false
+is_last (ToDeposit answer) = true
+is_last (ToQuery answer) = is_known (ToQuery answer)
+
+-- What is said next. The folder is deposited once more where the site replies that it knows nothing
+-- of the slot; else the bag is asked for.
+abbrev pub next_path : Option (List ℕ) → Option Reply → Option (List ℕ)
+next_path path (Some (ToQuery query.Nothing)) = path
+next_path path reply = None
+
+-- One after another the site is asked, and these are its first replies, if it replied. With a path
+-- the folder is deposited first. After the last reply there is no other question.
+abbrev pub AreReplies : Question → (path next : Option (List ℕ)) → List (Option Reply)
+    → List Move → Type 0
+AreReplies q path next [] moves = moves ≡ []
+AreReplies q path next (reply ∷ replies) moves =
+    (first : List Move) × (rest : List Move) × (moves ≡ first ++ rest)
+    × Asks (q.target, datagram_to q next) first
+    × (reply ≡ first_reply q wanted.Any first)
+    × IfSome reply (λ r. is_last r ≡ true → replies ≡ [])
+    × AreReplies q path (next_path path reply) replies rest
+
+-- the last reply that there was
+abbrev pub last_of : List (Option Reply) → Option Reply
+last_of [] = None
+last_of (reply ∷ replies) = option_or (last_of replies) reply
+
+-- what it says, with the status 0 only where the bag is known
+abbrev pub until_outcome : Question → Option Reply → Outcome
+until_outcome q None = no_answer
+until_outcome q (Some reply) = record {
+  status = if is_known reply then 0 else 1;
+  text = (reply_outcome q reply).text;
+}
+
+-- Memory runs out while the site is asked once more, or its last reply is told.
+abbrev pub IsBrokenOff : Question → (path : Option (List ℕ)) → (before after : Option (List Move))
+    → Type 0
+IsBrokenOff q path before after =
+    (replies : List (Option Reply)) × (moves : List Move) × (others : List Move)
+    × Grows before after (moves ++ others) × AreReplies q path path replies moves
+    × IsOneQuestion others
+
+-- The site is asked until the bag is known, or time is over, and what is written is what its last
+-- reply says; or memory runs out, and the line `memory` is.
+abbrev pub IsSentUntilKnown : Question → (path : Option (List ℕ))
+    → (before after : Option (List Move)) → (old new : Option (List ℕ)) → Result ℕ ProgramFault
+    → Type 0
+IsSentUntilKnown q path before after old new result =
+    ((replies : List (Option Reply)) × (moves : List Move) × Grows before after moves
+    × AreReplies q path path replies moves
+    × IsWritten old new result (until_outcome q (last_of replies)))
+    ⊎ (IsBrokenOff q path before after × IsWritten old new result no_memory)

@@ -1,0 +1,48 @@
+-- The questions of a client that asks again and again.
+use Rattle.std.specs.Prelude.{◌≡◌, Bool, false, ℕ, List, [], ◌∷◌, Option, Some, None, Result}
+use Rattle.std.specs.Prelude.{Ok, Err}
+use Rattle.std.specs.Option.{option_map}
+use Rattle.std.specs.declared.alloc.AllocError.{AllocError}
+use Rattle.outcomes.specs.declared.answer.Answer.{Answer}
+use Rattle.udp_site.specs.Traffic.{Move, Grows}
+use Rattle.site_commands.specs.declared.reply.Reply.{Reply}
+use Rattle.site_commands.specs.declared.until_known.Questions.{Questions}
+use Rattle.site_commands.specs.Replies.{Question, datagram_to}
+use Rattle.site_commands.specs.Repeats.{next_path, is_last, AreReplies, last_of, until_outcome}
+use Rattle.site_commands.specs.Repeats.{IsBrokenOff}
+use Rattle.site_commands.specs.inner.Written.{outcome_if}
+
+-- the datagrams of a deposit, if there is one, and of a query
+abbrev pub AreQuestions : Question → Option (List ℕ) → Questions → Type 0
+AreQuestions q path questions =
+    (questions.query.items ≡ datagram_to q None)
+    × (option_map (λ bytes. bytes.items) questions.deposit
+    ≡ option_map (λ p. datagram_to q (Some p)) path)
+
+-- it is the last reply
+abbrev pub ends : Option Reply → Bool
+ends None = false
+ends (Some reply) = is_last reply
+
+-- what is said after these replies
+abbrev pub path_after : Option (List ℕ) → (next : Option (List ℕ)) → List (Option Reply)
+    → Option (List ℕ)
+path_after path next [] = next
+path_after path next (reply ∷ replies) = path_after path (next_path path reply) replies
+
+-- the site was asked, and this was the last reply
+abbrev pub IsLastReply : Question → (path : Option (List ℕ)) → (before after : Option (List Move))
+    → Result (Option Reply) AllocError → Type 0
+IsLastReply q path before after (Ok last) =
+    (replies : List (Option Reply)) × (moves : List Move) × Grows before after moves
+    × AreReplies q path path replies moves × (last ≡ last_of replies)
+IsLastReply q path before after (Err fault) = IsBrokenOff q path before after
+
+-- and this is what it says
+abbrev pub IsLastAnswer : Question → (path : Option (List ℕ))
+    → (before after : Option (List Move)) → Result (Option Answer) AllocError → Type 0
+IsLastAnswer q path before after (Ok answer) =
+    (replies : List (Option Reply)) × (moves : List Move) × Grows before after moves
+    × AreReplies q path path replies moves
+    × (outcome_if answer ≡ until_outcome q (last_of replies))
+IsLastAnswer q path before after (Err fault) = IsBrokenOff q path before after

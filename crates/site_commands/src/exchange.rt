@@ -1,0 +1,102 @@
+//! What a client's port hands out, and what it takes in.
+
+ghost use Rattle.std.specs.Prelude.{◌≡◌, IfOk};
+ghost use Rattle.std.specs.Option.{option_map};
+ghost use Rattle.site_commands.specs.Replies.{question_of, datagram_to};
+ghost use Rattle.site_commands.specs.Exchanges.{IsAsked};
+ghost use Rattle.site_commands.specs.inner.Heard.{TakesOne, Hears};
+
+use crate::reply::{Reply, Wanted, reply_in};
+use crate::request::Request;
+use dgram::{Body, FolderPath, LONGEST_DATAGRAM, Message, encode};
+use std::alloc::{AllocError, Global};
+use udp_site::{Port, Turn};
+
+/// How many datagrams are taken in, of which one is to be the answer.
+const MOST_DATAGRAMS: u32 = 16;
+
+/// The datagram of a deposit of the folder of this path, or of a query.
+#[tactic(auto, unfolding(crate::specs::Replies::datagram_to))]
+pub(crate) fn datagram(
+    alloc: Global,
+    request: &Request<'_>,
+    path: Option<FolderPath>,
+) -> Result<Vec<u8>, AllocError>
+    ensures { IfOk result (λ bytes. bytes.items ≡ datagram_to (question_of request.now) path) }
+{
+    let slot = request.slot.copy(alloc)?;
+    let body = match path {
+        Some(path) => Body::Deposit { path },
+        None => Body::Query,
+    };
+    let mut bytes = Vec::with_capacity(alloc, LONGEST_DATAGRAM)?;
+    encode(request.federation, &Message { slot, body }, &mut bytes)?;
+    Ok(bytes)
+}
+
+/// Sends a datagram, and gives the reply that is wanted, if it comes before a turn is idle.
+pub(crate) fn ask<P: Port>(
+    alloc: Global,
+    port: &mut P,
+    request: &Request<'_>,
+    wanted: Wanted,
+    bytes: &[u8],
+) -> Result<Option<Reply>, AllocError>
+    ensures { IsAsked (question_of request.now) wanted bytes.now
+        (P.traffic port.old) (P.traffic port.new) result }
+{
+    if port.send(request.target, bytes).is_err() {
+        return Ok(None);
+    }
+    hear(alloc, port, request, wanted)
+}
+
+/// Asks at a port that was used before. There a turn is idle at once, if the port's wait has passed
+/// since an earlier one, so that only the second idle turn says that nothing came.
+pub(crate) fn ask_again<P: Port>(
+    alloc: Global,
+    port: &mut P,
+    request: &Request<'_>,
+    wanted: Wanted,
+    bytes: &[u8],
+) -> Result<Option<Reply>, AllocError>
+    ensures { IsAsked (question_of request.now) wanted bytes.now
+        (P.traffic port.old) (P.traffic port.new) result }
+{
+    match ask(alloc, port, request, wanted, bytes)? {
+        Some(reply) => Ok(Some(reply)),
+        None => hear(alloc, port, request, wanted),
+    }
+}
+
+// The reply that is wanted, if it comes before a turn is idle.
+fn hear<P: Port>(
+    alloc: Global,
+    port: &mut P,
+    request: &Request<'_>,
+    wanted: Wanted,
+) -> Result<Option<Reply>, AllocError>
+    ensures { Hears (question_of request.now) wanted
+        (P.traffic port.old) (P.traffic port.new) result }
+{
+    for _ in 0..MOST_DATAGRAMS {
+        let Some(bytes) = next_datagram(port) else {
+            return Ok(None);
+        };
+        if let Some(reply) = reply_in(alloc, request, wanted, bytes.as_slice())? {
+            return Ok(Some(reply));
+        }
+    }
+    Ok(None)
+}
+
+// The bytes of the next datagram, if one comes before the turn is over.
+fn next_datagram<P: Port>(port: &mut P) -> Option<Vec<u8>>
+    ensures { TakesOne (P.traffic port.old) (P.traffic port.new)
+        (option_map (λ bytes. bytes.items) result) }
+{
+    match port.receive() {
+        Ok(Turn::Got(_, bytes)) => Some(bytes),
+        Ok(Turn::Idle) | Err(_) => None,
+    }
+}

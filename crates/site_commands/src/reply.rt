@@ -1,0 +1,99 @@
+//! The replies of a site.
+
+ghost use Rattle.std.specs.Prelude.{◌≡◌, IsErr, IfOk, IsSome};
+ghost use Rattle.dgram.specs.Decoded.{message_of};
+ghost use Rattle.site_commands.specs.Replies.{question_of, wants_deposits, wants_queries};
+ghost use Rattle.site_commands.specs.Replies.{reply_by, reply_in};
+ghost use Rattle.site_commands.specs.Answers.{wanted_for};
+ghost use Rattle.site_commands.specs.inner.Heard.{query_in};
+
+use crate::request::Request;
+use dgram::{Body, DepositAnswer, DgramFault, FolderPath, Message, QueryAnswer, decode};
+use fed_types::SiteNo;
+use std::alloc::{AllocError, Global};
+
+/// What a site replies.
+#[derive(Clone, Copy)]
+pub enum Reply {
+    ToDeposit(DepositAnswer),
+    ToQuery(QueryAnswer),
+}
+
+/// Which replies are looked for.
+#[derive(Clone, Copy)]
+pub enum Wanted {
+    ToDeposit,
+    ToQuery,
+    Any,
+}
+
+/// The replies to a deposit of the folder of this path, or to a query.
+pub(crate) fn wanted_for(path: &Option<FolderPath>) -> Wanted
+    ensures { result ≡ wanted_for path.now }
+{
+    match path {
+        Some(_) => Wanted::ToDeposit,
+        None => Wanted::ToQuery,
+    }
+}
+
+/// The answer to a query, if this is one.
+pub(crate) fn query_in(reply: Option<Reply>) -> Option<QueryAnswer>
+    ensures { result ≡ query_in reply }
+{
+    match reply {
+        Some(Reply::ToQuery(answer)) => Some(answer),
+        Some(Reply::ToDeposit(_)) | None => None,
+    }
+}
+
+/// The reply of the site for the slot in these bytes, if it is one that is wanted.
+#[tactic(auto, unfolding(fed_types::specs::Slots::same_slot))]
+pub(crate) fn reply_in(
+    alloc: Global,
+    request: &Request<'_>,
+    wanted: Wanted,
+    bytes: &[u8],
+) -> Result<Option<Reply>, AllocError>
+    ensures reply { IfOk result
+        (λ reply. reply ≡ reply_in (question_of request.now) wanted bytes.now) }
+    ensures memory { IsErr result → IsSome (message_of request.now.federation bytes.now) }
+{
+    match decode(alloc, request.federation, bytes) {
+        Ok(Message { slot, body }) => {
+            if slot != *request.slot {
+                return Ok(None);
+            }
+            Ok(reply_by(request.to, wanted, &body))
+        }
+        Err(DgramFault::Memory) => Err(AllocError),
+        Err(DgramFault::NotOurs | DgramFault::Malformed) => Ok(None),
+    }
+}
+
+// The reply of the site, if this is one that is wanted.
+fn reply_by(to: SiteNo, wanted: Wanted, body: &Body) -> Option<Reply>
+    ensures { result ≡ reply_by to wanted body.now }
+{
+    match body {
+        Body::DepositReply { from, answer } if *from == to && wants_deposits(wanted) => {
+            Some(Reply::ToDeposit(*answer))
+        }
+        Body::QueryReply { from, answer } if *from == to && wants_queries(wanted) => {
+            Some(Reply::ToQuery(*answer))
+        }
+        _ => None,
+    }
+}
+
+fn wants_deposits(wanted: Wanted) -> bool
+    ensures { result ≡ wants_deposits wanted }
+{
+    matches!(wanted, Wanted::ToDeposit | Wanted::Any)
+}
+
+fn wants_queries(wanted: Wanted) -> bool
+    ensures { result ≡ wants_queries wanted }
+{
+    matches!(wanted, Wanted::ToQuery | Wanted::Any)
+}
