@@ -19,9 +19,9 @@ use Rattle.catch_up.specs.inner.Progress.{IsAskedOnce}
 use Rattle.catch_up.proofs.Parts.{no_part, part_of_both}
 
 -- nothing was asked beyond the answers
-pub only_answers : (fault : AskFault) → OnlyAsked fault []
-only_answers Memory = ((0, []), tt)
-only_answers Output = refl
+pub only_answers : (asked : Asked) (fault : AskFault) → OnlyAsked asked fault []
+only_answers asked Memory = (record { object = []; version = 0 }, tt)
+only_answers asked Output = refl
 
 module _ (asked : Asked) (v : KnownBag) (a b : Option (List Move)) where
   -- why it wasn't asked for to the end
@@ -73,6 +73,6 @@ module _ (asked : Asked) (v : KnownBag) (a b : Option (List Move)) where
           [],
           subst (Grows a b) (sym (append-nil moves)) grows,
           (moves, [], sym (append-nil moves), (asks, first), refl),
-          only_answers fault,
+          only_answers asked fault,
           part_of_both o n (known_line v.slot bag v.bag) [] part,
         )

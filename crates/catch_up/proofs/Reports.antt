@@ -108,7 +108,7 @@ module _ (asked : Asked) (old : List KnownBag) (a b : Option (List Move)) (o : O
             [],
             subst (Grows a b) (sym (append-nil moves)) grows,
             are,
-            only_answers fault,
+            only_answers asked fault,
             then_part o n p (round_lines (open_of old) rounds) _ lines
                 (subst (AppendsPart n p)
                 (ap (λ (vs : List KnownBag). open_lines vs ++ count_line same (length now)) kept

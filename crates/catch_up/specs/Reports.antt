@@ -6,12 +6,11 @@ use Rattle.known_bags.specs.declared.known_bag.KnownBag.{KnownBag}
 use Rattle.outcomes.specs.declared.fault.ProgramFault.{ProgramFault}
 use Rattle.outcomes.specs.Outcomes.{Outcome, no_memory}
 use Rattle.udp_site.specs.Traffic.{Move, Grows}
-use Rattle.site_commands.specs.Exchanges.{IsOneQuestion}
 use Rattle.site_commands.specs.Answers.{IsWritten}
 use Rattle.catch_up.specs.declared.rounds.Asked.{Asked}
 use Rattle.catch_up.specs.Lines.{open_line, count_line}
 use Rattle.catch_up.specs.Rounds.{Answer, open_of, AreRounds, AreWhole, round_lines, same_after}
-use Rattle.catch_up.specs.Rounds.{left_after}
+use Rattle.catch_up.specs.Rounds.{left_after, IsOneMore}
 
 -- a line for each version that is left
 unfoldable pub open_lines : List KnownBag → List ℕ
@@ -58,7 +57,7 @@ abbrev pub IsCutShort : Asked → List KnownBag → (before after : Option (List
 IsCutShort asked versions before after old new result =
     (rounds : List (List Answer)) × (moves : List Move) × (others : List Move)
     × Grows before after (moves ++ others)
-    × AreRounds asked (open_of versions) rounds moves × IsOneQuestion others
+    × AreRounds asked (open_of versions) rounds moves × IsOneMore asked others
     × ((n : ℕ) × IsWritten old new result (cut_short n (report versions rounds)))
 
 abbrev pub IsCaughtUp : Asked → List KnownBag → (before after : Option (List Move))

@@ -46,6 +46,11 @@ IsAnswer asked slot answer moves =
     Asks (asked.target, datagram_to (question asked slot) None) moves
     × (answer ≡ bag_in (first_reply (question asked slot) wanted.ToQuery moves))
 
+-- the site is asked once more at most, for some slot's bag
+abbrev pub IsOneMore : Asked → List Move → Type 0
+IsOneMore asked moves =
+    (slot : SlotName) × Asks (asked.target, datagram_to (question asked slot) None) moves
+
 -- ---- one round
 
 -- the versions whose bag the site isn't known to know

@@ -11,7 +11,7 @@ use Rattle.dgram.specs.declared.body.Body.{Body}
 use Rattle.dgram.specs.declared.body.Body.TheVariants as bodies
 use Rattle.dgram.specs.declared.message.Message.{Message}
 use Rattle.dgram.specs.Decoded.{message_of}
-use Rattle.udp_site.specs.Traffic.{Nothing, From, Move, Took, Failed, Handed}
+use Rattle.udp_site.specs.Traffic.{Nothing, From, Move, Took, Failed, Handed, Grows}
 use Rattle.udp_site.specs.Traffic.{IsHanded}
 use Rattle.udp_site.specs.declared.port_fault.PortFault.{PortFault}
 use Rattle.udp_site.specs.declared.port_fault.PortFault.TheVariants as faults
@@ -119,54 +119,16 @@ err_if_ok (Err e) P Q is = tt
 -- ---- asking
 
 module _ (q : Question) (kind : Wanted) (bytes : List ℕ) where
-  only_takes_asks : (moves : List Move) → OnlyTakes moves → Asks (q.target, bytes) moves
-  only_takes_asks [] p = tt
-  only_takes_asks (Took taken ∷ moves) p = p
-  only_takes_asks (Failed ∷ moves) p = p
-  only_takes_asks (Handed post ∷ moves) p = absurd p
-
-  -- a datagram was handed out, or not for want of memory, and then some are taken in
-  pub asks_then : (a b c : Option (List Move)) (sent : Result (Unit {0}) PortFault)
-      → IsHanded a b (q.target, bytes) sent → (result : Result (Option Reply) AllocError)
-      → Hears q kind b c result → IsAsked q kind bytes a c result
-  asks_then a b c (Ok u) handed result (moves, grows, takes, reply) = (
-    Handed (q.target, bytes) ∷ moves,
-    Grows-trans a b c _ moves handed grows,
-    (refl, takes),
-    reply,
-  )
-  asks_then a b c (Err faults.Device) handed result (moves, grows, takes, reply) = (
-    Handed (q.target, bytes) ∷ moves,
-    Grows-trans a b c _ moves handed grows,
-    (refl, takes),
-    reply,
-  )
-  asks_then a b c (Err faults.Memory) handed result (moves, grows, takes, reply) =
-      (moves, Grows-trans a b c _ moves handed grows, only_takes_asks moves takes, reply)
-
-  asks_both : (m n : List Move) → Asks (q.target, bytes) m → OnlyTakes n
-      → Asks (q.target, bytes) (m ++ n)
-  asks_both [] n p takes = only_takes_asks n takes
-  asks_both (Handed post ∷ m) n (is, p) takes = (is, takes_both m n p takes)
-  asks_both (Took taken ∷ m) n p takes = takes_both m n p takes
-  asks_both (Failed ∷ m) n p takes = takes_both m n p takes
-
-  -- no reply came to what was asked, and more is waited for
-  pub asks_again : (a b c : Option (List Move)) → IsAsked q kind bytes a b (Ok None)
+  -- a datagram was handed out, and then some are taken in
+  pub asks_then : (a b c : Option (List Move)) → Grows a b (Handed (q.target, bytes) ∷ [])
       → (result : Result (Option Reply) AllocError) → Hears q kind b c result
       → IsAsked q kind bytes a c result
-  asks_again a b c (m, grows, asks, none) result (n, more, takes, reply) = (
-    m ++ n,
-    Grows-trans a b c m n grows more,
-    asks_both m n asks takes,
-    go result reply,
+  asks_then a b c handed result (moves, grows, takes, reply) = (
+    Handed (q.target, bytes) ∷ moves,
+    Grows-trans a b c _ moves handed grows,
+    (refl, takes),
+    reply,
   )
-    where
-      go : (result : Result (Option Reply) AllocError)
-          → IfOk result (λ r. r ≡ first_reply q kind n)
-          → IfOk result (λ r. r ≡ first_reply q kind (m ++ n))
-      go (Ok reply) is = is ∙ first_of_second q kind m n none
-      go (Err fault) is = tt
 
 -- ---- a bag that is asked for
 

@@ -2,7 +2,7 @@
 use Rattle.std.proofs.Common.{◌≡◌, ℕ, true, false, List, [], ◌∷◌, ◌++◌, Option, Some, None}
 use Rattle.std.proofs.Common.{Result, Ok, Err, inl, inr}
 use Rattle.std.proofs.Common.{refl, sym, ap, subst, ◌∙◌, append_assoc, append-nil}
-use Rattle.std.specs.Prelude.{⊤, IfSome, IsErr}
+use Rattle.std.specs.Prelude.{IfSome, IsErr}
 use Rattle.std.specs.Option.{option_or}
 use Rattle.std.specs.declared.alloc.AllocError.{AllocError}
 use Rattle.outcomes.specs.declared.answer.Answer.{Answer}
@@ -10,20 +10,15 @@ use Rattle.outcomes.specs.declared.fault.ProgramFault.{ProgramFault}
 use Rattle.udp_site.specs.Traffic.{Move, Grows}
 use Rattle.udp_site.proofs.Growth.{Grows-trans, Grows-none}
 use Rattle.site_commands.specs.declared.reply.Reply.{Reply}
-use Rattle.site_commands.specs.declared.reply.Wanted.TheVariants as wanted
+use Rattle.site_commands.specs.declared.reply.Wanted.{Wanted}
 use Rattle.site_commands.specs.Replies.{Question, datagram_to, first_reply}
 use Rattle.site_commands.specs.Exchanges.{Asks, IsAsked}
-use Rattle.site_commands.specs.Repeats.{next_path, is_last, AreReplies, last_of}
-use Rattle.site_commands.specs.Repeats.{IsSentUntilKnown}
+use Rattle.site_commands.specs.Repeats.{next_path, path_after, wanted_until, is_last, ends}
+use Rattle.site_commands.specs.Repeats.{NoneEnds, AreReplies, last_of, IsSentUntilKnown}
 use Rattle.site_commands.specs.Answers.{IsWritten}
-use Rattle.site_commands.specs.inner.Repeated.{ends, path_after, IsLastReply, IsLastAnswer}
+use Rattle.site_commands.specs.inner.Repeated.{IsLastReply, IsLastAnswer}
 use Rattle.site_commands.specs.inner.Written.{outcome_to}
 use Rattle.site_commands.proofs.Heard.{or_assoc, or_none}
-
--- none of these is the last
-abbrev pub NoneEnds : List (Option Reply) → Type 0
-NoneEnds [] = ⊤
-NoneEnds (reply ∷ replies) = (ends reply ≡ false) × NoneEnds replies
 
 none_ends_then : (replies : List (Option Reply)) (reply : Option Reply) → NoneEnds replies
     → ends reply ≡ false → NoneEnds (replies ++ reply ∷ [])
@@ -45,7 +40,7 @@ not_last (Some r) replies is = λ last. absurd (cc (is, last))
 replies_then : (q : Question) (path next : Option (List ℕ)) (replies : List (Option Reply))
     (m n : List Move) (reply : Option Reply) → AreReplies q path next replies m
     → NoneEnds replies → Asks (q.target, datagram_to q (path_after path next replies)) n
-    → reply ≡ first_reply q wanted.Any n
+    → reply ≡ first_reply q (wanted_until path) n
     → AreReplies q path next (replies ++ reply ∷ []) (m ++ n)
 replies_then q path next [] m n reply p none asks is = (
   n,
@@ -95,14 +90,17 @@ module _ (q : Question) (path : Option (List ℕ)) (a : Option (List Move)) wher
   none_asked = ([], [], Grows-none a, refl, refl)
 
   module _ (b c : Option (List Move)) (last : Option Reply) (bytes : List ℕ)
-      (far : SoFar q path a b last bytes) (reply : Option Reply)
-      (asked : IsAsked q wanted.Any bytes b c (Ok reply)) where
+      (far : SoFar q path a b last bytes) (reply : Option Reply) (kind : Wanted)
+      (kind_is : kind ≡ wanted_until path) (asked_so : IsAsked q kind bytes b c (Ok reply)) where
+    asked : IsAsked q (wanted_until path) bytes b c (Ok reply)
+    asked = subst (λ (k : Wanted). IsAsked q k bytes b c (Ok reply)) kind_is asked_so
+
     -- the next reply is the last
     pub then_last : (new : Option Reply) → new ≡ option_or reply last
         → IsLastReply q path a c (Ok new)
     then_last new is_new = go far asked
       where
-        go : SoFar q path a b last bytes → IsAsked q wanted.Any bytes b c (Ok reply)
+        go : SoFar q path a b last bytes → IsAsked q (wanted_until path) bytes b c (Ok reply)
             → IsLastReply q path a c (Ok new)
         go (replies, m, grows, are, none, was, sent) (n, more, asks, is) = (
           replies ++ reply ∷ [],
@@ -119,7 +117,7 @@ module _ (q : Question) (path : Option (List ℕ)) (a : Option (List Move)) wher
         → SoFar q path a c new next
     then_more new next is_new goes_on is_next = go far asked
       where
-        go : SoFar q path a b last bytes → IsAsked q wanted.Any bytes b c (Ok reply)
+        go : SoFar q path a b last bytes → IsAsked q (wanted_until path) bytes b c (Ok reply)
             → SoFar q path a c new next
         go (replies, m, grows, are, none, was, sent) (n, more, asks, is) = (
           replies ++ reply ∷ [],
@@ -135,12 +133,18 @@ module _ (q : Question) (path : Option (List ℕ)) (a : Option (List Move)) wher
   -- memory ran out
   pub then_stopped : (b c : Option (List Move)) (last : Option Reply) (bytes : List ℕ)
       (fault : AllocError) (result : Result (Option Reply) AllocError)
-      → SoFar q path a b last bytes → IsAsked q wanted.Any bytes b c (Err fault)
+      → SoFar q path a b last bytes → (kind : Wanted) → IsAsked q kind bytes b c (Err fault)
       → IsErr result → IsLastReply q path a c result
-  then_stopped b c last bytes fault (Ok given) far asked err = absurd (cc err)
-  then_stopped b c last bytes fault (Err e) (replies, m, grows, are, none, was, sent)
-      (n, more, asks, is) err =
-      (replies, m, n, Grows-trans a b c m n grows more, are, (_, asks))
+  then_stopped b c last bytes fault (Ok given) far kind asked err = absurd (cc err)
+  then_stopped b c last bytes fault (Err e) (replies, m, grows, are, none, was, sent) kind
+      (n, more, asks, is) err = (
+        replies,
+        m,
+        n,
+        Grows-trans a b c m n grows more,
+        are,
+        inr (none, subst (λ (l : List ℕ). Asks (q.target, l) n) sent asks),
+      )
 
   -- time is over
   pub no_more : (b : Option (List Move)) (last : Option Reply) (bytes : List ℕ)
@@ -154,14 +158,14 @@ module _ (q : Question) (path : Option (List ℕ)) (a b : Option (List Move)) wh
   pub not_begun : (result : Result (Option Answer) AllocError) → IsErr result
       → IsLastAnswer q path a a result
   not_begun (Ok given) err = absurd (cc err)
-  not_begun (Err e) err = ([], [], [], Grows-none a, refl, ((0, []), tt))
+  not_begun (Err e) err = ([], [], [], Grows-none a, refl, inl refl)
 
   -- there was a reply, and no memory for its line
   pub no_room : (last : Option Reply) (result : Result (Option Answer) AllocError) → IsErr result
       → IsLastReply q path a b (Ok last) → IsLastAnswer q path a b result
   no_room last (Ok given) err is = absurd (cc err)
   no_room last (Err e) err (replies, m, grows, are, was) =
-      (replies, m, [], subst (Grows a b) (sym (append-nil m)) grows, are, ((0, []), tt))
+      (replies, m, [], subst (Grows a b) (sym (append-nil m)) grows, are, inl refl)
 
   pub told : (old new : Option (List ℕ)) (result : Result ℕ ProgramFault)
       (answer : Result (Option Answer) AllocError) → IsLastAnswer q path a b answer

@@ -17,19 +17,15 @@ OnlyTakes (Took taken ∷ moves) = OnlyTakes moves
 OnlyTakes (Failed ∷ moves) = OnlyTakes moves
 OnlyTakes (Handed post ∷ moves) = ⊥
 
--- this datagram is handed out first, unless the port has no memory for it, and no other
+-- this datagram is handed out first, and no other; without memory for it nothing is taken in either
 abbrev pub Asks : Post → List Move → Type 0
 Asks post [] = ⊤
 Asks post (Handed first ∷ moves) = (first ≡ post) × OnlyTakes moves
-Asks post (Took taken ∷ moves) = OnlyTakes moves
-Asks post (Failed ∷ moves) = OnlyTakes moves
+Asks post (Took taken ∷ moves) = ⊥
+Asks post (Failed ∷ moves) = ⊥
 
--- these are the moves of one question at most
-abbrev pub IsOneQuestion : List Move → Type 0
-IsOneQuestion moves = (post : Post) × Asks post moves
-
--- A site is asked by this datagram, and the first wanted reply that comes is what it replies; what
--- isn't said is only whether it comes before the client gives up, or memory runs out.
+-- A site is asked by this datagram, and the first wanted reply that is then taken in is what it
+-- replies. How long the client listens isn't said, nor that there is memory for the question.
 abbrev pub IsAsked : Question → Wanted → List ℕ → (before after : Option (List Move))
     → Result (Option Reply) AllocError → Type 0
 IsAsked q kind bytes before after result =

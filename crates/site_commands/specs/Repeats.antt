@@ -1,5 +1,5 @@
 -- A client that asks again and again, until a bag is known.
-use Rattle.std.specs.Prelude.{◌≡◌, ◌⊎◌, ℕ, Bool, true, false, if◌then◌else◌, List, [], ◌∷◌, ◌++◌}
+use Rattle.std.specs.Prelude.{◌≡◌, ◌⊎◌, ⊤, ℕ, Bool, true, false, if◌then◌else◌, List, [], ◌∷◌, ◌++◌}
 use Rattle.std.specs.Prelude.{Option, Some, None, Result, IfSome}
 use Rattle.std.specs.Option.{option_or}
 use Rattle.dgram.specs.declared.answers.DepositAnswer.TheVariants as deposit
@@ -9,9 +9,10 @@ use Rattle.outcomes.specs.Outcomes.{Outcome, no_memory}
 use Rattle.udp_site.specs.Traffic.{Move, Grows}
 use Rattle.site_commands.specs.declared.reply.Reply.{Reply}
 use Rattle.site_commands.specs.declared.reply.Reply.TheVariants.{ToDeposit, ToQuery}
+use Rattle.site_commands.specs.declared.reply.Wanted.{Wanted}
 use Rattle.site_commands.specs.declared.reply.Wanted.TheVariants as wanted
 use Rattle.site_commands.specs.Replies.{Question, datagram_to, first_reply}
-use Rattle.site_commands.specs.Exchanges.{Asks, IsOneQuestion}
+use Rattle.site_commands.specs.Exchanges.{Asks}
 use Rattle.site_commands.specs.Answers.{no_answer, reply_outcome, IsWritten}
 
 -- the site knows the bag
@@ -31,6 +32,27 @@ abbrev pub next_path : Option (List ℕ) → Option Reply → Option (List ℕ)
 next_path path (Some (ToQuery query.Nothing)) = path
 next_path path reply = None
 
+-- what is said after these replies
+abbrev pub path_after : Option (List ℕ) → (next : Option (List ℕ)) → List (Option Reply)
+    → Option (List ℕ)
+path_after path next [] = next
+path_after path next (reply ∷ replies) = path_after path (next_path path reply) replies
+
+-- the replies that count: without a path those to queries alone
+abbrev pub wanted_until : Option (List ℕ) → Wanted
+wanted_until None = wanted.ToQuery
+wanted_until (Some path) = wanted.Any
+
+-- it is the last reply
+abbrev pub ends : Option Reply → Bool
+ends None = false
+ends (Some reply) = is_last reply
+
+-- none of these is
+abbrev pub NoneEnds : List (Option Reply) → Type 0
+NoneEnds [] = ⊤
+NoneEnds (reply ∷ replies) = (ends reply ≡ false) × NoneEnds replies
+
 -- One after another the site is asked, and these are its first replies, if it replied. With a path
 -- the folder is deposited first. After the last reply there is no other question.
 abbrev pub AreReplies : Question → (path next : Option (List ℕ)) → List (Option Reply)
@@ -39,7 +61,7 @@ AreReplies q path next [] moves = moves ≡ []
 AreReplies q path next (reply ∷ replies) moves =
     (first : List Move) × (rest : List Move) × (moves ≡ first ++ rest)
     × Asks (q.target, datagram_to q next) first
-    × (reply ≡ first_reply q wanted.Any first)
+    × (reply ≡ first_reply q (wanted_until path) first)
     × IfSome reply (λ r. is_last r ≡ true → replies ≡ [])
     × AreReplies q path (next_path path reply) replies rest
 
@@ -56,13 +78,14 @@ until_outcome q (Some reply) = record {
   text = (reply_outcome q reply).text;
 }
 
--- Memory runs out while the site is asked once more, or its last reply is told.
+-- Memory runs out where the last reply is told, or while the site is asked once more.
 abbrev pub IsBrokenOff : Question → (path : Option (List ℕ)) → (before after : Option (List Move))
     → Type 0
 IsBrokenOff q path before after =
     (replies : List (Option Reply)) × (moves : List Move) × (others : List Move)
     × Grows before after (moves ++ others) × AreReplies q path path replies moves
-    × IsOneQuestion others
+    × ((others ≡ []) ⊎ (NoneEnds replies
+    × Asks (q.target, datagram_to q (path_after path path replies)) others))
 
 -- The site is asked until the bag is known, or time is over, and what is written is what its last
 -- reply says; or memory runs out, and the line `memory` is.

@@ -45,10 +45,10 @@ pub(crate) fn ask<P: Port>(
     ensures { IsAsked (question_of request.now) wanted bytes.now
         (P.traffic port.old) (P.traffic port.new) result }
 {
-    if port.send(request.target, bytes).is_err() {
-        return Ok(None);
+    match port.send(request.target, bytes) {
+        Ok(()) => hear(alloc, port, request, wanted),
+        Err(_) => Ok(None),
     }
-    hear(alloc, port, request, wanted)
 }
 
 /// Asks at a port that was used before. There a turn is idle at once, if the port's wait has passed
@@ -63,7 +63,23 @@ pub(crate) fn ask_again<P: Port>(
     ensures { IsAsked (question_of request.now) wanted bytes.now
         (P.traffic port.old) (P.traffic port.new) result }
 {
-    match ask(alloc, port, request, wanted, bytes)? {
+    match port.send(request.target, bytes) {
+        Ok(()) => hear_longer(alloc, port, request, wanted),
+        Err(_) => Ok(None),
+    }
+}
+
+// The reply that is wanted, if it comes before a second turn is idle.
+fn hear_longer<P: Port>(
+    alloc: Global,
+    port: &mut P,
+    request: &Request<'_>,
+    wanted: Wanted,
+) -> Result<Option<Reply>, AllocError>
+    ensures { Hears (question_of request.now) wanted
+        (P.traffic port.old) (P.traffic port.new) result }
+{
+    match hear(alloc, port, request, wanted)? {
         Some(reply) => Ok(Some(reply)),
         None => hear(alloc, port, request, wanted),
     }

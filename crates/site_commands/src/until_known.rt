@@ -4,8 +4,8 @@ ghost use Rattle.std.specs.Prelude.{◌≡◌, ℕ, List, IfOk, Some, Option};
 ghost use Rattle.std.specs.Option.{option_or};
 ghost use Rattle.site_commands.specs.Replies.{Question, question_of, datagram_to};
 ghost use Rattle.site_commands.specs.Repeats.{is_known, is_last, next_path, until_outcome};
-ghost use Rattle.site_commands.specs.Repeats.{IsSentUntilKnown};
-ghost use Rattle.site_commands.specs.inner.Repeated.{AreQuestions, ends, IsLastReply, IsLastAnswer};
+ghost use Rattle.site_commands.specs.Repeats.{IsSentUntilKnown, ends, wanted_until};
+ghost use Rattle.site_commands.specs.inner.Repeated.{AreQuestions, IsLastReply, IsLastAnswer};
 ghost use Rattle.site_commands.specs.inner.Written.{outcome_in};
 
 use crate::client::{answer_of, write_reply};
@@ -63,10 +63,21 @@ fn last_answer<P: Port, C: Clock>(
     ensures { IsLastAnswer (question_of request.now) path
         (P.traffic port.old) (P.traffic port.new) result }
 {
+    let wanted = wanted_until(&path);
     let questions = Questions::new(alloc, request, path)?;
-    match last_reply(alloc, clock, port, request, &questions, seconds)? {
+    match last_reply(alloc, clock, port, request, wanted, &questions, seconds)? {
         Some(reply) => Ok(Some(answer_to(alloc, request, reply)?)),
         None => Ok(None),
+    }
+}
+
+// The replies that count: without a path those to queries alone.
+fn wanted_until(path: &Option<FolderPath>) -> Wanted
+    ensures { result ≡ wanted_until path.now }
+{
+    match path {
+        Some(_) => Wanted::Any,
+        None => Wanted::ToQuery,
     }
 }
 
@@ -86,10 +97,12 @@ fn last_reply<P: Port, C: Clock>(
     clock: &C,
     port: &mut P,
     request: &Request<'_>,
+    wanted: Wanted,
     questions: &Questions,
     seconds: u32,
 ) -> Result<Option<Reply>, AllocError>
-    ensures { (path : Option (List ℕ)) → AreQuestions (question_of request.now) path questions.now
+    ensures { (path : Option (List ℕ)) → wanted ≡ wanted_until path
+        → AreQuestions (question_of request.now) path questions.now
         → IsLastReply (question_of request.now) path
         (P.traffic port.old) (P.traffic port.new) result }
 {
@@ -100,7 +113,7 @@ fn last_reply<P: Port, C: Clock>(
     let mut last = None;
     let mut bytes = questions.first();
     for _ in 0..u32::MAX {
-        let reply = ask_again(alloc, port, request, Wanted::Any, bytes)?;
+        let reply = ask_again(alloc, port, request, wanted, bytes)?;
         last = or(reply, last);
         if ends(&reply) || !pauses.pause(clock) {
             return Ok(last);

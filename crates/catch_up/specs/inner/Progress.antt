@@ -9,11 +9,11 @@ use Rattle.udp_site.specs.Traffic.{Move, Grows}
 use Rattle.fed_types.specs.Slots.{SlotName}
 use Rattle.site_commands.specs.declared.reply.Wanted.TheVariants as wanted
 use Rattle.site_commands.specs.Replies.{datagram_to, first_reply}
-use Rattle.site_commands.specs.Exchanges.{Asks, IsOneQuestion}
+use Rattle.site_commands.specs.Exchanges.{Asks}
 use Rattle.catch_up.specs.declared.rounds.AskFault.{AskFault}
 use Rattle.catch_up.specs.declared.rounds.AskFault.TheVariants.{Memory, Output}
 use Rattle.catch_up.specs.declared.rounds.Asked.{Asked}
-use Rattle.catch_up.specs.Rounds.{Answer, question, bag_in, open_of, AreAnswers}
+use Rattle.catch_up.specs.Rounds.{Answer, question, bag_in, IsOneMore, open_of, AreAnswers}
 use Rattle.catch_up.specs.Rounds.{answer_lines, is_same, same_in, left_of, AreRounds}
 use Rattle.catch_up.specs.Rounds.{AreWhole, round_lines, same_after, left_after}
 use Rattle.catch_up.specs.Reports.{report}
@@ -23,9 +23,9 @@ abbrev pub AppendsPart : Option (List ℕ) → Option (List ℕ) → List ℕ �
 AppendsPart old new bytes = (n : ℕ) × Appends old new (take n bytes)
 
 -- the moves after those of the answers: none, unless memory ran out
-abbrev pub OnlyAsked : AskFault → List Move → Type 0
-OnlyAsked Memory others = IsOneQuestion others
-OnlyAsked Output others = others ≡ []
+abbrev pub OnlyAsked : Asked → AskFault → List Move → Type 0
+OnlyAsked asked Memory others = IsOneMore asked others
+OnlyAsked asked Output others = others ≡ []
 
 -- a site is asked once for a slot's bag
 abbrev pub IsAskedFor : Asked → SlotName → (before after : Option (List Move))
@@ -51,7 +51,7 @@ abbrev pub StopsIn : Asked → List KnownBag → (before after : Option (List Mo
 StopsIn asked versions before after old new fault =
     (answers : List Answer) × (moves : List Move) × (others : List Move)
     × Grows before after (moves ++ others) × AreAnswers asked versions answers moves
-    × OnlyAsked fault others × AppendsPart old new (answer_lines versions answers)
+    × OnlyAsked asked fault others × AppendsPart old new (answer_lines versions answers)
 
 -- a version after its answer
 abbrev pub version_after : KnownBag → Answer → KnownBag
@@ -91,7 +91,7 @@ abbrev pub StopsInRounds : Asked → List KnownBag → (before after : Option (L
 StopsInRounds asked versions before after old new fault =
     (rounds : List (List Answer)) × (moves : List Move) × (others : List Move)
     × Grows before after (moves ++ others) × AreRounds asked versions rounds moves
-    × OnlyAsked fault others × AppendsPart old new (round_lines versions rounds)
+    × OnlyAsked asked fault others × AppendsPart old new (round_lines versions rounds)
 
 -- rounds until no version is left, or time is over
 abbrev pub AreAsked : Asked → (versions next : List KnownBag)
@@ -117,4 +117,4 @@ AreReported asked versions before after old new (Ok status) =
 AreReported asked versions before after old new (Err fault) =
     (rounds : List (List Answer)) × (moves : List Move) × (others : List Move)
     × Grows before after (moves ++ others) × AreRounds asked (open_of versions) rounds moves
-    × OnlyAsked fault others × AppendsPart old new (report versions rounds).text
+    × OnlyAsked asked fault others × AppendsPart old new (report versions rounds).text

@@ -1,5 +1,5 @@
 -- The questions of a client that asks again and again.
-use Rattle.std.specs.Prelude.{◌≡◌, Bool, false, ℕ, List, [], ◌∷◌, Option, Some, None, Result}
+use Rattle.std.specs.Prelude.{◌≡◌, ℕ, List, Option, Some, None, Result}
 use Rattle.std.specs.Prelude.{Ok, Err}
 use Rattle.std.specs.Option.{option_map}
 use Rattle.std.specs.declared.alloc.AllocError.{AllocError}
@@ -8,7 +8,7 @@ use Rattle.udp_site.specs.Traffic.{Move, Grows}
 use Rattle.site_commands.specs.declared.reply.Reply.{Reply}
 use Rattle.site_commands.specs.declared.until_known.Questions.{Questions}
 use Rattle.site_commands.specs.Replies.{Question, datagram_to}
-use Rattle.site_commands.specs.Repeats.{next_path, is_last, AreReplies, last_of, until_outcome}
+use Rattle.site_commands.specs.Repeats.{AreReplies, last_of, until_outcome}
 use Rattle.site_commands.specs.Repeats.{IsBrokenOff}
 use Rattle.site_commands.specs.inner.Written.{outcome_if}
 
@@ -18,17 +18,6 @@ AreQuestions q path questions =
     (questions.query.items ≡ datagram_to q None)
     × (option_map (λ bytes. bytes.items) questions.deposit
     ≡ option_map (λ p. datagram_to q (Some p)) path)
-
--- it is the last reply
-abbrev pub ends : Option Reply → Bool
-ends None = false
-ends (Some reply) = is_last reply
-
--- what is said after these replies
-abbrev pub path_after : Option (List ℕ) → (next : Option (List ℕ)) → List (Option Reply)
-    → Option (List ℕ)
-path_after path next [] = next
-path_after path next (reply ∷ replies) = path_after path (next_path path reply) replies
 
 -- the site was asked, and this was the last reply
 abbrev pub IsLastReply : Question → (path : Option (List ℕ)) → (before after : Option (List Move))

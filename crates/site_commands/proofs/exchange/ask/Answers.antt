@@ -2,9 +2,8 @@ use Rattle.site_commands.specs.Replies.{question_of}
 use Rattle.site_commands.proofs.Heard.{asks_then}
 use Rattle.site_commands.proofs.exchange.ask.Goals as goal
 
-pub returns : goal.returns
-returns g c =
+pub returns-in-Ok : goal.returns-in-Ok
+returns-in-Ok g c =
     asks_then (question_of c.args.request.now) c.args.wanted c.args.bytes.now
     (g.P.Port.traffic c.args.port.now) (g.P.Port.traffic c.send.new.self)
-    (g.P.Port.traffic c.hear.new.port) c.send.result c.send.ensures.handed c.hear.result
-    c.hear.ensures
+    (g.P.Port.traffic c.hear.new.port) c.in-Ok.ensures.handed c.hear.result c.hear.ensures

@@ -13,4 +13,4 @@ returns-in_err-answer_to-in-Some g c =
     (g.P.Port.traffic c.last_reply.new.port) c.in_ok-reply.field-0
     c.from_residual-in_err-answer_to-in-Some.result
     c.from_residual-in_err-answer_to-in-Some.ensures.0
-    (c.in_ok-reply.ensures c.args.path c.in_ok-questions.ensures)
+    (c.in_ok-reply.ensures c.args.path c.wanted_until-wanted.ensures c.in_ok-questions.ensures)

@@ -1,4 +1,5 @@
-use Rattle.std.proofs.Common.{ℕ, List, Option}
+use Rattle.std.proofs.Common.{◌≡◌, ℕ, List, Option}
+use Rattle.site_commands.specs.Repeats.{wanted_until}
 use Rattle.site_commands.specs.Replies.{question_of}
 use Rattle.site_commands.specs.inner.Repeated.{AreQuestions}
 use Rattle.site_commands.proofs.Repeated.{SoFar}
@@ -7,6 +8,7 @@ use Rattle.site_commands.proofs.until_known.last_reply.Given as goal
 -- the replies so far, and the next question
 abbrev pub invariant-loop : goal.invariant-loop
 invariant-loop g l =
-    (path : Option (List ℕ)) → AreQuestions (question_of l.request) path l.questions
+    (path : Option (List ℕ)) → l.wanted ≡ wanted_until path
+    → AreQuestions (question_of l.request) path l.questions
     → SoFar (question_of l.request) path (g.P.Port.traffic l.fn.port) (g.P.Port.traffic l.port)
     l.last l.bytes
