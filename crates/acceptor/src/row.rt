@@ -13,7 +13,7 @@ pub(crate) struct Row {
 }
 
 impl Row {
-    /// Of a slot without records.
+    /// The row of a slot without records.
     pub(crate) const EMPTY: Row = Row {
         promised: None,
         vote: None,

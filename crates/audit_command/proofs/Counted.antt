@@ -72,8 +72,3 @@ next_slot versions more v slots i slot is its within at so =
 pub on_ok : {X E A B : Type 0} (r : Result X E) → OnOk r A → (A → B) → OnOk r B
 on_ok (Ok x) h f = f h
 on_ok (Err e) h f = tt
-
-pub if_known : {A : Type 0} (known : Option A) (x : A) (P : A → Type 0)
-    → IfSome known (λ all. x ≡ all) → P x → IfSome known P
-if_known None x P same h = tt
-if_known (Some all) x P same h = subst P same h

@@ -13,7 +13,8 @@ use Rattle.fed_types.specs.Sites.{Membership}
 use Rattle.audit.specs.Evidence.{SiteRecord}
 use Rattle.audit_command.specs.declared.gathered.Gathered.{Gathered}
 use Rattle.audit_command.specs.declared.version.Version.{Version}
-use Rattle.audit_command.specs.Audits.{Files, IsRead, AreReadings, all_used, status_of}
+use Rattle.audit_command.specs.Audits.{IsRead, AreReadings, all_used, status_of}
+use Rattle.audit_command.specs.Files.{Files}
 use Rattle.audit_command.specs.Lines.{reading_line, version_line, counts_line, audit_text}
 use Rattle.audit_command.specs.CellReadings.{Reading, all_given}
 use Rattle.audit_command.specs.Versions.{count_of, is_conflict}

@@ -1,22 +1,20 @@
 -- What the command `audit` answers.
 use Rattle.std.specs.Prelude.{◌≡◌, ◌⊎◌, ℕ, ◌==◌, ◌&&◌, Bool, if◌then◌else◌, List, map}
-use Rattle.std.specs.Prelude.{Option, IfSome, is_none}
+use Rattle.std.specs.Prelude.{IfSome, is_none}
 use Rattle.std.specs.List.{All, list_all}
 use Rattle.fed_types.specs.Quorums.{quorums_of}
 use Rattle.fed_types.specs.Sites.{Membership}
 use Rattle.outcomes.specs.Outcomes.{Outcome, no_memory}
 use Rattle.audit_command.specs.declared.version.Version.{Version}
 use Rattle.audit_command.specs.Lines.{audit_text}
-use Rattle.audit_command.specs.CellReadings.{Reading, IsReadingOf, all_given}
+use Rattle.audit_command.specs.CellReadings.{Reading, IsReadingOfFile, all_given}
+use Rattle.audit_command.specs.Files.{Files}
 use Rattle.audit_command.specs.Versions.{AreVersions, count_of, is_conflict}
-
--- what the files of these paths have, where that is known; none inside where one can't be read
-abbrev pub Files : Type 0
-Files = List ℕ → Option (Option (List ℕ))
 
 -- this is a reading of the file of its path
 abbrev pub IsRead : Membership → Files → Reading → Type 0
-IsRead members files r = IfSome (files r.path) (λ bytes. IsReadingOf members bytes r.fault r.given)
+IsRead members files r =
+    IfSome (files r.path) (λ file. IsReadingOfFile members file r.fault r.given)
 
 -- these are readings of the files of these paths, in order
 pub record AreReadings (members : Membership) (files : Files) (paths : List (List ℕ))

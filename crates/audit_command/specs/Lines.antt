@@ -10,31 +10,31 @@ use Rattle.words.specs.Escapes.{escaped_text}
 use Rattle.ledger.specs.Lines.{ballot_text}
 use Rattle.audit.specs.declared.finding.Finding.{Finding}
 use Rattle.audit.specs.declared.finding.Finding.TheVariants.{Chosen, Known, Open, Conflict}
-use Rattle.audit_command.specs.declared.cell_fault.CellFault.{CellFault}
-use Rattle.audit_command.specs.declared.cell_fault.CellFault.TheVariants as faults
+use Rattle.audit_command.specs.declared.cell_defect.CellDefect.{CellDefect}
+use Rattle.audit_command.specs.declared.cell_defect.CellDefect.TheVariants as faults
 use Rattle.audit_command.specs.declared.version.Version.{Version}
 use Rattle.audit_command.specs.CellReadings.{Reading}
 use Rattle.audit_command.specs.Versions.{is_chosen, is_known, is_open, is_conflict, count_of}
 
 -- ---- cells
 
-abbrev pub fault_word : CellFault → List ℕ
+abbrev pub fault_word : CellDefect → List ℕ
 fault_word faults.Unread = codes "unread "
 fault_word faults.Foreign = codes "foreign "
 fault_word (faults.Damaged place) = codes "damaged "
 
 -- where the damage begins
-abbrev pub place_text : CellFault → List ℕ
+abbrev pub place_text : CellDefect → List ℕ
 place_text faults.Unread = []
 place_text faults.Foreign = []
 place_text (faults.Damaged place) = 32 ∷ decimal place
 
 -- what is amiss with the cell of this path
-unfoldable pub fault_line : List ℕ → CellFault → List ℕ
+unfoldable pub fault_line : List ℕ → CellDefect → List ℕ
 fault_line path fault = fault_word fault ++ (escaped_text path ++ (place_text fault ++ 10 ∷ []))
 
 -- of a cell that is used as it is nothing is said
-abbrev pub line_if : List ℕ → Option CellFault → List ℕ
+abbrev pub line_if : List ℕ → Option CellDefect → List ℕ
 line_if path None = []
 line_if path (Some fault) = fault_line path fault
 

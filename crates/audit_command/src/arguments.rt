@@ -16,8 +16,10 @@ site count as one. For each version, in the order in which the cells name them, 
   conflict OBJ V HEX HEX    they show two bags: a site's cell was lost, replaced or altered
 and finally how many of each there are: C chosen, K known, O open, X conflicts. Before that there is
 a line for each cell that can't be used as it is:
-  unread CELL               it can't be read, or begins with no header
-  foreign CELL              it is of another federation, of no member, or of other weights
+  unread CELL               it can't be read, or begins with no header; what was read before a
+                            fault is used
+  foreign CELL              it is of another federation, of no member, or of other weights;
+                            nothing of it is used
   damaged CELL OFFSET       it is damaged from this byte on; what comes before is used
 
 The exit status is 0 where there is no conflict, and no such line; 1 where there is, or a last line

@@ -1,15 +1,30 @@
-use std::alloc::{AllocError, Global};
+use std::alloc::AllocError;
 
 /// Where cells are read from: a disk, or memory.
 pub trait CellFiles {
-    ghost use Rattle.std.specs.Prelude.{◌≡◌, ℕ, List, Option, None, IfOk, IfSome, option_map};
+    ghost use Rattle.std.specs.Prelude.{◌≡◌, ◌≤◌, ℕ, List, Option, Some, None, IfOk, IfSome};
+    ghost use Rattle.std.specs.Prelude.{length, option_map};
+    ghost use Rattle.audit_command.specs.Files.{FileBytes, Gives};
 
-    // What the file of each path has, where that is known; none inside where it can't be read.
-    ghost bytes_at: { Self → List ℕ → Option (Option (List ℕ)) } = { λ _ _. None };
+    /// A cell that was opened, as far as it was read.
+    type Cell: Drop;
 
-    /// All bytes of the file of this path; none where it can't be read. It fails only where memory
-    /// runs out.
-    fn read(&self, alloc: Global, path: &str) -> Result<Option<Vec<u8>>, AllocError>
-        ensures { IfOk result (λ bytes. IfSome (bytes_at self.now path.now)
-            (λ all. option_map (λ b. b.items) bytes ≡ all)) };
+    // What the file of each path gives, where that is known; none inside where it can't be opened.
+    ghost bytes_at: { Self → List ℕ → Option (Option FileBytes) } = { λ _ _. None };
+
+    // What reading a cell gives from here on, where that is known.
+    ghost left: { Self.Cell → Option FileBytes } = { λ _. None };
+
+    /// Opens the file of this path; none where that can't be done. It fails only where memory runs
+    /// out.
+    fn open(&self, path: &str) -> Result<Option<Self::Cell>, AllocError>
+        ensures { IfOk result (λ cell. IfSome (bytes_at self.now path.now)
+            (λ file. option_map left cell ≡ option_map (λ it. Some it) file)) };
+
+    /// Reads the next bytes of a cell into a piece that isn't empty, and gives how many: 0 at its
+    /// end, and none where reading fails.
+    fn read(&self, cell: &mut Self::Cell, piece: &mut [u8]) -> Option<usize>
+        ensures bound { IfSome result (λ count. count ≤ length piece.new) }
+        ensures bytes { IfSome (left cell.old)
+            (λ file. Gives file piece.new result (left cell.new)) };
 }

@@ -1,10 +1,9 @@
 //! Cells in their files.
 
 use crate::cell_files::CellFiles;
-use outcomes::{ReadFault, read_all};
-use std::alloc::{AllocError, Global};
+use std::alloc::AllocError;
 use std::fs::{self, File};
-use std::io::ErrorKind;
+use std::io::{self, ErrorKind, Read};
 
 /// The files of the disk, each opened for reading alone. No contract says what they have.
 #[derive(Clone, Copy)]
@@ -12,29 +11,39 @@ pub(crate) struct DiskCells<'a> {
     pub(crate) rt: &'a HostRuntime,
 }
 
-impl CellFiles for DiskCells<'_> {
+impl DiskCells<'_> {
     // What isn't a file isn't opened: opening a pipe would wait.
-    fn read(&self, alloc: Global, path: &str) -> Result<Option<Vec<u8>>, AllocError> {
-        match fs::metadata(self.rt, path) {
-            Ok(found) if found.is_file() => {}
-            Ok(_) => return Ok(None),
-            Err(error) => return none_unless_memory(error.kind()),
+    fn open_file(&self, path: &str) -> io::Result<File> {
+        if !fs::metadata(self.rt, path)?.is_file() {
+            return Err(ErrorKind::InvalidInput.into());
         }
-        match File::open(self.rt, path) {
-            Ok(mut file) => match read_all(alloc, &mut file) {
-                Ok(bytes) => Ok(Some(bytes)),
-                Err(ReadFault::Input) => Ok(None),
-                Err(ReadFault::Memory) => Err(AllocError),
-            },
-            Err(error) => none_unless_memory(error.kind()),
-        }
+        File::open(self.rt, path)
     }
 }
 
-fn none_unless_memory(kind: ErrorKind) -> Result<Option<Vec<u8>>, AllocError> {
-    if kind == ErrorKind::OutOfMemory {
-        Err(AllocError)
-    } else {
-        Ok(None)
+impl CellFiles for DiskCells<'_> {
+    type Cell = File;
+
+    fn open(&self, path: &str) -> Result<Option<File>, AllocError> {
+        match self.open_file(path) {
+            Ok(file) => Ok(Some(file)),
+            Err(error) if error.kind() == ErrorKind::OutOfMemory => Err(AllocError),
+            Err(_) => Ok(None),
+        }
+    }
+
+    // Reads that were interrupted are tried again.
+    fn read(&self, cell: &mut File, piece: &mut [u8]) -> Option<usize> {
+        'reads: for _ in 0..u32::MAX {
+            match cell.read(piece) {
+                Ok(count) => return Some(count),
+                Err(error) => {
+                    if error.kind() != ErrorKind::Interrupted {
+                        return None;
+                    }
+                }
+            }
+        }
+        None
     }
 }

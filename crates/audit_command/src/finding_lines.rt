@@ -7,36 +7,36 @@ ghost use Rattle.ledger.specs.Lines.{ballot_text};
 ghost use Rattle.audit_command.specs.Lines.{fault_word, place_text, fault_line, finding_word};
 ghost use Rattle.audit_command.specs.Lines.{slot_text, bag_text, finding_text, version_line};
 
-use crate::cell_fault::CellFault;
+use crate::cell_defect::CellDefect;
 use crate::version::Version;
 use audit::Finding;
 use fed_types::{BagId, Ballot, Slot, Vote};
 use std::alloc::{AllocError, Global};
 use words::push_escaped;
 
-fn fault_word(fault: CellFault) -> &'static str
+fn fault_word(fault: CellDefect) -> &'static str
     ensures { result.now ≡ fault_word fault }
 {
     match fault {
-        CellFault::Unread => "unread ",
-        CellFault::Foreign => "foreign ",
-        CellFault::Damaged(_) => "damaged ",
+        CellDefect::Unread => "unread ",
+        CellDefect::Foreign => "foreign ",
+        CellDefect::Damaged(_) => "damaged ",
     }
 }
 
 // Where the damage begins.
-fn push_place(text: &mut String, fault: CellFault) -> Result<(), AllocError>
+fn push_place(text: &mut String, fault: CellDefect) -> Result<(), AllocError>
     ensures { Pushes result text.old text.new (place_text fault) }
 {
     match fault {
-        CellFault::Unread | CellFault::Foreign => Ok(()),
-        CellFault::Damaged(place) => write!(text, " {place}"),
+        CellDefect::Unread | CellDefect::Foreign => Ok(()),
+        CellDefect::Damaged(place) => write!(text, " {place}"),
     }
 }
 
 /// Appends the line of what is amiss with the cell of this path.
 #[tactic(auto, unfolding(crate::specs::Lines::fault_line), using(std::proofs::Common::append_assoc))]
-pub(crate) fn push_fault(text: &mut String, path: &str, fault: CellFault) -> Result<(), AllocError>
+pub(crate) fn push_fault(text: &mut String, path: &str, fault: CellDefect) -> Result<(), AllocError>
     ensures { Pushes result text.old text.new (fault_line path.now fault) }
 {
     text.push_str(fault_word(fault))?;

@@ -1,22 +1,20 @@
 //! The cells are read, one after another.
 
 ghost use Rattle.std.specs.Prelude.{◌≡◌, ◌&&◌, ◌++◌, ◌∷◌, [], List, map, IfOk, OnOk, is_none};
-ghost use Rattle.fed_types.specs.Sites.{Membership};
+ghost use Rattle.std.specs.Prelude.{IfSome};
 ghost use Rattle.audit.specs.Evidence.{SiteRecord};
 ghost use Rattle.words.specs.Pushes.{Pushes};
 ghost use Rattle.audit_command.specs.Audits.{AreReadings, IsRead};
 ghost use Rattle.audit_command.specs.Lines.{line_if};
-ghost use Rattle.audit_command.specs.CellReadings.{Reading};
-ghost use Rattle.audit_command.specs.inner.Gathered.{IsEvidence, IsGathered, given_in};
-ghost use Rattle.audit_command.specs.inner.Gathered.{reading_at};
+ghost use Rattle.audit_command.specs.CellReadings.{Reading, IsReadingOfFile};
+ghost use Rattle.audit_command.specs.inner.Gathered.{IsEvidence, IsGathered};
 
-use crate::cell_fault::CellFault;
+use crate::cell_defect::CellDefect;
 use crate::cell_files::CellFiles;
-use crate::cell_reading::{CellReading, reading_of};
-use crate::evidence::{Evidence, add_records, no_evidence};
+use crate::cell_reading::read_cell;
+use crate::evidence::{Evidence, no_evidence};
 use crate::finding_lines::push_fault;
 use fed_types::Members;
-use ledger::Contents;
 use std::alloc::{AllocError, Global};
 
 /// What was gathered of the cells.
@@ -40,24 +38,28 @@ fn nothing_gathered(alloc: Global, members: Members) -> Gathered
     }
 }
 
-// The records of a cell, if it is used.
-fn add_contents(
+// Reads the cell of a path, counts what it says, and gives what is amiss with it.
+fn add_records_of<F: CellFiles>(
     alloc: Global,
+    members: &Members,
+    files: &F,
     evidence: &mut Evidence,
-    contents: &Option<Contents>,
-) -> Result<(), AllocError>
-    ensures { OnOk result ((members : Membership) (given : List SiteRecord)
-        → IsEvidence members evidence.old given
-        → IsEvidence members evidence.new (given ++ given_in contents.now)) }
+    path: &str,
+) -> Result<Option<CellDefect>, AllocError>
+    ensures { IfOk result (λ fault. (given : List SiteRecord)
+        → IsEvidence members.now evidence.old given → (counted : List SiteRecord)
+        × IfSome (F.bytes_at files.now path.now)
+        (λ file. IsReadingOfFile members.now file fault counted)
+        × IsEvidence members.now evidence.new (given ++ counted)) }
 {
-    match contents {
-        Some(contents) => add_records(alloc, evidence, contents.owner.site, &contents.records),
-        None => Ok(()),
+    match files.open(path)? {
+        Some(mut cell) => read_cell(alloc, members, files, &mut cell, evidence),
+        None => Ok(Some(CellDefect::Unread)),
     }
 }
 
 // What is amiss with a cell, if anything is.
-fn add_fault(text: &mut String, path: &str, fault: Option<CellFault>) -> Result<(), AllocError>
+fn add_fault(text: &mut String, path: &str, fault: Option<CellDefect>) -> Result<(), AllocError>
     ensures { Pushes result text.old text.new (line_if path.now fault) }
 {
     match fault {
@@ -67,27 +69,10 @@ fn add_fault(text: &mut String, path: &str, fault: Option<CellFault>) -> Result<
 }
 
 // Whether nothing was amiss before, and nothing is now.
-fn still_used(all_used: bool, fault: Option<CellFault>) -> bool
+fn still_used(all_used: bool, fault: Option<CellDefect>) -> bool
     ensures { result ≡ (all_used && is_none fault) }
 {
     all_used && fault.is_none()
-}
-
-// One more cell was read.
-fn add_reading(
-    alloc: Global,
-    gathered: &mut Gathered,
-    path: &str,
-    reading: &CellReading,
-) -> Result<(), AllocError>
-    ensures { OnOk result ((members : Membership) (readings : List Reading)
-        → IsGathered members gathered.old readings
-        → IsGathered members gathered.new (readings ++ reading_at path.now reading.now ∷ [])) }
-{
-    add_contents(alloc, &mut gathered.evidence, &reading.contents)?;
-    add_fault(&mut gathered.text, path, reading.fault)?;
-    gathered.all_used = still_used(gathered.all_used, reading.fault);
-    Ok(())
 }
 
 // One more cell is read.
@@ -104,9 +89,10 @@ fn add_cell<F: CellFiles>(
         × IsRead members.now (F.bytes_at files.now) r
         × IsGathered members.now gathered.new (readings ++ r ∷ [])) }
 {
-    let bytes = files.read(alloc, path)?;
-    let reading = reading_of(alloc, members, bytes)?;
-    add_reading(alloc, gathered, path, &reading)
+    let fault = add_records_of(alloc, members, files, &mut gathered.evidence, path)?;
+    add_fault(&mut gathered.text, path, fault)?;
+    gathered.all_used = still_used(gathered.all_used, fault);
+    Ok(())
 }
 
 /// Reads the cells of these paths.

@@ -2,7 +2,7 @@
 #![tactic(auto)]
 
 mod arguments;
-mod cell_fault;
+mod cell_defect;
 mod cell_files;
 mod cell_reading;
 mod cells_audit;
@@ -12,6 +12,7 @@ mod disk_cells;
 mod evidence;
 mod finding_lines;
 mod gathered;
+mod standing;
 mod version;
 
 pub use arguments::{AuditTask, audit_command, audit_task};

@@ -173,7 +173,7 @@ fn compare_entries(files: &FilesByPath<'_>, algorithm: Algorithm, entries: &[Ent
 }
 
 /// Whether an entry's file is there, and its digest by the manifest's algorithm isn't the entry's;
-/// a digest that wasn't wanted isn't.
+/// a digest that wasn't computed is never wrong.
 pub fn is_wrong(algorithm: Algorithm, files: &FilesByPath<'_>, entry: &Entry) -> bool
     ensures { result ≡ is_wrong algorithm files.now entry.now }
 {

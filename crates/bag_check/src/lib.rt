@@ -1,5 +1,13 @@
 //! Whether a tree of files is a valid bag, of which identity, and if it isn't, why (RFC 8493,
 //! within the limits that `BagFault` names).
+//!
+//! ```
+//! match check(alloc, facts) {
+//!     Ok(_) => Ok(true),
+//!     Err(BagFault::Memory) => Err(AllocError),
+//!     Err(_) => Ok(false),
+//! }
+//! ```
 #![tactic(auto)]
 
 mod check_bag;

@@ -5,9 +5,9 @@ use crate::manifests::Kind;
 use bag_digest::Algorithms;
 use bag_text::Algorithm;
 
-/// The algorithms by which a file of this path asks for digests: that of the manifest whose name
-/// it is, of either kind, or none. The digests by all that the paths of a tree ask for are those
-/// that an answer about it needs.
+/// The algorithms by which a file of this path asks for digests: the manifest's, if the path names
+/// a manifest of either kind, or else none. A check of a tree needs only
+/// the digests by the algorithms that its paths ask for.
 pub fn named_by(path: &str) -> Algorithms
     ensures { result ≡ asked_by path.now }
 {

@@ -19,54 +19,35 @@ use Rattle.bag_explain.proofs.EntryPlaces.{is_missing_there, wrong_is, is_wrong_
 use Rattle.bag_explain.proofs.MalformedPlaces.{malformed_is, is_malformed_there}
 use Rattle.bag_explain.proofs.RepeatedPlaces.{repeated_is, is_repeated_there}
 use Rattle.bag_explain.proofs.UnlistedPlaces.{unlisted_is, is_unlisted_there}
-use Rattle.bag_explain.proofs.TagFilePlaces.{one_place, at_one_place, declared_line, line_declared}
+use Rattle.bag_explain.proofs.TagFilePlaces.{one_place, declared_line, line_declared}
 use Rattle.bag_explain.proofs.TagFilePlaces.{unknown_is, is_unknown_there}
 
-module _ (facts : TreeFacts) where
-  -- a fault holds at each of its places
-  sound : (fault : BagFault) (place : Place) → In place (places_of fault facts)
-      → IsWrongAt fault facts place
-  unfolding IsWrongAt places_of
-  sound NoDeclaration place h = one_place (holds NoDeclaration facts) _ place h
-  sound BadDeclaration place h = declared_line (declaration_in facts) place h
-  sound UnsupportedVersion place h = one_place (holds UnsupportedVersion facts) _ place h
-  sound UnsupportedEncoding place h = one_place (holds UnsupportedEncoding facts) _ place h
-  sound HasFetch place h = one_place (holds HasFetch facts) _ place h
-  sound NoPayloadFolder place h = one_place (holds NoPayloadFolder facts) _ place h
-  sound NoSha512Manifest place h = one_place (holds NoSha512Manifest facts) _ place h
-  sound UnknownAlgorithm place h = unknown_is facts place h
-  sound MalformedLine place h = malformed_is facts place h
-  sound UnsafePath place h = astray_is facts place h
-  sound DuplicateEntry place h = repeated_is facts place h
-  sound MissingFile place h = missing_is facts place h
-  sound UnlistedFile place h = unlisted_is facts place h
-  sound WrongDigest place h = wrong_is facts place h
-  sound Memory place h = absurd h
+-- a fault holds at each of its places, and where it holds, it has a place
+exact : (facts : TreeFacts) (fault : BagFault) (place : Place)
+    → In place (places_of fault facts) ↔ IsWrongAt fault facts place
+unfolding IsWrongAt places_of
+exact facts NoDeclaration place = one_place (holds NoDeclaration facts) _ place
+exact facts BadDeclaration place =
+    (declared_line (declaration_in facts) place, line_declared (declaration_in facts) place)
+exact facts UnsupportedVersion place = one_place (holds UnsupportedVersion facts) _ place
+exact facts UnsupportedEncoding place = one_place (holds UnsupportedEncoding facts) _ place
+exact facts HasFetch place = one_place (holds HasFetch facts) _ place
+exact facts NoPayloadFolder place = one_place (holds NoPayloadFolder facts) _ place
+exact facts NoSha512Manifest place = one_place (holds NoSha512Manifest facts) _ place
+exact facts UnknownAlgorithm place = (unknown_is facts place, is_unknown_there facts place)
+exact facts MalformedLine place = (malformed_is facts place, is_malformed_there facts place)
+exact facts UnsafePath place = (astray_is facts place, is_astray_there facts place)
+exact facts DuplicateEntry place = (repeated_is facts place, is_repeated_there facts place)
+exact facts MissingFile place = (missing_is facts place, is_missing_there facts place)
+exact facts UnlistedFile place = (unlisted_is facts place, is_unlisted_there facts place)
+exact facts WrongDigest place = (wrong_is facts place, is_wrong_there facts place)
+exact facts Memory place = (λ h. absurd h, λ h. absurd h)
 
-  -- where a fault holds, it has a place
-  complete : (fault : BagFault) (place : Place) → IsWrongAt fault facts place
-      → In place (places_of fault facts)
-  unfolding IsWrongAt places_of
-  complete NoDeclaration place h = at_one_place (holds NoDeclaration facts) _ place h
-  complete BadDeclaration place h = line_declared (declaration_in facts) place h
-  complete UnsupportedVersion place h = at_one_place (holds UnsupportedVersion facts) _ place h
-  complete UnsupportedEncoding place h = at_one_place (holds UnsupportedEncoding facts) _ place h
-  complete HasFetch place h = at_one_place (holds HasFetch facts) _ place h
-  complete NoPayloadFolder place h = at_one_place (holds NoPayloadFolder facts) _ place h
-  complete NoSha512Manifest place h = at_one_place (holds NoSha512Manifest facts) _ place h
-  complete UnknownAlgorithm place h = is_unknown_there facts place h
-  complete MalformedLine place h = is_malformed_there facts place h
-  complete UnsafePath place h = is_astray_there facts place h
-  complete DuplicateEntry place h = is_repeated_there facts place h
-  complete MissingFile place h = is_missing_there facts place h
-  complete UnlistedFile place h = is_unlisted_there facts place h
-  complete WrongDigest place h = is_wrong_there facts place h
-  complete Memory place h = absurd h
-
--- a fault has exactly the places where it holds
+-- the same, of places as contracts say it
 pub places_exact : (fault : BagFault) (facts : TreeFacts) (place : Place)
     → Contains (places_of fault facts) place ↔ IsWrongAt fault facts place
-places_exact fault facts place = (
-  λ c. sound facts fault place (contained_in (places_of fault facts) place c),
-  λ h. in_contained (places_of fault facts) place (complete facts fault place h),
-)
+places_exact fault facts place =
+    let its = exact facts fault place in (
+      λ c. its.0 (contained_in (places_of fault facts) place c),
+      λ h. in_contained (places_of fault facts) place (its.1 h),
+    )

@@ -18,42 +18,27 @@ use Rattle.bag_explain.specs.Lines.{NumberedFile, numbered, if_malformed, number
 use Rattle.bag_explain.specs.Lines.{malformed_from}
 use Rattle.bag_explain.specs.Listings.{Listing, listing_by, listing_of, listings_of}
 
-zero_more : (n : ℕ) → n ≡ n + 0
-zero_more n = omega arith
-
-malformed_from-snoc : (algorithm : Algorithm) (number : ℕ) (lines : List (List ℕ)) (line : List ℕ)
-    → malformed_from algorithm number (lines ++ line ∷ [])
-    ≡ malformed_from algorithm number lines
-    ++ if_malformed (number + length lines) (entries_of algorithm line)
-unfolding malformed_from
-malformed_from-snoc algorithm number [] line =
-    append-nil (if_malformed number (entries_of algorithm line))
-    ∙ ap (λ (n : ℕ). if_malformed n (entries_of algorithm line)) (zero_more number)
-malformed_from-snoc algorithm number (first ∷ lines) line =
-    let here = if_malformed number (entries_of algorithm first) in
-    let there = malformed_from algorithm (number + 1) lines in
+-- one line more: `at` gives what a line and its number say, and `from` what lines say
+from-snoc : {X : Type 0} (at : ℕ → List ℕ → List X) (from : ℕ → List (List ℕ) → List X)
+    → ((number : ℕ) → from number [] ≡ [])
+    → ((number : ℕ) (line : List ℕ) (lines : List (List ℕ))
+    → from number (line ∷ lines) ≡ at number line ++ from (number + 1) lines)
+    → (number : ℕ) (lines : List (List ℕ)) (line : List ℕ)
+    → from number (lines ++ line ∷ []) ≡ from number lines ++ at (number + length lines) line
+from-snoc at from none more number [] line =
+    let e : number ≡ number + 0 = omega arith in
+    rw (more number line [], none (number + 1), none number, append-nil (at number line))
+    (ap (λ (n : ℕ). at n line) e)
+from-snoc at from none more number (first ∷ lines) line =
     let e : (number + 1) + length lines ≡ number + length (first ∷ lines) = omega arith in
-    ap (λ t. here ++ t) (malformed_from-snoc algorithm (number + 1) lines line)
-    ∙ (sym (append_assoc here there
-    (if_malformed ((number + 1) + length lines) (entries_of algorithm line)))
-    ∙ ap (λ (n : ℕ). (here ++ there) ++ if_malformed n (entries_of algorithm line)) e)
-
-numbered_from-snoc : (algorithm : Algorithm) (number : ℕ) (lines : List (List ℕ)) (line : List ℕ)
-    → numbered_from algorithm number (lines ++ line ∷ [])
-    ≡ numbered_from algorithm number lines
-    ++ numbered (number + length lines) (entries_of algorithm line)
-unfolding numbered_from
-numbered_from-snoc algorithm number [] line =
-    append-nil (numbered number (entries_of algorithm line))
-    ∙ ap (λ (n : ℕ). numbered n (entries_of algorithm line)) (zero_more number)
-numbered_from-snoc algorithm number (first ∷ lines) line =
-    let here = numbered number (entries_of algorithm first) in
-    let there = numbered_from algorithm (number + 1) lines in
-    let e : (number + 1) + length lines ≡ number + length (first ∷ lines) = omega arith in
-    ap (λ t. here ++ t) (numbered_from-snoc algorithm (number + 1) lines line)
-    ∙ (sym (append_assoc here there
-    (numbered ((number + 1) + length lines) (entries_of algorithm line)))
-    ∙ ap (λ (n : ℕ). (here ++ there) ++ numbered n (entries_of algorithm line)) e)
+    rw (
+      more number first (lines ++ line ∷ []),
+      more number first lines,
+      from-snoc at from none more (number + 1) lines line,
+    )
+    (sym (append_assoc (at number first) (from (number + 1) lines)
+    (at ((number + 1) + length lines) line))
+    ∙ ap (λ (n : ℕ). (at number first ++ from (number + 1) lines) ++ at n line) e)
 
 -- ---- the loop over the lines
 
@@ -78,27 +63,38 @@ module _ (algorithm : Algorithm) (items : List (Bor (List ℕ))) (place number :
       length-take-le place items (omega (arith, within)) in
       omega (arith, e, k, counted)
 
+  from_more : {X : Type 0} (at : ℕ → List ℕ → List X) (from : ℕ → List (List ℕ) → List X)
+      → ((lines : List (List ℕ)) (line : List ℕ)
+      → from 1 (lines ++ line ∷ []) ≡ from 1 lines ++ at (1 + length lines) line)
+      → (before after : List X) → before ≡ from 1 (texts_of (take place items))
+      → after ≡ before ++ at (number + 1) text → after ≡ from 1 (texts_of (take (place + 1) items))
+  from_more at from snoc before after e h =
+      h ∙ (ap (λ t. t ++ at (number + 1) text) e
+      ∙ (ap (λ n. from 1 (texts_of (take place items)) ++ at n text) (sym here)
+      ∙ (sym (snoc (texts_of (take place items)) text)
+      ∙ ap (from 1) (sym next))))
+
   pub malformed_more : (before after : List ℕ)
       → before ≡ malformed_from algorithm 1 (texts_of (take place items))
       → after ≡ before ++ if_malformed (number + 1) (entries_of algorithm text)
       → after ≡ malformed_from algorithm 1 (texts_of (take (place + 1) items))
+  unfolding malformed_from
   malformed_more before after e h =
-      h ∙ (ap (λ t. t ++ if_malformed (number + 1) (entries_of algorithm text)) e
-      ∙ (ap (λ n. malformed_from algorithm 1 (texts_of (take place items))
-      ++ if_malformed n (entries_of algorithm text)) (sym here)
-      ∙ (sym (malformed_from-snoc algorithm 1 (texts_of (take place items)) text)
-      ∙ ap (malformed_from algorithm 1) (sym next))))
+      let at = λ (n : ℕ) (line : List ℕ). if_malformed n (entries_of algorithm line) in
+      from_more at (malformed_from algorithm)
+      (from-snoc at (malformed_from algorithm) (λ n. refl) (λ n line lines. refl) 1)
+      before after e h
 
   pub numbered_more : (before after : List NumberedFile)
       → before ≡ numbered_from algorithm 1 (texts_of (take place items))
       → after ≡ before ++ numbered (number + 1) (entries_of algorithm text)
       → after ≡ numbered_from algorithm 1 (texts_of (take (place + 1) items))
+  unfolding numbered_from
   numbered_more before after e h =
-      h ∙ (ap (λ t. t ++ numbered (number + 1) (entries_of algorithm text)) e
-      ∙ (ap (λ n. numbered_from algorithm 1 (texts_of (take place items))
-      ++ numbered n (entries_of algorithm text)) (sym here)
-      ∙ (sym (numbered_from-snoc algorithm 1 (texts_of (take place items)) text)
-      ∙ ap (numbered_from algorithm 1) (sym next))))
+      let at = λ (n : ℕ) (line : List ℕ). numbered n (entries_of algorithm line) in
+      from_more at (numbered_from algorithm)
+      (from-snoc at (numbered_from algorithm) (λ n. refl) (λ n line lines. refl) 1)
+      before after e h
 
 -- after the last line
 pub all_read : (manifest : Manifest) (items : List (Bor (List ℕ))) (place : ℕ)

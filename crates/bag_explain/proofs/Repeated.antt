@@ -7,18 +7,24 @@ use Rattle.std.specs.Str.{bytes_eq}
 use Rattle.std.proofs.lemmas.Grind.{flat_map-append}
 use Rattle.std.proofs.lemmas.List.{take_more, take_all}
 use Rattle.std.proofs.lemmas.List.Folds.{list_any-append}
-use Rattle.std.proofs.Math.Bool.{or-false, or_comm}
-use Rattle.std.proofs.lemmas.Slice.Eq.{bytes_eq-Decides}
-use Rattle.std.proofs.lemmas.Bool.Decides.{same_from_decides, Decides-like}
+use Rattle.std.proofs.Math.Bool.{or-false, or-true, or_comm, or_assoc}
 use Rattle.bag_text.specs.ListedFile.{ListedFile}
 use Rattle.bag_check.specs.declared.fault.BagFault.TheVariants.{DuplicateEntry}
 use Rattle.bag_check.specs.Manifests.{is_listed}
 use Rattle.bag_check.specs.Check.{repeats}
+use Rattle.bag_check.proofs.Repeats.{bytes_eq-sym}
 use Rattle.bag_explain.specs.Lines.{NumberedFile}
 use Rattle.bag_explain.specs.Listings.{Listing}
 use Rattle.bag_explain.specs.Places.{Place, when, files_in, repeated_after, repeated_at}
 use Rattle.bag_explain.specs.Findings.{printed_places, has_some}
 use Rattle.bag_explain.proofs.FaultLines.{after_both, printed-append}
+
+-- a path among these files and one more
+listed-snoc : (q : List ℕ) (files : List ListedFile) (file : ListedFile)
+    → is_listed q (files ++ file ∷ []) ≡ (is_listed q files || bytes_eq file.path q)
+listed-snoc q files file =
+    list_any-append (λ (f : ListedFile). bytes_eq f.path q) files (file ∷ [])
+    ∙ ap (λ t. is_listed q files || t) (or-false (bytes_eq file.path q))
 
 files_in-append : (a b : List NumberedFile) → files_in (a ++ b) ≡ files_in a ++ files_in b
 files_in-append [] b = refl
@@ -56,11 +62,8 @@ module _ (entries : List NumberedFile) (place : ℕ) (entry : NumberedFile)
   listed_next q =
       ap (λ es. is_listed q (files_in es)) next
       ∙ (ap (is_listed q) (files_in-append (take place entries) (entry ∷ []))
-      ∙ (list_any-append (λ (e : ListedFile). bytes_eq e.path q) (files_in (take place entries))
-      (entry.file ∷ [])
-      ∙ (ap (λ t. is_listed q (files_in (take place entries)) || t)
-      (or-false (bytes_eq entry.file.path q))
-      ∙ or_comm (is_listed q (files_in (take place entries))) (bytes_eq entry.file.path q))))
+      ∙ (listed-snoc q (files_in (take place entries)) entry.file
+      ∙ or_comm (is_listed q (files_in (take place entries))) (bytes_eq entry.file.path q)))
 
   repeated_next : repeated_after [] (take (place + 1) entries)
       ≡ repeated_after [] (take place entries)
@@ -121,17 +124,9 @@ module _ (listing : Listing) (items : List NumberedFile) (place : ℕ)
 
 -- ---- a path is listed twice where an entry is repeated
 
-bytes_eq-sym : (p q : List ℕ) → bytes_eq p q ≡ bytes_eq q p
-bytes_eq-sym p q =
-    same_from_decides (bytes_eq p q) (bytes_eq q p) (bytes_eq-Decides p q)
-    (Decides-like (bytes_eq q p) sym sym (bytes_eq-Decides q p))
-
-mixed : (a s c d : Bool) → ((a || (s || false)) || (c || d)) ≡ ((a || c) || (s || d))
-mixed true s c d = refl
-mixed false true true d = refl
-mixed false true false d = refl
-mixed false false true d = refl
-mixed false false false d = refl
+or_swap : (a b c : Bool) → (a || (b || c)) ≡ (b || (a || c))
+or_swap true b c = sym (or-true b)
+or_swap false b c = refl
 
 repeats-snoc : (entries : List ListedFile) (entry : ListedFile)
     → repeats (entries ++ entry ∷ []) ≡ (repeats entries || is_listed entry.path entries)
@@ -139,13 +134,12 @@ unfolding repeats
 repeats-snoc [] entry = refl
 repeats-snoc (first ∷ entries) entry =
     rw (
-      list_any-append (λ (e : ListedFile). bytes_eq e.path first.path) entries
-          (entry ∷ []),
+      listed-snoc first.path entries entry,
       repeats-snoc entries entry,
       bytes_eq-sym first.path entry.path,
     )
-    (mixed (is_listed first.path entries) (bytes_eq entry.path first.path) (repeats entries)
-    (is_listed entry.path entries))
+    (simp or_assoc (ap (λ (t : Bool). is_listed first.path entries || t)
+    (or_swap (bytes_eq entry.path first.path) (repeats entries) (is_listed entry.path entries))))
 
 once_more : (a t h : Bool) (e : NumberedFile) (others : List NumberedFile) → has_some others ≡ h
     → ((a || t) || h) ≡ (a || has_some (when t (e ∷ []) ++ others))

@@ -1,7 +1,7 @@
 -- The places of the faults that need no manifest to be read.
 use Rattle.std.proofs.Common.{◌≡◌, ℕ, Bool, true, List, [], ◌∷◌, Option, Some, None, Result, Ok}
 use Rattle.std.proofs.Common.{Err, refl, sym, subst, inl, inr}
-use Rattle.std.specs.Prelude.{codes}
+use Rattle.std.specs.Prelude.{◌↔◌, codes}
 use Rattle.std.specs.List.{flat_map}
 use Rattle.bag_text.specs.Readers.{declaration_of}
 use Rattle.bag_tree.specs.Facts.{TreeFacts}
@@ -15,15 +15,12 @@ use Rattle.bag_explain.proofs.Members.{in_when, when_in}
 
 -- ---- the one place of a fault
 
-pub one_place : (test : Bool) (here place : Place) → In place (when test (here ∷ []))
-    → (test ≡ true) × (place ≡ here)
-one_place test here place h =
-    let (passed, is) = in_when test here place h in (passed, sym is)
-
-pub at_one_place : (test : Bool) (here place : Place) → (test ≡ true) × (place ≡ here)
-    → In place (when test (here ∷ []))
-at_one_place test here place (passed, is) =
-    subst (λ p. In p (when test (here ∷ []))) (sym is) (when_in test here passed)
+pub one_place : (test : Bool) (here place : Place)
+    → In place (when test (here ∷ [])) ↔ ((test ≡ true) × (place ≡ here))
+one_place test here place = (
+  λ h. let (passed, is) = in_when test here place h in (passed, sym is),
+  λ h. subst (λ p. In p (when test (here ∷ []))) (sym h.1) (when_in test here h.0),
+)
 
 -- ---- the line of the declaration
 

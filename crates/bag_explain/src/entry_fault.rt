@@ -1,6 +1,6 @@
 ghost use Rattle.std.specs.Prelude.{[], ◌∷◌};
 ghost use Rattle.words.specs.Pushes.{Pushes};
-ghost use Rattle.bag_explain.specs.Places.{when, entry_place, astray_at, missing_at, wrong_at};
+ghost use Rattle.bag_explain.specs.Places.{when, entry_place, digest_place};
 ghost use Rattle.bag_explain.specs.Findings.{printed_places};
 ghost use Rattle.bag_explain.specs.inner.Stages.{entry_fault_of, faulty_at};
 
@@ -32,35 +32,19 @@ pub(crate) fn push_if_faulty(
         (faulty_at fault files.now listing.now entry.now)) }
 {
     match fault {
-        EntryFault::Astray => push_if_astray(text, listing, entry),
-        EntryFault::Missing => push_if_missing(text, files, listing, entry),
-        EntryFault::Wrong => push_if_wrong(text, files, listing, entry),
+        EntryFault::Astray => {
+            let is_faulty = is_astray(listing.kind(), entry.entry());
+            push_path_if(text, is_faulty, BagFault::UnsafePath, listing, entry)
+        }
+        EntryFault::Missing => {
+            let is_faulty = !files.has_file(entry.entry().path());
+            push_path_if(text, is_faulty, BagFault::MissingFile, listing, entry)
+        }
+        EntryFault::Wrong => {
+            let is_faulty = is_wrong(listing.algorithm(), files, entry.entry());
+            push_digest_if(text, is_faulty, listing, entry)
+        }
     }
-}
-
-fn push_if_astray(
-    text: &mut String,
-    listing: &Listing,
-    entry: &NumberedEntry,
-) -> Result<(), AllocError>
-    ensures { Pushes result text.old text.new
-        (printed_places BagFault.UnsafePath (astray_at listing.now entry.now)) }
-{
-    let is_faulty = is_astray(listing.kind(), entry.entry());
-    push_path_if(text, is_faulty, BagFault::UnsafePath, listing, entry)
-}
-
-fn push_if_missing(
-    text: &mut String,
-    files: &FilesByPath<'_>,
-    listing: &Listing,
-    entry: &NumberedEntry,
-) -> Result<(), AllocError>
-    ensures { Pushes result text.old text.new
-        (printed_places BagFault.MissingFile (missing_at files.now listing.now entry.now)) }
-{
-    let is_faulty = !files.has_file(entry.entry().path());
-    push_path_if(text, is_faulty, BagFault::MissingFile, listing, entry)
 }
 
 /// Appends the line of a fault of the path of an entry, if that is at fault.
@@ -86,25 +70,24 @@ pub(crate) fn push_path_if(
     )
 }
 
-fn push_if_wrong(
+// Appends the line of a fault of the digest that an entry lists, if that is at fault.
+fn push_digest_if(
     text: &mut String,
-    files: &FilesByPath<'_>,
+    is_faulty: bool,
     listing: &Listing,
     entry: &NumberedEntry,
 ) -> Result<(), AllocError>
-    ensures { Pushes result text.old text.new
-        (printed_places BagFault.WrongDigest (wrong_at files.now listing.now entry.now)) }
+    ensures { Pushes result text.old text.new (printed_places BagFault.WrongDigest
+        (when is_faulty (digest_place listing.now entry.now ∷ []))) }
 {
-    let algorithm = listing.algorithm();
-    if !is_wrong(algorithm, files, entry.entry()) {
+    if !is_faulty {
         return Ok(());
     }
-    let path = entry.entry().path();
     push_digest(
         text,
         BagFault::WrongDigest,
-        path,
-        algorithm,
+        entry.entry().path(),
+        listing.algorithm(),
         listing.name(),
         entry.line(),
     )

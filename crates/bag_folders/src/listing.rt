@@ -69,7 +69,7 @@ impl Listing {
         bytes
     }
 
-    /// Takes the entries of the folder whose path below the bag's is `below`.
+    /// Takes the entries of the subfolder `below` of the bag.
     fn list<R: Files + AllocGlobal + Clone + Drop>(
         &mut self,
         rt: &R,
@@ -92,7 +92,7 @@ impl Listing {
         Ok(())
     }
 
-    /// The folder whose path below the bag's is `below` can't be listed.
+    /// The subfolder `below` of the bag can't be listed.
     fn unlisted(&self, below: String, error: &io::Error) -> Result<(), Failure>
         ensures { IfErr result (λ failure. IsWalkFault failure.fault) }
     {

@@ -37,9 +37,8 @@ impl Facts {
         self.files.as_slice()
     }
 
-    /// Computes those wanted digests of the texts that describe the bag which are by one of these
-    /// algorithms. Else each is computed whenever it is asked for. Nothing changes that a clause
-    /// sees.
+    /// Computes now the wanted digests, by these algorithms, of the texts that describe the bag.
+    /// Without this each is computed whenever it is asked for. No clause sees the difference.
     pub fn compute_digests(&mut self, by: Algorithms)
         ensures { self.new ≡ self.old }
     {

@@ -1,20 +1,16 @@
 //! What is wrong with bagit.txt.
 
-use crate::bag::Bag;
 use crate::finding::Finding;
-use crate::listed::TextLines;
 use crate::manifest_line::push_shown;
 use std::alloc::AllocError;
 
 /// Appends what the line of bagit.txt is, and what it has to be.
-pub(crate) fn push_declared<'a>(
+pub(crate) fn push_declared(
     text: &mut String,
-    bag: &Bag<'a, '_>,
-    texts: &mut TextLines<'a>,
     finding: &Finding<'_>,
+    line: &[u8],
 ) -> Result<(), AllocError> {
     let number = finding.line;
-    let line = texts.line(bag, finding.name, number)?;
     write!(text, "bagit.txt line {number} is ")?;
     push_shown(text, line)?;
     text.push_str(match (finding.number, number) {

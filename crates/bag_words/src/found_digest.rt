@@ -2,7 +2,6 @@
 
 use crate::bag::{ALGORITHMS, Bag};
 use crate::finding::Finding;
-use crate::listed::TextLines;
 use bag_digest::{Algorithms, Digester};
 use bag_text::Algorithm;
 use code_words::push_name;
@@ -16,17 +15,16 @@ const MOST_PIECES: u32 = 16384;
 const PIECE: usize = 65536;
 
 /// Appends the file, and both digests.
-pub(crate) fn push_digests<'a>(
+pub(crate) fn push_digests(
     text: &mut String,
-    bag: &Bag<'a, '_>,
-    texts: &mut TextLines<'a>,
+    bag: &Bag<'_, '_>,
     finding: &Finding<'_>,
+    line: &[u8],
 ) -> Result<(), AllocError> {
+    push_name(text, finding.path.as_str())?;
     let name = finding.name;
     let number = finding.line;
     let algorithm = finding.algorithm;
-    let line = texts.line(bag, name, number)?;
-    push_name(text, finding.path.as_str())?;
     write!(
         text,
         " isn't as listed: {name} line {number} lists the {algorithm} "

@@ -1,6 +1,7 @@
 //! Lines of the texts that describe a bag.
 
 use crate::bag::Bag;
+use crate::finding::Finding;
 use bag_text::lines;
 use std::alloc::AllocError;
 
@@ -20,20 +21,21 @@ impl<'a> TextLines<'a> {
         }
     }
 
-    /// The line of this number, counted from 1, of the text of this name; empty where there is
-    /// none.
-    pub(crate) fn line(
+    /// The line where a fault was found; empty where there is none.
+    pub(crate) fn line_at(
         &mut self,
         bag: &Bag<'a, '_>,
-        name: &str,
-        number: usize,
+        finding: &Finding<'_>,
     ) -> Result<&'a [u8], AllocError> {
+        let name = finding.name;
         if self.name.as_str() != name {
             self.lines = lines_of(bag, name)?;
             self.name.clear();
             self.name.push_str(name)?;
         }
-        Ok(match self.lines.as_slice().get(number.saturating_sub(1)) {
+        // Lines are counted from 1.
+        let index = finding.line.saturating_sub(1);
+        Ok(match self.lines.as_slice().get(index) {
             Some(line) => *line,
             None => &[],
         })

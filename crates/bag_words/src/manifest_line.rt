@@ -1,8 +1,7 @@
 //! What is wrong with a line of a manifest.
 
-use crate::bag::{ALGORITHMS, Bag};
+use crate::bag::ALGORITHMS;
 use crate::finding::Finding;
-use crate::listed::TextLines;
 use bag_text::Algorithm;
 use code_words::push_name;
 use std::alloc::AllocError;
@@ -13,15 +12,13 @@ const SHOWN: usize = 160;
 const MARK: &[u8] = b"\xef\xbb\xbf";
 
 /// Appends the line, and what is wrong with it.
-pub(crate) fn push_malformed<'a>(
+pub(crate) fn push_malformed(
     text: &mut String,
-    bag: &Bag<'a, '_>,
-    texts: &mut TextLines<'a>,
     finding: &Finding<'_>,
+    line: &[u8],
 ) -> Result<(), AllocError> {
     let name = finding.name;
     let number = finding.line;
-    let line = texts.line(bag, name, number)?;
     write!(text, "{name} line {number} is ")?;
     push_shown(text, line)?;
     text.push_str(": ")?;

@@ -70,17 +70,13 @@ impl NearNames {
         text: &mut String,
         path: &str,
     ) -> Result<(), AllocError> {
-        let key = key_of(alloc, path)?;
-        let Some(other) = self.unlisted.get(key.as_str()) else {
+        let Some(other) = other_in(alloc, &self.unlisted, path)? else {
             return Ok(());
         };
-        if other.as_str() == path {
-            return Ok(());
-        }
         text.push_str("; ")?;
-        push_name(text, other.as_str())?;
+        push_name(text, other)?;
         text.push_str(" is, and differs only by ")?;
-        push_difference(alloc, text, path, other.as_str())
+        push_difference(alloc, text, path, other)
     }
 
     /// Appends which file is listed in place of the one of this path, if one may be meant.
@@ -90,18 +86,31 @@ impl NearNames {
         text: &mut String,
         path: &str,
     ) -> Result<(), AllocError> {
-        let key = key_of(alloc, path)?;
-        let Some(other) = self.missing.get(key.as_str()) else {
+        let Some(other) = other_in(alloc, &self.missing, path)? else {
             return Ok(());
         };
-        if other.as_str() == path {
-            return Ok(());
-        }
         text.push_str("; it lists ")?;
-        push_name(text, other.as_str())?;
+        push_name(text, other)?;
         text.push_str(", which differs only by ")?;
-        push_difference(alloc, text, other.as_str(), path)
+        push_difference(alloc, text, other, path)
     }
+}
+
+// The name among these that this path may be mistaken for, if it is another.
+fn other_in<'n>(
+    alloc: Global,
+    names: &'n BTreeMap<String, String>,
+    path: &str,
+) -> Result<Option<&'n str>, AllocError> {
+    let key = key_of(alloc, path)?;
+    let Some(other) = names.get(key.as_str()) else {
+        return Ok(None);
+    };
+    Ok(if other.as_str() == path {
+        None
+    } else {
+        Some(other.as_str())
+    })
 }
 
 fn put(alloc: Global, names: &mut BTreeMap<String, String>, path: &str) -> Result<(), AllocError> {

@@ -25,14 +25,14 @@ pub(crate) fn push_place<'a>(
     text.push_str("  ")?;
     match finding.number {
         1 => push_no_declaration(text, bag)?,
-        2..=4 => push_declared(text, bag, texts, finding)?,
+        2..=4 => push_declared(text, finding, texts.line_at(bag, finding)?)?,
         7 => push_no_manifest(text, bag)?,
-        9 => push_malformed(text, bag, texts, finding)?,
+        9 => push_malformed(text, finding, texts.line_at(bag, finding)?)?,
         10 => push_astray(text, bag, finding)?,
         11 => push_entry(text, finding, " again")?,
         12 => push_missing(text, bag, near, finding)?,
         13 => push_unlisted(text, bag, near, finding)?,
-        14 => push_digests(text, bag, texts, finding)?,
+        14 => push_digests(text, bag, finding, texts.line_at(bag, finding)?)?,
         _ => push_presence(text, finding)?,
     }
     text.push('\n')

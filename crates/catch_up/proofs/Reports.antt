@@ -13,12 +13,13 @@ use Rattle.outcomes.specs.declared.fault.ProgramFault.{ProgramFault}
 use Rattle.outcomes.specs.declared.fault.ProgramFault.TheVariants as faults
 use Rattle.outcomes.specs.Outcomes.{no_memory}
 use Rattle.udp_site.specs.Traffic.{Move, Grows}
+use Rattle.site_commands.specs.Answers.{IsWritten}
 use Rattle.catch_up.specs.declared.rounds.AskFault.{AskFault}
 use Rattle.catch_up.specs.declared.rounds.AskFault.TheVariants.{Memory, Output}
 use Rattle.catch_up.specs.declared.rounds.Asked.{Asked}
 use Rattle.catch_up.specs.Lines.{open_line, count_line}
 use Rattle.catch_up.specs.Rounds.{open_of, round_lines, same_after, left_after}
-use Rattle.catch_up.specs.Reports.{open_lines, status_of, IsCaughtUp}
+use Rattle.catch_up.specs.Reports.{open_lines, status_of, report, cut_short, IsCaughtUp}
 use Rattle.catch_up.specs.inner.Progress.{AppendsPart, StopsInRounds, AreAsked, AreReported}
 use Rattle.catch_up.proofs.Parts.{part_of_both, then_part}
 use Rattle.catch_up.proofs.Versions.{open_both}
@@ -200,23 +201,14 @@ module _ (asked : Asked) (vs : List KnownBag) (a b : Option (List Move)) (o n : 
         → OnErr result ((result ≡ Err faults.Output)
         × ((k : ℕ) × Appends n p (take k no_memory.text)))
         → IsCaughtUp asked vs a b o p result
-    memory_ran_out p (Ok status) (rounds, moves, others, grows, are, only, (count, part)) ok err =
-        inr (
-          rounds,
-          moves,
-          others,
-          grows,
-          are,
-          only,
-          (count, (ok.0, Appends-trans o n p _ no_memory.text part ok.1)),
-        )
-    memory_ran_out p (Err fault) (rounds, moves, others, grows, are, only, (count, part)) ok err =
-        inr (
-          rounds,
-          moves,
-          others,
-          grows,
-          are,
-          only,
-          (count, (output_is fault err.0, then_part o n p _ no_memory.text part err.1)),
-        )
+    memory_ran_out p result (rounds, moves, others, grows, are, only, (count, part)) ok err =
+        inr (rounds, moves, others, grows, are, only, (count, go result ok err))
+      where
+        go : (r : Result ℕ ProgramFault)
+            → IfOk r (λ given. (given ≡ 1) × Appends n p no_memory.text)
+            → OnErr r ((r ≡ Err faults.Output)
+            × ((k : ℕ) × Appends n p (take k no_memory.text)))
+            → IsWritten o p r (cut_short count (report vs rounds))
+        go (Ok status) ok err = (ok.0, Appends-trans o n p _ no_memory.text part ok.1)
+        go (Err fault) ok err =
+            (output_is fault err.0, then_part o n p _ no_memory.text part err.1)

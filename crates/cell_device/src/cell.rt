@@ -43,7 +43,7 @@ pub trait Cell {
     ghost counts_now: { (cell : Self) (t : ℕ) (c : List ℕ) → t ≤ (device cell).moment
         → MayLeave (device cell).image c → (device cell).left_since t c };
 
-    // Since this moment there is no other.
+    // Counted from this moment on, it is what a crash now may leave.
     ghost only_now: { (cell : Self) (c : List ℕ) → (device cell).left_since (device cell).moment c
         → MayLeave (device cell).image c };
 }

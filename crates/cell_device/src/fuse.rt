@@ -10,15 +10,15 @@ pub enum How {
     Stop,
 }
 
-/// A failure that is to come. Calls are counted from 1 since the fuse was set, those left out that
-/// are refused for memory; a fuse at call 0 never fires.
+/// A failure that is to come. Calls are counted from 1 since the fuse was set, but for calls
+/// that are refused for memory; a fuse at call 0 never fires.
 #[derive(Clone, Copy, Debug, PartialEq, Eq)]
 pub struct Fuse {
     /// The call that fails.
     pub call: usize,
     /// Whether the cell then goes on.
     pub how: How,
-    /// How many bytes that no sync has kept are there nevertheless.
+    /// How many of the bytes that were never synced survive.
     pub kept: usize,
 }
 

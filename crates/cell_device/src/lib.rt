@@ -1,5 +1,9 @@
 //! Cells: where a site keeps its journal. A cell is a file of bytes that keeps what it has synced;
 //! what a crash leaves of the rest, at each moment, is a part of every call's contract.
+//!
+//! ```
+//! Ok(MemoryCell::new(alloc, bytes.to_vec(alloc)?))
+//! ```
 #![tactic(auto)]
 
 mod cell;

@@ -28,11 +28,11 @@ IsMemberCount n = (1 ≤ n) × (n ≤ most_members)
 abbrev pub IsWeight : ℕ → Type 0
 IsWeight w = (1 ≤ w) × (w ≤ greatest_weight)
 
--- there are as many weights as a federation may have members
+-- there are as many weights as a federation may have members: 1 to 63
 abbrev pub CountFits : List ℕ → Type 0
 CountFits weights = IsMemberCount (length weights)
 
--- there are, and one of them is 0
+-- there are as many weights as that, and one of them is 0
 abbrev pub HasZeroWeight : List ℕ → Type 0
 HasZeroWeight weights = CountFits weights × Contains weights 0
 

@@ -1,5 +1,10 @@
-//! The words that the sites of a federation share: who they are, how their ballots are ordered,
+//! The types that the sites of a federation share: who they are, how their ballots are ordered,
 //! what a slot is, and which sets of sites are quorums.
+//!
+//! ```
+//! voters.add(site);
+//! members.is_quorum(voters)
+//! ```
 #![tactic(auto)]
 
 mod bag_id;

@@ -67,7 +67,7 @@ impl Slot {
         self.version
     }
 
-    /// The same slot once more.
+    /// A copy of the slot.
     pub fn copy(&self, alloc: Global) -> Result<Slot, AllocError>
         ensures { IfOk result (λ s. s ≡ self.now) }
     {

@@ -38,6 +38,17 @@ pub record SameButNames (f g : Federation) : Type 0 where
   pub seen : g.seen ≡ f.seen
   pub lines : g.lines ≡ f.lines
 
+pub named_only : (f : Federation) (sent : numbers.Sending ℕ) → sent.sent ≡ f.sent.sent
+    → SameButNames f (record f { sent = sent })
+named_only f sent is = record {
+  members = refl;
+  stations = refl;
+  sent = is;
+  trees = refl;
+  seen = refl;
+  lines = refl;
+}
+
 pub stands_naming : (f g : Federation) (w : World) (k : ℕ) → SameButNames f g
     → ((named : List ℕ) → numbers.StandsFor f.sent named
     → numbers.StandsFor g.sent (named ++ k ∷ []))

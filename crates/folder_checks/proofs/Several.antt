@@ -108,7 +108,7 @@ module _ (report : Report) (gives : List ℕ → Result TreeFacts TreeFault) (pl
         )
 
 -- one path more
-map_next : {X : Type 0} (f : X → List ℕ) (xs : List X) (i : ℕ) (d : X) → i < length xs
+pub map_next : {X : Type 0} (f : X → List ℕ) (xs : List X) (i : ℕ) (d : X) → i < length xs
     → take (i + 1) (map f xs) ≡ take i (map f xs) ++ f (get_or xs i d) ∷ []
 map_next f xs i d within =
     take_more (map f xs) i (f d) (subst (λ n. i < n) (sym (length-map xs f)) within)
@@ -159,72 +159,77 @@ module _ (report : Report) (known : Option (List ℕ → Result TreeFacts TreeFa
       go None = tt
       go (Some gives) = (no_memory, inr refl, written)
 
-  module _ {X : Type 0} (f : X → List ℕ) (xs : List X) (i : ℕ) (d : X)
-      (now : Option (List ℕ → Result TreeFacts TreeFault)) (at : Option (List ℕ))
-      (valid : Bool) (old between new : Option (List ℕ)) (within : i < length xs)
-      (same : now ≡ known) (same_place : at ≡ place)
-      (so_far : IfSome known
-      (λ gives. HaveReports report gives place (take i (map f xs)) valid old between)) where
-    moved : (P : Outcome → Type 0) → HasReport report now at (f (get_or xs i d)) P
-        → HasReport report known place (f (get_or xs i d)) P
-    moved P has =
-        subst (λ k. HasReport report k place (f (get_or xs i d)) P) same
-        (subst (λ p. HasReport report now p (f (get_or xs i d)) P) same_place has)
+-- the first of these paths have their lines, and this path is next; what is known of reads, and
+-- where they fail, is as it was
+pub record IsNext (report : Report) (known now : Option (List ℕ → Result TreeFacts TreeFault))
+    (place at : Option (List ℕ)) (paths : List (List ℕ)) (i : ℕ) (path : List ℕ) (valid : Bool)
+    (old between : Option (List ℕ)) : Type 0 where
+  pub next : take (i + 1) paths ≡ take i paths ++ path ∷ []
+  pub same : now ≡ known
+  pub same_place : at ≡ place
+  pub so_far : IfSome known
+      (λ gives. HaveReports report gives place (take i paths) valid old between)
 
-    -- one folder more has its lines
-    pub one_more : (status : ℕ) (are : Bool)
-        → HasReport report now at (f (get_or xs i d)) (Writes between new status)
-        → are ≡ (valid && nat_eq status 0)
-        → IfSome known
-        (λ gives. HaveReports report gives place (take (i + 1) (map f xs)) are old new)
-    one_more status are has is = go known so_far (moved (Writes between new status) has)
-      where
-        go : (known : Option (List ℕ → Result TreeFacts TreeFault))
-            → IfSome known
-            (λ gives. HaveReports report gives place (take i (map f xs)) valid old between)
-            → HasReport report known place (f (get_or xs i d)) (Writes between new status)
-            → IfSome known
-            (λ gives. HaveReports report gives place (take (i + 1) (map f xs)) are old new)
-        go None before one = tt
-        go (Some gives) before (outcome, is_one, writes) =
-            subst
-            (λ v. HaveReports report gives place (take (i + 1) (map f xs)) v old new) (sym is)
-            (subst
-            (λ ps. HaveReports report gives place ps (valid && nat_eq status 0) old new)
-            (sym (map_next f xs i d within))
-            (one_has report gives place (take i (map f xs)) (f (get_or xs i d)) outcome valid
-            status old between new before is_one writes))
+module _ {report : Report} {known now : Option (List ℕ → Result TreeFacts TreeFault)}
+    {place at : Option (List ℕ)} {paths : List (List ℕ)} {i : ℕ} {path : List ℕ} {valid : Bool}
+    {old between : Option (List ℕ)}
+    (is : IsNext report known now place at paths i path valid old between)
+    (new : Option (List ℕ)) where
+  moved : (P : Outcome → Type 0) → HasReport report now at path P
+      → HasReport report known place path P
+  moved P has =
+      subst (λ k. HasReport report k place path P) is.same
+      (subst (λ p. HasReport report now p path P) is.same_place has)
 
-    -- a writer took a part of one folder's lines
-    pub stopped : HasReport report now at (f (get_or xs i d)) (WritesPrefix between new)
-        → IfSome known (λ gives. (count : ℕ)
-        × ReportsAll report gives place (take count (map f xs)) (WritesPrefix old new))
-    stopped has = go known so_far (moved (WritesPrefix between new) has)
-      where
-        go : (known : Option (List ℕ → Result TreeFacts TreeFault))
-            → IfSome known
-            (λ gives. HaveReports report gives place (take i (map f xs)) valid old between)
-            → HasReport report known place (f (get_or xs i d)) (WritesPrefix between new)
-            → IfSome known (λ gives. (count : ℕ)
-            × ReportsAll report gives place (take count (map f xs)) (WritesPrefix old new))
-        go None before one = tt
-        go (Some gives) (outcomes, are, all, text) (outcome, is_one, part) =
-            let front = (all_of outcomes).text in
-            let path = f (get_or xs i d) in
-            let more = text_more report gives place outcomes outcome in (
-              i + 1,
+  -- one folder more has its lines
+  pub one_more : (status : ℕ) (are : Bool)
+      → HasReport report now at path (Writes between new status)
+      → are ≡ (valid && nat_eq status 0)
+      → IfSome known (λ gives. HaveReports report gives place (take (i + 1) paths) are old new)
+  one_more status are has all = go known is.so_far (moved (Writes between new status) has)
+    where
+      go : (known : Option (List ℕ → Result TreeFacts TreeFault))
+          → IfSome known
+          (λ gives. HaveReports report gives place (take i paths) valid old between)
+          → HasReport report known place path (Writes between new status)
+          → IfSome known (λ gives. HaveReports report gives place (take (i + 1) paths) are old new)
+      go None before one = tt
+      go (Some gives) before (outcome, is_one, writes) =
+          subst (λ v. HaveReports report gives place (take (i + 1) paths) v old new) (sym all)
+          (subst (λ ps. HaveReports report gives place ps (valid && nat_eq status 0) old new)
+          (sym is.next)
+          (one_has report gives place (take i paths) path outcome valid status old between new
+          before is_one writes))
+
+  -- a writer took a part of one folder's lines
+  pub stopped : HasReport report now at path (WritesPrefix between new)
+      → IfSome known (λ gives. (count : ℕ)
+      × ReportsAll report gives place (take count paths) (WritesPrefix old new))
+  stopped has = go known is.so_far (moved (WritesPrefix between new) has)
+    where
+      go : (known : Option (List ℕ → Result TreeFacts TreeFault))
+          → IfSome known
+          (λ gives. HaveReports report gives place (take i paths) valid old between)
+          → HasReport report known place path (WritesPrefix between new)
+          → IfSome known (λ gives. (count : ℕ)
+          × ReportsAll report gives place (take count paths) (WritesPrefix old new))
+      go None before one = tt
+      go (Some gives) (outcomes, are, all, text) (outcome, is_one, part) =
+          let front = (all_of outcomes).text in
+          let more = text_more report gives place outcomes outcome in (
+            i + 1,
+            (
+              outcomes ++ outcome ∷ [],
+              subst (λ ps. AreReports report gives place ps (outcomes ++ outcome ∷ []))
+                  (sym is.next)
+                  (AreReports-more report gives place (take i paths) path outcomes outcome are
+                  is_one),
               (
-                outcomes ++ outcome ∷ [],
-                subst (λ ps. AreReports report gives place ps (outcomes ++ outcome ∷ []))
-                    (sym (map_next f xs i d within))
-                    (AreReports-more report gives place (take i (map f xs)) path outcomes
-                    outcome are is_one),
-                (
-                  length front + part.0,
-                  subst (Appends old new)
-                      (sym (take-append-add front outcome.text part.0)
-                      ∙ ap (take (length front + part.0)) more)
-                      (Appends-trans old between new front (take part.0 outcome.text) text part.1),
-                ),
+                length front + part.0,
+                subst (Appends old new)
+                    (sym (take-append-add front outcome.text part.0)
+                    ∙ ap (take (length front + part.0)) more)
+                    (Appends-trans old between new front (take part.0 outcome.text) text part.1),
               ),
-            )
+            ),
+          )

@@ -1,7 +1,7 @@
 //! The command `check`: folders of the file system.
 
+use crate::all_folders::check_all_on;
 use crate::arguments::CheckTask;
-use crate::checking_all::check_all_on;
 use crate::progress::{Progress, Saying};
 use bag_folders::{DiskFolders, Folders};
 use bag_words::SpokenFolders;

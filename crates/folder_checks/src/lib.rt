@@ -2,21 +2,21 @@
 //! far a check is.
 #![tactic(auto)]
 
+mod all_folders;
 mod arguments;
-mod checking_all;
-mod checking_each;
 mod command;
 mod explanation;
 mod named;
 mod progress;
 mod report;
+mod several_folders;
 mod verdict;
 
+pub use all_folders::check_all_on;
 pub use arguments::{CheckTask, check_command, check_task};
-pub use checking_all::check_all_on;
-pub use checking_each::check_each_on;
 pub use command::{check_folders, spoken_folders, watched_folders};
 pub use explanation::explain_on;
 pub use progress::{Progress, Saying};
 pub use report::Report;
+pub use several_folders::check_each_on;
 pub use verdict::{Verdict, check_on};

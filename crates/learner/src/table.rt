@@ -54,42 +54,15 @@ pub(crate) fn hear<Q: Quorums>(
 {
     match table.get_mut(slot) {
         Some(row) => row.hear(alloc, members, vote, from),
-        None => hear_first(alloc, table, members, slot, vote, from),
+        None => {
+            let mut row = Row::Unheard;
+            let learned = row.hear(alloc, members, vote, from)?;
+            if !learned {
+                table.reserve(slot, row)?;
+            }
+            Ok(learned)
+        }
     }
-}
-
-// The same of a slot without a row.
-fn hear_first<Q: Quorums>(
-    alloc: Global,
-    table: &mut SlotTable<Row>,
-    members: &Q,
-    slot: &Slot,
-    vote: &Vote,
-    from: SiteNo,
-) -> Result<bool, AllocError>
-    requires { row_at table.old slot.now ≡ None }
-    ensures known { KnowsSame table.old table.new }
-    ensures learned { IfOk result (λ learned. learned
-        ≡ is_learned (Q.quorum_system members.now) (known_in (row_at table.old slot.now))
-        (with_voter (counted_in (row_at table.old slot.now) vote.now) from)) }
-    ensures unchanged { IfOk result (λ learned. IsTrue learned → table.new ≡ table.old) }
-    ensures counted { IfOk result (λ learned. learned ≡ false
-        → UnlessKnown (known_in (row_at table.old slot.now)) (CountsSame table.old table.new)
-        (IsCounted table.old table.new slot.now vote.now
-        (with_voter (counted_in (row_at table.old slot.now) vote.now) from))) }
-    ensures err { OnErr result (CountsSame table.old table.new) }
-    ensures memory { OnErr result (false
-        ≡ is_learned (Q.quorum_system members.now) (known_in (row_at table.old slot.now))
-        (with_voter (counted_in (row_at table.old slot.now) vote.now) from)) }
-    ensures unknown { OnErr result (known_in (row_at table.old slot.now) ≡ None) }
-    ensures rooms { HasRooms table.old table.new }
-{
-    let mut row = Row::Unheard;
-    let learned = row.hear(alloc, members, vote, from)?;
-    if !learned {
-        table.reserve(slot, row)?;
-    }
-    Ok(learned)
 }
 
 /// The bag of a slot that has a row is known, unless another was known before.

@@ -1,5 +1,5 @@
 -- What was found and read of a cell, as its contents.
-use Rattle.std.proofs.Common.{◌≡◌, ℕ, List, [], ◌∷◌, length, take, Ok, Err, Bool}
+use Rattle.std.proofs.Common.{◌≡◌, ◌<◌, ◌^◌, ℕ, List, [], ◌∷◌, length, take, Ok, Err, Bool}
 use Rattle.std.proofs.Common.{Result, refl, sym, ap, subst, ◌∙◌, arith, inl, inr, length-append}
 use Rattle.std.specs.Prelude.{IfOk}
 use Rattle.std.specs.List.{All}
@@ -7,11 +7,13 @@ use Rattle.std.specs.declared.alloc.AllocError.{AllocError}
 use Rattle.std.proofs.lemmas.List.{append-nil, take_at}
 use Rattle.std.proofs.lemmas.List.Elements.{All-replicate}
 use Rattle.records.specs.declared.owner.Owner.{Owner}
-use Rattle.records.specs.Starts.{Start, Old, New, Carried, HasWeights, text_bytes}
+use Rattle.fed_types.specs.Limits.{federation_bits}
+use Rattle.fed_types.specs.Sites.{AreWeights, IsSiteNumber, IsWeight}
+use Rattle.records.specs.Starts.{Start, Old, New, Carried, HasWeights, IsStart, text_bytes}
 use Rattle.records.specs.Journals.{Reaches, IsEnd}
 use Rattle.ledger.specs.declared.contents.Contents.{Contents}
 use Rattle.ledger.specs.declared.ending.Ending.TheVariants.{Damaged}
-use Rattle.ledger.specs.Cells.{NamesWeights, EndsWith, IsCell}
+use Rattle.ledger.specs.Cells.{NamesWeights, EndsWith, IsCell, IsOwner}
 use Rattle.ledger.specs.inner.Found.{HasEnd, HasDamage, IsTextRead, ending_of}
 use Rattle.ledger.specs.inner.Named.{IsHeadedBy}
 use Rattle.ledger.proofs.TextEnds.{text_headed}
@@ -28,11 +30,31 @@ ends_with : (owner : Owner) (bytes : List ℕ) (start : Start) (rest : List ℕ)
     → IsEnd owner start rest → EndsWith owner bytes start rest (ending_of (length rest))
 ends_with owner bytes start [] h = refl
 ends_with owner bytes start (a ∷ rest) (inl none) = absurd (cc none)
-ends_with owner bytes start (a ∷ rest) (inr torn) = (torn, refl)
+ends_with owner bytes start (a ∷ rest) (inr torn) = (torn, omega arith, refl)
 
-told : (owner : Owner) (bytes : List ℕ) (e : HasEnd owner bytes) (contents : Contents)
-    → IsTextRead owner bytes contents → IsCell bytes contents
-told owner bytes e contents t =
+-- the weights that a start names, or a single one
+their_weights : (start : Start) (weights : List ℕ) (named : Bool) → IsStart start
+    → NamesWeights start weights named → AreWeights weights
+their_weights Old weights named is h =
+    subst AreWeights (sym h.0) ((omega arith, omega arith), All-replicate IsWeight 1 1 one)
+  where
+    one : IsWeight 1
+    one = (omega arith, omega arith)
+their_weights (New its) weights named is h = subst AreWeights (sym h.0) is
+their_weights (Carried rs its) weights named is h = subst AreWeights (sym h.0) is.1
+
+-- whom it names
+named_owner : (owner : Owner) (bytes : List ℕ) → IsHeadedBy owner bytes → (its : Owner)
+    → its.members.federation ≡ owner.members.federation → its.site ≡ owner.site
+    → AreWeights its.members.weights → IsOwner its
+named_owner owner bytes h its federation site weights = (
+  (subst (λ (n : ℕ). n < 2 ^ federation_bits) (sym federation) h.federation, weights),
+  subst IsSiteNumber (sym site) h.site,
+)
+
+told : (owner : Owner) (bytes : List ℕ) → IsHeadedBy owner bytes → (e : HasEnd owner bytes)
+    → (contents : Contents) → IsTextRead owner bytes contents → IsCell bytes contents
+told owner bytes h e contents t =
     let all = t.all e.start e.records e.rest e.reaches e.ends in
     let f = sym t.federation in
     let s = sym t.site in
@@ -40,6 +62,9 @@ told owner bytes e contents t =
       start = e.start;
       records = e.records;
       rest = e.rest;
+      owner_is = named_owner owner bytes h contents.owner t.federation t.site
+          (their_weights e.start contents.owner.members.weights contents.names_weights
+          e.reaches.is_start all.1);
       reaches = reaches_of owner contents.owner f s bytes e.start e.records e.rest e.reaches;
       records_are = all.0;
       weights_are = all.1;
@@ -48,10 +73,10 @@ told owner bytes e contents t =
           (end_of owner contents.owner f s e.start e.rest e.ends));
     }
 
-pub tells : (owner : Owner) (bytes : List ℕ) → HasEnd owner bytes
+pub tells : (owner : Owner) (bytes : List ℕ) → IsHeadedBy owner bytes → HasEnd owner bytes
     → (r : Result Contents AllocError) → IfOk r (IsTextRead owner bytes) → IfOk r (IsCell bytes)
-tells owner bytes e (Ok contents) t = told owner bytes e contents t
-tells owner bytes e (Err fault) t = tt
+tells owner bytes h e (Ok contents) t = told owner bytes h e contents t
+tells owner bytes h e (Err fault) t = tt
 
 -- ---- damage
 
@@ -83,13 +108,15 @@ module _ (owner : Owner) (bytes : List ℕ) (place : ℕ) (d : HasDamage owner b
   pub text_headed_by : IsHeadedBy owner bytes → IsHeadedBy owner (take place bytes)
   text_headed_by h = record {
     headed = text_headed owner (take place bytes) d.start d.records [] text_reaches;
+    federation = h.federation;
     single = h.single;
     site = h.site;
   }
 
-  pub damage_told : (text : Contents) → IsTextRead owner (take place bytes) text
+  pub damage_told : IsHeadedBy owner bytes → (text : Contents)
+      → IsTextRead owner (take place bytes) text
       → IsCell bytes (record text { ending = Damaged place })
-  damage_told text t =
+  damage_told h text t =
       let all = t.all d.start d.records [] text_reaches (inl refl) in
       let f = sym t.federation in
       let s = sym t.site in
@@ -97,6 +124,9 @@ module _ (owner : Owner) (bytes : List ℕ) (place : ℕ) (d : HasDamage owner b
         start = d.start;
         records = d.records;
         rest = d.rest;
+        owner_is = named_owner owner bytes h text.owner t.federation t.site
+            (their_weights d.start text.owner.members.weights text.names_weights
+            d.reaches.is_start all.1);
         reaches = reaches_of owner text.owner f s bytes d.start d.records d.rest d.reaches;
         records_are = all.0;
         weights_are = all.1;

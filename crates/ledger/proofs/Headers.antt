@@ -10,9 +10,9 @@ use Rattle.fed_types.specs.Sites.{CountFits, IsSiteNumber, IsWeight, Membership}
 use Rattle.records.specs.declared.owner.Owner.{Owner}
 use Rattle.records.specs.Numbers.{magic, old_magic}
 use Rattle.records.specs.Layout.{header_bytes, header_of, old_header}
-use Rattle.records.specs.Journals.{HasHeader, IsOfOwner}
-use Rattle.records.proofs.Apart.{header_size, old_header_size, old_header_magic}
-use Rattle.records.proofs.FoundParts.{old_whole}
+use Rattle.records.specs.Journals.{HasHeader, IsOfOwner, NamesOwner}
+use Rattle.records.proofs.Apart.{header_size, old_header_magic}
+use Rattle.records.proofs.FoundParts.{old_whole, short_unnamed}
 use Rattle.ledger.specs.Cells.{IsHeaded}
 use Rattle.ledger.specs.inner.Named.{HasHeaderOf}
 
@@ -39,6 +39,19 @@ headed_owner owner bytes (inl (rest, is)) = subst (IsOfOwner owner) (sym is) (ol
 headed_owner owner bytes (inr (ws, rest, are, is)) =
     subst (IsOfOwner owner) (sym is) (header_owner owner ws rest)
 
+header_names : (owner : Owner) (ws x : List ℕ) → NamesOwner (header_of owner ws ++ x)
+unfolding header_of
+header_names owner ws x = inr (omega arith, refl)
+
+old_names : (owner : Owner) (x : List ℕ) → NamesOwner (old_header owner ++ x)
+unfolding old_header
+old_names owner x = inl (omega arith, refl)
+
+pub headed_names : (owner : Owner) (bytes : List ℕ) → IsHeaded owner bytes → NamesOwner bytes
+headed_names owner bytes (inl (rest, is)) = subst NamesOwner (sym is) (old_names owner rest)
+headed_names owner bytes (inr (ws, rest, are, is)) =
+    subst NamesOwner (sym is) (header_names owner ws rest)
+
 -- ---- a header of the second layout, by the count of its members
 
 no_zero : (ws : List ℕ) → All IsWeight ws → ¬ Contains {X = ℕ} ws 0
@@ -58,7 +71,8 @@ module _ (owner : Owner) (bytes : List ℕ) (n : ℕ) (count : n ≡ get_or byte
       ap (take (14 + n - 14)) (ap (drop 14) is ∙ header_after owner ws x)
       ∙ take_at ws x (14 + n - 14) (omega (arith, size))
 
-  pub fit : HasHeader owner bytes → CountFits (counted bytes n) × ¬ Contains {X = ℕ} (counted bytes n) 0
+  pub fit : HasHeader owner bytes
+      → CountFits (counted bytes n) × ¬ Contains {X = ℕ} (counted bytes n) 0
   fit (ws, x, are, is) =
       let e = their_weights ws x is in (
         subst CountFits (sym e) are.0,
@@ -84,8 +98,8 @@ pub header_under : (owner : Owner) (m : Membership) → m.federation ≡ owner.m
     → header_bytes (record { members = m; site = owner.site }) ≡ header_of owner m.weights
 unfolding header_of
 header_under owner m f =
-    ap (λ (x : ℕ). magic ++ ((to_be_bytes w64 x ++ owner.site ∷ []) ++ (length m.weights ∷ m.weights)))
-    f
+    ap (λ (x : ℕ). magic
+    ++ ((to_be_bytes w64 x ++ owner.site ∷ []) ++ (length m.weights ∷ m.weights))) f
 
 module _ (owner : Owner) (bytes header ws : List ℕ) (is : header ≡ header_of owner ws) where
   pub size_of : length header ≡ 14 + length ws
@@ -105,10 +119,7 @@ module _ (owner : Owner) (bytes header ws : List ℕ) (is : header ≡ header_of
 
 pub too_few : (bytes : List ℕ) → length bytes < 13 → (o : Owner) → IsSiteNumber o.site
     → IsHeaded o bytes → ⊥
-too_few bytes short o site (inl (rest, is)) =
-    omega (arith, short, ap length is, length-append (old_header o) rest, old_header_size o)
-too_few bytes short o site (inr (ws, rest, are, is)) =
-    omega (arith, short, ap length is, length-append (header_of o ws) rest, header_size o ws)
+too_few bytes short o site headed = short_unnamed bytes short (headed_names o bytes headed)
 
 pub no_site : (bytes : List ℕ) → ¬ IsSiteNumber (slice_index bytes 12) → (o : Owner)
     → IsSiteNumber o.site → IsHeaded o bytes → ⊥

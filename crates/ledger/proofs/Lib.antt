@@ -8,4 +8,7 @@ pub mod Openings
 pub mod Notes
 pub mod VersionLines
 pub mod NextRecords
+pub mod ToldParts
 pub mod GivenLines
+pub mod Headerless
+pub mod NotedVersions

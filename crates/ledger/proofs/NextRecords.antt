@@ -1,5 +1,5 @@
 -- The records that follow a header of the second layout.
-use Rattle.std.proofs.Common.{◌≡◌, ◌⊎◌, ℕ, ◌+◌, ◌≤◌, ◌<◌, min, List, [], ◌∷◌, ◌++◌, length, take}
+use Rattle.std.proofs.Common.{◌≡◌, ℕ, ◌+◌, ◌≤◌, min, List, [], ◌∷◌, ◌++◌, length, take}
 use Rattle.std.proofs.Common.{drop}
 use Rattle.std.proofs.Common.{Ok, Err, true, false, refl, sym, ap, subst, ◌∙◌, arith, inl, inr}
 use Rattle.std.proofs.Common.{append_assoc, length-append}
@@ -7,17 +7,15 @@ use Rattle.std.proofs.lemmas.List.{append-nil, take_at, length-drop}
 use Rattle.fed_types.specs.Sites.{AreWeights}
 use Rattle.records.specs.declared.fault.JournalFault.TheVariants as faults
 use Rattle.records.specs.declared.journal.Journal.{Journal}
-use Rattle.records.specs.declared.layout.Layout.{Layout}
 use Rattle.records.specs.declared.layout.Layout.TheVariants.{First, Second}
 use Rattle.records.specs.declared.owner.Owner.{Owner}
 use Rattle.records.specs.declared.record.Record.{Record}
 use Rattle.records.specs.Answers.{HasTextEnd}
-use Rattle.records.specs.Layout.{all_encoded, encoded, header_bytes, header_of, old_header}
-use Rattle.records.specs.Records.{AreRecords, IsRecord}
+use Rattle.records.specs.Layout.{all_encoded, header_bytes, header_of, old_header}
+use Rattle.records.specs.Records.{AreRecords}
 use Rattle.records.specs.Starts.{Start, Old, New, Carried, HasWeights, layout_after, records_of}
 use Rattle.records.specs.Starts.{text_bytes}
 use Rattle.records.specs.Journals.{HasHeader, Reaches, IsEnd, IsNoRecord, IsDamagedAt, Says}
-use Rattle.records.specs.Journals.{length_field}
 use Rattle.records.specs.inner.Steps.{IsShort, Follows}
 use Rattle.records.proofs.Apart.{header_size, same_weights}
 use Rattle.records.proofs.OneReading.{new_not_headed}

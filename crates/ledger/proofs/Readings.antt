@@ -10,26 +10,15 @@ use Rattle.records.specs.declared.owner.Owner.{Owner}
 use Rattle.records.specs.declared.record.Record.{Record}
 use Rattle.records.specs.Answers.{IsReading}
 use Rattle.records.specs.Faults.{IsOrMemory}
-use Rattle.records.specs.Layout.{old_header, header_of}
 use Rattle.records.specs.Starts.{Start, HasWeights, records_of, text_bytes}
-use Rattle.records.specs.Journals.{NamesOwner, HasNoHeader, Reaches, IsEnd, Says}
+use Rattle.records.specs.Journals.{HasNoHeader, Reaches, IsEnd, Says}
 use Rattle.records.specs.Journals.{IsDamagedAt}
-use Rattle.records.proofs.Apart.{header_magic, header_size, old_header_magic, old_header_size}
+use Rattle.records.proofs.Apart.{old_header_magic}
 use Rattle.records.proofs.OneReading.{new_not_headed}
 use Rattle.records.proofs.Texts.{magics_differ}
 use Rattle.ledger.specs.Cells.{IsHeaded}
 use Rattle.ledger.specs.inner.Found.{HasEnd, HasDamage, IsDamageIn, IsDamageFound}
-use Rattle.ledger.proofs.Headers.{headed_owner}
-
-headed_names : (owner : Owner) (bytes : List ℕ) → IsHeaded owner bytes → NamesOwner bytes
-headed_names owner bytes (inl (rest, is)) = inl (
-  omega (arith, ap length is, length-append (old_header owner) rest, old_header_size owner),
-  ap (take 4) is ∙ old_header_magic owner rest,
-)
-headed_names owner bytes (inr (ws, rest, are, is)) = inr (
-  omega (arith, ap length is, length-append (header_of owner ws) rest, header_size owner ws),
-  ap (take 4) is ∙ header_magic owner ws rest,
-)
+use Rattle.ledger.proofs.Headers.{headed_owner, headed_names}
 
 pub says_end : (owner : Owner) (bytes : List ℕ) (records : List Record) → IsHeaded owner bytes
     → Says owner bytes (Ok records) → HasEnd owner bytes
@@ -46,7 +35,8 @@ says_end owner bytes records headed (inr j) = record {
 
 -- ---- faults
 
-pub no_header : (owner : Owner) (bytes : List ℕ) → IsHeaded owner bytes → HasNoHeader owner bytes → ⊥
+pub no_header : (owner : Owner) (bytes : List ℕ) → IsHeaded owner bytes
+    → HasNoHeader owner bytes → ⊥
 no_header owner bytes headed (new, inl other) = other (headed_names owner bytes headed)
 no_header owner bytes (inl (rest, is)) (new, inr (m, its, none)) =
     magics_differ (sym m ∙ ap (take 4) is ∙ old_header_magic owner rest)

@@ -10,7 +10,7 @@ use Rattle.records.specs.declared.owner.Owner.{Owner}
 use Rattle.records.specs.declared.record.Record.{Record}
 use Rattle.records.specs.Layout.{all_encoded, header_of, old_header}
 use Rattle.records.specs.Records.{AreRecords}
-use Rattle.records.specs.Starts.{Start, Old, New, Carried, text_bytes}
+use Rattle.records.specs.Starts.{Start, Old, New, Carried}
 use Rattle.records.specs.Journals.{HasHeader, Reaches, IsEnd}
 use Rattle.records.proofs.Apart.{header_size, old_header_size, same_weights}
 use Rattle.records.proofs.Texts.{end_is_past, old_or_new}
@@ -19,48 +19,49 @@ use Rattle.ledger.specs.Cells.{IsHeaded, NamesWeights}
 use Rattle.ledger.specs.inner.Found.{IsAllAfter, IsAllFound}
 use Rattle.ledger.specs.inner.Named.{IsHeadedBy, HasHeaderOf}
 use Rattle.ledger.specs.inner.Sizes.{Stops}
-use Rattle.ledger.proofs.Headers.{has_of}
+use Rattle.ledger.proofs.Headers.{has_of, headed_names}
 use Rattle.ledger.proofs.Passages.{end_stops, header_stops}
 
 -- ---- the parts of texts
 
-old_is : (owner : Owner) (rs : List Record) (x : List ℕ)
-    → text_bytes owner Old rs ++ x ≡ old_header owner ++ (all_encoded First rs ++ x)
-old_is owner rs x = append_assoc (old_header owner) (all_encoded First rs) x
+-- a cell that is such a text and a rest, from its header on
+abbrev IsInParts : Owner → List ℕ → Start → List Record → List ℕ → Type 0
+IsInParts owner bytes Old rs rest = bytes ≡ old_header owner ++ (all_encoded First rs ++ rest)
+IsInParts owner bytes (New ws) rs rest =
+    bytes ≡ header_of owner ws ++ (all_encoded Second rs ++ rest)
+IsInParts owner bytes (Carried os ws) rs rest =
+    bytes ≡ old_header owner ++ (all_encoded First os
+    ++ (header_of owner ws ++ (all_encoded Second rs ++ rest)))
 
-new_is : (owner : Owner) (ws : List ℕ) (rs : List Record) (x : List ℕ)
-    → text_bytes owner (New ws) rs ++ x ≡ header_of owner ws ++ (all_encoded Second rs ++ x)
-new_is owner ws rs x = append_assoc (header_of owner ws) (all_encoded Second rs) x
+in_parts : (owner : Owner) (bytes : List ℕ) (start : Start) (rs : List Record) (rest : List ℕ)
+    → Reaches owner bytes start rs rest → IsInParts owner bytes start rs rest
+in_parts owner bytes Old rs rest r = r.bytes_are ∙ simp append_assoc
+in_parts owner bytes (New ws) rs rest r = r.bytes_are ∙ simp append_assoc
+in_parts owner bytes (Carried os ws) rs rest r = r.bytes_are ∙ simp append_assoc
 
-carried_is : (owner : Owner) (os : List Record) (ws : List ℕ) (rs : List Record) (x : List ℕ)
-    → text_bytes owner (Carried os ws) rs ++ x
-    ≡ old_header owner ++ (all_encoded First os
-    ++ (header_of owner ws ++ (all_encoded Second rs ++ x)))
-carried_is owner os ws rs x =
-    let h = header_of owner ws in
-    let o = old_header owner ++ all_encoded First os in
-    append_assoc (o ++ h) (all_encoded Second rs) x
-    ∙ append_assoc o h (all_encoded Second rs ++ x)
-    ∙ append_assoc (old_header owner) (all_encoded First os) (h ++ (all_encoded Second rs ++ x))
+-- one of the second layout alone begins with its header
+new_has : (owner : Owner) (bytes ws : List ℕ) (rs : List Record) (rest : List ℕ)
+    → Reaches owner bytes (New ws) rs rest → HasHeader owner bytes
+new_has owner bytes ws rs rest r =
+    (ws, all_encoded Second rs ++ rest, r.is_start, in_parts owner bytes (New ws) rs rest r)
 
 -- a cell begins with a header
 pub text_headed : (owner : Owner) (bytes : List ℕ) (start : Start) (rs : List Record)
     (rest : List ℕ) → Reaches owner bytes start rs rest → IsHeaded owner bytes
 text_headed owner bytes Old rs rest r =
-    inl (all_encoded First rs ++ rest, r.bytes_are ∙ old_is owner rs rest)
-text_headed owner bytes (New ws) rs rest r =
-    inr (ws, all_encoded Second rs ++ rest, r.is_start, r.bytes_are ∙ new_is owner ws rs rest)
+    inl (all_encoded First rs ++ rest, in_parts owner bytes Old rs rest r)
+text_headed owner bytes (New ws) rs rest r = inr (new_has owner bytes ws rs rest r)
 text_headed owner bytes (Carried os ws) rs rest r =
     inl (
       all_encoded First os ++ (header_of owner ws ++ (all_encoded Second rs ++ rest)),
-      r.bytes_are ∙ carried_is owner os ws rs rest,
+      in_parts owner bytes (Carried os ws) rs rest r,
     )
 
 pub headed_long : (owner : Owner) (bytes : List ℕ) → IsHeaded owner bytes → 13 ≤ length bytes
-headed_long owner bytes (inl (rest, is)) =
-    omega (arith, ap length is, length-append (old_header owner) rest, old_header_size owner)
-headed_long owner bytes (inr (ws, rest, are, is)) =
-    omega (arith, ap length is, length-append (header_of owner ws) rest, header_size owner ws)
+headed_long owner bytes headed = elim (headed_names owner bytes headed) [
+  | inl old ↦ old.0
+  | inr new ↦ omega (arith, new.0)
+]
 
 pub header_fits : (owner : Owner) (m : Membership) (bytes : List ℕ) → HasHeaderOf owner m bytes
     → 14 + length m.weights ≤ length bytes
@@ -139,14 +140,14 @@ first_found owner bytes size m found h is_size after = record {
         → NamesWeights start found.members.weights found.named
         × (found.end + length rest ≡ length bytes)
     by Old rs rest r ends =
-        absurd (not_old (all_encoded First rs ++ rest) (r.bytes_are ∙ old_is owner rs rest))
+        absurd (not_old (all_encoded First rs ++ rest) (in_parts owner bytes Old rs rest r))
     by (New ws) rs rest r ends =
         after_header owner bytes 0 size m found h is_size here ws rs rest r.are_records
-        (end_stops owner (New ws) rest ends) (r.bytes_are ∙ new_is owner ws rs rest)
+        (end_stops owner (New ws) rest ends) (in_parts owner bytes (New ws) rs rest r)
     by (Carried os ws) rs rest r ends =
         absurd (not_old (all_encoded First os
         ++ (header_of owner ws ++ (all_encoded Second rs ++ rest)))
-        (r.bytes_are ∙ carried_is owner os ws rs rest))
+        (in_parts owner bytes (Carried os ws) rs rest r))
 
 -- ---- records of the first layout, and perhaps a header after them
 
@@ -191,22 +192,16 @@ module _ (owner : Owner) (bytes : List ℕ) (pass : ℕ) (passes : Passes (drop 
       by Old rs rest r ends =
           let here : drop (13 + pass) bytes ≡ rest =
           after_old rs rest r.are_records (end_stops owner Old rest ends)
-          (r.bytes_are ∙ old_is owner rs rest) in
+          (in_parts owner bytes Old rs rest r) in
           absurd ((end_is_past owner Old rest ends).no_second
           (subst (HasHeader owner) here (has_of owner m (drop (13 + pass) bytes) h)))
-      by (New ws) rs rest r ends =
-          absurd (not_new (
-            ws,
-            all_encoded Second rs ++ rest,
-            r.is_start,
-            r.bytes_are ∙ new_is owner ws rs rest,
-          ))
+      by (New ws) rs rest r ends = absurd (not_new (new_has owner bytes ws rs rest r))
       by (Carried os ws) rs rest r ends =
           let x = all_encoded Second rs ++ rest in
           after_header owner bytes (13 + pass) size m found h is_size after ws rs rest
           r.are_records (end_stops owner (Carried os ws) rest ends)
           (after_old os (header_of owner ws ++ x) r.is_start.0 (header_stops owner ws x)
-          (r.bytes_are ∙ carried_is owner os ws rs rest))
+          (in_parts owner bytes (Carried os ws) rs rest r))
 
   -- where none was
   pub none_found : IsHeadedBy owner bytes → ¬ HasHeader owner bytes
@@ -226,15 +221,9 @@ module _ (owner : Owner) (bytes : List ℕ) (pass : ℕ) (passes : Passes (drop 
       by Old rs rest r ends = (
         (headed.single, refl),
         old_sum rs rest r.are_records (end_stops owner Old rest ends)
-            (r.bytes_are ∙ old_is owner rs rest),
+            (in_parts owner bytes Old rs rest r),
       )
-      by (New ws) rs rest r ends =
-          absurd (not_new (
-            ws,
-            all_encoded Second rs ++ rest,
-            r.is_start,
-            r.bytes_are ∙ new_is owner ws rs rest,
-          ))
+      by (New ws) rs rest r ends = absurd (not_new (new_has owner bytes ws rs rest r))
       by (Carried os ws) rs rest r ends =
           let x = all_encoded Second rs ++ rest in
           absurd (none (
@@ -242,5 +231,5 @@ module _ (owner : Owner) (bytes : List ℕ) (pass : ℕ) (passes : Passes (drop 
             x,
             r.is_start.1,
             after_old os (header_of owner ws ++ x) r.is_start.0 (header_stops owner ws x)
-                (r.bytes_are ∙ carried_is owner os ws rs rest),
+                (in_parts owner bytes (Carried os ws) rs rest r),
           ))

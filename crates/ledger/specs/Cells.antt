@@ -1,6 +1,7 @@
 -- What the bytes of a cell say to whoever reads them: whose it is, its records, and how it ends.
-use Rattle.std.specs.Prelude.{◌≡◌, ◌⊎◌, ◌+◌, ℕ, Bool, true, false, List, [], ◌∷◌, ◌++◌, length}
+use Rattle.std.specs.Prelude.{◌≡◌, ◌⊎◌, ◌+◌, ◌≤◌, ℕ, Bool, true, false, List, [], ◌∷◌, ◌++◌, length}
 use Rattle.fed_types.specs.Sites.{IsSiteNumber}
+use Rattle.fed_types.specs.Values.{IsMembership}
 use Rattle.records.specs.declared.owner.Owner.{Owner}
 use Rattle.records.specs.declared.record.Record.{Record}
 use Rattle.records.specs.Journals.{HasHeader, Reaches, IsTornRecord, IsTornHeader, IsDamage}
@@ -26,12 +27,17 @@ NamesWeights Old weights named = (weights ≡ 1 ∷ []) × (named ≡ false)
 NamesWeights (New its) weights named = (weights ≡ its) × (named ≡ true)
 NamesWeights (Carried records its) weights named = (weights ≡ its) × (named ≡ true)
 
+-- an owner as a header names one: the federation's number and the weights are some that a
+-- federation may have, and the site's is one of a site
+abbrev pub IsOwner : Owner → Type 0
+IsOwner owner = IsMembership owner.members × IsSiteNumber owner.site
+
 -- what follows the last record, or the last header, of a cell
 abbrev pub EndsWith : Owner → (bytes : List ℕ) → Start → (rest : List ℕ) → Ending → Type 0
 EndsWith owner bytes start rest Whole = rest ≡ []
 EndsWith owner bytes start rest (Torn count) =
     (IsTornRecord (layout_after start) rest ⊎ IsTornHeader owner start rest)
-    × (count ≡ length rest)
+    × (1 ≤ count) × (count ≡ length rest)
 EndsWith owner bytes start rest (Damaged place) =
     IsDamage owner start rest × (place + length rest ≡ length bytes)
 
@@ -57,6 +63,7 @@ pub record IsSaid (bytes : List ℕ) (said : Said) : Type 0 where
   pub start : Start
   pub records : List Record
   pub rest : List ℕ
+  pub owner_is : IsOwner said.owner
   pub reaches : Reaches said.owner bytes start records rest
   pub records_are : said.records ≡ records_of start records
   pub weights_are : NamesWeights start said.owner.members.weights said.names_weights
@@ -71,6 +78,7 @@ pub record Begins (bytes : List ℕ) (owner : Owner) (named : Bool) (all : List 
   pub start : Start
   pub records : List Record
   pub rest : List ℕ
+  pub owner_is : IsOwner owner
   pub reaches : Reaches owner bytes start records rest
   pub all_are : all ≡ records_of start records
   pub weights_are : NamesWeights start owner.members.weights named

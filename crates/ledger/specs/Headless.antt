@@ -29,5 +29,5 @@ BeginsHeader bytes =
 -- no bytes, those that a header begins with, or others
 abbrev pub EndsHeadless : List ℕ → Ending → Type 0
 EndsHeadless bytes Whole = bytes ≡ []
-EndsHeadless bytes (Torn count) = BeginsHeader bytes × (count ≡ length bytes)
+EndsHeadless bytes (Torn count) = BeginsHeader bytes × (1 ≤ count) × (count ≡ length bytes)
 EndsHeadless bytes (Damaged place) = ¬ BeginsHeader bytes × (bytes ≢ []) × (place ≡ 0)

@@ -7,10 +7,10 @@ use Rattle.hex.specs.Hex.{encode_lower}
 use Rattle.fed_types.specs.Slots.{SlotName}
 use Rattle.words.specs.Escapes.{escaped_text}
 use Rattle.records.specs.declared.record.Record.{Record}
-use Rattle.ledger.specs.declared.contents.Contents.{Contents}
 use Rattle.ledger.specs.declared.listing.Listing.{Listing}
 use Rattle.ledger.specs.declared.standing.Standing.{Standing}
 use Rattle.ledger.specs.declared.standing.Standing.TheVariants.{Known, Pending, Voted, Asked}
+use Rattle.ledger.specs.Cells.{Said}
 use Rattle.ledger.specs.Lines.{ending_line}
 use Rattle.ledger.specs.Versions.{slots_of, standing_of}
 
@@ -52,6 +52,5 @@ versions_text listing records =
     flat_map (λ slot. listed_line listing slot (standing_of records slot)) (slots_of records)
 
 -- the lines of a cell's versions, and its end
-unfoldable pub ledger_text : Listing → Contents → List ℕ
-ledger_text listing contents =
-    versions_text listing contents.records.items ++ ending_line contents.ending
+unfoldable pub ledger_text : Listing → Said → List ℕ
+ledger_text listing said = versions_text listing said.records ++ ending_line said.ending

@@ -12,10 +12,9 @@ use Rattle.records.specs.declared.entry.Entry.TheVariants as entry
 use Rattle.records.specs.declared.entry.Entry.TheVariants.{Deposit, Round, Promise, Known}
 use Rattle.records.specs.declared.owner.Owner.{Owner}
 use Rattle.records.specs.declared.record.Record.{Record}
-use Rattle.ledger.specs.declared.contents.Contents.{Contents}
 use Rattle.ledger.specs.declared.ending.Ending.{Ending}
 use Rattle.ledger.specs.declared.ending.Ending.TheVariants.{Whole, Torn, Damaged}
-use Rattle.ledger.specs.Cells.{Said, said_in}
+use Rattle.ledger.specs.Cells.{Said}
 
 -- what a record is
 abbrev pub kind_text : Entry → List ℕ
@@ -77,7 +76,3 @@ unfoldable pub said_text : Said → List ℕ
 said_text said =
     owner_line said.owner said.names_weights
     ++ (records_text said.records ++ ending_line said.ending)
-
--- the lines of a cell that was read
-abbrev pub contents_text : Contents → List ℕ
-contents_text contents = said_text (said_in contents)

@@ -1,19 +1,18 @@
 -- The lines of a cell whose bytes come in pieces.
-use Rattle.std.specs.Prelude.{◌≡◌, ◌⊎◌, ◌+◌, ℕ, Bool, true, List, [], ◌++◌, length, Option, None}
-use Rattle.std.specs.Prelude.{Some}
+use Rattle.std.specs.Prelude.{◌≡◌, ◌⊎◌, Bool, ℕ, List, [], ◌++◌, Option, None, Some}
 use Rattle.std.specs.Prelude.{string_bytes}
 use Rattle.records.specs.declared.owner.Owner.{Owner}
 use Rattle.records.specs.declared.record.Record.{Record}
-use Rattle.records.specs.Journals.{Reaches}
-use Rattle.records.specs.Layout.{header_bytes}
-use Rattle.records.specs.Starts.{Start, records_of}
 use Rattle.ledger.specs.declared.ending.Ending.{Ending}
 use Rattle.ledger.specs.declared.journal_lines.JournalLines.{JournalLines}
 use Rattle.ledger.specs.declared.journal_lines.Lines.{Lines}
 use Rattle.ledger.specs.declared.journal_lines.Lines.TheVariants.{More, Last}
-use Rattle.ledger.specs.Cells.{HasNoOwner, NamesWeights, Said, IsSaid, Begins}
+use Rattle.ledger.specs.declared.part.Head.{Head}
+use Rattle.ledger.specs.declared.part.Part.{Part}
+use Rattle.ledger.specs.Cells.{HasNoOwner, Said, IsSaid, Begins}
 use Rattle.ledger.specs.Headless.{EndsHeadless}
 use Rattle.ledger.specs.Lines.{ending_line, owner_line, records_text, said_text}
+use Rattle.ledger.specs.Parts.{Told, HasTold}
 
 -- ---- all lines, and first ones
 
@@ -44,27 +43,23 @@ AreFirstLines bytes text =
 
 -- ---- between two pieces
 
--- The bytes that were taken begin with a header that names the weights, and records, whose lines
--- were given; what follows these is kept, after a header.
-pub record IsGiven (owner : Owner) (passed : ℕ) (kept taken text : List ℕ) : Type 0 where
-  pub start : Start
-  pub records : List Record
-  pub rest : List ℕ
-  pub reaches : Reaches owner taken start records rest
-  pub weights_are : NamesWeights start owner.members.weights true
-  pub kept_is : kept ≡ header_bytes owner ++ rest
-  pub passed_is : passed + length rest ≡ length taken
-  pub text_is : text ≡ first_text owner true (records_of start records)
+-- the line of a head, if there is one
+abbrev pub head_line : Option Head → List ℕ
+head_line None = []
+head_line (Some head) = owner_line head.owner head.names_weights
 
--- or all bytes are kept, and no line was given
-abbrev pub HasGivenBy : Option Owner → ℕ → (kept taken text : List ℕ) → Type 0
-HasGivenBy None passed kept taken text = (kept ≡ taken) × (text ≡ [])
-HasGivenBy (Some owner) passed kept taken text = IsGiven owner passed kept taken text
+-- the lines of a part
+abbrev pub part_text : Part → List ℕ
+part_text part = head_line part.head ++ records_text part.records.items
+
+-- the lines of what was told
+abbrev pub told_text : Told → List ℕ
+told_text told = head_line told.head ++ records_text told.records
 
 -- these lines were given of these bytes
 abbrev pub HasGiven : JournalLines → (taken text : List ℕ) → Type 0
 HasGiven lines taken text =
-    HasGivenBy lines.owner lines.passed lines.bytes.items taken text
+    (told : Told) × HasTold lines.reader taken told × (text ≡ told_text told)
 
 -- what one more piece gives: lines, and it goes on; or the last ones, whatever follows
 abbrev pub IsTaken : JournalLines → (taken text : List ℕ) → Lines → Type 0

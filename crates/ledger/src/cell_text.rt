@@ -1,13 +1,14 @@
 //! The text of what a cell says.
 
-ghost use Rattle.std.specs.Prelude.{IfOk, ◌≡◌, string_bytes};
+ghost use Rattle.std.specs.Prelude.{IfOk, ◌≡◌, ◌++◌, string_bytes};
 ghost use Rattle.std.specs.List.{flat_map};
 ghost use Rattle.words.specs.Pushes.{Pushes};
-ghost use Rattle.ledger.specs.Lines.{ending_line, owner_line, records_text, contents_text};
+ghost use Rattle.ledger.specs.Lines.{ending_line, owner_line, records_text};
 ghost use Rattle.ledger.specs.Lines.{weight_word, weight_words};
+ghost use Rattle.ledger.specs.Pieces.{head_line, part_text};
 
-use crate::contents::Contents;
 use crate::ending::Ending;
+use crate::part::{Head, LastPart, Part};
 use crate::record_line::push_record;
 use records::{Owner, Record};
 use std::alloc::{AllocError, Global};
@@ -72,25 +73,36 @@ pub(crate) fn push_ending(text: &mut String, ending: Ending) -> Result<(), Alloc
     }
 }
 
-/// The lines of a cell: whose it is, each record, and how it ends. It fails only where memory runs
-/// out.
-#[tactic(auto, unfolding(crate::specs::Lines::said_text), using(std::proofs::Common::append_assoc))]
-pub fn journal_text(alloc: Global, contents: &Contents) -> Result<String, AllocError>
-    ensures { IfOk result (λ text. string_bytes text ≡ contents_text contents.now) }
+// The line of a head, if there is one.
+fn push_head(text: &mut String, head: &Option<Head>) -> Result<(), AllocError>
+    ensures { Pushes result text.old text.new (head_line head.now) }
+{
+    match head {
+        Some(head) => {
+            let Owner { members, site } = head.owner;
+            push_owner(text, Owner { members, site }, head.names_weights)
+        }
+        None => Ok(()),
+    }
+}
+
+/// The lines of a part of a cell. It fails only where memory runs out.
+#[tactic(auto, using(std::proofs::Common::append_assoc))]
+pub(crate) fn part_text(alloc: Global, part: &Part) -> Result<String, AllocError>
+    ensures { IfOk result (λ text. string_bytes text ≡ part_text part.now) }
 {
     let mut text = String::new(alloc);
-    let Owner { members, site } = contents.owner;
-    push_owner(&mut text, Owner { members, site }, contents.names_weights)?;
-    push_records(alloc, &mut text, &contents.records)?;
-    push_ending(&mut text, contents.ending)?;
+    push_head(&mut text, &part.head)?;
+    push_records(alloc, &mut text, &part.records)?;
     Ok(text)
 }
 
-/// The line of how bytes end that begin with no whole header, if it has one.
-pub fn ending_text(alloc: Global, ending: Ending) -> Result<String, AllocError>
-    ensures { IfOk result (λ text. string_bytes text ≡ ending_line ending) }
+/// The lines of the last part of a cell. It fails only where memory runs out.
+pub(crate) fn last_text(alloc: Global, last: &LastPart) -> Result<String, AllocError>
+    ensures { IfOk result (λ text. string_bytes text
+        ≡ part_text last.now.part ++ ending_line last.now.ending) }
 {
-    let mut text = String::new(alloc);
-    push_ending(&mut text, ending)?;
+    let mut text = part_text(alloc, &last.part)?;
+    push_ending(&mut text, last.ending)?;
     Ok(text)
 }

@@ -3,14 +3,17 @@
 #![tactic(auto)]
 
 mod batch;
+mod cell_reader;
 mod cell_text;
 mod contents;
 mod ending;
 mod headless;
 mod journal_lines;
 mod law;
+mod ledger_lines;
 mod listing;
 mod named;
+mod part;
 mod read;
 mod record_line;
 mod row;
@@ -20,14 +23,14 @@ mod steps;
 mod version_line;
 mod versions;
 
-pub use cell_text::{ending_text, journal_text};
+pub use cell_reader::CellReader;
 pub use contents::Contents;
 pub use ending::Ending;
 pub use headless::headless_ending;
-pub use journal_lines::{JournalLines, Lines};
+pub use journal_lines::{JournalLines, LastLines, Lines};
 pub use law::contents_are_what_opening_gives;
+pub use ledger_lines::LedgerLines;
 pub use listing::Listing;
+pub use part::{Head, LastPart, Part, Parts};
 pub use read::read_contents;
 pub use standing::Standing;
-pub use steps::LastLines;
-pub use version_line::ledger_text;

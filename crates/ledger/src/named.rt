@@ -1,7 +1,8 @@
 //! Whose cell it is, by the header that its bytes begin with.
 
 ghost use Rattle.std.specs.Prelude.{◌≡◌, ◌≤◌, ◌↔◌, [], ◌∷◌, IfOk, IsTrue, MatchOption, length};
-ghost use Rattle.std.specs.Prelude.{take};
+ghost use Rattle.std.specs.Prelude.{take, ◌<◌, ◌^◌};
+ghost use Rattle.fed_types.specs.Limits.{federation_bits};
 ghost use Rattle.std.specs.Prelude.{slice_index};
 ghost use Rattle.fed_types.specs.Sites.{IsSiteNumber};
 ghost use Rattle.records.specs.Journals.{HasHeader, IsOfOwner};
@@ -17,7 +18,8 @@ use std::alloc::{AllocError, Global};
 fn named_owner(bytes: &[u8]) -> Option<Owner>
     requires { FRONT ≤ length bytes.now }
     ensures { MatchOption result (¬ IsSiteNumber (slice_index bytes.now 12))
-        (λ o. IsOfOwner o bytes.now × IsSiteNumber o.site × (o.members.weights ≡ 1 ∷ [])) }
+        (λ o. IsOfOwner o bytes.now × IsSiteNumber o.site × (o.members.weights ≡ 1 ∷ [])
+        × (o.members.federation < 2 ^ federation_bits)) }
 {
     let federation = u64::from_be_bytes([
         bytes[4], bytes[5], bytes[6], bytes[7], bytes[8], bytes[9], bytes[10], bytes[11],

@@ -1,33 +1,26 @@
-//! What the bytes of a cell give next.
+//! What the bytes of a cell say next.
 
-ghost use Rattle.std.specs.Prelude.{◌≡◌, ◌≤◌, ◌+◌, ◌++◌, ℕ, List, [], IfOk, IfSome, length, drop};
-ghost use Rattle.std.specs.Prelude.{string_bytes};
+ghost use Rattle.std.specs.Prelude.{◌≡◌, ◌≤◌, ◌+◌, ◌++◌, ℕ, List, IfOk, IfSome, length, drop};
 ghost use Rattle.records.specs.Layout.{header_bytes};
-ghost use Rattle.ledger.specs.Lines.{records_text};
-ghost use Rattle.ledger.specs.Pieces.{first_text, IsGiven, IsWholeText};
-ghost use Rattle.ledger.specs.inner.Batches.{text_end, Keeps, ending_after, batch_size};
-ghost use Rattle.ledger.specs.inner.Batches.{IsEndOfBatch, IsStep};
+ghost use Rattle.ledger.specs.Cells.{HasNoOwner, IsCell};
+ghost use Rattle.ledger.specs.Parts.{Told, nothing, IsTold, TellsLast};
+ghost use Rattle.ledger.specs.inner.Batches.{text_end, KeepsFirst, KeepsNext, ending_after};
+ghost use Rattle.ledger.specs.inner.Batches.{batch_size, IsEndOfBatch, IsNextPart, IsPartOf, IsStep};
 
 use crate::batch::{Batch, header_size, read_batch};
-use crate::cell_text::{ending_text, journal_text, push_ending, push_owner, push_records};
 use crate::contents::Contents;
 use crate::ending::Ending;
 use crate::headless::headless_ending;
+use crate::part::{Head, LastPart, Part};
 use crate::read::{ending_at, read_contents};
-use records::{Owner, header};
+use fed_types::MOST_MEMBERS;
+use records::{FRONT, Owner, header};
 use std::alloc::{AllocError, Global};
 
-/// The last lines of a cell, and how it ends.
-#[derive(Debug, Drop)]
-pub struct LastLines {
-    pub text: String,
-    pub ending: Ending,
-}
-
-/// Lines, and what is kept after them.
+/// A part, and what is kept after it.
 #[derive(Debug, Drop)]
 pub(crate) struct Kept {
-    pub text: String,
+    pub part: Part,
     pub owner: Owner,
     /// How many bytes of the cell were read as headers and records.
     pub passed: usize,
@@ -35,14 +28,14 @@ pub(crate) struct Kept {
     pub bytes: Vec<u8>,
 }
 
-/// What bytes give.
+/// What bytes say.
 #[derive(Debug, Drop)]
 pub(crate) enum Step {
     /// Nothing, before there are more.
     Wait,
     Next(Kept),
-    /// The last lines, whatever follows.
-    End(LastLines),
+    /// The last part, whatever follows.
+    End(LastPart),
 }
 
 // The owner's header, and these bytes.
@@ -66,55 +59,84 @@ fn text_end(ending: Ending, len: usize) -> Option<usize>
     }
 }
 
-// The lines of a header and records.
-fn first_text(alloc: Global, contents: &Contents) -> Result<String, AllocError>
-    ensures { IfOk result (λ text. string_bytes text ≡ first_text contents.now.owner
-        contents.now.names_weights contents.now.records.items) }
+// The part that says what these contents do.
+fn part_of(contents: Contents) -> Part
+    ensures { IsPartOf contents result }
 {
-    let mut text = String::new(alloc);
     let Owner { members, site } = contents.owner;
-    push_owner(&mut text, Owner { members, site }, contents.names_weights)?;
-    push_records(alloc, &mut text, &contents.records)?;
-    Ok(text)
+    Part {
+        head: Some(Head {
+            owner: Owner { members, site },
+            names_weights: contents.names_weights,
+        }),
+        records: contents.records,
+    }
 }
 
-// What the bytes of a cell give that names the weights and isn't damaged.
+// The last part of a cell of which nothing was said before.
+fn last_of(contents: Contents) -> LastPart
+    ensures { IsPartOf contents result.part × (result.ending ≡ contents.ending) }
+{
+    let ending = contents.ending;
+    LastPart {
+        part: part_of(contents),
+        ending,
+    }
+}
+
+// What the bytes of a cell say that names the weights and isn't damaged.
 fn begin_with(
     alloc: Global,
-    contents: &Contents,
+    contents: Contents,
     bytes: &[u8],
     end: usize,
 ) -> Result<Kept, AllocError>
     requires { end ≤ length bytes.now }
-    ensures { IfOk result (Keeps contents.now.owner (first_text contents.now.owner
-        contents.now.names_weights contents.now.records.items) end (drop end bytes.now)) }
+    ensures { IfOk result (KeepsFirst contents end (drop end bytes.now)) }
 {
-    let Owner { members, site } = contents.owner;
+    let owner = &contents.owner;
+    let bytes = after_header(alloc, owner, &bytes[end..])?;
+    let Owner { members, site } = *owner;
     Ok(Kept {
-        text: first_text(alloc, contents)?,
-        bytes: after_header(alloc, &contents.owner, &bytes[end..])?,
+        part: part_of(contents),
         owner: Owner { members, site },
         passed: end,
+        bytes,
     })
 }
 
-/// What the first bytes of a cell give.
+/// So many bytes the longest header has.
+const LONGEST_HEADER: usize = FRONT + 1 + MOST_MEMBERS as usize;
+
+// What bytes say that begin with no header: of so many bytes that a header would be among them it
+// is sure that nothing follows that makes them a cell.
+fn headless_step(alloc: Global, bytes: &[u8]) -> Step
+    requires { HasNoOwner bytes.now }
+    ensures { IsStep bytes.now nothing result }
+{
+    if bytes.len() < LONGEST_HEADER {
+        return Step::Wait;
+    }
+    Step::End(LastPart {
+        part: Part::new(alloc),
+        ending: Ending::Damaged(0),
+    })
+}
+
+/// What the first bytes of a cell say.
 pub(crate) fn begin(alloc: Global, bytes: &[u8]) -> Result<Step, AllocError>
-    ensures { IfOk result (IsStep bytes.now []) }
+    ensures { IfOk result (IsStep bytes.now nothing) }
 {
     let Some(contents) = read_contents(alloc, bytes)? else {
-        return Ok(Step::Wait);
+        return Ok(headless_step(alloc, bytes));
     };
-    // Until the end, a header that names the weights may follow, and their line comes first.
+    // Until the end, a header that names the weights may follow, and they are a part of the head.
     if !contents.names_weights {
         return Ok(Step::Wait);
     }
     match text_end(contents.ending, bytes.len()) {
-        Some(end) => Ok(Step::Next(begin_with(alloc, &contents, bytes, end)?)),
-        None => Ok(Step::End(LastLines {
-            text: journal_text(alloc, &contents)?,
-            ending: contents.ending,
-        })),
+        Some(end) => Ok(Step::Next(begin_with(alloc, contents, bytes, end)?)),
+        None => Ok(Step::End(last_of(contents))),
     }
 }
 
@@ -130,40 +152,48 @@ fn batch_ending(owner: &Owner, passed: usize, batch: &Batch, len: usize) -> Opti
     Some(Ending::Damaged(place))
 }
 
-// The last lines after a batch.
-fn batch_lines(
-    alloc: Global,
-    owner: &Owner,
-    passed: usize,
-    batch: &Batch,
-    len: usize,
-) -> Result<LastLines, AllocError>
-    requires { batch.now.end ≤ len }
-    ensures { IfOk result (IsEndOfBatch batch.now (ending_after owner.now passed batch.now len)) }
+// The part that says the records of a batch.
+fn next_part(batch: Batch) -> Part
+    ensures { IsNextPart batch result }
 {
-    // No cell has so many bytes that their count isn't a `usize`.
-    let Some(ending) = batch_ending(owner, passed, batch, len) else {
-        return Err(AllocError);
-    };
-    let mut text = String::new(alloc);
-    push_records(alloc, &mut text, &batch.records)?;
-    push_ending(&mut text, ending)?;
-    Ok(LastLines { text, ending })
+    Part {
+        head: None,
+        records: batch.records,
+    }
 }
 
-/// The last lines of a cell: those after the last record that was given.
-pub(crate) fn last_lines(
+// The last part of a cell, after a batch.
+fn batch_part(
+    owner: &Owner,
+    passed: usize,
+    batch: Batch,
+    len: usize,
+) -> Result<LastPart, AllocError>
+    requires { batch.end ≤ len }
+    ensures { IfOk result (IsEndOfBatch batch (ending_after owner.now passed batch len)) }
+{
+    // No cell has so many bytes that their count isn't a `usize`.
+    let Some(ending) = batch_ending(owner, passed, &batch, len) else {
+        return Err(AllocError);
+    };
+    Ok(LastPart {
+        part: next_part(batch),
+        ending,
+    })
+}
+
+/// The last part of a cell: what comes after the last record that was told.
+pub(crate) fn last_part(
     alloc: Global,
     owner: &Owner,
     passed: usize,
     bytes: &[u8],
-) -> Result<LastLines, AllocError>
-    ensures { IfOk result (λ last. (taken : List ℕ) (text : List ℕ)
-        → IsGiven owner.now passed bytes.now taken text
-        → IsWholeText taken last.ending (text ++ string_bytes last.text)) }
+) -> Result<LastPart, AllocError>
+    ensures { IfOk result (λ last. (taken : List ℕ) (told : Told)
+        → IsTold owner.now passed bytes.now taken told → TellsLast taken told last) }
 {
     let batch = read_batch(alloc, owner, bytes)?;
-    batch_lines(alloc, owner, passed, &batch, bytes.len())
+    batch_part(owner, passed, batch, bytes.len())
 }
 
 // What is kept after a batch that ends at this place of the bytes.
@@ -171,60 +201,53 @@ fn after_batch(
     alloc: Global,
     owner: &Owner,
     passed: usize,
-    batch: &Batch,
+    batch: Batch,
     bytes: &[u8],
 ) -> Result<Kept, AllocError>
-    requires { batch.now.end ≤ length bytes.now }
-    ensures { IfOk result (Keeps owner.now (records_text batch.now.records.items)
-        (passed + batch_size owner.now batch.now) (drop batch.now.end bytes.now)) }
+    requires { batch.end ≤ length bytes.now }
+    ensures { IfOk result (KeepsNext owner.now batch (passed + batch_size owner.now batch)
+        (drop batch.end bytes.now)) }
 {
-    let mut text = String::new(alloc);
-    push_records(alloc, &mut text, &batch.records)?;
-    let Owner { members, site } = *owner;
     // No cell has so many bytes that their count isn't a `usize`.
     let Some(passed) = passed.checked_add(batch.end.saturating_sub(header_size(owner))) else {
         return Err(AllocError);
     };
+    let bytes = after_header(alloc, owner, &bytes[batch.end..])?;
+    let Owner { members, site } = *owner;
     Ok(Kept {
-        text,
+        part: next_part(batch),
         owner: Owner { members, site },
         passed,
-        bytes: after_header(alloc, owner, &bytes[batch.end..])?,
+        bytes,
     })
 }
 
-/// What more bytes of a cell give.
+/// What more bytes of a cell say.
 pub(crate) fn go_on(
     alloc: Global,
     owner: &Owner,
     passed: usize,
     bytes: &[u8],
 ) -> Result<Step, AllocError>
-    ensures { IfOk result (λ step. (taken : List ℕ) (text : List ℕ)
-        → IsGiven owner.now passed bytes.now taken text → IsStep taken text step) }
+    ensures { IfOk result (λ step. (taken : List ℕ) (told : Told)
+        → IsTold owner.now passed bytes.now taken told → IsStep taken told step) }
 {
     let batch = read_batch(alloc, owner, bytes)?;
     if batch.is_damaged {
-        return Ok(Step::End(batch_lines(alloc, owner, passed, &batch, bytes.len())?));
+        return Ok(Step::End(batch_part(owner, passed, batch, bytes.len())?));
     }
-    Ok(Step::Next(after_batch(alloc, owner, passed, &batch, bytes)?))
+    Ok(Step::Next(after_batch(alloc, owner, passed, batch, bytes)?))
 }
 
-/// All lines of a cell, or of bytes that begin with no header.
-pub(crate) fn whole_lines(alloc: Global, bytes: &[u8]) -> Result<LastLines, AllocError>
-    ensures { IfOk result (λ last. IsWholeText bytes.now last.ending (string_bytes last.text)) }
+/// All that a cell says, or bytes that begin with no header.
+pub(crate) fn whole_part(alloc: Global, bytes: &[u8]) -> Result<LastPart, AllocError>
+    ensures { IfOk result (TellsLast bytes.now nothing) }
 {
     match read_contents(alloc, bytes)? {
-        Some(contents) => Ok(LastLines {
-            text: journal_text(alloc, &contents)?,
-            ending: contents.ending,
+        Some(contents) => Ok(last_of(contents)),
+        None => Ok(LastPart {
+            part: Part::new(alloc),
+            ending: headless_ending(bytes),
         }),
-        None => {
-            let ending = headless_ending(bytes);
-            Ok(LastLines {
-                text: ending_text(alloc, ending)?,
-                ending,
-            })
-        }
     }
 }

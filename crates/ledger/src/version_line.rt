@@ -1,19 +1,22 @@
 //! The lines of versions.
 
-ghost use Rattle.std.specs.Prelude.{◌≡◌, ◌∷◌, IfOk, string_bytes};
+ghost use Rattle.std.specs.Prelude.{◌≡◌, ◌∷◌, ◌++◌, List, IfOk, string_bytes};
 ghost use Rattle.hex.specs.Hex.{encode_lower};
 ghost use Rattle.std.specs.List.{flat_map};
 ghost use Rattle.std.specs.Map.{keys_of};
 ghost use Rattle.words.specs.Pushes.{Pushes};
-ghost use Rattle.ledger.specs.Ledgers.{word_of, bag_text, version_line, listed_line, ledger_text};
-ghost use Rattle.ledger.specs.inner.Rows.{listed_in, slot_at, text_if};
+ghost use Rattle.records.specs.declared.record.Record.{Record};
+ghost use Rattle.ledger.specs.Lines.{ending_line};
+ghost use Rattle.ledger.specs.Ledgers.{word_of, bag_text, version_line, listed_line};
+ghost use Rattle.ledger.specs.Ledgers.{versions_text};
+ghost use Rattle.ledger.specs.inner.Rows.{listed_in, slot_at, text_if, StandsFor};
 
 use crate::cell_text::push_ending;
-use crate::contents::Contents;
+use crate::ending::Ending;
 use crate::listing::Listing;
 use crate::record_line::push_bag;
 use crate::standing::Standing;
-use crate::versions::{Versions, slot_at, standing_in, versions_of};
+use crate::versions::{Versions, slot_at, standing_in};
 use fed_types::{BagId, Slot};
 use std::alloc::{AllocError, Global};
 use words::push_escaped;
@@ -118,18 +121,20 @@ fn push_versions(
     Ok(())
 }
 
-/// The lines of a cell's versions, in the order of their first records, and how the cell ends. It
-/// fails only where memory runs out.
-pub fn ledger_text(
+/// The lines of versions, in the order of their first records, and how their cell ends. It fails
+/// only where memory runs out.
+pub(crate) fn versions_text(
     alloc: Global,
-    contents: &Contents,
+    versions: &Versions,
     listing: Listing,
+    ending: Ending,
 ) -> Result<String, AllocError>
-    ensures { IfOk result (λ text. string_bytes text ≡ ledger_text listing contents.now) }
+    ensures { IfOk result (λ text. (records : List Record)
+        → StandsFor versions.now.entries records
+        → string_bytes text ≡ versions_text listing records ++ ending_line ending) }
 {
-    let versions = versions_of(alloc, &contents.records)?;
     let mut text = String::new(alloc);
-    push_versions(alloc, &mut text, listing, &versions)?;
-    push_ending(&mut text, contents.ending)?;
+    push_versions(alloc, &mut text, listing, versions)?;
+    push_ending(&mut text, ending)?;
     Ok(text)
 }

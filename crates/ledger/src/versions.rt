@@ -1,9 +1,10 @@
 //! What the records of a cell say of each version.
 
-ghost use Rattle.std.specs.Prelude.{◌≡◌, OnOk, IfOk};
+ghost use Rattle.std.specs.Prelude.{◌≡◌, ◌++◌, List, OnOk};
 ghost use Rattle.std.specs.Option.{option_copied};
 ghost use Rattle.indexmap.specs.IndexMap.{insert_entry};
 ghost use Rattle.fed_types.specs.Slots.{same_slot};
+ghost use Rattle.records.specs.declared.record.Record.{Record};
 ghost use Rattle.slot_table.specs.Rows.{row_of, IsWith};
 ghost use Rattle.ledger.specs.inner.Rows.{empty_row, row_after, slot_at, standing_in, StandsFor};
 
@@ -42,15 +43,19 @@ fn note(alloc: Global, versions: &mut Versions, kept: &Record) -> Result<(), All
     }
 }
 
-/// What these records say of each version.
-pub(crate) fn versions_of(alloc: Global, records: &[Record]) -> Result<Versions, AllocError>
-    ensures { IfOk result (λ versions. StandsFor versions.entries records.now) }
+/// Takes note of what more records say of each version.
+pub(crate) fn note_all(
+    alloc: Global,
+    versions: &mut Versions,
+    records: &[Record],
+) -> Result<(), AllocError>
+    ensures { OnOk result ((before : List Record) → StandsFor versions.old.entries before
+        → StandsFor versions.new.entries (before ++ records.now)) }
 {
-    let mut versions = IndexMap::new(alloc);
     for kept in records {
-        note(alloc, &mut versions, kept)?;
+        note(alloc, versions, kept)?;
     }
-    Ok(versions)
+    Ok(())
 }
 
 /// The version at this place, counted from 0.

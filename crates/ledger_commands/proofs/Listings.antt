@@ -96,7 +96,7 @@ module _ (first old new : Option (List ℕ)) (text : List ℕ) (had : Appends fi
         outcome,
         inr (
           text ++ more,
-          first_given lines.owner lines.passed lines.bytes.items taken (text ++ more) after given,
+          first_given lines taken (text ++ more) after given,
           refl,
           refl,
         ),
@@ -113,14 +113,14 @@ pub lines_so_far : (lines : JournalLines) (taken text : List ℕ) → HasGiven l
     → AreFirstLines taken text
 lines_so_far lines taken text given =
     subst (λ (b : List ℕ). AreFirstLines b text) (append-nil taken)
-    (first_given lines.owner lines.passed lines.bytes.items taken text [] given)
+    (first_given lines taken text [] given)
 
 -- and so they are with a piece and more after it
 pub lines_before : (lines : JournalLines) (taken text piece more : List ℕ)
     → HasGiven lines taken text → AreFirstLines ((taken ++ piece) ++ more) text
 lines_before lines taken text piece more given =
     subst (λ (b : List ℕ). AreFirstLines b text) (sym (append_assoc taken piece more))
-    (first_given lines.owner lines.passed lines.bytes.items taken text (piece ++ more) given)
+    (first_given lines taken text (piece ++ more) given)
 
 -- what is so whatever follows is so after a piece
 pub after_piece : (taken : List ℕ) (lines : JournalLines) (first new : Option (List ℕ))
@@ -131,17 +131,25 @@ after_piece taken lines first new (Ok status) h = h
 after_piece taken lines first new (Err ProgramFaults.Output) h = h
 after_piece taken lines first new (Err ProgramFaults.Input) h = h []
 
+-- and the other way round
+before_end : (taken : List ℕ) (lines : JournalLines) (first new : Option (List ℕ))
+    (result : Result ℕ ProgramFault) → IsAfterPiece taken lines first new (some_status result)
+    → (more : List ℕ) → IsAfterEnd (taken ++ more) first new result
+before_end taken lines first new (Ok status) h = h
+before_end taken lines first new (Err ProgramFaults.Output) h = h
+before_end taken lines first new (Err ProgramFaults.Input) h = λ more. h
+
 -- ---- what a reader had
 
 -- what holds whatever follows holds of all that a reader had
-of_all : (a b : Option (List ℕ)) (taken : List ℕ) (P : List ℕ → Type 0) → Consumes a b taken
+pub of_all : (a b : Option (List ℕ)) (taken : List ℕ) (P : List ℕ → Type 0) → Consumes a b taken
     → ((more : List ℕ) → P (taken ++ more)) → IfSome a P
 of_all None b taken P consumed h = tt
 of_all (Some xs) None taken P consumed h = absurd consumed
 of_all (Some xs) (Some ys) taken P consumed h = subst P (sym consumed) (h ys)
 
 -- where nothing is left, nothing follows
-at_end : (a b : Option (List ℕ)) (taken : List ℕ) (P : List ℕ → Type 0) → Consumes a b taken
+pub at_end : (a b : Option (List ℕ)) (taken : List ℕ) (P : List ℕ → Type 0) → Consumes a b taken
     → IsAtEnd b → P taken → IfSome a P
 at_end None b taken P consumed end h = tt
 at_end (Some xs) None taken P consumed end h = absurd consumed
@@ -159,32 +167,51 @@ read_end a b c taken buffer n consumed read none room = (
   read.1 none room,
 )
 
+-- ---- what may be returned
+
+-- of a cell of which a reader had so much, and of which a writer took so much
+pub record IsAnswer (all first new : Option (List ℕ)) (result : Result ℕ ProgramFault)
+    : Type 0 where
+  pub ok : IfOk result (λ status. IfSome all (IsListed first new status))
+  pub input : IsErrOf result ProgramFaults.Input → IfSome all (HasFirstLines first new)
+  pub output : IsErrOf result ProgramFaults.Output → IfSome all (IsPartOfListing first new)
+
+answer : (all first new : Option (List ℕ)) (result : Result ℕ ProgramFault)
+    → IfSome all (λ bytes. IsAfterEnd bytes first new result) → IsAnswer all first new result
+answer all first new (Ok status) h =
+    record { ok = h; input = λ err. absurd (cc err); output = λ err. absurd (cc err) }
+answer all first new (Err ProgramFaults.Output) h =
+    record { ok = tt; input = λ err. absurd (cc err); output = λ err. h }
+answer None first new (Err ProgramFaults.Input) h =
+    record { ok = tt; input = λ err. tt; output = λ err. tt }
+answer (Some bytes) first new (Err ProgramFaults.Input) h = absurd h
+
 module _ (a b : Option (List ℕ)) (taken : List ℕ) (consumed : Consumes a b taken)
     (first new : Option (List ℕ)) where
-  -- a status, at the end
-  pub end_status : (result : Result ℕ ProgramFault) → IsAtEnd b → IsAfterEnd taken first new result
-      → IfOk result (λ status. IfSome a (IsListed first new status))
-  end_status (Ok status) end h = at_end a b taken (IsListed first new status) consumed end h
-  end_status (Err fault) end h = tt
+  -- after a read of no bytes
+  pub answer_at_end : (c : Option (List ℕ)) (buffer : List ℕ) (n : ℕ)
+      → Consumes b c (take n buffer) × (n ≡ 0 → 0 < length buffer → IsAtEnd c) → n ≡ 0
+      → 0 < length buffer → (result : Result ℕ ProgramFault)
+      → IsAfterEnd taken first new result → IsAnswer a first new result
+  answer_at_end c buffer n read none room result h =
+      let end = read_end a b c taken buffer n consumed read none room in
+      answer a first new result
+      (at_end a c taken (λ bytes. IsAfterEnd bytes first new result) end.0 end.1 h)
 
-  -- a fault, at the end
-  pub end_fault : (result : Result ℕ ProgramFault) → IsAtEnd b → IsAfterEnd taken first new result
-      → IsErrOf result ProgramFaults.Output → IfSome a (IsPartOfListing first new)
-  end_fault (Ok status) end h err = absurd (cc err)
-  end_fault (Err ProgramFaults.Output) end h err =
-      at_end a b taken (IsPartOfListing first new) consumed end h
-  end_fault (Err ProgramFaults.Input) end h err = absurd h
+  -- after a piece whose lines are the last
+  pub answer_before_end : (c : Option (List ℕ)) (piece : List ℕ) → Consumes b c piece
+      → (lines : JournalLines) (result : Result ℕ ProgramFault)
+      → IsAfterPiece (taken ++ piece) lines first new (some_status result)
+      → IsAnswer a first new result
+  answer_before_end c piece read lines result h =
+      answer a first new result
+      (of_all a c (taken ++ piece) (λ bytes. IsAfterEnd bytes first new result)
+      (Consumes-trans a b c taken piece consumed read)
+      (before_end (taken ++ piece) lines first new result h))
 
-  -- a status before it
-  pub piece_status : (lines : JournalLines) (status : ℕ)
-      → IsAfterPiece taken lines first new (Ok (Some status))
-      → IfSome a (IsListed first new status)
-  piece_status lines status h = of_all a b taken (IsListed first new status) consumed h
-
-  -- a fault before it
-  pub piece_fault : (lines : JournalLines) (fault : ProgramFault)
-      → IsAfterPiece taken lines first new (Err fault)
-      → IsErrOf {T = ℕ} (Err fault) ProgramFaults.Output → IfSome a (IsPartOfListing first new)
-  piece_fault lines ProgramFaults.Output h err =
-      of_all a b taken (IsPartOfListing first new) consumed h
-  piece_fault lines ProgramFaults.Input h err = absurd h
+  -- after a read that failed
+  pub answer_input : (lines : JournalLines) (text : List ℕ) → HasGiven lines taken text
+      → Appends first new text → IfSome a (HasFirstLines first new)
+  answer_input lines text given had =
+      of_all a b taken (HasFirstLines first new) consumed
+      (λ more. (text, first_given lines taken text more given, had))

@@ -6,19 +6,22 @@ use Rattle.std.specs.Io.KnownBytes.{Appends}
 use Rattle.outcomes.specs.Outcomes.{Outcome, Writes, WritesPrefix}
 use Rattle.outcomes.specs.declared.fault.ProgramFault.{ProgramFault}
 use Rattle.outcomes.specs.declared.fault.ProgramFault.TheVariants as ProgramFaults
-use Rattle.ledger_commands.specs.Answers.{AnswersTo}
+use Rattle.ledger.specs.declared.ending.Ending.{Ending}
+use Rattle.ledger.specs.declared.listing.Listing.{Listing}
+use Rattle.ledger.specs.LedgerPieces.{IsLedgerText}
+use Rattle.ledger_commands.specs.Answers.{AnswersTo, status_of}
+use Rattle.ledger_commands.specs.Ledgers.{IsLedger}
 
-module _ (Is : List ℕ → Outcome → Type 0) (left : Option (List ℕ)) (bytes : List ℕ)
-    (outcome : Outcome)
+module _ (Is : List ℕ → Outcome → Type 0) (left : Option (List ℕ)) (outcome : Outcome)
     (result : Result ℕ ProgramFault) (old new : Option (List ℕ))
-    (whole : IfSome left (λ all. bytes ≡ all)) (is : Is bytes outcome) where
+    (is : IfSome left (λ bytes. Is bytes outcome)) where
   answers : (P : Outcome → Type 0) → P outcome → IfSome left (λ all. AnswersTo Is all P)
-  answers P has = go left whole
+  answers P has = go left is
     where
-      go : (left : Option (List ℕ)) → IfSome left (λ all. bytes ≡ all)
+      go : (left : Option (List ℕ)) → IfSome left (λ bytes. Is bytes outcome)
           → IfSome left (λ all. AnswersTo Is all P)
-      go None e = tt
-      go (Some all) e = inl (outcome, subst (λ b. Is b outcome) e is, has)
+      go None it = tt
+      go (Some all) it = inl (outcome, it, has)
 
   pub answered : IfOk result (λ given. (given ≡ outcome.status) × Appends old new outcome.text)
       → IfOk result (λ status. IfSome left (λ all. AnswersTo Is all (Writes old new status)))
@@ -37,3 +40,11 @@ module _ (Is : List ℕ → Outcome → Type 0) (left : Option (List ℕ)) (byte
   stopped stops err = answers (WritesPrefix old new)
       (subst (λ r. OnErr r ((result ≡ Err ProgramFaults.Output)
       × ((n : ℕ) × Appends old new (take n outcome.text)))) err stops).1
+
+-- lines that were read, with their status
+pub is_ledger : (listing : Listing) (left : Option (List ℕ)) (ending : Ending) (status : ℕ)
+    (text : List ℕ) → status ≡ status_of ending
+    → IfSome left (λ bytes. IsLedgerText listing bytes ending text)
+    → IfSome left (λ bytes. IsLedger listing bytes (record { status = status; text = text }))
+is_ledger listing None ending status text e lines = tt
+is_ledger listing (Some bytes) ending status text e lines = (ending, lines, e)

@@ -3,18 +3,24 @@
 ghost use Rattle.std.specs.Prelude.{◌≡◌, IfOk, IfSome, IsErrOf, string_bytes};
 ghost use Rattle.std.specs.Io.KnownBytes.{Keeps};
 ghost use Rattle.outcomes.specs.Outcomes.{Writes, WritesPrefix};
+ghost use Rattle.ledger.specs.LedgerPieces.{IsLedgerText};
 ghost use Rattle.ledger_commands.specs.Answers.{AnswersTo};
 ghost use Rattle.ledger_commands.specs.Ledgers.{IsLedger};
 
 use crate::status::status_of;
-use ledger::{Listing, ending_text, headless_ending, ledger_text, read_contents};
-use outcomes::{Answer, ProgramFault, ReadFault, read_all, write_answer};
-use std::alloc::{AllocError, Global};
-use std::io::{Read, Write};
+use ledger::{LastLines, LedgerLines, Listing};
+use outcomes::{MOST_READS, ProgramFault, ReadFault, write_answer};
+use std::alloc::Global;
+use std::io::{ErrorKind, Read, Write};
+
+/// How many bytes are asked for at a time.
+const PIECE: usize = 8192;
 
 /// Reads a cell, and writes what it says of each version that is listed, and how it ends, if that
-/// isn't with a whole record. The exit status is 0, or 1 where it is damaged. Where memory runs
-/// out, the line `memory` is written alone, and the status is 1.
+/// isn't with a whole record. The exit status is 0, or 1 where it is damaged. Of a long cell the
+/// versions are held, and not the records, but for what comes before a header that names the
+/// weights. Where memory runs out, the line `memory` is written alone, and the status is 1. A
+/// reader that hasn't ended after `MOST_READS` reads counts as one that failed.
 pub fn ledger_on<R: Read, W: Write>(
     alloc: Global,
     cell: &mut R,
@@ -30,33 +36,37 @@ pub fn ledger_on<R: Read, W: Write>(
         → IfSome (R.remaining cell.old) (λ bytes. AnswersTo (IsLedger listing) bytes
         (WritesPrefix (W.contents output.old) (W.contents output.new))) }
 {
-    let bytes = match read_all(alloc, cell) {
-        Ok(bytes) => bytes,
-        Err(ReadFault::Input) => return Err(ProgramFault::Input),
-        Err(ReadFault::Memory) => return write_answer(output, 1, "memory\n"),
-    };
-    match answer_to(alloc, bytes.as_slice(), listing) {
-        Ok(answer) => write_answer(output, answer.status, answer.text.as_str()),
-        Err(AllocError) => write_answer(output, 1, "memory\n"),
+    match read_lines(alloc, cell, listing) {
+        Ok(last) => write_answer(output, status_of(last.ending), last.text.as_str()),
+        Err(ReadFault::Input) => Err(ProgramFault::Input),
+        Err(ReadFault::Memory) => write_answer(output, 1, "memory\n"),
     }
 }
 
-// The status and the text for the bytes of a cell.
-fn answer_to(alloc: Global, bytes: &[u8], listing: Listing) -> Result<Answer, AllocError>
-    ensures { IfOk result (λ a. IsLedger listing bytes.now
-        (record { status = a.status; text = string_bytes a.text })) }
+// The lines of the versions that are listed, and how the cell ends.
+fn read_lines<R: Read>(
+    alloc: Global,
+    cell: &mut R,
+    listing: Listing,
+) -> Result<LastLines, ReadFault>
+    ensures { IfOk result (λ last. IfSome (R.remaining cell.old) (λ bytes.
+        IsLedgerText listing bytes last.ending (string_bytes last.text))) }
 {
-    match read_contents(alloc, bytes)? {
-        Some(contents) => Ok(Answer {
-            status: status_of(contents.ending),
-            text: ledger_text(alloc, &contents, listing)?,
-        }),
-        None => {
-            let ending = headless_ending(bytes);
-            Ok(Answer {
-                status: status_of(ending),
-                text: ending_text(alloc, ending)?,
-            })
+    let mut lines = LedgerLines::new(alloc);
+    let mut piece = [0u8; PIECE];
+    'reads: for _ in 0..MOST_READS {
+        match cell.read(&mut piece) {
+            Ok(0) => return Ok(lines.end(alloc, listing)?),
+            Ok(count) => match lines.take(alloc, listing, &piece[..count])? {
+                Some(last) => return Ok(last),
+                None => {}
+            },
+            Err(error) => {
+                if error.kind() != ErrorKind::Interrupted {
+                    return Err(ReadFault::Input);
+                }
+            }
         }
     }
+    Err(ReadFault::Input)
 }

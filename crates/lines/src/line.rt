@@ -22,7 +22,7 @@ pub enum NamedReply {
     Nothing,
 }
 
-/// Why an event can't apply.
+/// Why a command of a schedule was skipped.
 #[derive(Clone, Copy, Debug, PartialEq, Eq)]
 pub enum Reason {
     /// The site is no member.

@@ -37,12 +37,15 @@ fn rates_of(
     ballot: Ballot,
 ) -> Result<[f64; 4], Fault> {
     make_room(acceptor, promises)?;
-    Ok([
-        prepare_rate(rt, acceptor, promises, ballot)?,
-        note_rate(rt, acceptor, promises)?,
-        accept_rate(rt, acceptor, votes, ballot)?,
-        note_rate(rt, acceptor, votes)?,
-    ])
+    let start = now(rt);
+    let is_prepared = prepare_all(acceptor, promises, ballot);
+    let prepares = rate_since(rt, start, promises.len(), is_prepared)?;
+    let promise_notes = note_rate(rt, acceptor, promises)?;
+    let start = now(rt);
+    let is_accepted = accept_all(acceptor, votes, ballot);
+    let accepts = rate_since(rt, start, votes.len(), is_accepted)?;
+    let vote_notes = note_rate(rt, acceptor, votes)?;
+    Ok([prepares, promise_notes, accepts, vote_notes])
 }
 
 fn make_room(acceptor: &mut Acceptor, records: &[Record]) -> Result<(), Fault> {
@@ -52,17 +55,6 @@ fn make_room(acceptor: &mut Acceptor, records: &[Record]) -> Result<(), Fault> {
     Ok(())
 }
 
-fn prepare_rate(
-    rt: &HostRuntime,
-    acceptor: &Acceptor,
-    records: &[Record],
-    ballot: Ballot,
-) -> Result<f64, Fault> {
-    let start = now(rt);
-    let is_right = prepare_all(acceptor, records, ballot);
-    rate_since(rt, start, records.len(), is_right)
-}
-
 fn prepare_all(acceptor: &Acceptor, records: &[Record], ballot: Ballot) -> bool {
     for record in records.iter() {
         if acceptor.prepare(&record.slot, ballot).entry.is_none() {
@@ -70,17 +62,6 @@ fn prepare_all(acceptor: &Acceptor, records: &[Record], ballot: Ballot) -> bool 
         }
     }
     true
-}
-
-fn accept_rate(
-    rt: &HostRuntime,
-    acceptor: &Acceptor,
-    records: &[Record],
-    ballot: Ballot,
-) -> Result<f64, Fault> {
-    let start = now(rt);
-    let is_right = accept_all(acceptor, records, ballot);
-    rate_since(rt, start, records.len(), is_right)
 }
 
 fn accept_all(acceptor: &Acceptor, records: &[Record], ballot: Ballot) -> bool {

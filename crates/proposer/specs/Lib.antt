@@ -1,3 +1,7 @@
+-- Read dgram's Heard first (what messages say that were heard). Then: Proposals (when a ballot is
+-- ready, and what it proposes), Sessions (what a site has heard and begun since it was opened),
+-- Rounds and Rows (what is kept of a ballot, and of a slot), Faults. inner/ is for private
+-- contracts.
 pub mod Proposals
 pub mod Sessions
 pub mod Rounds

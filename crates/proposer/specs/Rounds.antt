@@ -21,7 +21,8 @@ abbrev pub fresh : BallotNumber → BagId → Round
 fresh ballot own =
     record { ballot = ballot; own = own; voters = []; best = None; waiting = None }
 
--- what a plan says of its ballot, which nobody has promised
+-- a plan is what the code keeps of a ballot apart from its promises; of one that nobody has
+-- promised
 abbrev pub round_of : Plan → Round
 round_of plan = record {
   ballot = plan.ballot;

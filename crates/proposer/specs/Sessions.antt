@@ -1,4 +1,5 @@
--- What a proposer has of the time since its site was opened, and loses when the site goes down.
+-- What a site has of the time since it was opened, and loses when it goes down: all that it heard,
+-- which its proposer and its learner count, and its current ballots.
 use Rattle.std.specs.Prelude.{ℕ, ◌==◌, length, List, [], ◌∷◌, ◌++◌, Option, Some, None}
 use Rattle.std.specs.Prelude.{if◌then◌else◌}
 use Rattle.fed_types.specs.declared.bag_id.BagId.{BagId}
@@ -37,7 +38,7 @@ abbrev pub at_slot :
     {X : Type 0} → SlotName → Option X → (SlotName → Option X) → SlotName → Option X
 at_slot slot x others s = if same_slot slot s then x else others s
 
--- this ballot is the slot's current one: no promise for it has been heard since
+-- this ballot is the slot's current one from now on: what was heard before doesn't count for it
 abbrev pub issues : Session → SlotName → BallotNumber → Session
 issues session slot ballot = record {
   heard = session.heard;
@@ -45,9 +46,10 @@ issues session slot ballot = record {
       session.current;
 }
 
--- What is under way, of each slot: a ballot that was begun, while its Round record isn't noted, and
--- the bag that it was begun with; the bag that the current ballot was begun with; and the promise
--- that made a proposal ready, while the proposal isn't issued.
+-- What a call has begun and not finished, of each slot, so that the session doesn't show it: where
+-- memory runs out meanwhile, nothing has happened. A ballot that was begun, while its Round record
+-- isn't noted, and the bag that it was begun with; the bag that the current ballot was begun with;
+-- and the promise that made a proposal ready, while the proposal isn't issued.
 pub record UnderWay : Type 0 where
   pub begun : SlotName → Option BallotNumber
   pub begun_with : SlotName → Option BagId
@@ -81,33 +83,37 @@ waits under slot m = record {
   waiting = at_slot slot m under.waiting;
 }
 
--- ---- a promise that gives a bag to propose waits, and one that gives none is heard
+-- a promise that makes a proposal of this bag ready isn't heard yet; one that makes none ready is
 abbrev pub heard_after : Option BagId → Session → Message → Session
 heard_after None session m = hears session m
 heard_after (Some bag) session m = session
 
+-- but waits
 abbrev pub waiting_after : Option BagId → UnderWay → Message → UnderWay
 waiting_after None under m = under
 waiting_after (Some bag) under m = waits under m.slot (Some m)
 
--- ---- what waits is heard once the proposal is issued
+-- it is heard once the proposal is issued
 abbrev pub heard_if : Session → Option Message → Session
 heard_if session None = session
 heard_if session (Some m) = hears session m
 
--- ---- a Round record of the ballot that was begun makes it current, and no other record does
+-- the ballot that was begun, where it is of this round
 abbrev pub of_round : Option BallotNumber → ℕ → Option BallotNumber
 of_round None round = None
 of_round (Some ballot) round = if ballot.round == round then Some ballot else None
 
+-- a Round record of the ballot that was begun makes it current, and no other record does
 abbrev pub issued_by : Option BallotNumber → Entry → Option BallotNumber
 issued_by begun (entry.Round round) = of_round begun round
 issued_by begun _ = None
 
+-- the session after that
 abbrev pub issued_if : Session → SlotName → Option BallotNumber → Session
 issued_if session slot None = session
 issued_if session slot (Some ballot) = issues session slot ballot
 
+-- and what is under way: of this slot nothing but the bag of the ballot that is current now
 abbrev pub under_way_if : UnderWay → SlotName → Option BallotNumber → UnderWay
 under_way_if under slot None = under
 under_way_if under slot (Some ballot) = record {

@@ -29,7 +29,7 @@ pub(crate) struct Plan {
 }
 
 impl Plan {
-    /// Of a ballot that nobody has promised.
+    /// The plan of a ballot that nobody has promised.
     pub(crate) fn new(ballot: Ballot, own: BagId) -> Plan
         ensures { round_of result ≡ fresh ballot own }
     {

@@ -21,7 +21,7 @@ pub(crate) struct Row {
 }
 
 impl Row {
-    /// Of a slot of which nothing is known.
+    /// The row of a slot of which nothing is known.
     pub(crate) fn empty() -> Row
         ensures { result ≡ empty_row }
     {

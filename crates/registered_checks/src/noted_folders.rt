@@ -44,7 +44,8 @@ impl<F: Folders> NotedFolders<F> {
     }
 
     /// The bags that the folders of these paths hold, in order; `None` where memory ran out. That
-    /// these folders were read is looked at here: the contract of a check doesn't say which it reads.
+    /// these folders were read is looked at here: the contract of a check doesn't say which it
+    /// reads.
     pub(crate) fn held(&self, paths: &[&str]) -> Option<&[HeldBag]>
         ensures { IfSome result (λ held. ForSome (F.gives self.now.folders) (λ gives.
             AreHeld gives (map (λ path. path.now) paths.now) held.now)) }

@@ -1,6 +1,6 @@
 //! An arrow for each datagram that was sent.
 
-use crate::drawing::Drawing;
+use crate::canvas::Canvas;
 use crate::marks::CROSS;
 use crate::paint::{PLAIN, of_datagram};
 use crate::shape::{push_shape, push_words};
@@ -25,7 +25,7 @@ const LOOP: &str = "s$c' marker-end='url(#h$c)' d='M$0 $1C$4 $1 $4 $3 $2 $3'/>\n
 
 const STUB: &str = "<path class='a b s$c' d='M$0 $1L$2 $3'/>";
 
-impl Drawing<'_> {
+impl Canvas<'_> {
     /// Appends an arrow for each datagram.
     pub(crate) fn push_arrows(&self, text: &mut String) -> Result<(), AllocError> {
         for (before, passage) in self.story.passages.iter().enumerate() {

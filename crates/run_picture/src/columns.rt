@@ -1,6 +1,6 @@
 //! The columns: the names of the sites, where each is up, down or failed, and which bag it knows.
 
-use crate::drawing::Drawing;
+use crate::canvas::Canvas;
 use crate::paint::{PLAIN, of_tree};
 use crate::shape::push_shape;
 use fed_types::SiteNo;
@@ -19,7 +19,7 @@ const FAILED: &str = "<path class='gap' d='M$0 $1V$2'/><path class='failed' d='M
 const NAME: &str = "<rect class='site' x='$0' y='$1' width='124' height='28' rx='14'
 transform='translate(-62 0)'/><text class='name' x='$0' y='$1' dy='19'>site $2";
 
-impl Drawing<'_> {
+impl Canvas<'_> {
     /// Appends all columns, down to this height.
     pub(crate) fn push_columns(&self, text: &mut String, end: usize) -> Result<(), AllocError> {
         for before in 0..self.story.members.count() {

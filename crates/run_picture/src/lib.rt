@@ -3,8 +3,8 @@
 #![tactic(auto)]
 
 mod arrows;
+mod canvas;
 mod columns;
-mod drawing;
 mod labels;
 mod layout;
 mod legend;

@@ -1,6 +1,6 @@
 //! The whole picture.
 
-use crate::drawing::Drawing;
+use crate::canvas::Canvas;
 use crate::labels::labels_of;
 use crate::layout::Layout;
 use crate::legend::{Legend, trees_of};
@@ -49,12 +49,12 @@ pub fn picture_of(alloc: Global, story: &Story) -> Result<String, AllocError> {
     let width = layout.width(story.members.count());
     let legend = Legend::new(width, layout.bottom.saturating_add(92));
     push_opening(&mut text, width, legend.bottom(trees.len()))?;
-    let drawing = Drawing {
+    let canvas = Canvas {
         alloc,
         story,
         layout: &layout,
     };
-    push_body(&mut text, &drawing, labels.as_slice())?;
+    push_body(&mut text, &canvas, labels.as_slice())?;
     legend.push(&mut text, trees.as_slice())?;
     text.push_str("</svg>\n")?;
     Ok(text)
@@ -69,18 +69,14 @@ fn push_opening(text: &mut String, width: usize, height: usize) -> Result<(), Al
 }
 
 // What is appended later lies above.
-fn push_body(
-    text: &mut String,
-    drawing: &Drawing<'_>,
-    labels: &[String],
-) -> Result<(), AllocError> {
-    let bottom = drawing.layout.bottom;
-    drawing.push_columns(text, bottom.saturating_add(26))?;
-    drawing.push_names(text, 28)?;
-    drawing.push_names(text, bottom.saturating_add(30))?;
-    drawing.push_repeats(text)?;
-    drawing.push_arrows(text)?;
-    drawing.push_marks(text)?;
-    drawing.push_labels(text, labels)?;
-    drawing.push_stub_words(text)
+fn push_body(text: &mut String, canvas: &Canvas<'_>, labels: &[String]) -> Result<(), AllocError> {
+    let bottom = canvas.layout.bottom;
+    canvas.push_columns(text, bottom.saturating_add(26))?;
+    canvas.push_names(text, 28)?;
+    canvas.push_names(text, bottom.saturating_add(30))?;
+    canvas.push_repeats(text)?;
+    canvas.push_arrows(text)?;
+    canvas.push_marks(text)?;
+    canvas.push_labels(text, labels)?;
+    canvas.push_stub_words(text)
 }

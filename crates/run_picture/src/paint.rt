@@ -33,7 +33,7 @@ pub(crate) fn of_tree(tree: u32) -> char {
     }
 }
 
-/// That of a datagram.
+/// The colour of a datagram.
 pub(crate) fn of_datagram(datagram: &Datagram) -> char {
     match datagram.kind {
         Kind::Refused => REFUSAL,

@@ -44,7 +44,7 @@ use Rattle.serving_law.proofs.DiskCalls.{owner, serving, called, no_folders}
 use Rattle.serving_law.proofs.DiskJournals.{says}
 use Rattle.serving_law.proofs.Agreement.{three_are, ports, step_of, may_turn, takes, serves}
 use Rattle.serving_law.specs.Examples.{Request}
-use Rattle.serving_law.specs.ExamplesAgreed.{three, a, ballot, vote, Agree, DiesVoting, says_vote}
+use Rattle.serving_law.specs.ExamplesAgreed.{three, a, ballot, Agree, DiesVoting, says_vote}
 use Rattle.serving_law.specs.ExamplesAgreed.{CountsOnce, ThreeSitesAgree, KilledInAVote}
 use Rattle.serving_law.specs.ExamplesAgreed.{ARepeatedVote}
 use Rattle.serving_law.specs.Reports.{Prints}

@@ -1,5 +1,5 @@
 -- A site dies in the call of a deposit.
-use Rattle.std.proofs.Common.{ℕ, ◌≡◌, ◌≤◌, refl, sym, ap, subst, ◌∙◌, Bool, true, false, cond, max}
+use Rattle.std.proofs.Common.{ℕ, ◌≡◌, ◌≤◌, refl, sym, ap, subst, ◌∙◌, Bool, true, false, cond}
 use Rattle.std.proofs.Common.{List, [], ◌∷◌, ◌++◌, None, Some, arith}
 use Rattle.std.specs.Prelude.{Result, Ok}
 use Rattle.fed_types.specs.declared.bag_id.BagId.{BagId}
@@ -14,9 +14,9 @@ use Rattle.bag_check.specs.Check.{check_of}
 use Rattle.records.specs.declared.entry.Entry.TheVariants as entry
 use Rattle.records.specs.declared.record.Record.{Record}
 use Rattle.records.specs.Records.{IsRecord, AreRecords}
-use Rattle.records.specs.Words.{known_of, used_of, deposit_of, with_one, if_some, round_in}
+use Rattle.records.specs.Words.{known_of, deposit_of, with_one, if_some}
 use Rattle.records.specs.Words.{known_in, earlier}
-use Rattle.records.proofs.Words.{used-push, known-push}
+use Rattle.records.proofs.Words.{known-push}
 use Rattle.dgram.specs.Heard.{bodies_of, floor_of, voters_for}
 use Rattle.learner.specs.declared.row.Row.TheVariants as rows
 use Rattle.proposer.specs.Rows.{empty_row}
@@ -41,7 +41,7 @@ use Rattle.serving_law.proofs.Answers.{answer_of}
 use Rattle.serving_law.proofs.DiskJournals.{holds, says}
 use Rattle.serving_law.proofs.Replies.{checked_is}
 use Rattle.serving_law.proofs.Requests.{deposit_is_slot}
-use Rattle.serving_law.proofs.Tables.{records_of, tables, begun_with, stands}
+use Rattle.serving_law.proofs.Tables.{records_of, tables, begun_with, stands, used_by_none}
 use Rattle.serving_law.proofs.NewSites.{may_start}
 
 module _ (members : Membership) (is_membership : IsMembership members) (slot : SlotName)
@@ -53,16 +53,6 @@ module _ (members : Membership) (is_membership : IsMembership members) (slot : S
 
   abbrev pub its_tables : Contents
   its_tables = tables slot members 1 (record { own = empty_row; heard = rows.Unheard })
-
-  none_used : used_of slot (r ∷ []) ≡ 0
-  unfolding used_of
-  none_used = used-push slot [] r ∙ go (same_slot slot slot)
-    where
-      go : (t : Bool)
-          → with_one max (used_of slot [])
-          (if_some round_in (cond t (Some (entry.Deposit bag)) None)) ≡ 0
-      go true = refl
-      go false = refl
 
   none_known : known_of slot (r ∷ []) ≡ None
   unfolding known_of
@@ -81,7 +71,7 @@ module _ (members : Membership) (is_membership : IsMembership members) (slot : S
       stands slot members 1 (entry.Deposit bag ∷ []) [] new_session refl (λ s f. refl) None
       (record { own = empty_row; heard = rows.Unheard })
       (record {
-        used = sym none_used;
+        used = sym (used_by_none slot (entry.Deposit bag) refl);
         floor = refl;
         begun = tt;
         current = tt;

@@ -1,5 +1,5 @@
 -- A site that takes a message that nobody has sent.
-use Rattle.std.proofs.Common.{◌≡◌, ◌≤◌, refl, sym, ap, subst, ◌∙◌, Bool, true, false, cond, max}
+use Rattle.std.proofs.Common.{◌≡◌, ◌≤◌, refl, sym, ap, subst, ◌∙◌, Bool, true, false, cond}
 use Rattle.std.proofs.Common.{[], ◌∷◌, None, Some, arith}
 use Rattle.std.specs.Prelude.{Ok}
 use Rattle.fed_types.specs.declared.bag_id.BagId.{BagId}
@@ -14,9 +14,9 @@ use Rattle.fed_types.specs.Quorums.{quorums_of}
 use Rattle.std.specs.List.{cons_option}
 use Rattle.records.specs.declared.entry.Entry.TheVariants as entry
 use Rattle.records.specs.declared.record.Record.{Record}
-use Rattle.records.specs.Words.{known_of, used_of, with_one, if_some, round_in}
+use Rattle.records.specs.Words.{known_of, with_one, if_some}
 use Rattle.records.specs.Words.{known_in, earlier}
-use Rattle.records.proofs.Words.{used-push, known-push}
+use Rattle.records.proofs.Words.{known-push}
 use Rattle.dgram.specs.declared.body.Body.TheVariants.{Known}
 use Rattle.dgram.specs.declared.message.Message.{Message}
 use Rattle.dgram.specs.Heard.{bodies_of, floor_of}
@@ -40,7 +40,7 @@ use Rattle.serving_law.specs.Reports.{step_of}
 use Rattle.serving_law.proofs.DiskCalls.{owner, serving, called, hears, heard_step, no_folders}
 use Rattle.serving_law.proofs.Answers.{answer_of}
 use Rattle.serving_law.proofs.DiskJournals.{holds}
-use Rattle.serving_law.proofs.Tables.{records_of, tables, begun_with, stands}
+use Rattle.serving_law.proofs.Tables.{records_of, tables, begun_with, stands, used_by_none}
 use Rattle.serving_law.proofs.NewSites.{may_start}
 
 module _ (members : Membership) (is_membership : IsMembership members) (two : 2 ≤ count_of members)
@@ -55,16 +55,6 @@ module _ (members : Membership) (is_membership : IsMembership members) (two : 2 
   heard = heard_in new_session m
 
   -- ---- tables
-
-  none_used : used_of slot (r ∷ []) ≡ 0
-  unfolding used_of
-  none_used = used-push slot [] r ∙ go (same_slot slot slot)
-    where
-      go : (t : Bool)
-          → with_one max (used_of slot [])
-          (if_some round_in (cond t (Some (entry.Known bag)) None)) ≡ 0
-      go true = refl
-      go false = refl
 
   no_floor : floor_of (bodies_of slot (m ∷ [])) ≡ 0
   unfolding floor_of bodies_of
@@ -94,7 +84,7 @@ module _ (members : Membership) (is_membership : IsMembership members) (two : 2 
       stands slot members 1 (entry.Known bag ∷ []) (Known 2 bag ∷ []) heard refl (λ s f. refl) None
       (record { own = empty_row; heard = rows.Known bag })
       (record {
-        used = sym none_used;
+        used = sym (used_by_none slot (entry.Known bag) refl);
         floor = sym no_floor;
         begun = tt;
         current = tt;

@@ -91,8 +91,7 @@ site_tells_nothing (bodies.DepositReply from answer) bag is e = absurd is
 site_tells_nothing (bodies.QueryReply from answer) bag is e = absurd is
 
 module _ {C : Type 0} (device : C → Device) (members : Membership)
-    (is_membership : IsMembership members)
-    (only_now : OnlyNow device)
+    (is_membership : IsMembership members) (only_now : OnlyNow device)
   where
     abbrev q : QuorumSystem
     q = quorums device members

@@ -1,7 +1,7 @@
 -- Every history stands for a network, in which all that was reported is chosen.
-use Rattle.std.proofs.Common.{ℕ, ◌≡◌, ◌⊎◌, inl, inr, refl, sym, ap, subst, false}
+use Rattle.std.proofs.Common.{ℕ, ◌≡◌, ◌⊎◌, inl, inr, refl, sym, ap, subst}
 use Rattle.std.proofs.Common.{List, [], ◌∷◌, ◌++◌, Option}
-use Rattle.std.specs.Prelude.{Result, IfSome}
+use Rattle.std.specs.Prelude.{Result}
 use Rattle.bag_tree.specs.declared.fault.TreeFault.{TreeFault}
 use Rattle.bag_tree.specs.Facts.{TreeFacts}
 use Rattle.fed_types.specs.declared.bag_id.BagId.{BagId}
@@ -25,11 +25,11 @@ use Rattle.world_law.proofs.WellFormed.{new_is_well_formed}
 use Rattle.udp_site.specs.Requests.{request_of}
 use Rattle.udp_site.specs.Turns as turns
 use Rattle.udp_site.specs.Turns.{Serving, turn_of}
-use Rattle.udp_site.specs.Served.{Turned, is_the_last}
+use Rattle.udp_site.specs.Served.{Turned}
 use Rattle.serving_law.specs.Federations.{Federation, Step, Happening, new_federation, after}
 use Rattle.serving_law.specs.Federations.{after_all}
 use Rattle.serving_law.specs.Laws.{WasDeposited, ReportsAgree, ReportsWereDeposited}
-use Rattle.serving_law.specs.Laws.{RegisteredStays, TurnsMayHappen}
+use Rattle.serving_law.specs.Laws.{RegisteredStays, TurnsMayHappen, IsStep}
 use Rattle.serving_law.specs.Reports.{Reports, Registers, IsDeposit, records_of}
 use Rattle.serving_law.specs.Rules.{May, MayAll, MayCome, IsServing, Takes}
 use Rattle.serving_law.proofs.Scene.{OnlyNow}
@@ -53,14 +53,10 @@ unfolding new_network new_site
 none_new n slot bag d = has_none d
 
 module _ {C : Type 0} (device : C → Device) (members : Membership)
-    (is_membership : IsMembership members)
-    (only_now : OnlyNow device)
+    (is_membership : IsMembership members) (only_now : OnlyNow device)
   where
     abbrev q : QuorumSystem
     q = quorums device members
-
-    abbrev federation : ℕ
-    federation = members.federation
 
     -- one of these happenings, from a federation on, is a deposit of the bag for the slot
     record Made (f : Federation C) (history : List (Happening C)) (slot : SlotName) (bag : BagId)
@@ -69,7 +65,7 @@ module _ {C : Type 0} (device : C → Device) (members : Membership)
       happening : Happening C
       later : List (Happening C)
       split : history ≡ before ++ happening ∷ later
-      is : IsDeposit federation (after_all f before) happening slot bag
+      is : IsDeposit members.federation (after_all f before) happening slot bag
 
     -- what a history leads to
     record Led (f : Federation C) (history : List (Happening C)) (w : Network) : Type 0 where
@@ -77,9 +73,9 @@ module _ {C : Type 0} (device : C → Device) (members : Membership)
       stands : Stands device members (after_all f history) x
       grows : Grows w x
       reports : (h : Happening C) → Has h history → (slot : SlotName) (bag : BagId)
-          → Reports federation h slot bag → IsChosen q x slot bag
+          → Reports members.federation h slot bag → IsChosen q x slot bag
       registers : (h : Happening C) → Has h history → (n : ℕ) (slot : SlotName) (bag : BagId)
-          → Registers federation h n slot bag → HasDeposit x n slot bag
+          → Registers members.federation h n slot bag → HasDeposit x n slot bag
       deposits : (n : ℕ) (slot : SlotName) (bag : BagId) → HasDeposit x n slot bag
           → HasDeposit w n slot bag ⊎ Made f history slot bag
 
@@ -88,22 +84,22 @@ module _ {C : Type 0} (device : C → Device) (members : Membership)
         (first : Went device members is_membership only_now f h w)
         (rest : Led (after f h) history first.x) where
       reported : (g : Happening C) → Has g (h ∷ history) → (slot : SlotName) (bag : BagId)
-          → Reports federation g slot bag → IsChosen q rest.x slot bag
+          → Reports members.federation g slot bag → IsChosen q rest.x slot bag
       reported g (here e) slot bag r =
           chosen_grows (grows_then first.grows rest.grows)
           (first.reports slot bag
-          (subst (λ (g : Happening C). Reports federation g slot bag) (sym e) r))
+          (subst (λ (g : Happening C). Reports members.federation g slot bag) (sym e) r))
       reported g (there has) slot bag r = rest.reports g has slot bag r
 
       registered : (g : Happening C) → Has g (h ∷ history) → (n : ℕ) (slot : SlotName) (bag : BagId)
-          → Registers federation g n slot bag → HasDeposit rest.x n slot bag
+          → Registers members.federation g n slot bag → HasDeposit rest.x n slot bag
       registered g (here e) n slot bag r =
           rest.grows.kept n slot (entry.Deposit bag)
           (first.registers n slot bag
-          (subst (λ (g : Happening C). Registers federation g n slot bag) (sym e) r))
+          (subst (λ (g : Happening C). Registers members.federation g n slot bag) (sym e) r))
       registered g (there has) n slot bag r = rest.registers g has n slot bag r
 
-      made_now : (slot : SlotName) (bag : BagId) → IsDeposit federation f h slot bag
+      made_now : (slot : SlotName) (bag : BagId) → IsDeposit members.federation f h slot bag
           → Made f (h ∷ history) slot bag
       unfolding after_all
       made_now slot bag d =
@@ -182,7 +178,7 @@ module _ {C : Type 0} (device : C → Device) (members : Membership)
 
     agree : (history : List (Happening C)) (g h : Happening C) (slot : SlotName) (u v : BagId)
         → MayAll device members new_federation history → Has g history → Has h history
-        → Reports federation g slot u → Reports federation h slot v → u ≡ v
+        → Reports members.federation g slot u → Reports members.federation h slot v → u ≡ v
     agree history g h slot u v may i j r s =
         let l = from_new history may in
         chosen_once q l.x laws l.stands.kept slot u v (l.reports g i slot u r)
@@ -191,9 +187,9 @@ module _ {C : Type 0} (device : C → Device) (members : Membership)
     deposited : (before later : List (Happening C)) (h : Happening C) (slot : SlotName)
         (bag : BagId)
         → MayAll device members new_federation (before ++ h ∷ later)
-        → Reports federation h slot bag → WasDeposited federation before slot bag
+        → Reports members.federation h slot bag → WasDeposited members.federation before slot bag
     deposited before later h slot bag may r =
-        chosen_came q laws l.x l.stands.kept (WasDeposited federation before) made slot bag
+        chosen_came q laws l.x l.stands.kept (WasDeposited members.federation before) made slot bag
         (next.reports slot bag r)
       where
         l : Led new_federation before new_network
@@ -205,7 +201,7 @@ module _ {C : Type 0} (device : C → Device) (members : Membership)
             l.stands h (may_split before h later new_federation may).1
 
         made : (n : ℕ) (slot : SlotName) (bag : BagId) → HasDeposit l.x n slot bag
-            → WasDeposited federation before slot bag
+            → WasDeposited members.federation before slot bag
         made n slot bag d = elim (l.deposits n slot bag d) [
           | inl old ↦ absurd (none_new n slot bag old)
           | inr m ↦ record {
@@ -223,11 +219,7 @@ module _ {C : Type 0} (device : C → Device) (members : Membership)
         → IsServing device members (after_all new_federation history) n old
         → MayCome members.federation (after_all new_federation history).handed turn.took
         → turn_of device ports gives old turn.took turn.done next
-        → (step : Step C) × (step.turn ≡ turn) × (step.next ≡ next) × (step.ports ≡ ports)
-        × IfSome gives (λ answer. step.folders ≡ answer)
-        × Takes device members (after_all new_federation history) old step
-        × (is_the_last turn ≡ false → next.site.book.needs_opening ≡ false)
-        × (turns.IsServing old → turns.IsServing next)
+        → IsStep device members history old next ports gives turn
     taken history n old next ports gives turn may serving come comes = (
       step,
       refl,
@@ -258,7 +250,7 @@ module _ {C : Type 0} (device : C → Device) (members : Membership)
 
     stays : (before later : List (Happening C)) (h : Happening C) (n : ℕ) (slot : SlotName)
         (bag : BagId) → MayAll device members new_federation (before ++ h ∷ later)
-        → Registers federation h n slot bag
+        → Registers members.federation h n slot bag
         → HasEntry slot
         (records_of ((after_all new_federation (before ++ h ∷ later)).members n))
         (entry.Deposit bag)

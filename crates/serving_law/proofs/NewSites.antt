@@ -1,5 +1,5 @@
 -- A site is started over a disk on which nothing was written.
-use Rattle.std.proofs.Common.{◌≡◌, ℕ, List, [], refl}
+use Rattle.std.proofs.Common.{◌≡◌, ℕ, [], refl}
 use Rattle.fed_types.specs.Lists.{Has}
 use Rattle.fed_types.specs.Sites.{Membership, members_of}
 use Rattle.fed_types.specs.Values.{IsMembership}

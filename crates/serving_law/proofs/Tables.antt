@@ -11,7 +11,7 @@ use Rattle.fed_types.specs.Slots.{SlotName, same_slot}
 use Rattle.fed_types.specs.Laws.Slots.{same_slot_equivalence, same_slot_decides}
 use Rattle.records.specs.declared.entry.Entry.{Entry}
 use Rattle.records.specs.declared.record.Record.{Record}
-use Rattle.records.specs.Words.{entries, known_of, used_of, deposit_of}
+use Rattle.records.specs.Words.{entries, known_of, used_of, deposit_of, round_in}
 use Rattle.dgram.specs.declared.body.Body.{Body}
 use Rattle.dgram.specs.declared.message.Message.{Message}
 use Rattle.dgram.specs.Heard.{bodies_of, floor_of, voters_for, body_in}
@@ -94,6 +94,11 @@ module _ (slot : SlotName) where
   -- a table of one row
   itself : same_slot slot slot ≡ true
   itself = (same_slot_decides slot slot).1 refl
+
+  -- after one record that issues no ballot
+  pub used_by_none : (e : Entry) → round_in e ≡ None → used_of slot (records_of (e ∷ [])) ≡ 0
+  unfolding used_of
+  used_by_none e none = rw (itself, none) refl
 
   the_row : {R : Type 0} (row : R) → row_at ((slot, row) ∷ []) slot ≡ Some row
   the_row {R} row = ap (λ (t : Bool). cond t (Some row) None) itself

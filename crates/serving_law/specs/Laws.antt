@@ -25,12 +25,21 @@ pub record WasDeposited {C : Type 0} (federation : ℕ) (history : List (Happeni
   pub is : IsDeposit federation (after_all new_federation before) happening slot bag
 
 module _ {C : Type 0} (device : C → Device) (members : Membership) where
-  -- Each turn of which `serve` tells is one that may happen, where what it took may come: with its
-  -- ports, and with what it is known that folders give, or, where that isn't known, some folders.
-  -- It goes on only where its site needs no opening; so each whole turn but the last is `Turns`,
-  -- and the last, of which perhaps only a part was done, is `Turns` or `Fails`. And its site stands
-  -- for what it has heard, as `serve` asks of one that begins: so after them it may be called
-  -- again, which is `Renews`.
+  -- The turn is one that may happen, with these ports, and with what it is known that folders give,
+  -- or, where that isn't known, some folders. It goes on only where its site needs no opening, and
+  -- its site stands for what it has heard, as `serve` asks of one that begins.
+  abbrev pub IsStep : List (Happening C) → (old next : Serving C) → List ℕ
+      → Option (List ℕ → Result TreeFacts TreeFault) → Turned → Type 0
+  IsStep history old next ports gives turn =
+      (step : Step C) × (step.turn ≡ turn) × (step.next ≡ next) × (step.ports ≡ ports)
+      × IfSome gives (λ answer. step.folders ≡ answer)
+      × Takes device members (after_all new_federation history) old step
+      × (is_the_last turn ≡ false → next.site.book.needs_opening ≡ false)
+      × (turns.IsServing old → turns.IsServing next)
+
+  -- Each turn of which `serve` tells is one that may happen, where what it took may come. So each
+  -- whole turn but the last is `Turns`, and the last, of which perhaps only a part was done, is
+  -- `Turns` or `Fails`; and after them the site may be called again, which is `Renews`.
   abbrev pub TurnsMayHappen : Type 0
   TurnsMayHappen =
       (history : List (Happening C)) (n : ℕ) (old next : Serving C) (ports : List ℕ)
@@ -39,11 +48,7 @@ module _ {C : Type 0} (device : C → Device) (members : Membership) where
       → IsServing device members (after_all new_federation history) n old
       → MayCome members.federation (after_all new_federation history).handed turn.took
       → turn_of device ports gives old turn.took turn.done next
-      → (step : Step C) × (step.turn ≡ turn) × (step.next ≡ next) × (step.ports ≡ ports)
-      × IfSome gives (λ answer. step.folders ≡ answer)
-      × Takes device members (after_all new_federation history) old step
-      × (is_the_last turn ≡ false → next.site.book.needs_opening ≡ false)
-      × (turns.IsServing old → turns.IsServing next)
+      → IsStep history old next ports gives turn
 
   -- agreement: no two reports, of any members at any times, name different bags for one slot
   abbrev pub ReportsAgree : Type 0

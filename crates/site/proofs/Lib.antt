@@ -4,6 +4,7 @@ pub mod Conclusions
 pub mod HeardMessages
 pub mod Replies
 pub mod Asked
+pub mod Seen
 pub mod Registered
 pub mod Refused
 pub mod Reopened

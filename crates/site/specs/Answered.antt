@@ -52,7 +52,8 @@ pub record Commits
       → IsIn (after_commit r result (state_of (device old.cell) f)) (device new.cell)
   pub whose : new.owner ≡ old.owner
 
--- what a call's answer says of the commit of its record
+-- What a call's answer says of the commit of its record. Any other fault comes before the device is
+-- called, so it counts as one of memory, after which the cell is unchanged.
 abbrev pub commit_of : Result Answer SiteFault → Result (Unit {0}) CommitFault
 commit_of (Ok answer) = Ok tt
 commit_of (Err faults.Device) = Err commits.Device

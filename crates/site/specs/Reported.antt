@@ -1,5 +1,6 @@
--- What a site reports, over any list of its turns. Whatever it has heard, forged messages too, and
--- however often it was opened in between: each turn has a session of its own.
+-- What a site reports, over any list of its turns. Each turn may have any session, so nothing is
+-- assumed of the network: whatever the site has heard, forged messages too, and however often it
+-- was opened in between.
 use Rattle.std.specs.Prelude.{◌≡◌, ℕ, List, [], ◌∷◌, ◌++◌, Option, Some, None, Result, Ok}
 use Rattle.std.specs.Option.{option_to_list}
 use Rattle.fed_types.specs.declared.bag_id.BagId.{BagId}

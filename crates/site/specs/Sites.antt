@@ -12,7 +12,8 @@ pub record OpenSite (C : Type 0) : Type 0 where
   pub book : Volume C
   pub tables : Contents
 
--- the site stands for a session: its tables do, with its records, whatever is under way in them
+-- The site stands for a session: what its tables count is what the definitions find in its records
+-- and in the messages that the session has heard, whatever a call has begun in them.
 abbrev pub StandsFor : {C : Type 0} → OpenSite C → Session → Type 0
 StandsFor s session = (under : UnderWay) × tables.StandsFor s.tables s.book.records session under
 

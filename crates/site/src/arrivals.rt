@@ -53,8 +53,7 @@ impl<C: Cell> Site<C> {
         }
     }
 
-    /// A message arrives that a datagram of the federation was decoded to: as `arrive`, which would
-    /// decode it again.
+    /// Like `arrive`, of a datagram of the federation that was decoded already, to this message.
     pub fn arrive_message(&mut self, message: Message) -> Result<Answer, SiteFault>
         ensures answer { self.old.book.needs_opening ≡ false → (session : Session)
             → StandsFor self.old session

@@ -15,10 +15,10 @@ pub enum SiteFault {
     /// The tree is no valid bag, for this fault, which isn't `Memory`.
     #[error("no valid bag: {0}")]
     InvalidBag(BagFault),
-    /// The site's own deposit for the slot is another bag, this one.
+    /// The site's own deposit for the slot is a different bag: this one.
     #[error("another bag was deposited")]
     OtherDeposit(BagId),
-    /// Another bag is known for the slot, this one.
+    /// A different bag is known for the slot: this one.
     #[error("another bag is known")]
     OtherKnown(BagId),
     /// The cell's device failed.

@@ -12,9 +12,6 @@ use Rattle.dgram.specs.declared.body.Body.TheVariants as bodies
 use Rattle.dgram.specs.declared.message.Message.{Message}
 use Rattle.dgram.specs.Decoded.{message_of}
 use Rattle.udp_site.specs.Traffic.{Nothing, From, Move, Took, Failed, Handed, Grows}
-use Rattle.udp_site.specs.Traffic.{IsHanded}
-use Rattle.udp_site.specs.declared.port_fault.PortFault.{PortFault}
-use Rattle.udp_site.specs.declared.port_fault.PortFault.TheVariants as faults
 use Rattle.udp_site.proofs.Growth.{Grows-trans, Grows-none}
 use Rattle.site_commands.specs.declared.reply.Reply.{Reply}
 use Rattle.site_commands.specs.declared.reply.Reply.TheVariants.{ToDeposit, ToQuery}

@@ -9,6 +9,7 @@ use dgram::{DepositAnswer, QueryAnswer};
 use fed_types::{BagId, SiteNo, Slot};
 use lines::{Line, NamedBag, NamedReply, Options, push_line};
 use outcomes::Answer;
+use site::SiteFault;
 use std::alloc::{AllocError, Global};
 
 /// The answer to a deposit.
@@ -26,11 +27,15 @@ pub(crate) fn deposit_text(
             let bag = named(bag);
             line_text(alloc, &Line::Registered { site, slot, bag })
         }
-        DepositAnswer::OtherDeposit(_) => refused(alloc, site, 11),
-        DepositAnswer::OtherKnown(_) => refused(alloc, site, 12),
-        DepositAnswer::Device => refused(alloc, site, 13),
-        DepositAnswer::Memory => refused(alloc, site, 14),
-        DepositAnswer::NeedsOpen => refused(alloc, site, 15),
+        DepositAnswer::OtherDeposit(bag) => {
+            refused(alloc, site, SiteFault::OtherDeposit(bag).number())
+        }
+        DepositAnswer::OtherKnown(bag) => {
+            refused(alloc, site, SiteFault::OtherKnown(bag).number())
+        }
+        DepositAnswer::Device => refused(alloc, site, SiteFault::Device.number()),
+        DepositAnswer::Memory => refused(alloc, site, SiteFault::Memory.number()),
+        DepositAnswer::NeedsOpen => refused(alloc, site, SiteFault::NeedsOpen.number()),
         DepositAnswer::Tree(fault) => refused(alloc, site, 20 + fault.number()),
         DepositAnswer::Bag(fault) => refused(alloc, site, 40 + fault.number()),
     }
@@ -50,7 +55,9 @@ pub(crate) fn query_text(
         QueryAnswer::Known(bag) => NamedReply::Known(named(bag)),
         QueryAnswer::Pending(bag) => NamedReply::Pending(named(bag)),
         QueryAnswer::Nothing => NamedReply::Nothing,
-        QueryAnswer::NeedsOpen => return refused(alloc, site, 15),
+        QueryAnswer::NeedsOpen => {
+            return refused(alloc, site, SiteFault::NeedsOpen.number());
+        }
     };
     line_text(alloc, &Line::Replied { site, slot, reply })
 }

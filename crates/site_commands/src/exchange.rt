@@ -15,6 +15,14 @@ use udp_site::{Port, Turn};
 /// How many datagrams are taken in, of which one is to be the answer.
 const MOST_DATAGRAMS: u32 = 16;
 
+/// Whether a port was used before. There a turn is idle at once, if the port's wait has passed
+/// since an earlier one, so that only the second idle turn says that nothing came.
+#[derive(Clone, Copy)]
+pub(crate) enum PortUse {
+    New,
+    Used,
+}
+
 /// The datagram of a deposit of the folder of this path, or of a query.
 #[tactic(auto, unfolding(crate::specs::Replies::datagram_to))]
 pub(crate) fn datagram(
@@ -34,10 +42,12 @@ pub(crate) fn datagram(
     Ok(bytes)
 }
 
-/// Sends a datagram, and gives the reply that is wanted, if it comes before a turn is idle.
+/// Sends a datagram, and gives the reply that is wanted, if it comes before a turn is idle, or
+/// before a second one at a port that was used.
 pub(crate) fn ask<P: Port>(
     alloc: Global,
     port: &mut P,
+    port_use: PortUse,
     request: &Request<'_>,
     wanted: Wanted,
     bytes: &[u8],
@@ -46,42 +56,13 @@ pub(crate) fn ask<P: Port>(
         (P.traffic port.old) (P.traffic port.new) result }
 {
     match port.send(request.target, bytes) {
-        Ok(()) => hear(alloc, port, request, wanted),
-        Err(_) => Ok(None),
+        Ok(()) => {}
+        Err(_) => return Ok(None),
     }
-}
-
-/// Asks at a port that was used before. There a turn is idle at once, if the port's wait has passed
-/// since an earlier one, so that only the second idle turn says that nothing came.
-pub(crate) fn ask_again<P: Port>(
-    alloc: Global,
-    port: &mut P,
-    request: &Request<'_>,
-    wanted: Wanted,
-    bytes: &[u8],
-) -> Result<Option<Reply>, AllocError>
-    ensures { IsAsked (question_of request.now) wanted bytes.now
-        (P.traffic port.old) (P.traffic port.new) result }
-{
-    match port.send(request.target, bytes) {
-        Ok(()) => hear_longer(alloc, port, request, wanted),
-        Err(_) => Ok(None),
-    }
-}
-
-// The reply that is wanted, if it comes before a second turn is idle.
-fn hear_longer<P: Port>(
-    alloc: Global,
-    port: &mut P,
-    request: &Request<'_>,
-    wanted: Wanted,
-) -> Result<Option<Reply>, AllocError>
-    ensures { Hears (question_of request.now) wanted
-        (P.traffic port.old) (P.traffic port.new) result }
-{
-    match hear(alloc, port, request, wanted)? {
-        Some(reply) => Ok(Some(reply)),
-        None => hear(alloc, port, request, wanted),
+    let reply = hear(alloc, port, request, wanted)?;
+    match (reply, port_use) {
+        (None, PortUse::Used) => hear(alloc, port, request, wanted),
+        _ => Ok(reply),
     }
 }
 

@@ -15,8 +15,8 @@ mod printed_members;
 mod reply;
 mod request;
 mod send_arguments;
+mod server_command;
 mod service;
-mod serving_command;
 mod site_arguments;
 mod stop;
 mod until_known;
@@ -29,8 +29,8 @@ pub use printed_members::print_members;
 pub use reply::{Reply, Wanted};
 pub use request::Request;
 pub use send_arguments::{SendTask, send_command, send_task, to_argument};
-pub use service::{Service, site_on};
-pub use serving_command::{serve_site, socket};
+pub use server_command::{serve_site, socket};
+pub use service::{Service, open_and_serve};
 pub use site_arguments::{
     SiteTask, Turns, members_argument, site_command, site_task, wait_argument,
 };

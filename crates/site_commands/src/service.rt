@@ -27,7 +27,7 @@ pub struct Service<'a> {
 /// Opens the site of this number, and serves its turns. Its lines are written, and the exit
 /// status is 0; or it is 1, and a last line says why: `not a member`, `open N` with the number of
 /// the `OpenFault`, or `stopped N` with that of the `ServeFault`.
-pub fn site_on<C: Cell + Drop, P: Port, F: Folders, W: Write>(
+pub fn open_and_serve<C: Cell + Drop, P: Port, F: Folders, W: Write>(
     alloc: Global,
     cell: C,
     members: Members,

@@ -9,7 +9,7 @@ ghost use Rattle.site_commands.specs.inner.Repeated.{AreQuestions, IsLastReply, 
 ghost use Rattle.site_commands.specs.inner.Written.{outcome_in};
 
 use crate::client::{answer_of, write_reply};
-use crate::exchange::{ask_again, datagram};
+use crate::exchange::{PortUse, ask, datagram};
 use crate::reply::{Reply, Wanted};
 use crate::request::Request;
 use dgram::{DepositAnswer, FolderPath, QueryAnswer};
@@ -113,7 +113,7 @@ fn last_reply<P: Port, C: Clock>(
     let mut last = None;
     let mut bytes = questions.first();
     for _ in 0..u32::MAX {
-        let reply = ask_again(alloc, port, request, wanted, bytes)?;
+        let reply = ask(alloc, port, PortUse::Used, request, wanted, bytes)?;
         last = or(reply, last);
         if ends(&reply) || !pauses.pause(clock) {
             return Ok(last);

@@ -4,7 +4,8 @@ use crate::site_log::SiteLog;
 use bag_folders::Folders;
 use bag_tree::{Facts, TreeFault};
 
-/// Folders that tell the log which reads failed, and where. They are the folders otherwise.
+/// Folders that tell the log which reads failed, and where. Otherwise it delegates to
+/// the folders.
 #[derive(Drop)]
 pub struct LoggedFolders<'a, F> {
     log: &'a SiteLog,

@@ -3,7 +3,7 @@
 use crate::site_log::SiteLog;
 use std::io::{Result, Write};
 
-/// An output that tells the log what was written. It is the output otherwise.
+/// An output that tells the log what was written. Otherwise it delegates to it.
 #[derive(Drop)]
 pub struct LoggedOutput<'a, W> {
     log: &'a SiteLog,

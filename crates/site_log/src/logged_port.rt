@@ -3,7 +3,7 @@
 use crate::site_log::SiteLog;
 use udp_site::{Port, PortFault, Turn};
 
-/// A port that tells the log what came. It is the port otherwise.
+/// A port that tells the log what came. Otherwise it delegates to it.
 #[derive(Drop)]
 pub struct LoggedPort<'a, P> {
     log: &'a SiteLog,

@@ -76,8 +76,7 @@ pub record HasRoom (t : Contents) (slot : SlotName) : Type 0 where
   pub proposer : IsSome (row_at t.proposer.rows slot)
   pub learner : IsSome (row_at t.learner.rows slot)
 
--- they are another's contents no more than before: whatever records and messages the old ones stand
--- for, the new ones stand for
+-- whatever owner, records and messages the old contents stand for, the new ones stand for
 pub record StandsForSame (old new : Contents) : Type 0 where
   pub of : (owner : Owner) (records : List Record) → IsOf old owner records → IsOf new owner records
   pub stands : (records : List Record) (session : Session) (under : UnderWay)

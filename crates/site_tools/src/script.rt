@@ -1,6 +1,6 @@
 //! A script has a command a line, and lines that begin with `#` are skipped:
 //!
-//!     sites F N                new sites 1 to N of federation F, each open over a cell without bytes
+//!     sites F N                new sites 1 to N of federation F, each over a cell without bytes
 //!     bag HEX                  the next tree: a bag whose SHA-512 manifest has these bytes
 //!     tree HEX                 the next tree, without the folder that a bag has
 //!     deposit S TREE OBJ V     a call of site S, as are the next four
@@ -9,7 +9,7 @@
 //!     query S OBJ V
 //!     arrive S HEX
 //!     deliver K                the K-th datagram that was sent arrives where it was sent
-//!     fuse S fail|stop CALL K  that device call to come fails, or stops the device, and K bytes stay
+//!     fuse S fail|stop CALL K  that device call to come fails, or stops it, and K bytes stay
 //!     close S                  closes the site; what a read of its cell gives is printed
 //!     crash S                  the site stops, and its device starts again
 //!     open S                   opens the site over its cell
@@ -125,28 +125,7 @@ fn run(
 ) -> Result<(), ToolFault> {
     match command {
         Command::Sites => begin(words, federation, output),
-        _ if federation.has_begun() => go_on(command, words, federation, output),
-        _ => Err(ToolFault::Line),
-    }
-}
-
-fn begin(
-    words: &[&str],
-    federation: &mut Federation,
-    output: &mut Output,
-) -> Result<(), ToolFault> {
-    output.begin();
-    federation.begin(words)
-}
-
-fn go_on(
-    command: Command,
-    words: &[&str],
-    federation: &mut Federation,
-    output: &mut Output,
-) -> Result<(), ToolFault> {
-    match command {
-        Command::Sites => Err(ToolFault::Line),
+        _ if !federation.has_begun() => Err(ToolFault::Line),
         Command::Bag => federation.add_tree(true, words),
         Command::Tree => federation.add_tree(false, words),
         Command::Deposit => output.answer(federation.deposit(words)),
@@ -160,6 +139,15 @@ fn go_on(
         Command::Crash => federation.crash(words),
         Command::Open => federation.open(words, output),
     }
+}
+
+fn begin(
+    words: &[&str],
+    federation: &mut Federation,
+    output: &mut Output,
+) -> Result<(), ToolFault> {
+    output.begin();
+    federation.begin(words)
 }
 
 fn deliver(

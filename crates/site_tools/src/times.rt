@@ -7,7 +7,7 @@ use crate::kind::Kind;
 use crate::place::empty_cell;
 use crate::tree::tree;
 use cell_device::MemoryCell;
-use fed_types::{Members, SiteNo};
+use fed_types::{Members, SiteNo, Slot};
 use records::Owner;
 use site::Site;
 use std::alloc::Global;
@@ -110,57 +110,52 @@ fn time_calls(
     count: u32,
     text: &mut String,
 ) -> Result<(), ToolFault> {
-    time_deposits(rt, site, count, text)?;
-    time_proposals(rt, site, count, text)?;
+    let slots = slots(rt.alloc(), count)?;
+    let deposits = deposit_time(rt, site, slots.as_slice());
+    let proposals = proposal_time(rt, site, slots.as_slice());
+    drop(slots);
+    push_rate(text, "deposit", count, deposits)?;
+    push_rate(text, "propose", count, proposals)?;
     for kind in Kind::all() {
-        time_arrivals(rt, site, count, kind, text)?;
+        let datagrams = datagrams(rt.alloc(), count, kind)?;
+        let arrivals = arrival_time(rt, site, datagrams.as_slice());
+        drop(datagrams);
+        push_rate(text, kind.name(), count, arrivals)?;
     }
     Ok(())
 }
 
-fn time_deposits(
+fn deposit_time(
     rt: &HostRuntime,
     site: &mut Site<MemoryCell>,
-    count: u32,
-    text: &mut String,
-) -> Result<(), ToolFault> {
-    let slots = slots(rt.alloc(), count)?;
+    slots: &[Slot],
+) -> Result<f64, ToolFault> {
     let facts = tree(rt.alloc(), true, "".as_bytes())?;
     let start = now(rt);
-    let is_done = deposit_all(site, slots.as_slice(), &facts);
+    let is_done = deposit_all(site, slots, &facts);
     let seconds = seconds_since(rt, start, is_done);
-    drop(slots);
     drop(facts);
-    push_rate(text, "deposit", count, seconds)
+    seconds
 }
 
-fn time_proposals(
+fn proposal_time(
     rt: &HostRuntime,
     site: &mut Site<MemoryCell>,
-    count: u32,
-    text: &mut String,
-) -> Result<(), ToolFault> {
-    let slots = slots(rt.alloc(), count)?;
+    slots: &[Slot],
+) -> Result<f64, ToolFault> {
     let start = now(rt);
-    let is_done = propose_all(site, slots.as_slice());
-    let seconds = seconds_since(rt, start, is_done);
-    drop(slots);
-    push_rate(text, "propose", count, seconds)
+    let is_done = propose_all(site, slots);
+    seconds_since(rt, start, is_done)
 }
 
-fn time_arrivals(
+fn arrival_time(
     rt: &HostRuntime,
     site: &mut Site<MemoryCell>,
-    count: u32,
-    kind: Kind,
-    text: &mut String,
-) -> Result<(), ToolFault> {
-    let datagrams = datagrams(rt.alloc(), count, kind)?;
+    datagrams: &[Vec<u8>],
+) -> Result<f64, ToolFault> {
     let start = now(rt);
-    let is_done = take_all(site, datagrams.as_slice());
-    let seconds = seconds_since(rt, start, is_done);
-    drop(datagrams);
-    push_rate(text, kind.name(), count, seconds)
+    let is_done = take_all(site, datagrams);
+    seconds_since(rt, start, is_done)
 }
 
 /// Appends the line of a kind of call: thousands a second.

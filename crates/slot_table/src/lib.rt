@@ -1,4 +1,10 @@
 //! A table of what is known of slots, by slot: the rows of acceptors, proposers and learners.
+//!
+//! ```
+//! if let Some(old) = table.get_mut(slot) {
+//!     *old = row;
+//! }
+//! ```
 #![tactic(auto)]
 
 mod slot_table;

@@ -1,7 +1,7 @@
 mod Refusals
 mod Kept
 mod Came
-mod GoingOn
+mod Returns
 mod Rest
 mod Starts
 mod Stops

@@ -21,7 +21,7 @@ use Rattle.site.specs.Sites.{OpenSite}
 use Rattle.world_law.specs.Networks.{Mode, Up, Down, NeedsOpening, SiteState, goes_down}
 use Rattle.stations.specs.declared.place.Place.TheVariants.{Running, AtRest}
 use Rattle.stations.specs.Stations.{Keeps, IsOpened, StandsFor}
-use Rattle.stations.proofs.GoingOn.{state}
+use Rattle.stations.proofs.Returns.{state}
 
 fuse_is : {a b : FuseState} → ◌≡◌ {A = Option FuseState} (Some a) (Some b) → a ≡ b
 fuse_is e = cc

@@ -22,7 +22,7 @@ use Rattle.stations.specs.declared.told.Told.{Told}
 use Rattle.stations.specs.Stations.{Keeps, IsOpened, StandsFor, reply_in, Undergoes, ComesTo}
 use Rattle.stations.specs.Stations.{reached}
 use Rattle.stations.specs.Modes.{is_up, is_down}
-use Rattle.stations.proofs.GoingOn.{state}
+use Rattle.stations.proofs.Returns.{state}
 
 -- what comes of a call at a running site, which is its owner's
 pub of_owner : (owner : Owner) (input : Owner → Input) (fate : Fate) (old : OpenSite MemoryCell)

@@ -27,7 +27,7 @@ use Rattle.stations.specs.declared.told.Said.TheVariants as said
 use Rattle.stations.specs.declared.told.Told.{Told}
 use Rattle.stations.specs.Fates.{before_stop}
 use Rattle.stations.specs.Stations.{StandsFor, ComesTo, Undergoes, under_fate, reached}
-use Rattle.stations.proofs.GoingOn.{state}
+use Rattle.stations.proofs.Returns.{state}
 
 module _ (owner : Owner) (input : Input) (first : ℕ) (old : OpenSite MemoryCell)
     (before place : Place) (told after : Told)

@@ -1,5 +1,5 @@
-//! A site in the simulator: it runs over a cell in memory, or its cell is at rest. Each of its calls
-//! may end in a fate, such as a stop or a failed device call.
+//! A site in the simulator: it runs over a cell in memory, or its cell is at rest. Each of its
+//! calls may end in a fate, such as a stop or a failed device call.
 #![tactic(auto)]
 
 mod call;

@@ -15,7 +15,7 @@ use Rattle.site.specs.Sites.{OpenSite, StandsFor, effect}
 use Rattle.site.proofs.Refused.{out_of_memory}
 use Rattle.udp_site.specs.Turns.{Serving, IsServing, IsCalled, session_after}
 
-differ : true ≡ false → ⊥
+pub differ : true ≡ false → ⊥
 differ e = cc
 
 not_memory : ◌≡◌ {A = Result Answer SiteFault} (Err faults.Device) (Err faults.Memory) → ⊥
@@ -65,75 +65,90 @@ called old input result site = record {
   tried = old.tried;
 }
 
-pub is_called : {C : Type 0} (device : C → Device) (old : Serving C) (input : Input)
-    (result : Result Answer SiteFault) (start site : OpenSite C) → old.site ≡ start
-    → IsServing old → Answers device input result start site
-    → NeedsOpen device input result start site → Untouched device input result start site
-    → IsCalled device old input result (called old input result site)
-is_called {C} device old input result start site same serving at_start needs at_end = record {
-  answered = λ opened. answers opened old.session (serving opened);
-  refused = λ shut. (needs_open.1 shut, untouched shut);
-  session = refl;
-  idle = refl;
-  tried = refl;
-}
-  where
-    answers : Answers device input result old.site site
-    answers = subst (λ (s : OpenSite C). Answers device input result s site) (sym same) at_start
+-- a call of a site that serves
+pub record Call
+    {C : Type 0} (device : C → Device) (old : Serving C) (input : Input)
+    (result : Result Answer SiteFault) (start site : OpenSite C)
+    : Type 0 where
+  pub there : old.site ≡ start
+  pub serves : IsServing old
+  pub answers : Answers device input result start site
+  pub needs_open : NeedsOpen device input result start site
+  pub untouched : Untouched device input result start site
 
-    needs_open : NeedsOpen device input result old.site site
-    needs_open = subst (λ (s : OpenSite C). NeedsOpen device input result s site) (sym same) needs
+module _ {C : Type 0} {device : C → Device} {old : Serving C} {input : Input}
+    {result : Result Answer SiteFault} {start site : OpenSite C}
+    (call : Call device old input result start site) where
+  answers : Answers device input result old.site site
+  answers =
+      subst (λ (s : OpenSite C). Answers device input result s site) (sym call.there) call.answers
 
-    untouched : Untouched device input result old.site site
-    untouched = subst (λ (s : OpenSite C). Untouched device input result s site) (sym same) at_end
+  untouched : Untouched device input result old.site site
+  untouched =
+      subst (λ (s : OpenSite C). Untouched device input result s site) (sym call.there)
+      call.untouched
 
-pub still_serving : {C : Type 0} (device : C → Device) (old : Serving C) (input : Input)
-    (result : Result Answer SiteFault) (start site : OpenSite C) → old.site ≡ start
-    → IsServing old → Answers device input result start site
-    → Untouched device input result start site → IsServing (called old input result site)
-still_serving {C} device old input result start site same serving at_start at_end =
-    go old.site.book.needs_opening refl
-  where
-    answers : Answers device input result old.site site
-    answers = subst (λ (s : OpenSite C). Answers device input result s site) (sym same) at_start
+  pub is_called : IsCalled device old input result (called old input result site)
+  is_called = record {
+    answered = λ opened. answers opened old.session (call.serves opened);
+    refused = λ shut. (needs_open.1 shut, untouched shut);
+    session = refl;
+    idle = refl;
+    tried = refl;
+  }
+    where
+      needs_open : NeedsOpen device input result old.site site
+      needs_open =
+          subst (λ (s : OpenSite C). NeedsOpen device input result s site) (sym call.there)
+          call.needs_open
 
-    untouched : Untouched device input result old.site site
-    untouched = subst (λ (s : OpenSite C). Untouched device input result s site) (sym same) at_end
+  pub still_serving : IsServing (called old input result site)
+  still_serving = go old.site.book.needs_opening refl
+    where
+      go : (shut : Bool) → old.site.book.needs_opening ≡ shut
+          → IsServing (called old input result site)
+      go true shut opened =
+          absurd (differ (sym (subst (λ (s : OpenSite C). s.book.needs_opening ≡ true)
+          (sym (untouched shut)) shut) ∙ opened))
+      go false before opened =
+          stands_then device old.site site old.session (effect old.site old.session input) result
+          (answers before old.session (call.serves before)) opened
 
-    go : (shut : Bool) → old.site.book.needs_opening ≡ shut
-        → IsServing (called old input result site)
-    go true shut opened =
-        absurd (differ (sym (subst (λ (s : OpenSite C). s.book.needs_opening ≡ true)
-        (sym (untouched shut)) shut) ∙ opened))
-    go false before opened =
-        stands_then device old.site site old.session (effect old.site old.session input) result
-        (answers before old.session (serving before)) opened
+-- a call that changes nothing: the site needs opening, or it refuses
+module _ {C : Type 0} (device : C → Device) (old : Serving C) (input : Input) where
+  pub needs_to_open : old.site.book.needs_opening ≡ true
+      → IsCalled device old input (Err faults.NeedsOpen) old
+  needs_to_open shut = record {
+    answered = λ opened. absurd (differ (sym shut ∙ opened));
+    refused = λ _. (refl, refl);
+    session = refl;
+    idle = refl;
+    tried = refl;
+  }
 
--- there is a call that changes nothing
-pub could_be_called : {C : Type 0} (device : C → Device) (old : Serving C) (input : Input)
-    → IsServing old → (result : Result Answer SiteFault) × IsCalled device old input result old
-could_be_called {C} device old input serving = go old.site.book.needs_opening refl
-  where
-    go : (shut : Bool) → old.site.book.needs_opening ≡ shut
-        → (result : Result Answer SiteFault) × IsCalled device old input result old
-    go true shut = (
-      Err faults.NeedsOpen,
-      record {
-        answered = λ opened. absurd (differ (sym shut ∙ opened));
-        refused = λ _. (refl, refl);
-        session = refl;
-        idle = refl;
-        tried = refl;
-      },
-    )
-    go false before = (
-      Err faults.Memory,
-      record {
-        answered = λ opened. out_of_memory device old.site old.session
-            (effect old.site old.session input) (serving opened);
-        refused = λ shut. absurd (differ (sym shut ∙ before));
-        session = refl;
-        idle = refl;
-        tried = refl;
-      },
-    )
+  pub refuses_call : (fault : SiteFault) → old.site.book.needs_opening ≡ false
+      → IsAnswered device old.site old.site old.session (effect old.site old.session input)
+      (Err fault)
+      → IsCalled device old input (Err fault) old
+  refuses_call fault opened answered = record {
+    answered = λ _. answered;
+    refused = λ shut. absurd (differ (sym shut ∙ opened));
+    session = refl;
+    idle = refl;
+    tried = refl;
+  }
+
+  -- there is one
+  pub could_be_called : IsServing old
+      → (result : Result Answer SiteFault) × IsCalled device old input result old
+  could_be_called serving = go old.site.book.needs_opening refl
+    where
+      go : (shut : Bool) → old.site.book.needs_opening ≡ shut
+          → (result : Result Answer SiteFault) × IsCalled device old input result old
+      go true shut = (Err faults.NeedsOpen, needs_to_open shut)
+      go false opened = (
+        Err faults.Memory,
+        refuses_call faults.Memory opened
+            (out_of_memory device old.site old.session (effect old.site old.session input)
+            (serving opened)),
+      )

@@ -26,7 +26,7 @@ use Rattle.udp_site.specs.Traffic.{Move, Grows, all_handed}
 use Rattle.udp_site.specs.Turns.{Serving, Done, IsServing, IsCalled, Refuses, number, posts_of}
 use Rattle.udp_site.specs.Turns.{proposal_notices, proposing}
 use Rattle.udp_site.specs.inner.Outcomes.{ComesTo, Hands, Notes}
-use Rattle.udp_site.proofs.Called.{Answers, NeedsOpen, Untouched, called, is_called}
+use Rattle.udp_site.proofs.Called.{Call, called, is_called, needs_to_open, refuses_call, differ}
 use Rattle.udp_site.proofs.Calls.{comes_whole, comes_part, comes_failed}
 use Rattle.udp_site.proofs.Handed.{Part}
 
@@ -53,47 +53,41 @@ done_of ports site slot result = record {
 }
 
 -- the site is called to propose: how the turn comes out
-module _ {C : Type 0} (device : C → Device) (ports : List ℕ) (old : Serving C) (slot : SlotName)
-    (result : Result Answer SiteFault) (start site : OpenSite C) (there : old.site ≡ start)
-    (serves : IsServing old) (answers : Answers device (Proposes slot) result start site)
-    (refused : RefusesAt (Proposes slot) result start)
-    (needs_open : NeedsOpen device (Proposes slot) result start site)
-    (untouched : Untouched device (Proposes slot) result start site)
+module _ {C : Type 0} {device : C → Device} {old : Serving C} {slot : SlotName}
+    {result : Result Answer SiteFault} {start site : OpenSite C}
+    (call : Call device old (Proposes slot) result start site)
+    (refused : RefusesAt (Proposes slot) result start) (ports : List ℕ)
     (a b : Option (List Move)) (before after : List notes.Line) where
   so : proposing device ports old slot (done_of ports (number old) slot result)
       (called old (Proposes slot) result site)
   so = (
     result,
-    is_called device old (Proposes slot) result start site there serves answers needs_open
-        untouched,
-    refuses old (Proposes slot) result start there serves refused,
+    is_called call,
+    refuses old (Proposes slot) result start call.there call.serves refused,
     refl,
   )
 
   pub proposes_whole : Grows a b (all_handed (posts_of ports result))
       → Notes before after (proposal_notices (number old) (Proposes slot) result)
       → ComesTo (proposing device ports old slot) a b before after site (Ok tt)
-  proposes_whole handed said =
-      comes_whole device old (Proposes slot) (done_of ports (number old) slot) result start site
-      there serves answers untouched (proposing device ports old slot) so a b before after handed
-      said
+  proposes_whole =
+      comes_whole call (done_of ports (number old) slot) (proposing device ports old slot) so a b
+      before after
 
   pub proposes_part : Part a b (all_handed (posts_of ports result))
       → (r : Result (Unit {0}) ServeFault) → IsErrAnd r (λ e. e ≡ ends.Memory)
       → ComesTo (proposing device ports old slot) a b before after site r
-  proposes_part part r fails =
-      comes_part device old (Proposes slot) (done_of ports (number old) slot) result start site
-      there serves answers untouched (proposing device ports old slot) so a b before after part r
-      fails
+  proposes_part =
+      comes_part call (done_of ports (number old) slot) (proposing device ports old slot) so a b
+      before after
 
   pub proposes_failed : (fault : ServeFault) (r : Result (Unit {0}) ServeFault)
       → IsErrAnd r (λ e. e ≡ fault)
       → Hands {T = Unit {0}} a b (posts_of ports result) (Err fault)
       → ComesTo (proposing device ports old slot) a b before after site r
-  proposes_failed fault r fails handed =
-      comes_failed device old (Proposes slot) (done_of ports (number old) slot) result start site
-      there serves answers untouched (proposing device ports old slot) so a b before after fault r
-      fails handed
+  proposes_failed =
+      comes_failed call (done_of ports (number old) slot) (proposing device ports old slot) so a b
+      before after
 
 module _ {C : Type 0} (device : C → Device) (s : OpenSite C) (session : Session)
     (stands : StandsFor s session) where
@@ -137,9 +131,6 @@ module _ {C : Type 0} (device : C → Device) (s : OpenSite C) (session : Sessio
       (deposit_of slot s.book.records)
       (next_ballot s.book.owner.site slot s.book.records session.heard)
 
-differ : true ≡ false → ⊥
-differ e = cc
-
 -- there is a proposal that changes nothing
 pub could_propose : {C : Type 0} (device : C → Device) (old : Serving C) (slot : SlotName)
     → IsServing old
@@ -152,24 +143,9 @@ could_propose {C} device old slot serving = go old.site.book.needs_opening refl
         × Refuses old (Proposes slot) result
     go true shut = (
       Err faults.NeedsOpen,
-      record {
-        answered = λ opened. absurd (differ (sym shut ∙ opened));
-        refused = λ _. (refl, refl);
-        session = refl;
-        idle = refl;
-        tried = refl;
-      },
+      needs_to_open device old (Proposes slot) shut,
       λ opened. absurd (differ (sym shut ∙ opened)),
     )
-    go false before =
-        let could = could_refuse device old.site old.session (serving before) slot in (
-          Err could.0,
-          record {
-            answered = λ opened. could.1;
-            refused = λ shut. absurd (differ (sym shut ∙ before));
-            session = refl;
-            idle = refl;
-            tried = refl;
-          },
-          λ opened. could.2,
-        )
+    go false opened =
+        let could = could_refuse device old.site old.session (serving opened) slot in
+        (Err could.0, refuses_call device old (Proposes slot) could.0 opened could.1, λ _. could.2)

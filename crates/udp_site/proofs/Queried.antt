@@ -3,6 +3,7 @@ use Rattle.std.proofs.Common.{◌≡◌, ◌∙◌, ℕ, Bool, true, false, if�
 use Rattle.std.proofs.Common.{map, Option}
 use Rattle.std.proofs.Common.{Result, Ok, Err, refl, sym, ap, subst, append_assoc}
 use Rattle.std.specs.Prelude.{IsErrAnd, IsOk}
+use Rattle.fed_types.specs.Sites.{Membership}
 use Rattle.fed_types.specs.Slots.{SlotName}
 use Rattle.site.specs.declared.answer.Reply.{Reply}
 use Rattle.site.specs.declared.fault.SiteFault.{SiteFault}
@@ -19,6 +20,7 @@ use Rattle.udp_site.specs.Turns.{queries, query_replies, reply_notice}
 use Rattle.udp_site.specs.inner.Outcomes.{ComesTo, AsksFor, Notes}
 use Rattle.udp_site.proofs.Handed.{Part, grows_by_posts, part_of_posts, then_part_of_posts}
 use Rattle.udp_site.proofs.Requested.{could_ask}
+use Rattle.udp_site.proofs.Same.{same_federation, same_site}
 use Rattle.udp_site.proofs.Said.{broken_off}
 
 -- what a query answers, by whether the site needs opening
@@ -56,22 +58,33 @@ same_query_replies f g s t port slot known told p q r =
     ∙ (ap (λ (x : ℕ). query_replies g x port slot known) q
     ∙ ap (λ (x : Result Reply SiteFault). query_replies g t port slot x) r)
 
+-- the reply that the client gets
+abbrev pub client_reply : {C : Type 0} → Serving C → (port : ℕ) → SlotName → List Post
+client_reply s port slot =
+    query_replies (members s).federation (number s) port slot (answer_to s slot)
+
+-- it is the reply that the code hands out
+pub query_replied : {C : Type 0} (old : Serving C) (start : OpenSite C) → old.site ≡ start
+    → (m : Membership) (f n : ℕ) → f ≡ m.federation → m ≡ start.book.owner.members
+    → n ≡ start.book.owner.site → (port : ℕ) (slot : SlotName) (known : Result Reply SiteFault)
+    → known ≡ answer_to old slot
+    → query_replies f n port slot known ≡ client_reply old port slot
+query_replied old start there m f n named whose numbered port slot known is =
+    same_query_replies f (members old).federation n (number old) port slot known
+    (answer_to old slot) (same_federation old start there m f named whose)
+    (same_site old start there n numbered) is
+
 module _ {C : Type 0} (ports : List ℕ) (old : Serving C) (port : ℕ) (slot : SlotName)
     (site : OpenSite C) (there : old.site ≡ site) (serves : IsServing old) where
-  abbrev replies : List Post
-  replies = query_replies (members old).federation (number old) port slot (answer_to old slot)
-
   abbrev done_with : Done → Done
   done_with asks = record {
-    posts = query_replies (members old).federation (number old) port slot (answer_to old slot)
-        ++ asks.posts;
+    posts = client_reply old port slot ++ asks.posts;
     notices = reply_notice (number old) slot (answer_to old slot) ∷ asks.notices;
   }
 
   -- the reply was handed out, and then the members were asked
   pub answered : (a b c : Option (List Move)) (l m n : List Line)
-      → Grows a b (all_handed (query_replies (members old).federation (number old) port slot
-      (answer_to old slot)))
+      → Grows a b (all_handed (client_reply old port slot))
       → Notes l m (reply_notice (number old) slot (answer_to old slot) ∷ [])
       → (r : Result (Unit {0}) ServeFault)
       → AsksFor ports old slot (asked old (answer_to old slot)) b c m n r
@@ -82,13 +95,14 @@ module _ {C : Type 0} (ports : List ℕ) (old : Serving C) (port : ℕ) (slot : 
     (asks, were, refl, refl),
     there,
     serves,
-    grows_by_posts a b c replies asks.posts replied handed,
+    grows_by_posts a b c (client_reply old port slot) asks.posts replied handed,
     notes ∙ (ap (λ (x : List Line). x ++ map (line_of []) asks.notices) said
         ∙ append_assoc l (line_of [] (reply_notice (number old) slot (answer_to old slot)) ∷ [])
         (map (line_of []) asks.notices)),
   )
   answered a b c l m n replied said (Err faults.Memory) (asks, were, count, handed) =
-      let part = then_part_of_posts a b c replies asks.posts replied (count, handed) in
+      let part = then_part_of_posts a b c (client_reply old port slot) asks.posts replied
+      (count, handed) in
       (done_with asks, old, (asks, were, refl, refl), there, part.0, part.1)
   answered a b c l m n replied said (Err faults.Port) p = absurd p
   answered a b c l m n replied said (Err faults.Cell) p = absurd p
@@ -96,14 +110,14 @@ module _ {C : Type 0} (ports : List ℕ) (old : Serving C) (port : ℕ) (slot : 
 
   -- memory ran out before they were asked
   pub unanswered : (a b : Option (List Move)) (l m : List Line)
-      → Part a b (all_handed (query_replies (members old).federation (number old) port slot
-      (answer_to old slot)))
+      → Part a b (all_handed (client_reply old port slot))
       → (r : Result (Unit {0}) ServeFault) → IsErrAnd r (λ e. e ≡ faults.Memory)
       → ComesTo (queries ports old port slot) a b l m site r
   unanswered a b l m part r fails =
       let asks = could_ask ports old slot (asked old (answer_to old slot)) in
       broken_off (queries ports old port slot) a b l m site (done_with asks.0) old
-      (asks.0, asks.1, refl, refl) there (part_of_posts a b replies asks.0.posts part) r fails
+      (asks.0, asks.1, refl, refl) there
+      (part_of_posts a b (client_reply old port slot) asks.0.posts part) r fails
 
 -- the notice of the reply, in the code's words
 pub same_notice : (s t : ℕ) (slot named : SlotName) (known told : Result Reply SiteFault)

@@ -97,12 +97,13 @@ module _ {C : Type 0} (ports : List ℕ) (s : Serving C) (slot : SlotName) where
   pub asks_then : (xs ys : List ℕ) (a b c : Option (List Move)) (l1 l2 l3 : List Line)
       → AsksFor ports s slot xs a b l1 l2 (Ok tt) → (r : Result (Unit {0}) ServeFault)
       → AsksFor ports s slot ys b c l2 l3 r → AsksFor ports s slot (xs ++ ys) a c l1 l3 r
-  asks_then xs ys a b c l1 l2 l3 (one, asks, handed, said) (Ok whole) (two, asks2, handed2, said2) = (
-    both one two,
-    asks_both xs ys one two asks asks2,
-    grows_by_posts a b c one.posts two.posts handed handed2,
-    notes_both l1 l2 l3 one.notices two.notices said said2,
-  )
+  asks_then xs ys a b c l1 l2 l3 (one, asks, handed, said) (Ok whole)
+      (two, asks2, handed2, said2) = (
+        both one two,
+        asks_both xs ys one two asks asks2,
+        grows_by_posts a b c one.posts two.posts handed handed2,
+        notes_both l1 l2 l3 one.notices two.notices said said2,
+      )
   asks_then xs ys a b c l1 l2 l3 (one, asks, handed, said) (Err faults.Memory)
       (two, asks2, count, handed2) =
       let part = then_part_of_posts a b c one.posts two.posts handed (count, handed2) in
@@ -133,14 +134,6 @@ module _ {C : Type 0} (ports : List ℕ) (s : Serving C) (slot : SlotName) where
       subst (λ (b : Bool). AsksFor ports s slot (cond (not b) (member ∷ []) []) a a lines lines
       (Ok tt)) (sym is) (asks_none a lines)
 
-  pub is_asked : (member : ℕ) → (member == number s) ≡ false → (a b : Option (List Move))
-      → (l1 l2 : List Line) (r : Result (Unit {0}) ServeFault)
-      → AsksFor ports s slot (member ∷ []) a b l1 l2 r
-      → AsksFor ports s slot (others_of s (member ∷ [])) a b l1 l2 r
-  is_asked member is a b l1 l2 r asks =
-      subst (λ (b2 : Bool). AsksFor ports s slot (cond (not b2) (member ∷ []) []) a b l1 l2 r)
-      (sym is) asks
-
   -- memory ran out for this one, and a line says so
   abbrev refused_one : Done
   refused_one = record { posts = []; notices = Refused (number s) sites.Memory ∷ [] }
@@ -148,65 +141,83 @@ module _ {C : Type 0} (ports : List ℕ) (s : Serving C) (slot : SlotName) where
   refuses_one : (member : ℕ) → Asks ports s slot (member ∷ []) refused_one
   refuses_one member = (nothing, refl, inr refl)
 
-  pub isnt_asked : (member : ℕ) (a : Option (List Move)) (l1 l2 : List Line)
-      → Notes l1 l2 (Refused (number s) sites.Memory ∷ [])
-      → AsksFor ports s slot (member ∷ []) a a l1 l2 (Ok tt)
-  isnt_asked member a l1 l2 said = (refused_one, refuses_one member, grows_by_no_posts a, said)
+  module _ (member : ℕ) (is_other : (member == number s) ≡ false) where
+    is_asked : (a b : Option (List Move)) (l1 l2 : List Line) (r : Result (Unit {0}) ServeFault)
+        → AsksFor ports s slot (member ∷ []) a b l1 l2 r
+        → AsksFor ports s slot (others_of s (member ∷ [])) a b l1 l2 r
+    is_asked a b l1 l2 r asks =
+        subst (λ (b2 : Bool). AsksFor ports s slot (cond (not b2) (member ∷ []) []) a b l1 l2 r)
+        (sym is_other) asks
 
-  pub isnt_asked_in_part : (member : ℕ) (a : Option (List Move)) (l1 l2 : List Line)
-      → (r : Result (Unit {0}) ServeFault) → IsErrAnd r (λ f. f ≡ faults.Memory)
-      → AsksFor ports s slot (member ∷ []) a a l1 l2 r
-  isnt_asked_in_part member a l1 l2 r failed =
-      let part = no_part a (all_handed []) in
-      subst (λ (x : Result (Unit {0}) ServeFault). AsksFor ports s slot (member ∷ []) a a l1 l2 x)
-      (sym (is_err r faults.Memory failed)) (refused_one, refuses_one member, part.0, part.1)
+    pub isnt_asked : (a : Option (List Move)) (l1 l2 : List Line)
+        → Notes l1 l2 (Refused (number s) sites.Memory ∷ [])
+        → AsksFor ports s slot (others_of s (member ∷ [])) a a l1 l2 (Ok tt)
+    isnt_asked a l1 l2 said =
+        is_asked a a l1 l2 (Ok tt) (refused_one, refuses_one member, grows_by_no_posts a, said)
 
-  -- the datagram of the answer was handed out
-  module _ (device : C → Device) (start : OpenSite C) (there : s.site ≡ start)
-      (serves : IsServing s) (opened : start.book.needs_opening ≡ false) (member : ℕ)
-      (answer : Answer)
-      (answers : start.book.needs_opening ≡ false → (session : Session)
-      → StandsFor start session
-      → IsAnswered device start start session
-      (effect start session (calls.Asks slot member)) (Ok answer)) where
-    abbrev question : List ℕ
-    question = datagram_of (members s).federation (record { slot = slot; body = Ask (number s) })
+    pub isnt_asked_in_part : (a : Option (List Move)) (l1 l2 : List Line)
+        → (r : Result (Unit {0}) ServeFault) → IsErrAnd r (λ f. f ≡ faults.Memory)
+        → AsksFor ports s slot (others_of s (member ∷ [])) a a l1 l2 r
+    isnt_asked_in_part a l1 l2 r failed =
+        let part = no_part a (all_handed []) in
+        is_asked a a l1 l2 r
+        (subst (λ (x : Result (Unit {0}) ServeFault). AsksFor ports s slot (member ∷ []) a a l1 l2
+        x) (sym (is_err r faults.Memory failed)) (refused_one, refuses_one member, part.0, part.1))
 
-    answered : IsAnswered device s.site s.site s.session
-        (effect s.site s.session (calls.Asks slot member)) (Ok answer)
-    answered =
-        let there_opened : s.site.book.needs_opening ≡ false =
-        subst (λ (o : OpenSite C). o.book.needs_opening ≡ false) (sym there) opened in
-        subst (λ (o : OpenSite C). o.book.needs_opening ≡ false → (session : Session)
-        → StandsFor o session
-        → IsAnswered device o o session (effect o session (calls.Asks slot member)) (Ok answer))
-        (sym there) answers there_opened s.session (serves there_opened)
+    -- the datagram of the answer was handed out
+    module _ (device : C → Device) (start : OpenSite C) (there : s.site ≡ start)
+        (serves : IsServing s) (opened : start.book.needs_opening ≡ false) (answer : Answer)
+        (answers : start.book.needs_opening ≡ false → (session : Session)
+        → StandsFor start session
+        → IsAnswered device start start session
+        (effect start session (calls.Asks slot member)) (Ok answer)) where
+      abbrev question : List ℕ
+      question = datagram_of (members s).federation (record { slot = slot; body = Ask (number s) })
 
-    one_datagram : map handed_out answer.sends.items ≡ (member, question) ∷ []
-    unfolding on_ask to_each
-    one_datagram = answered.gives.1
+      answered : IsAnswered device s.site s.site s.session
+          (effect s.site s.session (calls.Asks slot member)) (Ok answer)
+      answered =
+          let there_opened : s.site.book.needs_opening ≡ false =
+          subst (λ (o : OpenSite C). o.book.needs_opening ≡ false) (sym there) opened in
+          subst (λ (o : OpenSite C). o.book.needs_opening ≡ false → (session : Session)
+          → StandsFor o session
+          → IsAnswered device o o session (effect o session (calls.Asks slot member)) (Ok answer))
+          (sym there) answers there_opened s.session (serves there_opened)
 
-    abbrev asked_one : Done
-    asked_one = record { posts = flat_map (sealed_posts ports) answer.sends.items; notices = [] }
+      one_datagram : map handed_out answer.sends.items ≡ (member, question) ∷ []
+      unfolding on_ask to_each
+      one_datagram = answered.gives.1
 
-    asks_one : Asks ports s slot (member ∷ []) asked_one
-    asks_one = (
-      nothing,
-      refl,
-      inl (ap (λ (l : List Post). record { posts = l; notices = [] })
-          (posts_by ports answer.sends.items
-          ∙ ap (flat_map (λ (out : ℕ × List ℕ). posts_to ports out.0 out.1)) one_datagram)),
-    )
+      abbrev asked_one : Done
+      asked_one = record { posts = flat_map (sealed_posts ports) answer.sends.items; notices = [] }
 
-    pub asks_by : (a b : Option (List Move)) (lines : List Line)
-        → (r : Result (Unit {0}) ServeFault)
-        → Hands a b (flat_map (sealed_posts ports) answer.sends.items) r
-        → AsksFor ports s slot (member ∷ []) a b lines lines r
-    asks_by a b lines (Ok whole) handed = (asked_one, asks_one, handed, sym (append-nil lines))
-    asks_by a b lines (Err faults.Memory) (count, handed) = (asked_one, asks_one, count, handed)
-    asks_by a b lines (Err faults.Port) handed = absurd handed
-    asks_by a b lines (Err faults.Cell) handed = absurd handed
-    asks_by a b lines (Err faults.Output) handed = absurd handed
+      asks_one : Asks ports s slot (member ∷ []) asked_one
+      asks_one = (
+        nothing,
+        refl,
+        inl (ap (λ (l : List Post). record { posts = l; notices = [] })
+            (posts_by ports answer.sends.items
+            ∙ ap (flat_map (λ (out : ℕ × List ℕ). posts_to ports out.0 out.1)) one_datagram)),
+      )
+
+      -- in part, where memory ran out
+      asks_member : (a b : Option (List Move)) (lines : List Line)
+          → (r : Result (Unit {0}) ServeFault)
+          → Hands a b (flat_map (sealed_posts ports) answer.sends.items) r
+          → AsksFor ports s slot (member ∷ []) a b lines lines r
+      asks_member a b lines (Ok whole) handed =
+          (asked_one, asks_one, handed, sym (append-nil lines))
+      asks_member a b lines (Err faults.Memory) (count, handed) =
+          (asked_one, asks_one, count, handed)
+      asks_member a b lines (Err faults.Port) handed = absurd handed
+      asks_member a b lines (Err faults.Cell) handed = absurd handed
+      asks_member a b lines (Err faults.Output) handed = absurd handed
+
+      pub asks_by : (a b : Option (List Move)) (lines : List Line)
+          → (r : Result (Unit {0}) ServeFault)
+          → Hands a b (flat_map (sealed_posts ports) answer.sends.items) r
+          → AsksFor ports s slot (others_of s (member ∷ [])) a b lines lines r
+      asks_by a b lines r handed = is_asked a b lines lines r (asks_member a b lines r handed)
 
 -- ---- all of them
 

@@ -26,3 +26,14 @@ same_replies f g s t port slot said told p q r =
     ap (λ (x : ℕ). deposit_replies x s port slot said) p
     ∙ (ap (λ (x : ℕ). deposit_replies g x port slot said) q
     ∙ ap (λ (x : Option DepositAnswer). deposit_replies g t port slot x) r)
+
+-- the replies that are handed out, in the code's variables
+module _ {C : Type 0} (old : Serving C) (start : OpenSite C) (there : old.site ≡ start)
+    (m : Membership) (f n : ℕ) (named : f ≡ m.federation) (whose : m ≡ start.book.owner.members)
+    (numbered : n ≡ start.book.owner.site) (port : ℕ) (slot : SlotName) where
+  pub replied : (said told : Option DepositAnswer) → said ≡ told
+      → deposit_replies f n port slot said
+      ≡ deposit_replies (members old).federation (number old) port slot told
+  replied said told is =
+      same_replies f (members old).federation n (number old) port slot said told
+      (same_federation old start there m f named whose) (same_site old start there n numbered) is

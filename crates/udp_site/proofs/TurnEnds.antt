@@ -27,6 +27,16 @@ pub on_ok : {P : Type 0} (result : Result (Unit {0}) ServeFault) → P → OnOk 
 on_ok (Ok x) p = p
 on_ok (Err e) p = tt
 
+-- all of these lines were written, or a part
+module _ (before after : Outside) where
+  abbrev pub AllOf : List Line → Type 0
+  AllOf lines = Appends before.written after.written (flat_map (line_text by_identity) lines)
+
+  abbrev pub PartOf : List Line → Type 0
+  PartOf lines =
+      (count : ℕ) × Appends before.written after.written
+      (take count (flat_map (line_text by_identity) lines))
+
 module _ {C : Type 0} (rule : Rule C) (before after : Outside) (old : Serving C)
     (site : OpenSite C) (idle tried : ℕ) where
   none_written : after.written ≡ before.written → Appends before.written after.written []
@@ -97,8 +107,7 @@ module _ {C : Type 0} (rule : Rule C) (before after : Outside) (old : Serving C)
         text = text_is start lines comes.0.notices none comes.6
 
         pub whole : (last : Bool) → last ≡ list_any line_of_the_cell lines
-            → Appends before.written after.written (flat_map (line_text by_identity) lines)
-            → one.Whole rule before after old site idle tried last
+            → AllOf before after lines → one.Whole rule before after old site idle tried last
         unfolding turn
         whole last is written = (
           turn,
@@ -114,11 +123,9 @@ module _ {C : Type 0} (rule : Rule C) (before after : Outside) (old : Serving C)
 
         -- a part of its text was written
         in_writing : (last : Bool) → last ≡ list_any line_of_the_cell lines
-            → (count : ℕ) → Appends before.written after.written
-            (take count (flat_map (line_text by_identity) lines))
-            → one.InWriting rule before after old site last
+            → PartOf before after lines → one.InWriting rule before after old site last
         unfolding turn
-        in_writing last is count written = (
+        in_writing last is (count, written) = (
           turn,
           comes.1,
           comes.2.0,
@@ -151,24 +158,26 @@ module _ {C : Type 0} (rule : Rule C) (before after : Outside) (old : Serving C)
         )
 
         cut : (fault : ServeFault) → (fault ≡ faults.Output) ⊎ (fault ≡ faults.Memory)
-            → false ≡ list_any line_of_the_cell lines → (count : ℕ)
-            → Appends before.written after.written
-            (take count (flat_map (line_text by_identity) lines))
+            → false ≡ list_any line_of_the_cell lines → PartOf before after lines
             → (fault ≡ faults.Memory → after.written ≡ before.written)
             → OneTurn rule before after old site idle tried (Err fault)
-        cut fault (inl is) goes_on count written same =
+        cut fault (inl is) goes_on part same =
             subst (λ (f : ServeFault). OneTurn rule before after old site idle tried (Err f))
-            (sym is) (in_writing false goes_on count written)
-        cut fault (inr is) goes_on count written same =
+            (sym is) (in_writing false goes_on part)
+        cut fault (inr is) goes_on part same =
             subst (λ (f : ServeFault). OneTurn rule before after old site idle tried (Err f))
             (sym is) (inr (unwritten (same is)))
 
-        -- the lines were written, or that failed
-        module _ (result : Result (Unit {0}) ServeFault)
-            (all : OnOk result (Appends before.written after.written
-            (flat_map (line_text by_identity) lines)))
-            (part : OnErr result ((count : ℕ) × Appends before.written after.written
-            (take count (flat_map (line_text by_identity) lines)))) where
+        -- the lines, which the code saw so, were written, or that failed
+        module _ (result : Result (Unit {0}) ServeFault) (seen : List Line) (same : seen ≡ lines)
+            (seen_all : OnOk result (AllOf before after seen))
+            (seen_part : OnErr result (PartOf before after seen)) where
+          all : OnOk result (AllOf before after lines)
+          all = subst (λ (ls : List Line). OnOk result (AllOf before after ls)) same seen_all
+
+          part : OnErr result (PartOf before after lines)
+          part = subst (λ (ls : List Line). OnErr result (PartOf before after ls)) same seen_part
+
           -- and the site can go on
           pub went_on : false ≡ list_any line_of_the_cell lines
               → IfErr result (λ f. f ≡ faults.Memory → after.written ≡ before.written)
@@ -176,40 +185,31 @@ module _ {C : Type 0} (rule : Rule C) (before after : Outside) (old : Serving C)
               → OneTurn rule before after old site idle tried result
           went_on is none which = go result all part none which
             where
-              go : (r : Result (Unit {0}) ServeFault)
-                  → OnOk r (Appends before.written after.written
-                  (flat_map (line_text by_identity) lines))
-                  → OnErr r ((count : ℕ) × Appends before.written after.written
-                  (take count (flat_map (line_text by_identity) lines)))
+              go : (r : Result (Unit {0}) ServeFault) → OnOk r (AllOf before after lines)
+                  → OnErr r (PartOf before after lines)
                   → IfErr r (λ f. f ≡ faults.Memory → after.written ≡ before.written)
                   → IfErr r (λ f. (f ≡ faults.Output) ⊎ (f ≡ faults.Memory))
                   → OneTurn rule before after old site idle tried r
-              go (Ok x) all part none which = whole false is all
-              go (Err f) all part none which = cut f which is part.0 part.1 none
+              go (Ok x) written _ none which = whole false is written
+              go (Err f) _ written none which = cut f which is written none
 
           -- so much of them
-          some_written : (count : ℕ) × Appends before.written after.written
-              (take count (flat_map (line_text by_identity) lines))
+          some_written : PartOf before after lines
           some_written = go result all part
             where
-              go : (r : Result (Unit {0}) ServeFault)
-                  → OnOk r (Appends before.written after.written
-                  (flat_map (line_text by_identity) lines))
-                  → OnErr r ((count : ℕ) × Appends before.written after.written
-                  (take count (flat_map (line_text by_identity) lines)))
-                  → (count : ℕ) × Appends before.written after.written
-                  (take count (flat_map (line_text by_identity) lines))
-              go (Ok x) all part = (
+              go : (r : Result (Unit {0}) ServeFault) → OnOk r (AllOf before after lines)
+                  → OnErr r (PartOf before after lines) → PartOf before after lines
+              go (Ok x) written _ = (
                 length (flat_map (line_text by_identity) lines),
                 subst (Appends before.written after.written)
-                    (sym (take-length (flat_map (line_text by_identity) lines))) all,
+                    (sym (take-length (flat_map (line_text by_identity) lines))) written,
               )
-              go (Err f) all part = part
+              go (Err f) _ written = written
 
           -- and its cell has failed it
           pub by_the_cell : true ≡ list_any line_of_the_cell lines
               → one.InWriting rule before after old site true
-          by_the_cell is = in_writing true is some_written.0 some_written.1
+          by_the_cell is = in_writing true is some_written
 
   -- a site that its cell failed needs opening
   pub stopped : one.InWriting rule before after old site true

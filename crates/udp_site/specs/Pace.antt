@@ -30,8 +30,8 @@ abbrev pub most_prompt : ℕ
 most_prompt = 1000
 
 -- Something comes. Where that moves something it waits for its first wait again; where a proposal
--- has got votes, or a bag is known, no proposal is under way any more; and where a bag is deposited,
--- the turns that a site needs to propose it are prompt, besides those that are still.
+-- has got votes, or a bag is known, no proposal is under way any more; and where a bag is
+-- deposited, the turns that a site needs to propose it are prompt, besides those that are still.
 abbrev pub hears : Pace → Sign → Pace
 hears pace signs.Still = pace
 hears pace signs.Moves = record pace { wait = pace.waits.first }
@@ -45,10 +45,10 @@ hears pace signs.Deposits = record pace {
 abbrev pub hands : Pace → List ℕ → Pace
 hands pace bytes = if is_prepare bytes then record pace { under_way = true } else pace
 
--- How long after an idle turn the next one comes, whatever else does: at once where it is prompt and
--- no proposal is under way, which the site would outbid; else ten first waits, 250 ms at least, and
--- its wait. First waits, and not those that have grown: site N proposes in each N-th idle turn, and
--- where clients ask all the time site 3 would else wait for 10, 20 and 40 waits.
+-- How long after an idle turn the next one comes, whatever else does: at once where it is prompt
+-- and no proposal is under way, which the site would outbid; else ten first waits, 250 ms at least,
+-- and its wait. First waits, and not those that have grown: site N proposes in each N-th idle turn,
+-- and where clients ask all the time site 3 would else wait for 10, 20 and 40 waits.
 abbrev pub between : Pace → ℕ
 between pace =
     if pace.prompt == 0 || pace.under_way

@@ -70,6 +70,9 @@ pub record Outside : Type 0 where
   pub traffic : Option (List Move)
   pub written : Option (List ℕ)
 
+abbrev pub outside : Option (List Move) → Option (List ℕ) → Outside
+outside traffic written = record { traffic = traffic; written = written }
+
 -- all moves of these turns were made, and all their text was written; and then these
 abbrev pub Shows : (before after : Outside) → List Turned → List Move → List ℕ → Type 0
 Shows before after turns moves text =

@@ -20,7 +20,7 @@ pub(crate) enum Asked {
     Nothing,
 }
 
-/// What the bytes ask, which came from this port.
+/// What the bytes of a datagram ask of a site of this federation.
 pub(crate) fn asked_by(alloc: Global, federation: u64, bytes: &[u8]) -> Result<Asked, AllocError>
     ensures { IfOk result (λ asked. IsAsked federation bytes.now asked) }
 {

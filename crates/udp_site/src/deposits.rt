@@ -13,13 +13,13 @@ use crate::said_lines::say_deposit;
 use bag_folders::Folders;
 use bag_tree::{Facts, TreeFault};
 use cell_device::Cell;
-use dgram::{Body, DepositAnswer, FolderPath, Message};
+use dgram::{Body, DepositAnswer, FolderPath};
 use fed_types::{SiteNo, Slot};
 use lines::Line;
 use site::Site;
 use std::alloc::Global;
 
-/// A client has the folder of this path deposited. It is read first.
+/// A client asks to deposit the folder of this path. It is read first.
 pub(crate) fn take_folder<C: Cell, P: Port, F: Folders>(
     alloc: Global,
     site: &mut Site<C>,
@@ -114,7 +114,5 @@ fn tell<P: Port>(
         return Ok(slot);
     };
     let body = Body::DepositReply { from, answer };
-    let message = Message { slot, body };
-    reply(alloc, port, federation, client, &message)?;
-    Ok(message.slot)
+    reply(alloc, port, federation, client, slot, body)
 }

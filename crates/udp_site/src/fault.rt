@@ -10,10 +10,10 @@ pub enum ServeFault {
     /// A receive failed.
     #[error("the port failed")]
     Port,
-    /// The site needs opening.
+    /// The cell failed; the site has to be opened again.
     #[error("the site needs opening")]
     Cell,
-    /// The port found no memory, or serving itself did.
+    /// The port or the server ran out of memory.
     #[error("out of memory")]
     Memory,
     /// A line couldn't be written.

@@ -12,7 +12,7 @@ use crate::waits::Waits;
 /// itself.
 const FIRST_WAITS: u64 = 10;
 
-/// How many milliseconds at least.
+/// The least number of milliseconds between two such turns.
 const LEAST_BETWEEN: u64 = 250;
 
 /// How many turns are prompt at most: nothing is taken in meanwhile.

@@ -19,8 +19,8 @@ pub trait Port {
         ensures received { IsReceived (traffic self.old) (traffic self.new) result }
         ensures cause { HasCause faults.Device (failures self.old) (failures self.new) result };
 
-    /// Hands out a datagram for a port. With `Device` it is lost, and yet handed out; with
-    /// `Memory` it isn't.
+    /// Sends a datagram to a port. `Device`: it counts as handed out, but is lost. `Memory`: it
+    /// wasn't handed out.
     fn send(&mut self, to: u16, bytes: &[u8]) -> Result<(), PortFault>
         ensures handed { IsHanded (traffic self.old) (traffic self.new) (to, bytes.now) result }
         ensures cause { HasCause faults.Device (failures self.old) (failures self.new) result };

@@ -1,6 +1,6 @@
 //! Handing out datagrams.
 
-ghost use Rattle.std.specs.Prelude.{◌≤◌, ◌∷◌, []};
+ghost use Rattle.std.specs.Prelude.{◌≡◌, ◌≤◌, ◌∷◌, [], IfOk};
 ghost use Rattle.std.specs.List.{flat_map};
 ghost use Rattle.udp_site.specs.inner.Outcomes.{Hands};
 ghost use Rattle.udp_site.specs.Turns.{posts_to, posts_of, sealed_posts, replies_to};
@@ -8,8 +8,8 @@ ghost use Rattle.udp_site.specs.Turns.{posts_to, posts_of, sealed_posts, replies
 use crate::fault::ServeFault;
 use crate::port::Port;
 use crate::port_fault::PortFault;
-use dgram::{LONGEST_DATAGRAM, Message, encode};
-use fed_types::SiteNo;
+use dgram::{Body, LONGEST_DATAGRAM, Message, encode};
+use fed_types::{SiteNo, Slot};
 use site::{Answer, Sealed, SiteFault};
 use std::alloc::Global;
 
@@ -62,24 +62,28 @@ pub(crate) fn hand_to<P: Port>(
     }
 }
 
-/// Hands out a message for a client's port.
+/// Hands out a message for a client's port, and gives back its slot.
 pub(crate) fn reply<P: Port>(
     alloc: Global,
     port: &mut P,
     federation: u64,
     to: u16,
-    message: &Message,
-) -> Result<(), ServeFault>
+    slot: Slot,
+    body: Body,
+) -> Result<Slot, ServeFault>
+    ensures slot { IfOk result (λ s. s ≡ slot) }
     ensures hands { Hands (P.traffic port.old) (P.traffic port.new)
-        (replies_to federation to message.now.slot message.now.body) result }
+        (replies_to federation to slot body) result }
     ensures later { P.failures port.old ≤ P.failures port.new }
 {
+    let message = Message { slot, body };
     let mut bytes = Vec::with_capacity(alloc, LONGEST_DATAGRAM)?;
-    encode(federation, message, &mut bytes)?;
-    hand(port, to, &bytes)
+    encode(federation, &message, &mut bytes)?;
+    hand(port, to, &bytes)?;
+    Ok(message.slot)
 }
 
-// Hands out a datagram. One that the port's device loses was handed out.
+// Hands out a datagram. One that is lost since the port's device failed counts as handed out.
 fn hand<P: Port>(port: &mut P, to: u16, bytes: &[u8]) -> Result<(), ServeFault>
     ensures hands { Hands (P.traffic port.old) (P.traffic port.new) ((to, bytes.now) ∷ []) result }
     ensures later { P.failures port.old ≤ P.failures port.new }

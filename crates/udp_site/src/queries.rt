@@ -1,10 +1,10 @@
 //! Queries of clients.
 
-ghost use Rattle.std.specs.Prelude.{◌≡◌, ◌≤◌, ◌∷◌, [], false, IsOk, IfOk};
+ghost use Rattle.std.specs.Prelude.{◌≡◌, ◌≤◌, ◌∷◌, [], false, IsOk};
 ghost use Rattle.fed_types.specs.Sites.{IsSiteNumber};
-ghost use Rattle.udp_site.specs.Turns.{Serving, IsServing, queries, query_replies, others, asked};
+ghost use Rattle.udp_site.specs.Turns.{Serving, IsServing, queries, others, asked};
 ghost use Rattle.udp_site.specs.inner.Others.{others_of};
-ghost use Rattle.udp_site.specs.inner.Outcomes.{ComesTo, AsksFor, Hands};
+ghost use Rattle.udp_site.specs.inner.Outcomes.{ComesTo, AsksFor};
 
 use crate::fault::ServeFault;
 use crate::port::Port;
@@ -12,7 +12,7 @@ use crate::posts::{hand_all, reply};
 use crate::replies::query_answer;
 use crate::said_lines::{say_refused, say_reply};
 use cell_device::Cell;
-use dgram::{Body, Message};
+use dgram::Body;
 use fed_types::{SiteNo, Slot};
 use lines::Line;
 use site::{Reply, Site, SiteFault};
@@ -37,32 +37,11 @@ pub(crate) fn take_query<C: Cell, P: Port>(
     let from = site.number();
     let federation = site.members().federation();
     let known = site.query(&slot);
-    let slot = tell_known(alloc, port, federation, from, client, slot, known)?;
-    let named = slot.copy(alloc)?;
-    say_reply(lines, from.number(), named, known)?;
-    ask_unless_known(site, port, ports, lines, &slot, known)
-}
-
-// Tells a client what is known of the slot, and gives back the slot.
-fn tell_known<P: Port>(
-    alloc: Global,
-    port: &mut P,
-    federation: u64,
-    from: SiteNo,
-    client: u16,
-    slot: Slot,
-    known: Result<Reply, SiteFault>,
-) -> Result<Slot, ServeFault>
-    ensures slot { IfOk result (λ s. s ≡ slot) }
-    ensures handed { Hands (P.traffic port.old) (P.traffic port.new)
-        (query_replies federation from client slot known) result }
-    ensures later { P.failures port.old ≤ P.failures port.new }
-{
     let answer = query_answer(known);
     let body = Body::QueryReply { from, answer };
-    let message = Message { slot, body };
-    reply(alloc, port, federation, client, &message)?;
-    Ok(message.slot)
+    let slot = reply(alloc, port, federation, client, slot, body)?;
+    say_reply(alloc, lines, from.number(), &slot, known)?;
+    ask_unless_known(site, port, ports, lines, &slot, known)
 }
 
 // Asks the other members, unless the site knows the bag or needs opening.
@@ -130,24 +109,6 @@ fn ask_other<C: Cell, P: Port>(
     if member == site.number() {
         return Ok(());
     }
-    ask(site, port, ports, lines, slot, member)
-}
-
-// Asks a member.
-fn ask<C: Cell, P: Port>(
-    site: &Site<C>,
-    port: &mut P,
-    ports: &[u16],
-    lines: &mut Vec<Line>,
-    slot: &Slot,
-    member: SiteNo,
-) -> Result<(), ServeFault>
-    requires { site.now.book.needs_opening ≡ false }
-    ensures comes { (old : Serving C) → old.site ≡ site.now → IsServing old
-        → AsksFor ports.now old slot.now (member ∷ []) (P.traffic port.old) (P.traffic port.new)
-        lines.old.items lines.new.items result }
-    ensures later { P.failures port.old ≤ P.failures port.new }
-{
     match site.ask(slot, member) {
         Ok(answer) => hand_all(port, ports, answer.sends.as_slice()),
         Err(_) => {

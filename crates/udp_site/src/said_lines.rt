@@ -15,7 +15,7 @@ ghost use Rattle.udp_site.specs.inner.Outcomes.{Notes};
 use fed_types::{BagId, Slot};
 use lines::{Line, NamedBag, NamedReply};
 use site::{Answer, Line as SiteLine, Reply, SiteFault};
-use std::alloc::AllocError;
+use std::alloc::{AllocError, Global};
 
 /// Says what a site says of what arrived.
 pub(crate) fn say_arrival(
@@ -102,14 +102,16 @@ fn say_line(lines: &mut Vec<Line>, site: u8, line: Option<SiteLine>) -> Result<(
 
 /// Says what a site replies to a query.
 pub(crate) fn say_reply(
+    alloc: Global,
     lines: &mut Vec<Line>,
     site: u8,
-    slot: Slot,
+    slot: &Slot,
     reply: Result<Reply, SiteFault>,
 ) -> Result<(), AllocError>
     ensures { OnOk result
-        (Notes lines.old.items lines.new.items (reply_notice site slot reply ∷ [])) }
+        (Notes lines.old.items lines.new.items (reply_notice site slot.now reply ∷ [])) }
 {
+    let slot = slot.copy(alloc)?;
     match reply {
         Ok(reply) => say(
             lines,

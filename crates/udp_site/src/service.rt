@@ -8,7 +8,7 @@ ghost use Rattle.cell_device.specs.Calls.{HasCause};
 ghost use Rattle.proposer.specs.Sessions.{Session};
 ghost use Rattle.lines.specs.Texts.{line_text};
 ghost use Rattle.udp_site.specs.Failures.{OnlyByFailing};
-ghost use Rattle.udp_site.specs.Served.{Serves, Turned, by_identity};
+ghost use Rattle.udp_site.specs.Served.{Serves, Turned, outside, by_identity};
 ghost use Rattle.udp_site.specs.Turns.{Serving, IsServing, begins, turn_of};
 ghost use Rattle.udp_site.specs.inner.OneTurn.{OneTurn};
 ghost use Rattle.udp_site.specs.inner.Receipts.{Receives};
@@ -29,8 +29,8 @@ use site::{Site, SiteFault};
 use std::alloc::{AllocError, Global};
 use std::io::Write;
 
-/// Serves `turns` turns. Each receives once; what came is taken in, its datagrams are handed out to
-/// the sites' ports, that of site 1 first, and its lines are written.
+/// Serves `turns` turns. Each receives once; what came is taken in, its datagrams are handed out,
+/// and its lines are written. `ports` are those of the sites, site 1's first.
 pub fn serve<C: Cell, P: Port, F: Folders, W: Write>(
     alloc: Global,
     site: &mut Site<C>,
@@ -43,8 +43,8 @@ pub fn serve<C: Cell, P: Port, F: Folders, W: Write>(
     ensures served { (session : Session) → IsServing (begins site.old session)
         → (end : Serving C) × (done : List Turned) × (end.site ≡ site.new)
         × Serves (turn_of C.device ports.now (F.gives folders.old))
-        (record { traffic = P.traffic port.old; written = W.contents output.old })
-        (record { traffic = P.traffic port.new; written = W.contents output.new })
+        (outside (P.traffic port.old) (W.contents output.old))
+        (outside (P.traffic port.new) (W.contents output.new))
         (begins site.old session) end turns done result }
     ensures port { OnlyByFailing ServeFault.Port (P.failures port.old) (P.failures port.new)
         result }
@@ -82,8 +82,8 @@ fn one_turn<C: Cell, P: Port, F: Folders, W: Write>(
         → old.tried ≡ round.old.tried → IsServing old
         → AreSettled site.old.book.records round.old.settled
         → OneTurn (turn_of C.device ports.now (F.gives folders.old))
-        (record { traffic = P.traffic port.old; written = W.contents output.old })
-        (record { traffic = P.traffic port.new; written = W.contents output.new })
+        (outside (P.traffic port.old) (W.contents output.old))
+        (outside (P.traffic port.new) (W.contents output.new))
         old site.new round.new.idle round.new.tried result }
     ensures count { round.new.idle ≤ round.old.idle + 1 }
     ensures settled { OnOk result ((old : Serving C) → old.site ≡ site.old

@@ -102,8 +102,8 @@ LinesStay =
     (w : World) (number : ℕ) (line : Option Command)
     → (after_line w number line).lines ≡ w.lines ++ printed w number line
 
--- This line of the schedule, with these before it, prints what the run has in this place, counted
--- from 0: before the line at most so many lines are printed, and after it more.
+-- This line of the schedule, with these before it, prints the output line of this place, counted
+-- from 0: before it at most so many lines were printed, and after it more.
 pub record IsPrintedBy
     (plan : Plan) (place : ℕ) (before : List (Option Command)) (line : Option Command)
     : Type 0 where

@@ -34,9 +34,9 @@ pub record SiteState : Type 0 where
   pub mode : Mode
 
 -- Each site by its number: numbers that are no member's are there too, and `run` leaves them new.
--- And all datagrams, in the order in which they were sent, each as the message that its bytes decode
--- to (`message_of_its_datagram` of `dgram`); its sender is the site that the message names. `run`
--- takes none away: one may arrive once, often or never, in any order.
+-- And all datagrams, in the order in which they were sent, each as the message that its bytes
+-- decode to (`message_of_its_datagram` of `dgram`); its sender is the site that the message names.
+-- `run` takes none away: one may arrive once, often or never, in any order.
 pub record Network : Type 0 where
   pub sites : ℕ → SiteState
   pub sent : List Send
@@ -91,7 +91,7 @@ goes_on site s input e = record {
   notice = notice_of site input e.says;
 }
 
--- the site is down, with this record more, if there is one; so much was sent before
+-- the site is down, with this record more, if there is one, after it has sent these messages
 abbrev pub goes_down : (site : ℕ) → SiteState → Option Record → List Send → Outcome
 goes_down site s kept sends = record {
   site = record {

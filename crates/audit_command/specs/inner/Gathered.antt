@@ -3,17 +3,14 @@ use Rattle.std.specs.Prelude.{◌≡◌, ℕ, List, map}
 use Rattle.std.specs.List.{flat_map}
 use Rattle.std.specs.String.{string_bytes}
 use Rattle.fed_types.specs.Sites.{Membership}
-use Rattle.std.specs.Prelude.{Option, Some, None, []}
-use Rattle.ledger.specs.declared.contents.Contents.{Contents}
 use Rattle.ledger.specs.Versions.{slots_of}
 use Rattle.audit.specs.Evidence.{SiteRecord}
 use Rattle.audit.specs.Tables.{StandsFor}
 use Rattle.audit_command.specs.declared.evidence.Evidence.{Evidence}
 use Rattle.audit_command.specs.declared.gathered.Gathered.{Gathered}
-use Rattle.audit_command.specs.declared.cell_reading.CellReading.{CellReading}
 use Rattle.audit_command.specs.Audits.{all_used}
 use Rattle.audit_command.specs.Lines.{reading_line}
-use Rattle.audit_command.specs.CellReadings.{Reading, all_given, of_site}
+use Rattle.audit_command.specs.CellReadings.{Reading, all_given}
 
 -- the evidence is that of these records
 pub record IsEvidence (members : Membership) (e : Evidence) (given : List SiteRecord)
@@ -21,15 +18,6 @@ pub record IsEvidence (members : Membership) (e : Evidence) (given : List SiteRe
   pub members_are : e.cells.members ≡ members
   pub stands : StandsFor e.cells given
   pub slots : e.slots.keys ≡ slots_of (map (λ s. s.kept) given)
-
--- the records of a cell that is used
-abbrev pub given_in : Option Contents → List SiteRecord
-given_in None = []
-given_in (Some contents) = of_site contents.owner.site contents.records.items
-
--- a cell that was read, by the path of its file
-abbrev pub reading_at : List ℕ → CellReading → Reading
-reading_at path r = record { path = path; fault = r.fault; given = given_in r.contents }
 
 -- what was gathered is what these readings give
 pub record IsGathered (members : Membership) (g : Gathered) (readings : List Reading)

@@ -1,7 +1,7 @@
--- What the steps of giving lines answer.
+-- What the steps of reading a cell in pieces answer.
 use Rattle.std.specs.Prelude.{◌≡◌, ◌≤◌, ◌+◌, ◌-◌, ℕ, ⊤, Bool, true, false, min, List, [], ◌∷◌, ◌++◌}
 use Rattle.std.specs.Prelude.{length}
-use Rattle.std.specs.Prelude.{Option, Some, None, string_bytes}
+use Rattle.std.specs.Prelude.{Option, Some, None}
 use Rattle.fed_types.specs.Sites.{AreWeights}
 use Rattle.records.specs.declared.layout.Layout.TheVariants.{Second}
 use Rattle.records.specs.declared.owner.Owner.{Owner}
@@ -10,14 +10,15 @@ use Rattle.records.specs.Layout.{all_encoded, header_bytes}
 use Rattle.records.specs.Records.{AreRecords}
 use Rattle.records.specs.inner.Steps.{Follows}
 use Rattle.ledger.specs.declared.batch.Batch.{Batch}
+use Rattle.ledger.specs.declared.contents.Contents.{Contents}
 use Rattle.ledger.specs.declared.ending.Ending.{Ending}
 use Rattle.ledger.specs.declared.ending.Ending.TheVariants.{Whole, Torn, Damaged}
+use Rattle.ledger.specs.declared.part.LastPart.{LastPart}
+use Rattle.ledger.specs.declared.part.Part.{Part}
 use Rattle.ledger.specs.declared.steps.Kept.{Kept}
-use Rattle.ledger.specs.declared.steps.LastLines.{LastLines}
 use Rattle.ledger.specs.declared.steps.Step.{Step}
 use Rattle.ledger.specs.declared.steps.Step.TheVariants.{Wait, Next, End}
-use Rattle.ledger.specs.Lines.{ending_line, records_text}
-use Rattle.ledger.specs.Pieces.{IsGiven, IsWholeText}
+use Rattle.ledger.specs.Parts.{Told, and_part, Fits, IsDamaged, IsTold, TellsLast}
 use Rattle.ledger.specs.inner.Found.{ending_of}
 
 -- where a text of these records ends
@@ -51,11 +52,13 @@ abbrev pub ending_after : Owner → (passed : ℕ) → Batch → (len : ℕ) →
 ending_after owner passed batch len =
     ending_by batch.is_damaged (passed + batch_size owner batch) (len - batch.end)
 
--- the lines of the records of a batch, and how a cell ends after it
-abbrev pub IsEndOfBatch : Batch → Ending → LastLines → Type 0
-IsEndOfBatch batch ending last =
-    (last.ending ≡ ending)
-    × (string_bytes last.text ≡ records_text batch.records.items ++ ending_line ending)
+-- a part that says the records of a batch
+abbrev pub IsNextPart : Batch → Part → Type 0
+IsNextPart batch part = (part.head ≡ None) × (part.records.items ≡ batch.records.items)
+
+-- the last one, and how a cell ends after it
+abbrev pub IsEndOfBatch : Batch → Ending → LastPart → Type 0
+IsEndOfBatch batch ending last = IsNextPart batch last.part × (last.ending ≡ ending)
 
 -- where headers and records end in so many bytes of a cell that isn't damaged
 abbrev pub text_end : Ending → ℕ → Option ℕ
@@ -63,18 +66,33 @@ text_end Whole len = Some len
 text_end (Torn count) len = Some (len - count)
 text_end (Damaged place) len = None
 
--- lines, and what is kept after them
-pub record Keeps (owner : Owner) (text : List ℕ) (passed : ℕ) (rest : List ℕ) (kept : Kept)
-    : Type 0 where
+-- a part that says what these contents do
+abbrev pub IsPartOf : Contents → Part → Type 0
+IsPartOf contents part =
+    (part.head ≡ Some (record { owner = contents.owner; names_weights = contents.names_weights }))
+    × (part.records.items ≡ contents.records.items)
+
+-- what is kept after a part: so many bytes are passed, and the rest is
+pub record Keeps (owner : Owner) (passed : ℕ) (rest : List ℕ) (kept : Kept) : Type 0 where
   pub owner_is : kept.owner ≡ owner
-  pub text_is : string_bytes kept.text ≡ text
   pub passed_is : kept.passed ≡ passed
   pub bytes_are : kept.bytes.items ≡ header_bytes owner ++ rest
 
--- what the bytes that were taken give, after these lines
-abbrev pub IsStep : (taken text : List ℕ) → Step → Type 0
-IsStep taken text Wait = ⊤
-IsStep taken text (Next kept) =
-    IsGiven kept.owner kept.passed kept.bytes.items taken (text ++ string_bytes kept.text)
-IsStep taken text (End last) =
-    (more : List ℕ) → IsWholeText (taken ++ more) last.ending (text ++ string_bytes last.text)
+-- after the first part
+abbrev pub KeepsFirst : Contents → ℕ → List ℕ → Kept → Type 0
+KeepsFirst contents passed rest kept =
+    IsPartOf contents kept.part × Keeps contents.owner passed rest kept
+
+-- after the records of a batch
+abbrev pub KeepsNext : Owner → Batch → ℕ → List ℕ → Kept → Type 0
+KeepsNext owner batch passed rest kept =
+    IsNextPart batch kept.part × Keeps owner passed rest kept
+
+-- what the bytes that were taken say, after what was told
+abbrev pub IsStep : (taken : List ℕ) → Told → Step → Type 0
+IsStep taken told Wait = ⊤
+IsStep taken told (Next kept) =
+    Fits told kept.part
+    × IsTold kept.owner kept.passed kept.bytes.items taken (and_part told kept.part)
+IsStep taken told (End last) =
+    IsDamaged last.ending × ((more : List ℕ) → TellsLast (taken ++ more) told last)

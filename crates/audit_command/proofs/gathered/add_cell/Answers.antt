@@ -1,22 +1,25 @@
-use Rattle.std.proofs.Common.{List, ℕ, Option, refl}
-use Rattle.std.specs.Prelude.{option_map}
-use Rattle.audit_command.specs.CellReadings.{IsReadingOf}
-use Rattle.audit_command.specs.inner.Gathered.{given_in, reading_at}
-use Rattle.audit_command.proofs.Counted.{on_ok, if_known}
+use Rattle.std.proofs.Common.{refl}
+use Rattle.audit_command.specs.CellReadings.{Reading, all_given}
+use Rattle.audit_command.specs.declared.gathered.Gathered.{Gathered}
+use Rattle.audit_command.proofs.Joined.{one_reading}
 use Rattle.audit_command.proofs.gathered.add_cell.Goals as goal
 
 pub returns : goal.returns
-returns g c =
-    let members = c.args.members.now in
-    let reading = c.in_ok-reading.reading in
-    on_ok c.add_reading.result c.add_reading.ensures
-    (λ added readings is. (
-      reading_at c.args.path.now reading,
+returns g c = λ readings is.
+    let added = c.in_ok-fault.ensures (all_given readings) is.evidence in
+    let r : Reading = record {
+      path = c.args.path.now;
+      fault = c.in_ok-fault.fault;
+      given = added.0;
+    } in
+    let new : Gathered = record {
+      evidence = c.add_records_of.new.evidence;
+      text = c.add_fault.new.text;
+      all_used = c.still_used-gathered.result;
+    } in (
+      r,
       refl,
-      if_known (g.F.CellFiles.bytes_at c.args.files.now c.args.path.now)
-          (option_map (λ b. b.items) c.in_ok-bytes.bytes)
-          (λ (bytes : Option (List ℕ)).
-          IsReadingOf members bytes reading.fault (given_in reading.contents))
-          c.in_ok-bytes.ensures c.in_ok-reading.ensures,
-      added members readings is,
-    ))
+      added.1,
+      one_reading c.args.members.now c.args.gathered.now new readings r is added.2
+          c.in_ok-add_fault.ensures c.still_used-gathered.ensures,
+    )

@@ -1,4 +1,4 @@
-use Rattle.std.proofs.Common.{List, ℕ, Ok, sym, subst}
+use Rattle.std.proofs.Common.{List, ℕ, sym, subst}
 use Rattle.records.specs.Journals.{Says}
 use Rattle.book.proofs.Commits.{leaves_text, recovers}
 use Rattle.book.proofs.Alike.{said_seen, answered, synced, repaired}

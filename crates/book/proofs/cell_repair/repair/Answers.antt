@@ -1,5 +1,4 @@
-use Rattle.std.proofs.Common.{Option, ◌≡◌, ◌+◌, ◌++◌, List, ℕ, take, drop, sym, ap, subst, ◌∙◌}
-use Rattle.std.proofs.Common.{refl}
+use Rattle.std.proofs.Common.{Option, ◌≡◌, ◌++◌, List, ℕ, take, drop, sym, ap, subst, ◌∙◌}
 use Rattle.cell_device.specs.Images.{Image, IfKnown}
 use Rattle.records.specs.Layout.{header_bytes}
 use Rattle.records.specs.Journals.{Says}
@@ -7,39 +6,21 @@ use Rattle.records.specs.Texts.{IsTextOf}
 use Rattle.std.proofs.Common.{Ok}
 use Rattle.records.proofs.Walk.{from, from_is}
 use Rattle.book.proofs.Commits.{ok_holds}
-use Rattle.book.proofs.Moments.{weaker, joined}
-use Rattle.book.proofs.Repairs.{cutting_says, appending_says, still_rests}
-use Rattle.book.specs.inner.Sound.{RestsAt}
-use Rattle.std.specs.Prelude.{OnOk}
+use Rattle.book.proofs.Moments.{joined}
+use Rattle.book.proofs.Repairs.{cutting, appending_says, still_rests}
 use Rattle.book.proofs.cell_repair.repair.Goals as goal
 
 pub returns-in_err-cut_synced-clause-any_moment : goal.returns-in_err-cut_synced-clause-any_moment
 returns-in_err-cut_synced-clause-any_moment g c =
-    let device = g.C.Cell.device in
-    let image : g.row.C.Denot → Option Image = λ cell. (device cell).image in
-    let old = c.args.cell.now in
-    let mend = c.find_repair-mend in
-    let bytes = c.args.bytes.now in
-    let rs = c.args.journal.now.records.items in
-    weaker device g.met.C.Cell.only_now old c.cut_synced.new.cell
-    (λ b. IfKnown (image old) (λ i. (k : ℕ) × (b ≡ take (mend.result.keep + k) bytes)))
-    (λ b. IfKnown (image old) (λ i. Says c.args.owner b (Ok rs)))
-    c.cut_synced.ensures.any_moment
-    (cutting_says c.args.owner bytes rs mend.result mend.ensures (image old))
+    cutting c.args.owner c.args.bytes.now c.args.journal.now.records.items c.find_repair-mend.result
+    c.find_repair-mend.ensures g.C.Cell.device g.met.C.Cell.only_now c.args.cell.now
+    c.cut_synced.new.cell c.cut_synced.ensures.any_moment
 
 pub returns-then-mend-header-clause-any_moment : goal.returns-then-mend-header-clause-any_moment
 returns-then-mend-header-clause-any_moment g c =
-    let device = g.C.Cell.device in
-    let image : g.row.C.Denot → Option Image = λ cell. (device cell).image in
-    let old = c.args.cell.now in
-    let mend = c.find_repair-mend in
-    let bytes = c.args.bytes.now in
-    let rs = c.args.journal.now.records.items in
-    weaker device g.met.C.Cell.only_now old c.cut_synced.new.cell
-    (λ b. IfKnown (image old) (λ i. (k : ℕ) × (b ≡ take (mend.result.keep + k) bytes)))
-    (λ b. IfKnown (image old) (λ i. Says c.args.owner b (Ok rs)))
-    c.cut_synced.ensures.any_moment
-    (cutting_says c.args.owner bytes rs mend.result mend.ensures (image old))
+    cutting c.args.owner c.args.bytes.now c.args.journal.now.records.items c.find_repair-mend.result
+    c.find_repair-mend.ensures g.C.Cell.device g.met.C.Cell.only_now c.args.cell.now
+    c.cut_synced.new.cell c.cut_synced.ensures.any_moment
 
 pub returns-clause-repaired : goal.returns-clause-repaired
 returns-clause-repaired g c =
@@ -54,10 +35,10 @@ returns-clause-repaired g c =
     from_is c.args.header.now mend.result.from ∙ ap (drop mend.result.from) c.requires.header in
     let rest = still_rests text (image c.args.cell.now) (image c.cut_synced.new.cell)
     c.in_ok-cut_synced.ensures.kept in
-    ok_holds owner rs c.extend_synced.result (text ++ from c.args.header.now mend.result.from)
-    (image c.extend_synced.new.cell)
+    ok_holds owner rs c.append_synced.result (text ++ from c.args.header.now mend.result.from)
+    (image c.append_synced.new.cell)
     (subst (λ (b : List ℕ). IsTextOf owner rs (text ++ b)) (sym same) mend.ensures.text)
-    (c.extend_synced.ensures.kept text rest)
+    (c.append_synced.ensures.kept text rest)
 
 pub returns-clause-any_moment : goal.returns-clause-any_moment
 returns-clause-any_moment g c =
@@ -75,13 +56,11 @@ returns-clause-any_moment g c =
     let same : more ≡ drop mend.result.from (header_bytes owner) =
     from_is c.args.header.now mend.result.from ∙ ap (drop mend.result.from) c.requires.header in
     let P : List ℕ → Type 0 = λ b. IfKnown (image old) (λ i. Says owner b (Ok rs)) in
-    let first = weaker device only old mid
-    (λ b. IfKnown (image old) (λ i. (k : ℕ) × (b ≡ take (mend.result.keep + k) bytes))) P
-    c.cut_synced.ensures.any_moment
-    (cutting_says owner bytes rs mend.result mend.ensures (image old)) in
+    let first = cutting owner bytes rs mend.result mend.ensures device only old mid
+    c.cut_synced.ensures.any_moment in
     let rest = still_rests text (image old) (image mid) c.in_ok-cut_synced.ensures.kept in
-    joined device only old mid c.extend_synced.new.cell P
+    joined device only old mid c.append_synced.new.cell P
     (λ b. IfKnown (image mid) (λ i. (k : ℕ) × (b ≡ text ++ take k more))) first
-    (c.extend_synced.ensures.any_moment text rest)
+    (c.append_synced.ensures.any_moment text rest)
     (λ b left. appending_says owner bytes rs mend.result mend.ensures (image old) (image mid) more b
     c.in_ok-cut_synced.ensures.kept same left)

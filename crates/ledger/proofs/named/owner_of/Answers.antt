@@ -15,6 +15,7 @@ pub returns-then-has_old_magic : goal.returns-then-has_old_magic
 returns-then-has_old_magic c = record {
   headed = old_begins c.in-Some.owner c.args.bytes.now c.if-bytes-lt-FRONT.false
       (c.if-has_old_magic.ensures.0 refl) c.in-Some.ensures.0;
+  federation = c.in-Some.ensures.3;
   single = c.in-Some.ensures.2;
   site = c.in-Some.ensures.1;
 }

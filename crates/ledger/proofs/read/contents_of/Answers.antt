@@ -17,7 +17,7 @@ returns-in-None c =
     let bytes = c.args.bytes.now in
     let e : HasEnd owner bytes =
     subst (IsDamageFound owner bytes) c.in-None.is c.in_ok-find_damage.ensures in
-    tells owner bytes e c.text_contents.result c.text_contents.ensures
+    tells owner bytes c.requires e c.text_contents.result c.text_contents.ensures
 
 pub returns-in_ok-text-in-Some : goal.returns-in_ok-text-in-Some
 returns-in_ok-text-in-Some c =
@@ -25,5 +25,5 @@ returns-in_ok-text-in-Some c =
     let bytes = c.args.bytes.now in
     let d : HasDamage owner bytes c.in-Some.place =
     subst (IsDamageFound owner bytes) c.in-Some.is c.in_ok-find_damage.ensures in
-    damage_told owner bytes c.in-Some.place d c.in_ok-text-in-Some.text
+    damage_told owner bytes c.in-Some.place d c.requires c.in_ok-text-in-Some.text
     c.in_ok-text-in-Some.ensures

@@ -1,6 +1,7 @@
 use Rattle.std.proofs.Common.{◌++◌, Err, Result, sym, subst, take, ℕ, ◌≡◌}
 use Rattle.std.specs.Prelude.{string_bytes}
 use Rattle.std.specs.Io.KnownBytes.{Appends}
+use Rattle.std.proofs.KnownBytes.{Appends-trans}
 use Rattle.outcomes.specs.declared.fault.ProgramFault.{ProgramFault}
 use Rattle.outcomes.specs.declared.fault.ProgramFault.TheVariants.{Output}
 use Rattle.ledger.specs.Pieces.{IsTaken}
@@ -8,6 +9,19 @@ use Rattle.ledger_commands.specs.inner.Journals.{IsAfterPiece}
 use Rattle.ledger_commands.proofs.Listings.{wrote_last, wrote_memory, wrote_part, after_piece}
 use Rattle.ledger_commands.proofs.Listings.{lines_before}
 use Rattle.ledger_commands.proofs.journal.write_piece.Goals as goal
+
+pub returns-in-Ok : goal.returns-in-Ok
+returns-in-Ok g c = λ taken text first given had.
+    let contents = g.W.Write.contents in
+    let old = contents c.args.output.now in
+    let new = contents c.write_answer.new.output in
+    let more = string_bytes c.in-Ok-More.text in (
+      text ++ more,
+      subst (IsTaken c.take.new.self (taken ++ c.args.piece.now) text) c.in-Ok-More.field-0-is
+          (c.in-Ok-More.ensures taken text given),
+      Appends-trans first old new text more had
+          (subst (Appends old new) c.as_str.ensures.value c.in-Ok.ensures.ok.1),
+    )
 
 pub returns-in-Ok-More : goal.returns-in-Ok-More
 returns-in-Ok-More g c = λ taken text first given had.

@@ -1,4 +1,4 @@
-use Rattle.std.proofs.Common.{◌≡◌, ℕ, false, List, [], ◌∷◌, length, map, Some, None, Bor, refl, sym}
+use Rattle.std.proofs.Common.{◌≡◌, ℕ, false, List, [], ◌∷◌, length, map, Bor, refl, sym}
 use Rattle.std.proofs.Common.{ap, ◌∙◌, subst, inl, inr, arith}
 use Rattle.std.specs.List.{Contains}
 use Rattle.std.specs.Str.Lines.{lines}
@@ -12,6 +12,7 @@ use Rattle.members_file.specs.Lines.{federation_in}
 use Rattle.members_file.proofs.ReadLemmas.{fault_from_ok_or, fault_of_none, fault_of_first}
 use Rattle.members_file.proofs.ReadLemmas.{fault_after, AreListed-read, weights-fit, weights-some}
 use Rattle.members_file.proofs.read.read_members.Goals as goal
+use Rattle.members_file.proofs.read.read_members.Goals.{After-parse_federation, After-deref-3}
 
 pub returns-in_err-first : goal.returns-in_err-first
 returns-in_err-first c =
@@ -22,6 +23,24 @@ returns-in_err-first c =
     let none : lines c.args.text.now ≡ [] = rw f.0 at c.first_line.ensures.value in
     rw (p.1, p.2, f.1) (fault_of_none c.args.text.now none)
 
+-- the first line
+first_is : (c : After-parse_federation)
+    → lines c.args.text.now ≡ c.in_ok-first.first.now ∷ lines c.in_ok-first.after.now
+first_is c = rw c.in_ok-first.ensures.ok_part at c.first_line.ensures.value
+
+-- the federation that its words name
+federation_is : (c : After-parse_federation)
+    → federation_in (words_of c.in_ok-first.first.now) ≡ c.parse_federation.result
+federation_is c =
+    let words : map (λ (word : Bor (List ℕ)). word.now) c.deref.result.now
+    ≡ words_of c.in_ok-first.first.now = rw c.deref.ensures.value c.in_ok-words.ensures.value in
+    sym (ap federation_in words) ∙ sym c.parse_federation.ensures
+
+-- the weights are those of the sites
+weights_are : (c : After-deref-3) → c.deref-3.result.now ≡ weights_of c.in_ok-sites.sites.items
+weights_are c =
+    c.deref-3.ensures.value ∙ c.in_ok-weights.ensures ∙ ap weights_of c.deref-2.ensures.value
+
 pub returns-in_err-federation : goal.returns-in_err-federation
 returns-in_err-federation c =
     let f =
@@ -30,65 +49,47 @@ returns-in_err-federation c =
     let p =
     err_from_is_err_and c.from_residual-in_err-federation.result
     c.from_residual-in_err-federation.ensures.1 in
-    let is : lines c.args.text.now ≡ c.in_ok-first.first.now ∷ lines c.in_ok-first.after.now =
-    rw c.in_ok-first.ensures.ok_part at c.first_line.ensures.value in
-    let words : map (λ (word : Bor (List ℕ)). word.now) c.deref.result.now
-    ≡ words_of c.in_ok-first.first.now = rw c.deref.ensures.value c.in_ok-words.ensures.value in
-    let none : federation_in (words_of c.in_ok-first.first.now) ≡ None =
-    sym (ap federation_in words) ∙ sym c.parse_federation.ensures ∙ f.0 in
+    let at = (goal.at.returns-in_err-federation c).After-parse_federation in
     rw (p.1, p.2, f.1)
-    (fault_of_first c.args.text.now c.in_ok-first.first.now (lines c.in_ok-first.after.now) is none)
+    (fault_of_first c.args.text.now c.in_ok-first.first.now (lines c.in_ok-first.after.now)
+    (first_is at) (federation_is at ∙ f.0))
 
 pub returns-in_default : goal.returns-in_default
 returns-in_default c =
-    let is : lines c.args.text.now ≡ c.in_ok-first.first.now ∷ lines c.in_ok-first.after.now =
-    rw c.in_ok-first.ensures.ok_part at c.first_line.ensures.value in
-    let words : map (λ (word : Bor (List ℕ)). word.now) c.deref.result.now
-    ≡ words_of c.in_ok-first.first.now = rw c.deref.ensures.value c.in_ok-words.ensures.value in
-    let says : federation_in (words_of c.in_ok-first.first.now)
-    ≡ Some c.in_ok-federation.federation =
-    sym (ap federation_in words) ∙ sym c.parse_federation.ensures
-    ∙ c.in_ok-federation.ensures.ok_part in
+    let at = goal.at.returns-in_default c in
     let sites = c.in_ok-sites.sites.items in
-    let weights : c.deref-3.result.now ≡ weights_of sites =
-    c.deref-3.ensures.value ∙ c.in_ok-weights.ensures ∙ ap weights_of c.deref-2.ensures.value in
     let none : length sites ≡ 0 =
     elim (cases_lt 0 (length sites)) [
       | inl some ↦ absurd
           (false≢true (c.in_default.ensures.ok.1
-          (subst (λ (ws : List ℕ). CountFits ws × ¬ Contains {X = ℕ} ws 0) (sym weights)
+          (subst (λ (ws : List ℕ). CountFits ws × ¬ Contains {X = ℕ} ws 0)
+          (sym (weights_are at.After-deref-3))
           (weights-fit (lines c.in_ok-first.after.now) sites (lines c.in_ok-sites.rest.now)
           c.in_ok-sites.ensures some))))
       | inr zero ↦ omega arith
     ] in
     subst (λ (n : ℕ). HasFault c.args.text.now n) (omega (arith, none))
     (fault_after c.args.text.now c.in_ok-first.first.now (lines c.in_ok-first.after.now)
-    (lines c.in_ok-sites.rest.now) c.in_ok-federation.federation sites is says
+    (lines c.in_ok-sites.rest.now) c.in_ok-federation.federation sites
+    (first_is at.After-parse_federation)
+    (federation_is at.After-parse_federation ∙ c.in_ok-federation.ensures.ok_part)
     c.in_ok-sites.ensures (λ ends. omega (arith, none, ends.0)))
 
 pub returns-then-not-branch : goal.returns-then-not-branch
 returns-then-not-branch c =
-    let is : lines c.args.text.now ≡ c.in_ok-first.first.now ∷ lines c.in_ok-first.after.now =
-    rw c.in_ok-first.ensures.ok_part at c.first_line.ensures.value in
-    let words : map (λ (word : Bor (List ℕ)). word.now) c.deref.result.now
-    ≡ words_of c.in_ok-first.first.now = rw c.deref.ensures.value c.in_ok-words.ensures.value in
-    let says : federation_in (words_of c.in_ok-first.first.now)
-    ≡ Some c.in_ok-federation.federation =
-    sym (ap federation_in words) ∙ sym c.parse_federation.ensures
-    ∙ c.in_ok-federation.ensures.ok_part in
-    let sites = c.in_ok-sites.sites.items in
+    let at = (goal.at.returns-then-not-branch c).After-parse_federation in
     let isnt : are_blank (lines c.in_ok-sites.rest.now) ≡ false =
     sym c.in_ok-is_blank.ensures ∙ c.if-not-branch.true in
     subst (λ (n : ℕ). HasFault c.args.text.now n) (omega (arith, c.len.ensures))
     (fault_after c.args.text.now c.in_ok-first.first.now (lines c.in_ok-first.after.now)
-    (lines c.in_ok-sites.rest.now) c.in_ok-federation.federation sites is says
-    c.in_ok-sites.ensures (λ ends. false≢true (sym isnt ∙ ends.1)))
+    (lines c.in_ok-sites.rest.now) c.in_ok-federation.federation c.in_ok-sites.sites.items
+    (first_is at) (federation_is at ∙ c.in_ok-federation.ensures.ok_part) c.in_ok-sites.ensures
+    (λ ends. false≢true (sym isnt ∙ ends.1)))
 
 pub new-requires-clause-sites : goal.new-requires-clause-sites
 new-requires-clause-sites c =
     let sites = c.in_ok-sites.sites.items in
-    let weights : c.deref-3.result.now ≡ weights_of sites =
-    c.deref-3.ensures.value ∙ c.in_ok-weights.ensures ∙ ap weights_of c.deref-2.ensures.value in
+    let weights = weights_are (goal.at.new-requires-clause-sites c).After-deref-3 in
     AreListed-read (lines c.in_ok-first.after.now) sites (lines c.in_ok-sites.rest.now)
     c.in_ok-sites.ensures
     (weights-some sites (subst CountFits weights (c.in-Ok.ensures.ok.0 refl).0))

@@ -7,5 +7,5 @@ pub returns : goal.returns
 returns g c =
     bag_asked (question_of c.args.request.now) c.as_slice.result.now
     (c.as_slice.ensures.value ∙ c.in_ok-bytes.ensures) (g.P.Port.traffic c.args.port.now)
-    (g.P.Port.traffic c.ask_again.new.port) c.in_ok-reply.reply c.query_in.result
+    (g.P.Port.traffic c.ask.new.port) c.in_ok-reply.reply c.query_in.result
     c.query_in.ensures c.in_ok-reply.ensures

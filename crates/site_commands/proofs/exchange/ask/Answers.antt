@@ -1,9 +1,46 @@
+use Rattle.std.proofs.Common.{List, Option, Result, Ok, subst}
+use Rattle.std.specs.declared.alloc.AllocError.{AllocError}
+use Rattle.udp_site.specs.Traffic.{Move}
+use Rattle.site_commands.specs.declared.reply.Reply.{Reply}
 use Rattle.site_commands.specs.Replies.{question_of}
-use Rattle.site_commands.proofs.Heard.{asks_then}
+use Rattle.site_commands.specs.Exchanges.{IsAsked}
+use Rattle.site_commands.specs.inner.Heard.{Hears}
+use Rattle.site_commands.proofs.Heard.{asks_then, hears_more, err_if_ok}
+use Rattle.site_commands.proofs.exchange.ask.Given.{Over}
+use Rattle.site_commands.proofs.exchange.ask.Goals.{In-Ok}
 use Rattle.site_commands.proofs.exchange.ask.Goals as goal
 
-pub returns-in-Ok : goal.returns-in-Ok
-returns-in-Ok g c =
+-- what is heard after the datagram was sent is what is asked
+asked : (g : Over) (c : In-Ok g) (after : Option (List Move))
+    → (result : Result (Option Reply) AllocError)
+    → Hears (question_of c.args.request.now) c.args.wanted (g.P.Port.traffic c.send.new.self)
+    after result
+    → IsAsked (question_of c.args.request.now) c.args.wanted c.args.bytes.now
+    (g.P.Port.traffic c.args.port.now) after result
+asked g c after =
     asks_then (question_of c.args.request.now) c.args.wanted c.args.bytes.now
-    (g.P.Port.traffic c.args.port.now) (g.P.Port.traffic c.send.new.self)
-    (g.P.Port.traffic c.hear.new.port) c.in-Ok.ensures.handed c.hear.result c.hear.ensures
+    (g.P.Port.traffic c.args.port.now) (g.P.Port.traffic c.send.new.self) after
+    c.in-Ok.ensures.handed
+
+pub returns-in_default : goal.returns-in_default
+returns-in_default g c =
+    asked g (goal.at.returns-in_default g c).In-Ok (g.P.Port.traffic c.hear.new.port)
+    (Ok c.in_ok-reply.reply) c.in_ok-reply.ensures
+
+pub returns-in_err-reply : goal.returns-in_err-reply
+returns-in_err-reply g c =
+    let heard = c.in_err-reply.ensures in
+    asked g (goal.at.returns-in_err-reply g c).In-Ok (g.P.Port.traffic c.hear.new.port)
+    c.from_residual.result
+    (heard.0, heard.1, heard.2, err_if_ok c.from_residual.result _ _ c.from_residual.ensures.1)
+
+pub returns-in-None-Used : goal.returns-in-None-Used
+returns-in-None-Used g c =
+    let sent = g.P.Port.traffic c.send.new.self in
+    let idle = g.P.Port.traffic c.hear.new.port in
+    let after = g.P.Port.traffic c.hear-in-None-Used.new.port in
+    asked g (goal.at.returns-in-None-Used g c).In-Ok after c.hear-in-None-Used.result
+    (hears_more (question_of c.args.request.now) c.args.wanted sent idle after
+    (subst (λ (reply : Option Reply). Hears (question_of c.args.request.now) c.args.wanted sent
+    idle (Ok reply)) c.in-None-Used.is-0 c.in_ok-reply.ensures)
+    c.hear-in-None-Used.result c.hear-in-None-Used.ensures)

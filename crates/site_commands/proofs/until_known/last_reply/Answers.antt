@@ -6,21 +6,23 @@ use Rattle.site_commands.proofs.until_known.last_reply.Goals as goal
 pub loop-preserved : goal.loop-preserved
 loop-preserved g c path kind are =
     then_more (question_of c.args.request.now) path (g.P.Port.traffic c.args.port.now)
-    (g.P.Port.traffic c.loop.port) (g.P.Port.traffic c.ask_again.new.port) c.loop.last
-    c.loop.bytes.now (c.loop.invariant path kind are) c.in_ok-reply.reply c.args.wanted kind c.in_ok-reply.ensures
+    (g.P.Port.traffic c.loop.port) (g.P.Port.traffic c.ask.new.port) c.loop.last
+    c.loop.bytes.now (c.loop.invariant path kind are) c.in_ok-reply.reply c.args.wanted kind
+    c.in_ok-reply.ensures
     c.or-last.result c.after-bytes.result.now c.or-last.ensures (sym c.if-ends.ensures)
     (c.after-bytes.ensures (question_of c.args.request.now) path are)
 
 pub returns-then-ends : goal.returns-then-ends
 returns-then-ends g c path kind are =
     then_last (question_of c.args.request.now) path (g.P.Port.traffic c.args.port.now)
-    (g.P.Port.traffic c.loop.port) (g.P.Port.traffic c.ask_again.new.port) c.loop.last
-    c.loop.bytes.now (c.loop.invariant path kind are) c.in_ok-reply.reply c.args.wanted kind c.in_ok-reply.ensures
+    (g.P.Port.traffic c.loop.port) (g.P.Port.traffic c.ask.new.port) c.loop.last
+    c.loop.bytes.now (c.loop.invariant path kind are) c.in_ok-reply.reply c.args.wanted kind
+    c.in_ok-reply.ensures
     c.or-last.result c.or-last.ensures
 
 pub returns-in_err-reply : goal.returns-in_err-reply
 returns-in_err-reply g c path kind are =
     then_stopped (question_of c.args.request.now) path (g.P.Port.traffic c.args.port.now)
-    (g.P.Port.traffic c.loop.port) (g.P.Port.traffic c.ask_again.new.port) c.loop.last
-    c.loop.bytes.now c.in_err-reply.field-0.0 c.from_residual.result (c.loop.invariant path kind are)
-    c.args.wanted c.in_err-reply.ensures c.from_residual.ensures.0
+    (g.P.Port.traffic c.loop.port) (g.P.Port.traffic c.ask.new.port) c.loop.last
+    c.loop.bytes.now c.in_err-reply.field-0.0 c.from_residual.result
+    (c.loop.invariant path kind are) c.args.wanted c.in_err-reply.ensures c.from_residual.ensures.0

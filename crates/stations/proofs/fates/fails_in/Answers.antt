@@ -3,7 +3,7 @@ use Rattle.cell_device.specs.declared.fuse.Fuse.{Fuse}
 use Rattle.cell_device.specs.Memory.{fuse_of, fuse_after_set}
 use Rattle.stations.specs.Calls.{input_of}
 use Rattle.stations.proofs.Came.{with_fuse}
-use Rattle.stations.proofs.GoingOn.{fails_in}
+use Rattle.stations.proofs.Returns.{fails_in}
 use Rattle.stations.proofs.Kept.{if_ok}
 use Rattle.stations.proofs.fates.fails_in.Goals as goal
 

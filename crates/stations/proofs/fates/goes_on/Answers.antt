@@ -1,5 +1,5 @@
 use Rattle.stations.specs.Calls.{input_of}
-use Rattle.stations.proofs.GoingOn.{goes_on}
+use Rattle.stations.proofs.Returns.{goes_on}
 use Rattle.stations.proofs.Kept.{if_ok}
 use Rattle.stations.proofs.fates.goes_on.Goals as goal
 

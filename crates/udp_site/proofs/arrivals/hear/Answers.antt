@@ -1,14 +1,17 @@
-use Rattle.std.proofs.Common.{ℕ, List, Some, Result, subst}
+use Rattle.std.proofs.Common.{◌≡◌, ℕ, List, Some, Result, subst}
 use Rattle.udp_site.specs.inner.Outcomes.{Notes}
 use Rattle.dgram.specs.declared.message.Message.{Message}
 use Rattle.site.specs.declared.answer.Answer.{Answer}
 use Rattle.site.specs.declared.fault.SiteFault.{SiteFault}
 use Rattle.site.specs.Calls.{Arrives}
-use Rattle.udp_site.specs.Turns.{Done, number, posts_of, notices_of}
+use Rattle.udp_site.specs.Turns.{Done, Serving, IsServing, number, posts_of, notices_of}
+use Rattle.udp_site.proofs.Called.{Call}
 use Rattle.udp_site.proofs.Calls.{calls_whole, calls_part, calls_failed}
 use Rattle.udp_site.proofs.Handed.{whole_part}
 use Rattle.udp_site.specs.Traffic.{all_handed}
 use Rattle.udp_site.proofs.Same.{same_number}
+use Rattle.udp_site.proofs.arrivals.hear.Given.{Over}
+use Rattle.udp_site.proofs.arrivals.hear.Goals.{After-hand_answer}
 use Rattle.udp_site.proofs.arrivals.hear.Goals as goal
 
 -- what is done of an answer
@@ -18,13 +21,24 @@ done_of ports site m result = record {
   notices = notices_of site (Arrives (Some m)) result;
 }
 
+-- the site was called
+call : (g : Over) (c : After-hand_answer g) (old : Serving g.row.C.Denot)
+    → old.site ≡ c.args.site.now → IsServing old
+    → Call g.C.Cell.device old (Arrives (Some c.args.message)) c.arrive_message-answer.result
+    c.args.site.now c.arrive_message-answer.new.self
+call g c old there serves = record {
+  there = there;
+  serves = serves;
+  answers = c.arrive_message-answer.ensures.answer;
+  needs_open = c.arrive_message-answer.ensures.needs_open;
+  untouched = c.arrive_message-answer.ensures.untouched;
+}
+
 pub returns-clause-comes : goal.returns-clause-comes
 returns-clause-comes g c old there serves =
     let m = c.args.message in
-    calls_whole g.C.Cell.device old (Arrives (Some m)) (done_of c.args.ports.now (number old) m)
-    c.arrive_message-answer.result c.args.site.now c.arrive_message-answer.new.self there serves
-    c.arrive_message-answer.ensures.answer
-    c.arrive_message-answer.ensures.needs_open c.arrive_message-answer.ensures.untouched
+    calls_whole (call g (goal.at.returns-clause-comes g c).After-hand_answer old there serves)
+    (done_of c.args.ports.now (number old) m)
     (g.P.Port.traffic c.args.port.now) (g.P.Port.traffic c.hand_answer.new.port)
     c.args.lines.now.items c.say_arrival.new.lines.items c.in_ok-hand_answer.ensures.hands
     (subst (λ (site : ℕ). Notes c.args.lines.now.items c.say_arrival.new.lines.items
@@ -34,22 +48,18 @@ returns-clause-comes g c old there serves =
 
 pub returns-in_err-hand_answer-clause-comes : goal.returns-in_err-hand_answer-clause-comes
 returns-in_err-hand_answer-clause-comes g c old there serves =
-    let m = c.args.message in
-    calls_failed g.C.Cell.device old (Arrives (Some m)) (done_of c.args.ports.now (number old) m)
-    c.arrive_message-answer.result c.args.site.now c.arrive_message-answer.new.self there serves
-    c.arrive_message-answer.ensures.answer
-    c.arrive_message-answer.ensures.needs_open c.arrive_message-answer.ensures.untouched
+    let at = goal.at.returns-in_err-hand_answer-clause-comes g c in
+    calls_failed (call g at.After-hand_answer old there serves)
+    (done_of c.args.ports.now (number old) c.args.message)
     (g.P.Port.traffic c.args.port.now) (g.P.Port.traffic c.hand_answer.new.port)
     c.args.lines.now.items c.args.lines.now.items c.in_err-hand_answer.field-0.0
     c.from_residual.result c.from_residual.ensures.1 c.in_err-hand_answer.ensures.hands
 
 pub returns-in_err-say_arrival-clause-comes : goal.returns-in_err-say_arrival-clause-comes
 returns-in_err-say_arrival-clause-comes g c old there serves =
-    let m = c.args.message in
-    calls_part g.C.Cell.device old (Arrives (Some m)) (done_of c.args.ports.now (number old) m)
-    c.arrive_message-answer.result c.args.site.now c.arrive_message-answer.new.self there serves
-    c.arrive_message-answer.ensures.answer
-    c.arrive_message-answer.ensures.needs_open c.arrive_message-answer.ensures.untouched
+    let at = goal.at.returns-in_err-say_arrival-clause-comes g c in
+    calls_part (call g at.After-hand_answer old there serves)
+    (done_of c.args.ports.now (number old) c.args.message)
     (g.P.Port.traffic c.args.port.now) (g.P.Port.traffic c.hand_answer.new.port)
     c.args.lines.now.items c.say_arrival.new.lines.items
     (whole_part (g.P.Port.traffic c.args.port.now) (g.P.Port.traffic c.hand_answer.new.port)

@@ -3,16 +3,28 @@ use Rattle.std.specs.Prelude.{IsErrAnd}
 use Rattle.udp_site.specs.declared.fault.ServeFault.{ServeFault}
 use Rattle.udp_site.specs.Replies.{tree_answer}
 use Rattle.udp_site.specs.Traffic.{Post, Grows, all_handed}
-use Rattle.udp_site.specs.Turns.{members, number, deposit_replies, takes_tree}
+use Rattle.udp_site.specs.Turns.{Serving, members, number, deposit_replies, takes_tree}
 use Rattle.udp_site.specs.inner.Outcomes.{Hands}
 use Rattle.udp_site.proofs.Handed.{fails_for}
 use Rattle.udp_site.proofs.Said.{broken_off}
-use Rattle.udp_site.proofs.Same.{same_site, same_federation, same_replies}
+use Rattle.udp_site.proofs.Same.{replied}
+use Rattle.udp_site.proofs.deposits.leave_folder.Given.{Over}
+use Rattle.udp_site.proofs.deposits.leave_folder.Goals.{After-tell}
 use Rattle.udp_site.proofs.deposits.leave_folder.Goals as goal
+
+-- the reply that is told, in the definitions' words
+told : (g : Over) (c : After-tell g) (old : Serving g.row.C.Denot) → old.site ≡ c.args.site.now
+    → deposit_replies c.federation-federation.result c.number-from.result c.args.client
+    c.args.slot c.tree_answer.result
+    ≡ deposit_replies (members old).federation (number old) c.args.client c.args.slot
+    (tree_answer c.args.fault)
+told g c old there =
+    replied old c.args.site.now there c.members.result c.federation-federation.result
+    c.number-from.result c.federation-federation.ensures c.members.ensures c.number-from.ensures
+    c.args.client c.args.slot c.tree_answer.result (tree_answer c.args.fault) c.tree_answer.ensures
 
 pub returns-clause-comes : goal.returns-clause-comes
 returns-clause-comes g c old there serves said =
-    let start = c.args.site.now in
     let before = g.P.Port.traffic c.args.port.now in
     let after = g.P.Port.traffic c.tell.new.port in (
       record {
@@ -25,19 +37,13 @@ returns-clause-comes g c old there serves said =
       there,
       serves,
       subst (λ (posts : List Post). Grows before after (all_handed posts))
-          (same_replies c.federation-federation.result (members old).federation
-          c.number-from.result (number old) c.args.client c.args.slot c.tree_answer.result
-          (tree_answer c.args.fault)
-          (same_federation old start there c.members.result c.federation-federation.result
-          c.federation-federation.ensures c.members.ensures)
-          (same_site old start there c.number-from.result c.number-from.ensures)
-          c.tree_answer.ensures) c.in_ok-tell.ensures.handed,
+          (told g (goal.at.returns-clause-comes g c).After-tell old there)
+          c.in_ok-tell.ensures.handed,
       sym (append-nil said),
     )
 
 pub returns-in_err-tell-clause-comes : goal.returns-in_err-tell-clause-comes
 returns-in_err-tell-clause-comes g c old there serves said =
-    let start = c.args.site.now in
     let before = g.P.Port.traffic c.args.port.now in
     let after = g.P.Port.traffic c.tell.new.port in
     let posts = deposit_replies (members old).federation (number old) c.args.client c.args.slot
@@ -45,15 +51,10 @@ returns-in_err-tell-clause-comes g c old there serves said =
     let fails = fails_for before after posts c.in_err-tell.field-0.0
     (subst (λ (posts : List Post). Hands {T = Unit {0}} before after posts
     (Err c.in_err-tell.field-0.0))
-    (same_replies c.federation-federation.result (members old).federation
-    c.number-from.result (number old) c.args.client c.args.slot c.tree_answer.result
-    (tree_answer c.args.fault)
-    (same_federation old start there c.members.result c.federation-federation.result
-    c.federation-federation.ensures c.members.ensures)
-    (same_site old start there c.number-from.result c.number-from.ensures)
-    c.tree_answer.ensures) c.in_err-tell.ensures.handed) in
+    (told g (goal.at.returns-in_err-tell-clause-comes g c).After-tell old there)
+    c.in_err-tell.ensures.handed) in
     broken_off (takes_tree g.C.Cell.device old c.args.client c.args.slot (Err c.args.fault)) before
-    after said said start (record { posts = posts; notices = [] }) old (refl, refl) there fails.1
-    c.from_residual.result
+    after said said c.args.site.now (record { posts = posts; notices = [] }) old (refl, refl) there
+    fails.1 c.from_residual.result
     (subst (λ (f : ServeFault). IsErrAnd c.from_residual.result (λ e. e ≡ f)) fails.0
     c.from_residual.ensures.1)

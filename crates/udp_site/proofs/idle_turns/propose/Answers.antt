@@ -1,43 +1,54 @@
-use Rattle.std.proofs.Common.{ℕ, ◌∙◌, subst, sym, ap}
+use Rattle.std.proofs.Common.{◌≡◌, ℕ, subst}
 use Rattle.site.specs.Calls.{Proposes}
-use Rattle.site.specs.Sites.{OpenSite}
 use Rattle.udp_site.specs.Traffic.{all_handed}
-use Rattle.udp_site.specs.Turns.{posts_of, proposal_notices}
+use Rattle.udp_site.specs.Turns.{Serving, IsServing, posts_of, proposal_notices}
 use Rattle.udp_site.specs.inner.Outcomes.{Notes}
+use Rattle.udp_site.proofs.Called.{Call}
 use Rattle.udp_site.proofs.Handed.{whole_part}
 use Rattle.udp_site.proofs.Proposals.{proposes_whole, proposes_part, proposes_failed}
+use Rattle.udp_site.proofs.Same.{same_number}
+use Rattle.udp_site.proofs.idle_turns.propose.Given.{Over}
+use Rattle.udp_site.proofs.idle_turns.propose.Goals.{After-hand_answer}
 use Rattle.udp_site.proofs.idle_turns.propose.Goals as goal
 
+-- the site was called
+call : (g : Over) (c : After-hand_answer g) (old : Serving g.row.C.Denot)
+    → old.site ≡ c.args.site.now → IsServing old
+    → Call g.C.Cell.device old (Proposes c.args.slot.now) c.propose-answer.result c.args.site.now
+    c.propose-answer.new.self
+call g c old there serves = record {
+  there = there;
+  serves = serves;
+  answers = c.propose-answer.ensures.answer;
+  needs_open = c.propose-answer.ensures.needs_open;
+  untouched = c.propose-answer.ensures.untouched;
+}
+
 pub returns-clause-comes : goal.returns-clause-comes
-returns-clause-comes g c old same serves =
-    proposes_whole g.C.Cell.device c.args.ports.now old c.args.slot.now c.propose-answer.result
-    c.args.site.now c.propose-answer.new.self same serves c.propose-answer.ensures.answer
-    c.propose-answer.ensures.refused c.propose-answer.ensures.needs_open
-    c.propose-answer.ensures.untouched
+returns-clause-comes g c old there serves =
+    proposes_whole (call g (goal.at.returns-clause-comes g c).After-hand_answer old there serves)
+    c.propose-answer.ensures.refused c.args.ports.now
     (g.P.Port.traffic c.args.port.now) (g.P.Port.traffic c.hand_answer.new.port)
     c.args.lines.now.items c.say_proposal.new.lines.items c.in_ok-hand_answer.ensures.hands
     (subst (λ (site : ℕ). Notes c.args.lines.now.items c.say_proposal.new.lines.items
     (proposal_notices site (Proposes c.args.slot.now) c.propose-answer.result))
-    (c.number-number.ensures.value ∙ (c.number.ensures
-    ∙ ap (λ (s : OpenSite g.row.C.Denot). s.book.owner.site) (sym same)))
-    (c.in_ok-say_proposal.ensures c.args.slot.now))
+    (same_number old c.args.site.now there c.number.result c.number-number.result
+    c.number-number.ensures.value c.number.ensures) (c.in_ok-say_proposal.ensures c.args.slot.now))
 
 pub returns-in_err-hand_answer-clause-comes : goal.returns-in_err-hand_answer-clause-comes
-returns-in_err-hand_answer-clause-comes g c old same serves =
-    proposes_failed g.C.Cell.device c.args.ports.now old c.args.slot.now c.propose-answer.result
-    c.args.site.now c.propose-answer.new.self same serves c.propose-answer.ensures.answer
-    c.propose-answer.ensures.refused c.propose-answer.ensures.needs_open
-    c.propose-answer.ensures.untouched
+returns-in_err-hand_answer-clause-comes g c old there serves =
+    let at = goal.at.returns-in_err-hand_answer-clause-comes g c in
+    proposes_failed (call g at.After-hand_answer old there serves)
+    c.propose-answer.ensures.refused c.args.ports.now
     (g.P.Port.traffic c.args.port.now) (g.P.Port.traffic c.hand_answer.new.port)
     c.args.lines.now.items c.args.lines.now.items c.in_err-hand_answer.field-0.0
     c.from_residual.result c.from_residual.ensures.1 c.in_err-hand_answer.ensures.hands
 
 pub returns-in_err-say_proposal-clause-comes : goal.returns-in_err-say_proposal-clause-comes
-returns-in_err-say_proposal-clause-comes g c old same serves =
-    proposes_part g.C.Cell.device c.args.ports.now old c.args.slot.now c.propose-answer.result
-    c.args.site.now c.propose-answer.new.self same serves c.propose-answer.ensures.answer
-    c.propose-answer.ensures.refused c.propose-answer.ensures.needs_open
-    c.propose-answer.ensures.untouched
+returns-in_err-say_proposal-clause-comes g c old there serves =
+    let at = goal.at.returns-in_err-say_proposal-clause-comes g c in
+    proposes_part (call g at.After-hand_answer old there serves)
+    c.propose-answer.ensures.refused c.args.ports.now
     (g.P.Port.traffic c.args.port.now) (g.P.Port.traffic c.hand_answer.new.port)
     c.args.lines.now.items c.say_proposal.new.lines.items
     (whole_part (g.P.Port.traffic c.args.port.now) (g.P.Port.traffic c.hand_answer.new.port)

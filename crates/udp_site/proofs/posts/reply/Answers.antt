@@ -1,13 +1,35 @@
-use Rattle.std.proofs.Common.{ℕ, List, [], ◌∷◌, ◌++◌, ◌∙◌, subst, ap}
+use Rattle.std.proofs.Common.{◌≡◌, ℕ, List, [], ◌∷◌, ◌++◌, ◌∙◌, subst, ap}
 use Rattle.dgram.specs.Encoding.{datagram_of}
-use Rattle.udp_site.specs.inner.Outcomes.{Hands}
+use Rattle.udp_site.specs.Traffic.{Post, Grows, all_handed}
+use Rattle.udp_site.specs.Turns.{replies_to}
+use Rattle.udp_site.proofs.Handed.{Part, handed_on}
+use Rattle.udp_site.proofs.posts.reply.Given.{Over}
+use Rattle.udp_site.proofs.posts.reply.Goals.{After-hand}
 use Rattle.udp_site.proofs.posts.reply.Goals as goal
+
+-- what is handed is the message's datagram
+datagram : (g : Over) (c : After-hand g) → (c.args.to, c.deref.result.now) ∷ []
+    ≡ replies_to c.args.federation c.args.to c.args.slot c.args.body
+datagram g c =
+    ap (λ (bytes : List ℕ). (c.args.to, bytes) ∷ [])
+    (c.deref.ensures.value
+    ∙ (c.in_ok-encode.ensures.puts.puts.appended
+    ∙ ap (λ (before : List ℕ). before ++ datagram_of c.args.federation
+    (record { slot = c.args.slot; body = c.args.body })) c.in_ok-bytes.ensures.items))
 
 pub returns-clause-hands : goal.returns-clause-hands
 returns-clause-hands g c =
-    subst (λ (bytes : List ℕ). Hands (g.P.Port.traffic c.args.port.now)
-    (g.P.Port.traffic c.hand.new.port) ((c.args.to, bytes) ∷ []) c.hand.result)
-    (c.deref.ensures.value
-    ∙ (c.in_ok-encode.ensures.puts.puts.appended
-    ∙ ap (λ (before : List ℕ). before ++ datagram_of c.args.federation c.args.message.now)
-    c.in_ok-bytes.ensures.items)) c.hand.ensures.hands
+    subst (λ (posts : List Post). Grows (g.P.Port.traffic c.args.port.now)
+    (g.P.Port.traffic c.hand.new.port) (all_handed posts))
+    (datagram g (goal.at.returns-clause-hands g c).After-hand) c.in_ok-hand.ensures.hands
+
+pub returns-in_err-hand-clause-hands : goal.returns-in_err-hand-clause-hands
+returns-in_err-hand-clause-hands g c =
+    let before = g.P.Port.traffic c.args.port.now in
+    let after = g.P.Port.traffic c.hand.new.port in
+    handed_on before after before after ((c.args.to, c.deref.result.now) ∷ [])
+    (replies_to c.args.federation c.args.to c.args.slot c.args.body)
+    (subst (λ (posts : List Post). Part before after (all_handed posts))
+    (datagram g (goal.at.returns-in_err-hand-clause-hands g c).After-hand))
+    c.in_err-hand.field-0.0 c.from_residual-in_err-hand.result
+    c.from_residual-in_err-hand.ensures.1 c.in_err-hand.ensures.hands

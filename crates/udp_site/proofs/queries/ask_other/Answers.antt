@@ -1,7 +1,15 @@
-use Rattle.std.proofs.Common.{◌≡◌, ℕ, ◌==◌, Bool, true, false, sym, ap, ◌∙◌}
+use Rattle.std.proofs.Common.{◌≡◌, ℕ, ◌==◌, Bool, true, false, List, [], ◌∷◌, sym, ap, subst, ◌∙◌}
+use Rattle.std.specs.List.{flat_map}
+use Rattle.site.specs.declared.answer.Sealed.{Sealed}
+use Rattle.site.specs.declared.fault.SiteFault.TheVariants as sites
 use Rattle.site.specs.Sites.{OpenSite}
-use Rattle.udp_site.specs.Turns.{Serving, number}
-use Rattle.udp_site.proofs.Questions.{not_asked, is_asked}
+use Rattle.lines.specs.Notices.{Refused}
+use Rattle.udp_site.specs.Turns.{Serving, number, sealed_posts}
+use Rattle.udp_site.specs.inner.Outcomes.{Hands, Notes}
+use Rattle.udp_site.proofs.Questions.{asks_by, isnt_asked, isnt_asked_in_part, not_asked}
+use Rattle.udp_site.proofs.Same.{same_number}
+use Rattle.udp_site.proofs.queries.ask_other.Given.{Over}
+use Rattle.udp_site.proofs.queries.ask_other.Goals.{Else-eq}
 use Rattle.udp_site.proofs.queries.ask_other.Goals as goal
 
 -- the test whether it is the site, by the site's number
@@ -18,9 +26,38 @@ returns-then-eq-clause-comes g c old there serves =
     (same_test old c.args.site.now c.args.member c.number.result true there c.number.ensures
     c.if-eq.ensures) (g.P.Port.traffic c.args.port.now) c.args.lines.now.items
 
-pub returns-clause-comes : goal.returns-clause-comes
-returns-clause-comes g c old there serves =
-    is_asked c.args.ports.now old c.args.slot.now c.args.member
-    (same_test old c.args.site.now c.args.member c.number.result false there c.number.ensures
-    c.if-eq.ensures) (g.P.Port.traffic c.args.port.now) (g.P.Port.traffic c.ask.new.port)
-    c.args.lines.now.items c.ask.new.lines.items c.ask.result (c.ask.ensures.comes old there serves)
+is_other : (g : Over) (c : Else-eq g) (old : Serving g.row.C.Denot) → old.site ≡ c.args.site.now
+    → (c.args.member == number old) ≡ false
+is_other g c old there =
+    same_test old c.args.site.now c.args.member c.number.result false there c.number.ensures
+    c.if-eq.ensures
+
+pub returns-in-Ok-clause-comes : goal.returns-in-Ok-clause-comes
+returns-in-Ok-clause-comes g c old there serves =
+    asks_by c.args.ports.now old c.args.slot.now c.args.member
+    (is_other g (goal.at.returns-in-Ok-clause-comes g c).Else-eq old there)
+    g.C.Cell.device c.args.site.now there serves c.requires c.in-Ok.answer c.in-Ok.ensures.answer
+    (g.P.Port.traffic c.args.port.now) (g.P.Port.traffic c.hand_all.new.port)
+    c.args.lines.now.items c.hand_all.result
+    (subst (λ (l : List Sealed). Hands (g.P.Port.traffic c.args.port.now)
+    (g.P.Port.traffic c.hand_all.new.port) (flat_map (sealed_posts c.args.ports.now) l)
+    c.hand_all.result) c.as_slice.ensures.value c.hand_all.ensures.hands)
+
+pub returns-in_err-say_refused-in-Err-clause-comes :
+    goal.returns-in_err-say_refused-in-Err-clause-comes
+returns-in_err-say_refused-in-Err-clause-comes g c old there serves =
+    isnt_asked_in_part c.args.ports.now old c.args.slot.now c.args.member
+    (is_other g (goal.at.returns-in_err-say_refused-in-Err-clause-comes g c).Else-eq old there)
+    (g.P.Port.traffic c.args.port.now) c.args.lines.now.items c.say_refused.new.lines.items
+    c.from_residual.result c.from_residual.ensures.1
+
+pub returns-in_ok-say_refused-in-Err-clause-comes :
+    goal.returns-in_ok-say_refused-in-Err-clause-comes
+returns-in_ok-say_refused-in-Err-clause-comes g c old there serves =
+    isnt_asked c.args.ports.now old c.args.slot.now c.args.member
+    (is_other g (goal.at.returns-in_ok-say_refused-in-Err-clause-comes g c).Else-eq old there)
+    (g.P.Port.traffic c.args.port.now) c.args.lines.now.items c.say_refused.new.lines.items
+    (subst (λ (site : ℕ). Notes c.args.lines.now.items c.say_refused.new.lines.items
+    (Refused site sites.Memory ∷ []))
+    (same_number old c.args.site.now there c.number-in-Err.result c.number-in-Err-2.result
+    c.number-in-Err-2.ensures.value c.number-in-Err.ensures) c.in_ok-say_refused-in-Err.ensures)

@@ -1,13 +1,9 @@
-use Rattle.std.specs.Prelude.{ℕ, List, true, false, take, OnOk, OnErr}
-use Rattle.std.specs.List.{flat_map, list_any}
-use Rattle.std.specs.Io.KnownBytes.{Appends}
+use Rattle.std.specs.List.{list_any}
 use Rattle.std.proofs.Common.{refl, ap, sym, ◌∙◌, subst}
 use Rattle.site.specs.Sites.{OpenSite}
-use Rattle.lines.specs.declared.line.Line.{Line}
-use Rattle.lines.specs.Texts.{line_text}
 use Rattle.udp_site.specs.Traffic.{taken}
 use Rattle.udp_site.specs.Requests.{request_of}
-use Rattle.udp_site.specs.Served.{by_identity}
+use Rattle.udp_site.specs.Served.{outside}
 use Rattle.udp_site.specs.Turns.{turn_of, members}
 use Rattle.udp_site.specs.inner.StopLines.{line_of_the_cell}
 use Rattle.udp_site.specs.inner.SlotRecords.{AreSettled}
@@ -19,88 +15,43 @@ use Rattle.udp_site.proofs.service.one_turn.Goals as goal
 
 pub returns-in_err-turn-clause-turn : goal.returns-in_err-turn-clause-turn
 returns-in_err-turn-clause-turn g c old site idle tried serving are =
-    returned
-    (turn_of g.C.Cell.device c.args.ports.now (g.F.Folders.gives c.args.folders.now))
-    (record {
-      traffic = g.P.Port.traffic c.args.port.now;
-      written = g.W.Write.contents c.args.output.now;
-    })
-    (record {
-      traffic = g.P.Port.traffic c.receive.new.port;
-      written = g.W.Write.contents c.args.output.now;
-    })
-    old c.args.site.now c.args.round.now.idle c.args.round.now.tried c.from_residual.result
-    c.in_err-turn.field-0.0 c.from_residual.ensures.1
-    (not_begun
-    (turn_of g.C.Cell.device c.args.ports.now (g.F.Folders.gives c.args.folders.now))
-    (record {
-      traffic = g.P.Port.traffic c.args.port.now;
-      written = g.W.Write.contents c.args.output.now;
-    })
-    (record {
-      traffic = g.P.Port.traffic c.receive.new.port;
-      written = g.W.Write.contents c.args.output.now;
-    })
-    old c.args.site.now c.args.round.now.idle c.args.round.now.tried
-    c.in_err-turn.field-0.0 c.in_err-turn.ensures.received site refl)
+    let rule = turn_of g.C.Cell.device c.args.ports.now (g.F.Folders.gives c.args.folders.now) in
+    let before = outside (g.P.Port.traffic c.args.port.now)
+    (g.W.Write.contents c.args.output.now) in
+    let after = outside (g.P.Port.traffic c.receive.new.port)
+    (g.W.Write.contents c.args.output.now) in
+    returned rule before after old c.args.site.now c.args.round.now.idle c.args.round.now.tried
+    c.from_residual.result c.in_err-turn.field-0.0 c.from_residual.ensures.1
+    (not_begun rule before after old c.args.site.now c.args.round.now.idle
+    c.args.round.now.tried c.in_err-turn.field-0.0 c.in_err-turn.ensures.received site refl)
 
 pub returns-in-Err-clause-turn : goal.returns-in-Err-clause-turn
 returns-in-Err-clause-turn g c old site idle tried serving are =
-    broken_off
-    (turn_of g.C.Cell.device c.args.ports.now (g.F.Folders.gives c.args.folders.now))
-    (record {
-      traffic = g.P.Port.traffic c.args.port.now;
-      written = g.W.Write.contents c.args.output.now;
-    })
-    (record {
-      traffic = g.P.Port.traffic c.take_turn.new.port;
-      written = g.W.Write.contents c.args.output.now;
-    })
-    old c.take_turn.new.site c.take_turn.new.round.idle c.take_turn.new.round.tried
-    (taken c.in_ok-turn.turn) (g.P.Port.traffic c.receive.new.port) c.args.lines.now.items
-    c.take_turn.new.lines.items c.in_ok-turn.ensures.received
-    c.in-Err.field-0 (c.in-Err.ensures.comes old site idle tried serving are)
-    refl
+    let rule = turn_of g.C.Cell.device c.args.ports.now (g.F.Folders.gives c.args.folders.now) in
+    let before = outside (g.P.Port.traffic c.args.port.now)
+    (g.W.Write.contents c.args.output.now) in
+    let after = outside (g.P.Port.traffic c.take_turn.new.port)
+    (g.W.Write.contents c.args.output.now) in
+    broken_off rule before after old c.take_turn.new.site c.take_turn.new.round.idle
+    c.take_turn.new.round.tried (taken c.in_ok-turn.turn) (g.P.Port.traffic c.receive.new.port)
+    c.args.lines.now.items c.take_turn.new.lines.items c.in_ok-turn.ensures.received
+    c.in-Err.field-0 (c.in-Err.ensures.comes old site idle tried serving are) refl
 
 pub returns-then-is_refused-clause-turn : goal.returns-then-is_refused-clause-turn
 returns-then-is_refused-clause-turn g c old site idle tried serving are =
-    stopped
-    (turn_of g.C.Cell.device c.args.ports.now (g.F.Folders.gives c.args.folders.now))
-    (record {
-      traffic = g.P.Port.traffic c.args.port.now;
-      written = g.W.Write.contents c.args.output.now;
-    })
-    (record {
-      traffic = g.P.Port.traffic c.take_turn.new.port;
-      written = g.W.Write.contents c.write_lines-written.new.output;
-    })
-    old c.take_turn.new.site c.take_turn.new.round.idle c.take_turn.new.round.tried
-    (by_the_cell
-    (turn_of g.C.Cell.device c.args.ports.now (g.F.Folders.gives c.args.folders.now))
-    (record {
-      traffic = g.P.Port.traffic c.args.port.now;
-      written = g.W.Write.contents c.args.output.now;
-    })
-    (record {
-      traffic = g.P.Port.traffic c.take_turn.new.port;
-      written = g.W.Write.contents c.write_lines-written.new.output;
-    })
-    old c.take_turn.new.site c.take_turn.new.round.idle c.take_turn.new.round.tried
-    (taken c.in_ok-turn.turn) (g.P.Port.traffic c.receive.new.port) c.args.lines.now.items
-    c.take_turn.new.lines.items c.in_ok-turn.ensures.received
+    let rule = turn_of g.C.Cell.device c.args.ports.now (g.F.Folders.gives c.args.folders.now) in
+    let before = outside (g.P.Port.traffic c.args.port.now)
+    (g.W.Write.contents c.args.output.now) in
+    let after = outside (g.P.Port.traffic c.take_turn.new.port)
+    (g.W.Write.contents c.write_lines-written.new.output) in
+    stopped rule before after old c.take_turn.new.site c.take_turn.new.round.idle
+    c.take_turn.new.round.tried
+    (by_the_cell rule before after old c.take_turn.new.site c.take_turn.new.round.idle
+    c.take_turn.new.round.tried (taken c.in_ok-turn.turn) (g.P.Port.traffic c.receive.new.port)
+    c.args.lines.now.items c.take_turn.new.lines.items c.in_ok-turn.ensures.received
     c.requires.lines (c.in-Ok.ensures.comes old site idle tried serving are)
-    c.write_lines-written.result
-    (subst
-    (λ (l : List Line). OnOk c.write_lines-written.result
-    (Appends (g.W.Write.contents c.args.output.now)
-    (g.W.Write.contents c.write_lines-written.new.output) (flat_map (line_text by_identity) l)))
-    c.deref.ensures.value c.write_lines-written.ensures.whole)
-    (subst
-    (λ (l : List Line). OnErr c.write_lines-written.result
-    ((count : ℕ) × Appends (g.W.Write.contents c.args.output.now)
-    (g.W.Write.contents c.write_lines-written.new.output)
-    (take count (flat_map (line_text by_identity) l))))
-    c.deref.ensures.value c.write_lines-written.ensures.part)
+    c.write_lines-written.result c.deref.result.now c.deref.ensures.value
+    c.write_lines-written.ensures.whole c.write_lines-written.ensures.part
     (sym c.if-is_refused.true ∙ c.is_refused.ensures
     ∙ ap (list_any line_of_the_cell) c.deref-2.ensures.value))
     (λ turn next comes stops.
@@ -110,35 +61,19 @@ returns-then-is_refused-clause-turn g c old site idle tried serving are =
 
 pub returns-clause-turn : goal.returns-clause-turn
 returns-clause-turn g c old site idle tried serving are =
-    went_on
-    (turn_of g.C.Cell.device c.args.ports.now (g.F.Folders.gives c.args.folders.now))
-    (record {
-      traffic = g.P.Port.traffic c.args.port.now;
-      written = g.W.Write.contents c.args.output.now;
-    })
-    (record {
-      traffic = g.P.Port.traffic c.take_turn.new.port;
-      written = g.W.Write.contents c.write_lines-written.new.output;
-    })
-    old c.take_turn.new.site c.take_turn.new.round.idle c.take_turn.new.round.tried
-    (taken c.in_ok-turn.turn) (g.P.Port.traffic c.receive.new.port) c.args.lines.now.items
-    c.take_turn.new.lines.items c.in_ok-turn.ensures.received
-    c.requires.lines (c.in-Ok.ensures.comes old site idle tried serving are)
-    c.write_lines-written.result
-    (subst
-    (λ (l : List Line). OnOk c.write_lines-written.result
-    (Appends (g.W.Write.contents c.args.output.now)
-    (g.W.Write.contents c.write_lines-written.new.output) (flat_map (line_text by_identity) l)))
-    c.deref.ensures.value c.write_lines-written.ensures.whole)
-    (subst
-    (λ (l : List Line). OnErr c.write_lines-written.result
-    ((count : ℕ) × Appends (g.W.Write.contents c.args.output.now)
-    (g.W.Write.contents c.write_lines-written.new.output)
-    (take count (flat_map (line_text by_identity) l))))
-    c.deref.ensures.value c.write_lines-written.ensures.part)
-    (sym c.if-is_refused.false ∙ c.is_refused.ensures
-    ∙ ap (list_any line_of_the_cell) c.deref-2.ensures.value)
-    c.write_lines-written.ensures.none c.write_lines-written.ensures.fault
+    let refused = sym c.if-is_refused.false ∙ c.is_refused.ensures
+    ∙ ap (list_any line_of_the_cell) c.deref-2.ensures.value in
+    went_on (turn_of g.C.Cell.device c.args.ports.now (g.F.Folders.gives c.args.folders.now))
+    (outside (g.P.Port.traffic c.args.port.now) (g.W.Write.contents c.args.output.now))
+    (outside (g.P.Port.traffic c.take_turn.new.port)
+    (g.W.Write.contents c.write_lines-written.new.output)) old c.take_turn.new.site
+    c.take_turn.new.round.idle c.take_turn.new.round.tried (taken c.in_ok-turn.turn)
+    (g.P.Port.traffic c.receive.new.port) c.args.lines.now.items c.take_turn.new.lines.items
+    c.in_ok-turn.ensures.received c.requires.lines
+    (c.in-Ok.ensures.comes old site idle tried serving are) c.write_lines-written.result
+    c.deref.result.now c.deref.ensures.value c.write_lines-written.ensures.whole
+    c.write_lines-written.ensures.part refused c.write_lines-written.ensures.none
+    c.write_lines-written.ensures.fault
 
 pub returns-clause-settled : goal.returns-clause-settled
 returns-clause-settled g c = on_ok c.write_lines-written.result

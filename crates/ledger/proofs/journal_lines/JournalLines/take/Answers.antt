@@ -1,17 +1,23 @@
-use Rattle.std.proofs.Common.{◌++◌, subst, sym}
-use Rattle.ledger.specs.Pieces.{HasGivenBy}
-use Rattle.ledger.proofs.GivenLines.{given_longer}
+use Rattle.std.proofs.Common.{◌++◌, subst}
+use Rattle.std.specs.Prelude.{string_bytes}
+use Rattle.ledger.specs.Parts.{Tells}
+use Rattle.ledger.proofs.GivenLines.{lines_last, lines_more}
 use Rattle.ledger.proofs.journal_lines.JournalLines.take.Goals as goal
 
-pub returns : goal.returns
-returns c = λ taken text given.
-    let lines = c.args.self.now in
-    let piece = c.args.piece.now in
-    let bytes = lines.bytes.items in
-    let longer : HasGivenBy lines.owner lines.passed c.extend_from_slice.new.self.items
-    (taken ++ piece) text =
-    subst (λ b. HasGivenBy lines.owner lines.passed b (taken ++ piece) text)
-    (sym c.in_ok-extend_from_slice.ensures.items)
-    (given_longer lines.owner lines.passed bytes taken text piece given) in
-    c.after.ensures (taken ++ piece) text longer
-    (c.in_ok-step.ensures (taken ++ piece) text longer)
+pub returns-in_ok-part_text-in-More : goal.returns-in_ok-part_text-in-More
+returns-in_ok-part_text-in-More c = λ taken text given.
+    let all = taken ++ c.args.piece.now in
+    lines_more c.take.new.self all given.0 c.in-More.part
+    (subst (Tells c.take.new.self all given.0) c.in-More.is
+    (c.in_ok-part.ensures taken given.0 given.1))
+    text (string_bytes c.in_ok-part_text-in-More.field-0) given.2
+    c.in_ok-part_text-in-More.ensures
+
+pub returns-in_ok-last_text-in-Last : goal.returns-in_ok-last_text-in-Last
+returns-in_ok-last_text-in-Last c = λ taken text given more.
+    let all = taken ++ c.args.piece.now in
+    lines_last (all ++ more) given.0 c.in-Last.last
+    ((subst (Tells c.take.new.self all given.0) c.in-Last.is
+    (c.in_ok-part.ensures taken given.0 given.1)).1 more)
+    text (string_bytes c.in_ok-last_text-in-Last.field-0) given.2
+    c.in_ok-last_text-in-Last.ensures

@@ -6,6 +6,7 @@ use Rattle.site.specs.Sites.{OpenSite, StandsFor, effect}
 use Rattle.site.proofs.Proposed.{known_already, no_deposit, known_refused, no_deposit_refused}
 use Rattle.site.proofs.Refused.{needs_none}
 use Rattle.site.proofs.Registered.{some_of, none_of}
+use Rattle.site.proofs.Seen.{as_seen}
 use Rattle.site.proofs.member_site.Site.propose.Goals as goal
 
 pub returns-then-is_some-clause-answer : goal.returns-then-is_some-clause-answer
@@ -13,23 +14,17 @@ returns-then-is_some-clause-answer g c opened session stands =
     known_already g.C.Cell.device c.args.self.now session c.args.slot.now stands
     (some_of c.known.result (sym c.if-is_some.ensures)).0
     (sym (some_of c.known.result (sym c.if-is_some.ensures)).1
-    ∙ subst (λ (s : OpenSite g.row.C.Denot). c.known.result
-    ≡ known_of c.args.slot.now s.book.records) c.self.view_is
-    (c.known.ensures c.self.inside.book.owner c.self.inside.book.records c.self.invariant.of))
+    ∙ as_seen (known_of c.args.slot.now) c.self.view_is (c.known.ensures _ _ c.self.invariant.of))
 
 pub issue-requires-clause-deposit : goal.issue-requires-clause-deposit
 issue-requires-clause-deposit g c =
-    sym (subst (λ (s : OpenSite g.row.C.Denot). c.deposit.result
-    ≡ deposit_of c.args.slot.now s.book.records) c.self.view_is
-    (c.deposit.ensures c.self.inside.book.owner c.self.inside.book.records c.self.invariant.of))
+    sym (as_seen (deposit_of c.args.slot.now) c.self.view_is (c.deposit.ensures _ _ c.self.invariant.of))
     ∙ c.in-Some.is
 
 pub returns-in-Some-clause-answer : goal.returns-in-Some-clause-answer
 returns-in-Some-clause-answer g c opened session stands =
     c.issue.ensures.answer session stands
-    (sym (subst (λ (s : OpenSite g.row.C.Denot). c.known.result
-    ≡ known_of c.args.slot.now s.book.records) c.self.view_is
-    (c.known.ensures c.self.inside.book.owner c.self.inside.book.records c.self.invariant.of))
+    (sym (as_seen (known_of c.args.slot.now) c.self.view_is (c.known.ensures _ _ c.self.invariant.of))
     ∙ none_of c.known.result (sym c.if-is_some.ensures))
 
 pub returns-in-Some-clause-needs_open : goal.returns-in-Some-clause-needs_open
@@ -37,9 +32,7 @@ returns-in-Some-clause-needs_open g c = (
   λ e. absurd (needs_none g.C.Cell.device c.args.self.now c.issue.new.self some.0
       (effect c.args.self.now some.0 (Proposes c.args.slot.now))
       c.issue.result (c.issue.ensures.answer some.0 some.1
-      (sym (subst (λ (s : OpenSite g.row.C.Denot). c.known.result
-      ≡ known_of c.args.slot.now s.book.records) c.self.view_is
-      (c.known.ensures c.self.inside.book.owner c.self.inside.book.records c.self.invariant.of))
+      (sym (as_seen (known_of c.args.slot.now) c.self.view_is (c.known.ensures _ _ c.self.invariant.of))
       ∙ none_of c.known.result (sym c.if-is_some.ensures))) e),
   λ e. absurd (differ (sym e ∙ opened)),
 )
@@ -59,37 +52,25 @@ pub returns-in-None-clause-answer : goal.returns-in-None-clause-answer
 returns-in-None-clause-answer g c opened session stands =
     no_deposit g.C.Cell.device c.args.self.now session c.args.slot.now stands
     (sym (none_of c.known.result (sym c.if-is_some.ensures))
-    ∙ subst (λ (s : OpenSite g.row.C.Denot). c.known.result
-    ≡ known_of c.args.slot.now s.book.records) c.self.view_is
-    (c.known.ensures c.self.inside.book.owner c.self.inside.book.records c.self.invariant.of))
-    (sym c.in-None.is ∙ subst (λ (s : OpenSite g.row.C.Denot). c.deposit.result
-    ≡ deposit_of c.args.slot.now s.book.records) c.self.view_is
-    (c.deposit.ensures c.self.inside.book.owner c.self.inside.book.records c.self.invariant.of))
+    ∙ as_seen (known_of c.args.slot.now) c.self.view_is (c.known.ensures _ _ c.self.invariant.of))
+    (sym c.in-None.is ∙ as_seen (deposit_of c.args.slot.now) c.self.view_is (c.deposit.ensures _ _ c.self.invariant.of))
 
 pub returns-then-is_some-clause-refused : goal.returns-then-is_some-clause-refused
 returns-then-is_some-clause-refused g c opened session stands =
     known_refused g.C.Cell.device c.args.self.now session c.args.slot.now stands
     (some_of c.known.result (sym c.if-is_some.ensures)).0
     (sym (some_of c.known.result (sym c.if-is_some.ensures)).1
-    ∙ subst (λ (s : OpenSite g.row.C.Denot). c.known.result
-    ≡ known_of c.args.slot.now s.book.records) c.self.view_is
-    (c.known.ensures c.self.inside.book.owner c.self.inside.book.records c.self.invariant.of))
+    ∙ as_seen (known_of c.args.slot.now) c.self.view_is (c.known.ensures _ _ c.self.invariant.of))
 
 pub returns-in-Some-clause-refused : goal.returns-in-Some-clause-refused
 returns-in-Some-clause-refused g c opened session stands =
     c.issue.ensures.refused session stands
-    (sym (subst (λ (s : OpenSite g.row.C.Denot). c.known.result
-    ≡ known_of c.args.slot.now s.book.records) c.self.view_is
-    (c.known.ensures c.self.inside.book.owner c.self.inside.book.records c.self.invariant.of))
+    (sym (as_seen (known_of c.args.slot.now) c.self.view_is (c.known.ensures _ _ c.self.invariant.of))
     ∙ none_of c.known.result (sym c.if-is_some.ensures))
 
 pub returns-in-None-clause-refused : goal.returns-in-None-clause-refused
 returns-in-None-clause-refused g c opened session stands =
     no_deposit_refused g.C.Cell.device c.args.self.now session c.args.slot.now stands
     (sym (none_of c.known.result (sym c.if-is_some.ensures))
-    ∙ subst (λ (s : OpenSite g.row.C.Denot). c.known.result
-    ≡ known_of c.args.slot.now s.book.records) c.self.view_is
-    (c.known.ensures c.self.inside.book.owner c.self.inside.book.records c.self.invariant.of))
-    (sym c.in-None.is ∙ subst (λ (s : OpenSite g.row.C.Denot). c.deposit.result
-    ≡ deposit_of c.args.slot.now s.book.records) c.self.view_is
-    (c.deposit.ensures c.self.inside.book.owner c.self.inside.book.records c.self.invariant.of))
+    ∙ as_seen (known_of c.args.slot.now) c.self.view_is (c.known.ensures _ _ c.self.invariant.of))
+    (sym c.in-None.is ∙ as_seen (deposit_of c.args.slot.now) c.self.view_is (c.deposit.ensures _ _ c.self.invariant.of))

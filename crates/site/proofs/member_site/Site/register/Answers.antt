@@ -7,19 +7,15 @@ use Rattle.site.specs.Datagrams.{handed_out}
 use Rattle.site.specs.Sites.{OpenSite}
 use Rattle.site.specs.inner.Concluded.{Concludes}
 use Rattle.site.proofs.Registered.{some_of, none_of, deposit_refused, deposited_again, deposited}
+use Rattle.site.proofs.Seen.{as_seen}
 use Rattle.site.proofs.member_site.Site.register.Goals as goal
 
 pub returns-in-Some : goal.returns-in-Some
 returns-in-Some g c session stands =
     deposit_refused g.C.Cell.device c.args.self.now session c.args.slot.now c.args.bag
     c.deposit-own.result c.known.result
-    (subst (λ (s : OpenSite g.row.C.Denot). c.deposit-own.result
-    ≡ deposit_of c.args.slot.now s.book.records) c.self.view_is
-    (c.deposit-own.ensures c.self.inside.book.owner c.self.inside.book.records
-    c.self.invariant.of))
-    (subst (λ (s : OpenSite g.row.C.Denot). c.known.result
-    ≡ known_of c.args.slot.now s.book.records) c.self.view_is
-    (c.known.ensures c.self.inside.book.owner c.self.inside.book.records c.self.invariant.of))
+    (as_seen (deposit_of c.args.slot.now) c.self.view_is (c.deposit-own.ensures _ _ c.self.invariant.of))
+    (as_seen (known_of c.args.slot.now) c.self.view_is (c.known.ensures _ _ c.self.invariant.of))
     stands c.in-Some.fault
     (sym c.deposit_fault.ensures ∙ c.in-Some.is)
 
@@ -28,13 +24,8 @@ returns-then-is_some g c session stands =
     let there = some_of c.deposit-own.result (sym c.if-is_some.ensures) in
     deposited_again g.C.Cell.device c.args.self.now session c.args.slot.now c.args.bag
     c.deposit-own.result c.known.result
-    (subst (λ (s : OpenSite g.row.C.Denot). c.deposit-own.result
-    ≡ deposit_of c.args.slot.now s.book.records) c.self.view_is
-    (c.deposit-own.ensures c.self.inside.book.owner c.self.inside.book.records
-    c.self.invariant.of))
-    (subst (λ (s : OpenSite g.row.C.Denot). c.known.result
-    ≡ known_of c.args.slot.now s.book.records) c.self.view_is
-    (c.known.ensures c.self.inside.book.owner c.self.inside.book.records c.self.invariant.of))
+    (as_seen (deposit_of c.args.slot.now) c.self.view_is (c.deposit-own.ensures _ _ c.self.invariant.of))
+    (as_seen (known_of c.args.slot.now) c.self.view_is (c.known.ensures _ _ c.self.invariant.of))
     stands
     (sym c.deposit_fault.ensures ∙ c.in_default.is) there.0 there.1 _ refl
     (ap (map handed_out) c.new-sends.ensures.items)
@@ -43,13 +34,8 @@ pub returns : goal.returns
 returns g c session stands =
     deposited g.C.Cell.device c.args.self.now session c.args.slot.now c.args.bag
     c.deposit-own.result c.known.result
-    (subst (λ (s : OpenSite g.row.C.Denot). c.deposit-own.result
-    ≡ deposit_of c.args.slot.now s.book.records) c.self.view_is
-    (c.deposit-own.ensures c.self.inside.book.owner c.self.inside.book.records
-    c.self.invariant.of))
-    (subst (λ (s : OpenSite g.row.C.Denot). c.known.result
-    ≡ known_of c.args.slot.now s.book.records) c.self.view_is
-    (c.known.ensures c.self.inside.book.owner c.self.inside.book.records c.self.invariant.of))
+    (as_seen (deposit_of c.args.slot.now) c.self.view_is (c.deposit-own.ensures _ _ c.self.invariant.of))
+    (as_seen (known_of c.args.slot.now) c.self.view_is (c.known.ensures _ _ c.self.invariant.of))
     stands
     (sym c.deposit_fault.ensures ∙ c.in_default.is) c.conclude.new.self
     (map handed_out c.new-sends.result.items) c.conclude.result

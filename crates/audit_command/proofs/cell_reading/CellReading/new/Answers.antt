@@ -1,0 +1,9 @@
+use Rattle.std.proofs.Common.{refl}
+use Rattle.audit_command.specs.declared.standing.Standing.TheVariants.{Unknown}
+use Rattle.audit_command.proofs.CountedParts.{none_read}
+use Rattle.audit_command.proofs.cell_reading.CellReading.new.Goals as goal
+
+pub returns : goal.returns
+returns c = λ members evidence given is.
+    none_read members evidence given (record { reader = c.new.result; standing = Unknown }) refl
+    c.new.ensures is

@@ -1,0 +1,22 @@
+-- The files of cells.
+use Rattle.std.specs.Prelude.{◌≡◌, ◌<◌, ℕ, zero, suc, Bool, true, false, List, [], ◌++◌, length}
+use Rattle.std.specs.Prelude.{take, Option, Some, None}
+
+-- what reading a file gives: its bytes, and whether it ends after them, or else reading fails there
+pub record FileBytes : Type 0 where
+  pub bytes : List ℕ
+  pub is_whole : Bool
+
+-- what the files of these paths give, where that is known; none inside where one can't be opened
+abbrev pub Files : Type 0
+Files = List ℕ → Option (Option FileBytes)
+
+-- Of a file that gives this, a read into a piece fails; or it gives none, at the end; or the next
+-- bytes, and the others come after.
+abbrev pub Gives : FileBytes → (piece : List ℕ) → Option ℕ → Option FileBytes → Type 0
+Gives file piece None after = (file.bytes ≡ []) × (file.is_whole ≡ false)
+Gives file piece (Some zero) after =
+    0 < length piece → (file.bytes ≡ []) × (file.is_whole ≡ true)
+Gives file piece (Some (suc n)) after =
+    (rest : List ℕ) × (file.bytes ≡ take (suc n) piece ++ rest)
+    × (after ≡ Some (record { bytes = rest; is_whole = file.is_whole }))

@@ -1,0 +1,72 @@
+//! Whose a cell is, and what is amiss with it.
+
+ghost use Rattle.std.specs.Prelude.{◌≡◌, ◌↔◌, IsTrue, option_map};
+ghost use Rattle.audit_command.specs.CellReadings.{IsMembers, damage_of};
+ghost use Rattle.audit_command.specs.inner.Standings.{IsStanding, IsStandingAfter, fault_of};
+
+use crate::cell_defect::CellDefect;
+use fed_types::{Members, SiteNo};
+use ledger::{Ending, Head};
+
+/// Whose a cell is, by what was read of it.
+#[derive(Clone, Copy, Debug)]
+pub(crate) enum Standing {
+    /// No header was read.
+    Unknown,
+    /// It is this member's.
+    Member(SiteNo),
+    /// It is of another federation, of no member, or of other weights.
+    Foreign,
+}
+
+// Whether a cell of this head is one of the federation's.
+fn is_members(members: &Members, head: &Head) -> bool
+    ensures { IsTrue result ↔ IsMembers members.now head.now }
+{
+    let owner = &head.owner;
+    owner.members.federation() == members.federation()
+        && members.has(owner.site)
+        && (!head.names_weights || owner.members.weights() == members.weights())
+}
+
+// Whose a cell of this head is.
+fn standing_of(members: &Members, head: &Head) -> Standing
+    ensures { IsStanding members.now head.now result }
+{
+    if is_members(members, head) {
+        Standing::Member(head.owner.site)
+    } else {
+        Standing::Foreign
+    }
+}
+
+/// Whose a cell is after a part that has this head.
+pub(crate) fn standing_after(members: &Members, before: Standing, head: &Option<Head>) -> Standing
+    ensures { IsStandingAfter members.now before head.now result }
+{
+    match head {
+        Some(head) => standing_of(members, head),
+        None => before,
+    }
+}
+
+// Where a cell that ends so is damaged, if it is.
+fn damage_of(ending: Ending) -> Option<CellDefect>
+    ensures { result ≡ damage_of ending }
+{
+    match ending {
+        Ending::Damaged(place) => Some(CellDefect::Damaged(place)),
+        Ending::Whole | Ending::Torn(_) => None,
+    }
+}
+
+/// What is amiss with a cell that ends so.
+pub(crate) fn fault_of(standing: &Standing, ending: Ending) -> Option<CellDefect>
+    ensures { result ≡ fault_of standing.now ending }
+{
+    match standing {
+        Standing::Unknown => Some(CellDefect::Unread),
+        Standing::Member(_) => damage_of(ending),
+        Standing::Foreign => Some(CellDefect::Foreign),
+    }
+}

@@ -1,0 +1,41 @@
+//! Checks of all folders that are asked for, one or many.
+
+ghost use Rattle.std.specs.Prelude.{◌≡◌, map, IfErr, IfOk, IfSome, IsErrOf};
+ghost use Rattle.outcomes.specs.Outcomes.{Writes, WritesPrefix};
+ghost use Rattle.folder_checks.specs.Reports.{ReportsOn, ReportsFirst};
+
+use crate::explanation::explain_on;
+use crate::report::Report;
+use crate::several_folders::check_each_on;
+use crate::verdict::check_on;
+use bag_folders::Folders;
+use outcomes::ProgramFault;
+use std::alloc::Global;
+use std::io::Write;
+
+/// Checks the folders of these paths: one as `check_on` or `explain_on` does, as the report is
+/// brief or explained, and several as `check_each_on` does.
+pub fn check_all_on<F: Folders, W: Write>(
+    alloc: Global,
+    folders: &mut F,
+    paths: &[&str],
+    report: Report,
+    output: &mut W,
+) -> Result<u8, ProgramFault>
+    ensures ok { IfOk result (λ status. IfSome (F.gives folders.old) (λ gives.
+        ReportsOn report gives (F.fails_at folders.old) (map (λ path. path.now) paths.now)
+        (Writes (W.contents output.old) (W.contents output.new) status))) }
+    ensures output { IsErrOf result ProgramFault.Output → IfSome (F.gives folders.old) (λ gives.
+        ReportsFirst report gives (F.fails_at folders.old) (map (λ path. path.now) paths.now)
+        (WritesPrefix (W.contents output.old) (W.contents output.new))) }
+    ensures kept { F.gives folders.new ≡ F.gives folders.old }
+    ensures fault { IfErr result (λ fault. fault ≡ ProgramFault.Output) }
+{
+    match paths {
+        [path] => match report {
+            Report::Brief => check_on(alloc, folders, path, output),
+            Report::Explained => explain_on(alloc, folders, path, output),
+        },
+        _ => check_each_on(alloc, folders, paths, report, output),
+    }
+}

@@ -1,0 +1,26 @@
+use Rattle.std.proofs.Common.{◌≡◌, ◌+◌, ◌++◌, ◌∷◌, [], List, ℕ, ap, subst, sym, take, ◌∙◌}
+use Rattle.std.proofs.Common.{append_assoc, append-nil}
+use Rattle.std.proofs.lemmas.List.{take_more}
+use Rattle.records.specs.declared.record.Record.{Record}
+use Rattle.ledger.specs.inner.Rows.{StandsFor}
+use Rattle.ledger.proofs.Notes.{one_more}
+use Rattle.ledger.proofs.versions.note_all.Goals as goal
+
+pub loop-kept-init : goal.loop-kept-init
+loop-kept-init c = λ before stands.
+    subst (StandsFor c.args.versions.now.entries) (sym (append-nil before)) stands
+
+pub loop-kept-preserved : goal.loop-kept-preserved
+loop-kept-preserved c = λ before stands.
+    let records : List Record = c.args.records.now in
+    let i : ℕ = c.loop-kept.kept-index in
+    let r : Record = c.kept-item.result in
+    let more : take (i + 1) records ≡ take i records ++ r ∷ [] =
+    take_more records i r c.loop-kept-test.true
+    ∙ ap (λ (x : Record). take i records ++ x ∷ []) (sym c.kept-item.is) in
+    subst (StandsFor c.note.new.versions.entries)
+    (append_assoc before (take i records) (r ∷ [])
+    ∙ ap (λ (rs : List Record). before ++ rs) (sym more))
+    (one_more c.loop-kept.versions.entries c.note.new.versions.entries r
+    c.in_ok-note.ensures.entries c.in_ok-note.ensures.rows (before ++ take i records)
+    (c.loop-kept.invariant before stands))

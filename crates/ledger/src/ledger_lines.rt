@@ -1,0 +1,88 @@
+//! The lines of a cell's versions, whose bytes come in pieces: its records are noted, and
+//! forgotten.
+
+ghost use Rattle.std.specs.Prelude.{◌≡◌, ◌++◌, List, ℕ, [], IfOk, string_bytes};
+ghost use Rattle.records.specs.declared.record.Record.{Record};
+ghost use Rattle.ledger.specs.Lines.{ending_line};
+ghost use Rattle.ledger.specs.Ledgers.{versions_text};
+ghost use Rattle.ledger.specs.LedgerPieces.{HasNoted, IsLedgerText, IsNoted};
+ghost use Rattle.ledger.specs.inner.Rows.{StandsFor};
+
+use crate::cell_reader::CellReader;
+use crate::journal_lines::LastLines;
+use crate::listing::Listing;
+use crate::part::{LastPart, Parts};
+use crate::version_line::versions_text;
+use crate::versions::{Versions, note_all};
+use indexmap::IndexMap;
+use std::alloc::{AllocError, Global};
+
+/// What is said of each version so far, and what is kept of the cell's bytes.
+#[derive(Debug, Drop)]
+pub struct LedgerLines {
+    reader: CellReader,
+    versions: Versions,
+}
+
+impl LedgerLines {
+    /// Those of a cell of which nothing was read.
+    pub fn new(alloc: Global) -> LedgerLines
+        ensures { HasNoted result [] }
+    {
+        LedgerLines {
+            reader: CellReader::new(alloc),
+            versions: IndexMap::new(alloc),
+        }
+    }
+
+    /// Notes what the next bytes of the cell say. If the cell is damaged, whatever follows, it
+    /// gives the lines of all versions that are listed. After these or an error it is of no further
+    /// use.
+    pub fn take(
+        &mut self,
+        alloc: Global,
+        listing: Listing,
+        piece: &[u8],
+    ) -> Result<Option<LastLines>, AllocError>
+        ensures { IfOk result (λ last. (taken : List ℕ) → HasNoted self.old taken
+            → IsNoted listing self.new (taken ++ piece.now) last) }
+    {
+        match self.reader.take(alloc, piece)? {
+            Parts::More(part) => {
+                note_all(alloc, &mut self.versions, &part.records)?;
+                Ok(None)
+            }
+            Parts::Last(last) => Ok(Some(self.last_lines(alloc, listing, last)?)),
+        }
+    }
+
+    /// The lines of all versions that are listed, where the cell ends. After these it is of no
+    /// further use.
+    pub fn end(&mut self, alloc: Global, listing: Listing) -> Result<LastLines, AllocError>
+        ensures { IfOk result (λ last. (taken : List ℕ) → HasNoted self.old taken
+            → IsLedgerText listing taken last.ending (string_bytes last.text)) }
+    {
+        let last = self.reader.end(alloc)?;
+        self.last_lines(alloc, listing, last)
+    }
+
+    // The lines after the last part.
+    fn last_lines(
+        &mut self,
+        alloc: Global,
+        listing: Listing,
+        last: LastPart,
+    ) -> Result<LastLines, AllocError>
+        ensures ending { IfOk result (λ lines. lines.ending ≡ last.ending) }
+        ensures text { IfOk result (λ lines. (before : List Record)
+            → StandsFor self.old.versions.entries before
+            → string_bytes lines.text ≡ versions_text listing (before ++ last.part.records.items)
+            ++ ending_line last.ending) }
+    {
+        note_all(alloc, &mut self.versions, &last.part.records)?;
+        Ok(LastLines {
+            text: versions_text(alloc, &self.versions, listing, last.ending)?,
+            ending: last.ending,
+        })
+    }
+}
