@@ -1,4 +1,5 @@
 pub mod Outcomes
+pub mod Servers
 pub mod OneTurn
 pub mod Asked
 pub mod SlotRecords

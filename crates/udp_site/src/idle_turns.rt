@@ -1,27 +1,27 @@
 //! Turns in which nothing came.
 
-ghost use Rattle.std.specs.Prelude.{◌≡◌, ◌+◌, ◌<◌, ◌≤◌, ℕ, true, is_some, IfSome};
+ghost use Rattle.std.specs.Prelude.{◌≡◌, ◌<◌, ◌≤◌, ℕ, true, is_some, IfSome};
 ghost use Rattle.std.specs.List.{list_any};
 ghost use Rattle.records.specs.Words.{known_of};
 ghost use Rattle.udp_site.specs.Rounds.{waits, next_waiting};
-ghost use Rattle.udp_site.specs.Turns.{Serving, IsServing, idles, proposing};
-ghost use Rattle.udp_site.specs.inner.Outcomes.{ComesTo, at};
+ghost use Rattle.udp_site.specs.Turns.{idles, proposing};
+ghost use Rattle.udp_site.specs.inner.Servers.{Comes, ComesOfTurn, Keeps, Stays};
 ghost use Rattle.udp_site.specs.inner.SlotRecords.{says_known, is_settled, AreSettled, IsFirst};
 
 use crate::fault::ServeFault;
 use crate::port::Port;
 use crate::posts::hand_answer;
 use crate::said_lines::say_proposal;
+use crate::server::Server;
+use bag_folders::Folders;
 use cell_device::Cell;
 use fed_types::Slot;
-use lines::Line;
 use records::{Entry, Record};
 use site::{Reply, Site};
-use std::alloc::Global;
 
-/// Where an idle site is in the round of its deposits.
+/// How far the idle turns have come.
 #[derive(Drop)]
-pub(crate) struct Round {
+pub(crate) struct IdleProgress {
     /// How many turns were idle.
     pub(crate) idle: u32,
     /// The place, among the deposits, after that which was tried last.
@@ -30,61 +30,43 @@ pub(crate) struct Round {
     pub(crate) settled: usize,
 }
 
-/// Nothing came: where the count of such turns is a multiple of the site's number, it proposes the
-/// next of its deposits without a known bag.
-pub(crate) fn idle<C: Cell, P: Port>(
-    alloc: Global,
-    site: &mut Site<C>,
-    port: &mut P,
-    ports: &[u16],
-    round: &mut Round,
-    lines: &mut Vec<Line>,
-) -> Result<(), ServeFault>
-    requires { round.old.idle < 4294967295 }
-    ensures comes { (old : Serving C) → old.site ≡ site.old → old.idle ≡ round.old.idle
-        → old.tried ≡ round.old.tried → IsServing old
-        → AreSettled site.old.book.records round.old.settled
-        → ComesTo (at round.new.idle round.new.tried (idles C.device ports.now old))
-        (P.traffic port.old) (P.traffic port.new) lines.old.items lines.new.items site.new result }
-    ensures count { round.new.idle ≤ round.old.idle + 1 }
-    ensures settled { AreSettled site.old.book.records round.old.settled
-        → AreSettled site.old.book.records round.new.settled }
-    ensures later { P.failures port.old ≤ P.failures port.new }
-{
-    round.idle += 1;
-    if round.idle % u32::from(site.number().number()) != 0 {
-        return Ok(());
+impl<C: Cell, P: Port, F: Folders> Server<'_, '_, '_, '_, '_, C, P, F> {
+    /// Nothing came: where the count of such turns is a multiple of the site's number, it proposes
+    /// the next of its deposits without a known bag.
+    pub(crate) fn idle(&mut self) -> Result<(), ServeFault>
+        requires { self.old.progress.idle < 4294967295 }
+        ensures turn { ComesOfTurn P.traffic (idles C.device self.old.ports.now)
+            self.old self.new result }
+        ensures keeps { Keeps P.failures F.gives self.old self.new }
+    {
+        self.progress.idle += 1;
+        if self.progress.idle % u32::from(self.site.number().number()) != 0 {
+            return Ok(());
+        }
+        self.progress.settled = past_settled(self.site, self.progress.settled);
+        let Some(place) = next_waiting(self.site, self.progress.tried, self.progress.settled) else {
+            return Ok(());
+        };
+        let Some(slot) = self.site.deposited(place) else {
+            return Ok(());
+        };
+        self.progress.tried = place + 1;
+        let slot = slot.copy(self.alloc)?;
+        self.propose(&slot)
     }
-    round.settled = past_settled(site, round.settled);
-    let Some(place) = next_waiting(site, round.tried, round.settled) else {
-        return Ok(());
-    };
-    let Some(slot) = site.deposited(place) else {
-        return Ok(());
-    };
-    round.tried = place + 1;
-    let slot = slot.copy(alloc)?;
-    propose(site, port, ports, lines, &slot)
-}
 
-// Proposes the slot's deposit.
-fn propose<C: Cell, P: Port>(
-    site: &mut Site<C>,
-    port: &mut P,
-    ports: &[u16],
-    lines: &mut Vec<Line>,
-    slot: &Slot,
-) -> Result<(), ServeFault>
-    ensures comes { (old : Serving C) → old.site ≡ site.old → IsServing old
-        → ComesTo (proposing C.device ports.now old slot.now) (P.traffic port.old)
-        (P.traffic port.new) lines.old.items lines.new.items site.new result }
-    ensures later { P.failures port.old ≤ P.failures port.new }
-{
-    let number = site.number().number();
-    let answer = site.propose(slot);
-    hand_answer(port, ports, &answer)?;
-    say_proposal(lines, number, answer)?;
-    Ok(())
+    // Proposes the slot's deposit.
+    fn propose(&mut self, slot: &Slot) -> Result<(), ServeFault>
+        ensures comes { Comes P.traffic (λ s. proposing C.device self.old.ports.now s slot.now)
+            self.old self.new result }
+        ensures stays { Stays P.failures F.gives self.old self.new }
+    {
+        let number = self.site.number().number();
+        let answer = self.site.propose(slot);
+        hand_answer(self.port, self.ports, &answer)?;
+        say_proposal(self.lines, number, answer)?;
+        Ok(())
+    }
 }
 
 // The first place, from this one on, that isn't settled.

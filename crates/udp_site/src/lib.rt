@@ -17,6 +17,7 @@ mod posts;
 mod queries;
 mod replies;
 mod said_lines;
+mod server;
 mod service;
 mod sign;
 mod turn;

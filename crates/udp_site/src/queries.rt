@@ -4,44 +4,39 @@ ghost use Rattle.std.specs.Prelude.{◌≡◌, ◌≤◌, ◌∷◌, [], false, 
 ghost use Rattle.fed_types.specs.Sites.{IsSiteNumber};
 ghost use Rattle.udp_site.specs.Turns.{Serving, IsServing, queries, others, asked};
 ghost use Rattle.udp_site.specs.inner.Others.{others_of};
-ghost use Rattle.udp_site.specs.inner.Outcomes.{ComesTo, AsksFor};
+ghost use Rattle.udp_site.specs.inner.Outcomes.{AsksFor};
+ghost use Rattle.udp_site.specs.inner.Servers.{Comes, Stays};
 
 use crate::fault::ServeFault;
 use crate::port::Port;
 use crate::posts::{hand_all, reply};
 use crate::replies::query_answer;
 use crate::said_lines::{say_refused, say_reply};
+use crate::server::Server;
+use bag_folders::Folders;
 use cell_device::Cell;
 use dgram::Body;
 use fed_types::{SiteNo, Slot};
 use lines::Line;
 use site::{Reply, Site, SiteFault};
-use std::alloc::Global;
 
-/// A client asks for the slot's bag. Where the site doesn't know it, it asks the other members
-/// after its reply.
-pub(crate) fn take_query<C: Cell, P: Port>(
-    alloc: Global,
-    site: &Site<C>,
-    port: &mut P,
-    ports: &[u16],
-    lines: &mut Vec<Line>,
-    client: u16,
-    slot: Slot,
-) -> Result<(), ServeFault>
-    ensures comes { (old : Serving C) → old.site ≡ site.now → IsServing old
-        → ComesTo (queries ports.now old client slot) (P.traffic port.old) (P.traffic port.new)
-        lines.old.items lines.new.items site.now result }
-    ensures later { P.failures port.old ≤ P.failures port.new }
-{
-    let from = site.number();
-    let federation = site.members().federation();
-    let known = site.query(&slot);
-    let answer = query_answer(known);
-    let body = Body::QueryReply { from, answer };
-    let slot = reply(alloc, port, federation, client, slot, body)?;
-    say_reply(alloc, lines, from.number(), &slot, known)?;
-    ask_unless_known(site, port, ports, lines, &slot, known)
+impl<C: Cell, P: Port, F: Folders> Server<'_, '_, '_, '_, '_, C, P, F> {
+    /// A client asks for the slot's bag. Where the site doesn't know it, it asks the other members
+    /// after its reply.
+    pub(crate) fn take_query(&mut self, client: u16, slot: Slot) -> Result<(), ServeFault>
+        ensures comes { Comes P.traffic (λ s. queries self.old.ports.now s client slot)
+            self.old self.new result }
+        ensures stays { Stays P.failures F.gives self.old self.new }
+    {
+        let from = self.site.number();
+        let federation = self.site.members().federation();
+        let known = self.site.query(&slot);
+        let answer = query_answer(known);
+        let body = Body::QueryReply { from, answer };
+        let slot = reply(self.alloc, self.port, federation, client, slot, body)?;
+        say_reply(self.alloc, self.lines, from.number(), &slot, known)?;
+        ask_unless_known(self.site, self.port, self.ports, self.lines, &slot, known)
+    }
 }
 
 // Asks the other members, unless the site knows the bag or needs opening.

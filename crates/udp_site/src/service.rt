@@ -1,6 +1,6 @@
 //! A site that serves, turn by turn.
 
-ghost use Rattle.std.specs.Prelude.{◌≡◌, ◌⊎◌, ◌+◌, ◌≤◌, ◌<◌, [], ℕ, List, take};
+ghost use Rattle.std.specs.Prelude.{◌≡◌, ◌⊎◌, ◌+◌, ◌≤◌, ◌<◌, ℕ, List, take};
 ghost use Rattle.std.specs.Prelude.{OnOk, OnErr, IfOk, IfErr, string_bytes};
 ghost use Rattle.std.specs.List.{flat_map, list_any};
 ghost use Rattle.std.specs.Io.KnownBytes.{Appends};
@@ -12,15 +12,16 @@ ghost use Rattle.udp_site.specs.Served.{Serves, Turned, outside, by_identity};
 ghost use Rattle.udp_site.specs.Turns.{Serving, IsServing, begins, turn_of};
 ghost use Rattle.udp_site.specs.inner.OneTurn.{OneTurn};
 ghost use Rattle.udp_site.specs.inner.Receipts.{Receives};
+ghost use Rattle.udp_site.specs.inner.Servers.{Keeps, Stands};
 ghost use Rattle.udp_site.specs.inner.StopLines.{line_of_the_cell};
 ghost use Rattle.udp_site.specs.inner.SlotRecords.{AreSettled};
 
 use crate::fault::ServeFault;
-use crate::idle_turns::Round;
+use crate::idle_turns::IdleProgress;
 use crate::port::Port;
 use crate::port_fault::PortFault;
+use crate::server::Server;
 use crate::turn::Turn;
-use crate::turn_step::take_turn;
 use bag_folders::Folders;
 use cell_device::Cell;
 use lines::{Line, Options, push_line};
@@ -50,62 +51,57 @@ pub fn serve<C: Cell, P: Port, F: Folders, W: Write>(
         result }
     ensures kept { F.gives folders.new ≡ F.gives folders.old }
 {
-    let mut round = Round {
-        idle: 0,
-        tried: 0,
-        settled: 0,
-    };
     let mut lines = Vec::new(alloc);
+    let mut server = Server {
+        alloc,
+        site,
+        port,
+        folders,
+        ports,
+        progress: IdleProgress {
+            idle: 0,
+            tried: 0,
+            settled: 0,
+        },
+        lines: &mut lines,
+    };
     'turns: for _ in 0..turns {
-        lines.clear();
-        one_turn(
-            alloc, site, port, folders, ports, &mut round, &mut lines, output,
-        )?;
+        server.one_turn(output)?;
     }
     Ok(())
 }
 
-// One turn.
-fn one_turn<C: Cell, P: Port, F: Folders, W: Write>(
-    alloc: Global,
-    site: &mut Site<C>,
-    port: &mut P,
-    folders: &mut F,
-    ports: &[u16],
-    round: &mut Round,
-    lines: &mut Vec<Line>,
-    output: &mut W,
-) -> Result<(), ServeFault>
-    requires idle { round.old.idle < 4294967295 }
-    requires lines { lines.old.items ≡ [] }
-    ensures turn { (old : Serving C) → old.site ≡ site.old → old.idle ≡ round.old.idle
-        → old.tried ≡ round.old.tried → IsServing old
-        → AreSettled site.old.book.records round.old.settled
-        → OneTurn (turn_of C.device ports.now (F.gives folders.old))
-        (outside (P.traffic port.old) (W.contents output.old))
-        (outside (P.traffic port.new) (W.contents output.new))
-        old site.new round.new.idle round.new.tried result }
-    ensures count { round.new.idle ≤ round.old.idle + 1 }
-    ensures settled { OnOk result ((old : Serving C) → old.site ≡ site.old
-        → old.idle ≡ round.old.idle → old.tried ≡ round.old.tried → IsServing old
-        → AreSettled site.old.book.records round.old.settled
-        → AreSettled site.new.book.records round.new.settled) }
-    ensures port { OnlyByFailing ServeFault.Port (P.failures port.old) (P.failures port.new)
-        result }
-    ensures kept { F.gives folders.new ≡ F.gives folders.old }
-{
-    let turn = receive(port)?;
-    // Only where memory runs out is a turn broken off.
-    match take_turn(alloc, site, port, folders, ports, round, lines, &turn) {
-        Ok(()) => {}
-        Err(_) => return Err(ServeFault::Memory),
+impl<C: Cell, P: Port, F: Folders> Server<'_, '_, '_, '_, '_, C, P, F> {
+    // One turn.
+    fn one_turn<W: Write>(&mut self, output: &mut W) -> Result<(), ServeFault>
+        requires { self.old.progress.idle < 4294967295 }
+        ensures keeps { Keeps P.failures F.gives self.old self.new }
+        ensures turn { (s : Serving C) → Stands s self.old.site.now self.old.progress
+            → OneTurn (turn_of C.device self.old.ports.now (F.gives self.old.folders.now))
+            (outside (P.traffic self.old.port.now) (W.contents output.old))
+            (outside (P.traffic self.new.port.now) (W.contents output.new))
+            s self.new.site.now self.new.progress.idle self.new.progress.tried result }
+        ensures count { self.new.progress.idle ≤ self.old.progress.idle + 1 }
+        ensures settled { OnOk result ((s : Serving C)
+            → Stands s self.old.site.now self.old.progress
+            → AreSettled self.new.site.now.book.records self.new.progress.settled) }
+        ensures port { OnlyByFailing ServeFault.Port (P.failures self.old.port.now)
+            (P.failures self.new.port.now) result }
+    {
+        self.lines.clear();
+        let turn = receive(self.port)?;
+        // Only where memory runs out is a turn broken off.
+        match self.take_turn(&turn) {
+            Ok(()) => {}
+            Err(_) => return Err(ServeFault::Memory),
+        }
+        let written = write_lines(self.alloc, self.lines, output);
+        // A cell that failed is the answer also where that can't be written.
+        if is_refused(self.lines) {
+            return Err(ServeFault::Cell);
+        }
+        written
     }
-    let written = write_lines(alloc, lines, output);
-    // A cell that failed is the answer also where that can't be written.
-    if is_refused(lines) {
-        return Err(ServeFault::Cell);
-    }
-    written
 }
 
 // Receives once.

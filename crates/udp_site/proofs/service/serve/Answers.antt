@@ -1,19 +1,66 @@
-use Rattle.std.specs.Prelude.{ℕ, List, [], Option, Result, Ok, Err}
-use Rattle.std.proofs.Common.{refl, arith, subst, ◌∙◌, le_refl, le_trans}
+use Rattle.std.specs.Prelude.{◌≡◌, ℕ, List, [], Option, Result, Ok, Err}
+use Rattle.std.proofs.Common.{rules, refl, arith, ◌∙◌, le_trans}
+use Rattle.cell_device.specs.Devices.{Device}
 use Rattle.bag_tree.specs.declared.fault.TreeFault.{TreeFault}
 use Rattle.bag_tree.specs.Facts.{TreeFacts}
-use Rattle.udp_site.specs.Turns.{begins, turn_of}
-use Rattle.udp_site.specs.Served.{outside}
+use Rattle.proposer.specs.Sessions.{Session}
+use Rattle.site.specs.Sites.{OpenSite}
+use Rattle.udp_site.specs.declared.fault.ServeFault.{ServeFault}
+use Rattle.udp_site.specs.Traffic.{Move}
+use Rattle.udp_site.specs.Turns.{Serving, IsServing, begins, turn_of}
+use Rattle.udp_site.specs.Served.{Rule, Outside, Turned, Serves, outside}
 use Rattle.udp_site.specs.inner.OneTurn.{OneTurn}
+use Rattle.udp_site.specs.inner.Servers.{Stands}
 use Rattle.udp_site.proofs.OneMoreTurn.{shows_none, one_turn_more, ended, ended_so, all_served}
+use Rattle.udp_site.proofs.service.serve.Given.{Over}
+use Rattle.udp_site.proofs.service.serve.Goals.{After-one_turn}
 use Rattle.udp_site.proofs.service.serve.Goals as goal
+
+-- how it ends with this site
+abbrev Ended :
+    {C : Type 0} → Rule C → (before after : Outside) → (start : Serving C) → OpenSite C
+    → (wanted : ℕ) → Result (Unit {0}) ServeFault → Type 0
+Ended {C} rule before after start site wanted result =
+    (end : Serving C) × (done : List Turned) × (end.site ≡ site)
+    × Serves rule before after start end wanted done result
+
+-- what was lent is as the server left it
+given_back : {C P : Type 0} (rule : Rule C) (before : Outside) (start : Serving C) (wanted : ℕ)
+    (result : Result (Unit {0}) ServeFault) (traffic : P → Option (List Move))
+    (written : Option (List ℕ)) (p q : P) (s t : OpenSite C)
+    → p ≡ q → s ≡ t → Ended rule before (outside (traffic p) written) start s wanted result
+    → Ended rule before (outside (traffic q) written) start t wanted result
+given_back rule before start wanted result traffic written p q s t port site ends =
+    rw (← port, ← site) ends
+
+-- the same comes by the same rule
+by_rule : {C : Type 0} (device : C → Device) (ports l : List ℕ)
+    (gives f : Option (List ℕ → Result TreeFacts TreeFault)) (before after : Outside)
+    (old : Serving C) (site : OpenSite C) (idle tried : ℕ) (result : Result (Unit {0}) ServeFault)
+    → l ≡ ports → f ≡ gives
+    → OneTurn (turn_of device l f) before after old site idle tried result
+    → OneTurn (turn_of device ports gives) before after old site idle tried result
+by_rule device ports l gives f before after old site idle tried result same kept comes =
+    rw (← same, ← kept) comes
+
+-- the turns so far end where the next one begins
+stands : (g : Over) (c : After-one_turn g) (session : Session)
+    (serving : IsServing (begins c.args.site.now session))
+    → Stands (c.turns.invariant.led session serving).0 c.turns.server.site.now
+    c.turns.server.progress
+stands g c session serving = record {
+  there = (c.turns.invariant.led session serving).2;
+  serves = (c.turns.invariant.led session serving).5;
+  idle = (c.turns.invariant.led session serving).3;
+  tried = (c.turns.invariant.led session serving).4;
+  settled = c.turns.invariant.settled session serving;
+}
 
 pub turns-init : goal.turns-init
 turns-init g c = record {
+  keeps = search rules;
   idle = omega arith;
   settled = λ session serving place before. absurd (omega (arith, before));
-  later = le_refl _;
-  kept = refl;
   led = λ session serving. (
     begins c.args.site.now session,
     [],
@@ -30,30 +77,42 @@ turns-init g c = record {
 
 pub turns-preserved : goal.turns-preserved
 turns-preserved g c = record {
+  keeps =
+      let turn = c.in_ok-one_turn.ensures.keeps in
+      let so_far = c.turns.invariant.keeps in
+      record {
+        site = turn.site ∙ so_far.site;
+        port = turn.port ∙ so_far.port;
+        folders = turn.folders ∙ so_far.folders;
+        ports = turn.ports ∙ so_far.ports;
+        later = le_trans so_far.later turn.later;
+        kept = turn.kept ∙ so_far.kept;
+      };
   idle = omega (arith, c.in_ok-one_turn.ensures.count, c.turns.invariant.idle);
   settled = λ session serving.
-      let so_far = c.turns.invariant.led session serving in
-      c.in_ok-one_turn.ensures.settled so_far.0 so_far.2 so_far.3 so_far.4 so_far.5
-      (c.turns.invariant.settled session serving);
-  later = le_trans c.turns.invariant.later c.one_turn.ensures.port.later;
-  kept = c.one_turn.ensures.kept ∙ c.turns.invariant.kept;
+      c.in_ok-one_turn.ensures.settled (c.turns.invariant.led session serving).0
+      (stands g (goal.at.turns-preserved g c).After-one_turn session serving);
   led = λ session serving.
-      let rule = turn_of g.C.Cell.device c.args.ports.now (g.F.Folders.gives c.args.folders.now) in
+      let gives = g.F.Folders.gives c.args.folders.now in
+      let rule = turn_of g.C.Cell.device c.args.ports.now gives in
       let before = outside (g.P.Port.traffic c.args.port.now)
       (g.W.Write.contents c.args.output.now) in
-      let mid = outside (g.P.Port.traffic c.turns.port) (g.W.Write.contents c.turns.output) in
-      let after = outside (g.P.Port.traffic c.one_turn.new.port)
+      let mid = outside (g.P.Port.traffic c.turns.server.port.now)
+      (g.W.Write.contents c.turns.output) in
+      let after = outside (g.P.Port.traffic c.one_turn.new.self.port.now)
       (g.W.Write.contents c.one_turn.new.output) in
+      let was = c.turns.server.progress in
+      let is = c.one_turn.new.self.progress in
       let so_far = c.turns.invariant.led session serving in
-      one_turn_more rule before mid after (begins c.args.site.now session) c.turns.site
-      c.one_turn.new.site c.turns.round.idle c.turns.round.tried c.one_turn.new.round.idle
-      c.one_turn.new.round.tried c.turns.counter so_far
-      (subst (λ (gives : Option (List ℕ → Result TreeFacts TreeFault)).
-      OneTurn (turn_of g.C.Cell.device c.args.ports.now gives) mid after so_far.0
-      c.one_turn.new.site c.one_turn.new.round.idle c.one_turn.new.round.tried (Ok tt))
-      c.turns.invariant.kept
-      (c.in_ok-one_turn.ensures.turn so_far.0 so_far.2 so_far.3 so_far.4 so_far.5
-      (c.turns.invariant.settled session serving)));
+      one_turn_more rule before mid after (begins c.args.site.now session)
+      c.turns.server.site.now c.one_turn.new.self.site.now was.idle was.tried is.idle is.tried
+      c.turns.counter so_far
+      (by_rule g.C.Cell.device c.args.ports.now c.turns.server.ports.now gives
+      (g.F.Folders.gives c.turns.server.folders.now) mid after so_far.0
+      c.one_turn.new.self.site.now is.idle is.tried (Ok tt) c.turns.invariant.keeps.ports
+      c.turns.invariant.keeps.kept
+      (c.in_ok-one_turn.ensures.turn so_far.0
+      (stands g (goal.at.turns-preserved g c).After-one_turn session serving)));
 }
 
 pub returns-in_err-one_turn-clause-served : goal.returns-in_err-one_turn-clause-served
@@ -62,31 +121,41 @@ returns-in_err-one_turn-clause-served g c session serving =
     let rule = turn_of g.C.Cell.device c.args.ports.now gives in
     let before =
     outside (g.P.Port.traffic c.args.port.now) (g.W.Write.contents c.args.output.now) in
-    let mid = outside (g.P.Port.traffic c.turns.port) (g.W.Write.contents c.turns.output) in
-    let after = outside (g.P.Port.traffic c.one_turn.new.port)
-    (g.W.Write.contents c.one_turn.new.output) in
+    let mid = outside (g.P.Port.traffic c.turns.server.port.now)
+    (g.W.Write.contents c.turns.output) in
+    let written = g.W.Write.contents c.one_turn.new.output in
+    let after = outside (g.P.Port.traffic c.one_turn.new.self.port.now) written in
+    let start = begins c.args.site.now session in
+    let was = c.turns.server.progress in
+    let is = c.one_turn.new.self.progress in
     let so_far = c.turns.invariant.led session serving in
     let fault = c.in_err-one_turn.field-0.0 in
-    ended_so rule before mid after (begins c.args.site.now session) c.turns.site
-    c.one_turn.new.site c.turns.round.idle c.turns.round.tried c.one_turn.new.round.idle
-    c.one_turn.new.round.tried c.turns.counter so_far c.args.turns c.turns-test.true
+    given_back rule before start c.args.turns c.from_residual.result g.P.Port.traffic written
+    c.one_turn.new.self.port.now _ c.one_turn.new.self.site.now _ (search rules) (search rules)
+    (ended_so rule before mid after start c.turns.server.site.now c.one_turn.new.self.site.now
+    was.idle was.tried is.idle is.tried c.turns.counter so_far c.args.turns c.turns-test.true
     c.from_residual.result fault c.from_residual.ensures.1
-    (ended rule before mid after (begins c.args.site.now session) c.turns.site
-    c.one_turn.new.site c.turns.round.idle c.turns.round.tried c.one_turn.new.round.idle
-    c.one_turn.new.round.tried c.turns.counter so_far c.args.turns c.turns-test.true fault
-    (subst (λ (given : Option (List ℕ → Result TreeFacts TreeFault)).
-    OneTurn (turn_of g.C.Cell.device c.args.ports.now given) mid after so_far.0
-    c.one_turn.new.site c.one_turn.new.round.idle c.one_turn.new.round.tried (Err fault))
-    c.turns.invariant.kept
-    (c.in_err-one_turn.ensures.turn so_far.0 so_far.2 so_far.3 so_far.4 so_far.5
-    (c.turns.invariant.settled session serving))))
+    (ended rule before mid after start c.turns.server.site.now c.one_turn.new.self.site.now
+    was.idle was.tried is.idle is.tried c.turns.counter so_far c.args.turns c.turns-test.true
+    fault
+    (by_rule g.C.Cell.device c.args.ports.now c.turns.server.ports.now gives
+    (g.F.Folders.gives c.turns.server.folders.now) mid after so_far.0
+    c.one_turn.new.self.site.now is.idle is.tried (Err fault) c.turns.invariant.keeps.ports
+    c.turns.invariant.keeps.kept
+    (c.in_err-one_turn.ensures.turn so_far.0
+    (stands g (goal.at.returns-in_err-one_turn-clause-served g c).After-one_turn session
+    serving)))))
 
 pub returns-clause-served : goal.returns-clause-served
 returns-clause-served g c session serving =
-    all_served
-    (turn_of g.C.Cell.device c.args.ports.now (g.F.Folders.gives c.args.folders.now))
-    (outside (g.P.Port.traffic c.args.port.now) (g.W.Write.contents c.args.output.now))
-    (outside (g.P.Port.traffic c.turns.port) (g.W.Write.contents c.turns.output))
-    (begins c.args.site.now session) c.turns.site c.turns.round.idle c.turns.round.tried
+    let rule = turn_of g.C.Cell.device c.args.ports.now (g.F.Folders.gives c.args.folders.now) in
+    let before =
+    outside (g.P.Port.traffic c.args.port.now) (g.W.Write.contents c.args.output.now) in
+    let written = g.W.Write.contents c.turns.output in
+    let start = begins c.args.site.now session in
+    given_back rule before start c.args.turns (Ok tt) g.P.Port.traffic written
+    c.turns.server.port.now _ c.turns.server.site.now _ (search rules) (search rules)
+    (all_served rule before (outside (g.P.Port.traffic c.turns.server.port.now) written) start
+    c.turns.server.site.now c.turns.server.progress.idle c.turns.server.progress.tried
     c.turns.counter c.args.turns (c.turns.invariant.led session serving)
-    (omega (arith, c.turns-test.false))
+    (omega (arith, c.turns-test.false)))

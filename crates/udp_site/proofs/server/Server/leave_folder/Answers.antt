@@ -8,24 +8,27 @@ use Rattle.udp_site.specs.inner.Outcomes.{Hands}
 use Rattle.udp_site.proofs.Handed.{fails_for}
 use Rattle.udp_site.proofs.Said.{broken_off}
 use Rattle.udp_site.proofs.Same.{replied}
-use Rattle.udp_site.proofs.deposits.leave_folder.Given.{Over}
-use Rattle.udp_site.proofs.deposits.leave_folder.Goals.{After-tell}
-use Rattle.udp_site.proofs.deposits.leave_folder.Goals as goal
+use Rattle.udp_site.proofs.server.Server.leave_folder.Given.{Over}
+use Rattle.udp_site.proofs.server.Server.leave_folder.Goals.{After-tell}
+use Rattle.udp_site.proofs.server.Server.leave_folder.Goals as goal
 
 -- the reply that is told, in the definitions' words
-told : (g : Over) (c : After-tell g) (old : Serving g.row.C.Denot) → old.site ≡ c.args.site.now
+told : (g : Over) (c : After-tell g) (old : Serving g.row.C.Denot) → old.site ≡
+    c.args.self.now.site.now
     → deposit_replies c.federation-federation.result c.number-from.result c.args.client
-    c.args.slot c.tree_answer.result
+    c.args.slot c.tree_answer-said.result
     ≡ deposit_replies (members old).federation (number old) c.args.client c.args.slot
     (tree_answer c.args.fault)
 told g c old there =
-    replied old c.args.site.now there c.members.result c.federation-federation.result
+    replied old c.args.self.now.site.now there c.members.result c.federation-federation.result
     c.number-from.result c.federation-federation.ensures c.members.ensures c.number-from.ensures
-    c.args.client c.args.slot c.tree_answer.result (tree_answer c.args.fault) c.tree_answer.ensures
+    c.args.client c.args.slot c.tree_answer-said.result (tree_answer c.args.fault)
+    c.tree_answer-said.ensures
 
 pub returns-clause-comes : goal.returns-clause-comes
-returns-clause-comes g c old there serves said =
-    let before = g.P.Port.traffic c.args.port.now in
+returns-clause-comes g c old there serves =
+    let was = c.args.self.now in
+    let before = g.P.Port.traffic was.port.now in
     let after = g.P.Port.traffic c.tell.new.port in (
       record {
         posts = deposit_replies (members old).federation (number old) c.args.client c.args.slot
@@ -39,12 +42,13 @@ returns-clause-comes g c old there serves said =
       subst (λ (posts : List Post). Grows before after (all_handed posts))
           (told g (goal.at.returns-clause-comes g c).After-tell old there)
           c.in_ok-tell.ensures.handed,
-      sym (append-nil said),
+      sym (append-nil was.lines.now.items),
     )
 
 pub returns-in_err-tell-clause-comes : goal.returns-in_err-tell-clause-comes
-returns-in_err-tell-clause-comes g c old there serves said =
-    let before = g.P.Port.traffic c.args.port.now in
+returns-in_err-tell-clause-comes g c old there serves =
+    let was = c.args.self.now in
+    let before = g.P.Port.traffic was.port.now in
     let after = g.P.Port.traffic c.tell.new.port in
     let posts = deposit_replies (members old).federation (number old) c.args.client c.args.slot
     (tree_answer c.args.fault) in
@@ -54,7 +58,10 @@ returns-in_err-tell-clause-comes g c old there serves said =
     (told g (goal.at.returns-in_err-tell-clause-comes g c).After-tell old there)
     c.in_err-tell.ensures.handed) in
     broken_off (takes_tree g.C.Cell.device old c.args.client c.args.slot (Err c.args.fault)) before
-    after said said c.args.site.now (record { posts = posts; notices = [] }) old (refl, refl) there
-    fails.1 c.from_residual.result
+    after was.lines.now.items was.lines.now.items was.site.now (record {
+      posts = posts;
+      notices =
+          [];
+    }) old (refl, refl) there fails.1 c.from_residual.result
     (subst (λ (f : ServeFault). IsErrAnd c.from_residual.result (λ e. e ≡ f)) fails.0
     c.from_residual.ensures.1)

@@ -10,9 +10,9 @@ use Rattle.udp_site.proofs.Calls.{calls_whole, calls_part, calls_failed}
 use Rattle.udp_site.proofs.Handed.{whole_part}
 use Rattle.udp_site.specs.Traffic.{all_handed}
 use Rattle.udp_site.proofs.Same.{same_number}
-use Rattle.udp_site.proofs.arrivals.hear.Given.{Over}
-use Rattle.udp_site.proofs.arrivals.hear.Goals.{After-hand_answer}
-use Rattle.udp_site.proofs.arrivals.hear.Goals as goal
+use Rattle.udp_site.proofs.server.Server.hear.Given.{Over}
+use Rattle.udp_site.proofs.server.Server.hear.Goals.{After-hand_answer}
+use Rattle.udp_site.proofs.server.Server.hear.Goals as goal
 
 -- what is done of an answer
 abbrev done_of : List ℕ → (site : ℕ) → Message → Result Answer SiteFault → Done
@@ -23,9 +23,9 @@ done_of ports site m result = record {
 
 -- the site was called
 call : (g : Over) (c : After-hand_answer g) (old : Serving g.row.C.Denot)
-    → old.site ≡ c.args.site.now → IsServing old
+    → old.site ≡ c.args.self.now.site.now → IsServing old
     → Call g.C.Cell.device old (Arrives (Some c.args.message)) c.arrive_message-answer.result
-    c.args.site.now c.arrive_message-answer.new.self
+    c.args.self.now.site.now c.arrive_message-answer.new.self
 call g c old there serves = record {
   there = there;
   serves = serves;
@@ -36,33 +36,39 @@ call g c old there serves = record {
 
 pub returns-clause-comes : goal.returns-clause-comes
 returns-clause-comes g c old there serves =
+    let was = c.args.self.now in
     let m = c.args.message in
+    let before = was.lines.now.items in
+    let after = c.say_arrival.new.lines.items in
     calls_whole (call g (goal.at.returns-clause-comes g c).After-hand_answer old there serves)
-    (done_of c.args.ports.now (number old) m)
-    (g.P.Port.traffic c.args.port.now) (g.P.Port.traffic c.hand_answer.new.port)
-    c.args.lines.now.items c.say_arrival.new.lines.items c.in_ok-hand_answer.ensures.hands
-    (subst (λ (site : ℕ). Notes c.args.lines.now.items c.say_arrival.new.lines.items
+    (done_of was.ports.now (number old) m)
+    (g.P.Port.traffic was.port.now) (g.P.Port.traffic c.hand_answer.new.port)
+    before after c.in_ok-hand_answer.ensures.hands
+    (subst (λ (site : ℕ). Notes before after
     (notices_of site (Arrives (Some m)) c.arrive_message-answer.result))
-    (same_number old c.args.site.now there c.number.result c.number-number.result
+    (same_number old was.site.now there c.number.result c.number-number.result
     c.number-number.ensures.value c.number.ensures) (c.in_ok-say_arrival.ensures m))
 
 pub returns-in_err-hand_answer-clause-comes : goal.returns-in_err-hand_answer-clause-comes
 returns-in_err-hand_answer-clause-comes g c old there serves =
+    let was = c.args.self.now in
     let at = goal.at.returns-in_err-hand_answer-clause-comes g c in
     calls_failed (call g at.After-hand_answer old there serves)
-    (done_of c.args.ports.now (number old) c.args.message)
-    (g.P.Port.traffic c.args.port.now) (g.P.Port.traffic c.hand_answer.new.port)
-    c.args.lines.now.items c.args.lines.now.items c.in_err-hand_answer.field-0.0
+    (done_of was.ports.now (number old) c.args.message)
+    (g.P.Port.traffic was.port.now) (g.P.Port.traffic c.hand_answer.new.port)
+    was.lines.now.items was.lines.now.items c.in_err-hand_answer.field-0.0
     c.from_residual.result c.from_residual.ensures.1 c.in_err-hand_answer.ensures.hands
 
 pub returns-in_err-say_arrival-clause-comes : goal.returns-in_err-say_arrival-clause-comes
 returns-in_err-say_arrival-clause-comes g c old there serves =
+    let was = c.args.self.now in
     let at = goal.at.returns-in_err-say_arrival-clause-comes g c in
+    let before = g.P.Port.traffic was.port.now in
+    let after = g.P.Port.traffic c.hand_answer.new.port in
     calls_part (call g at.After-hand_answer old there serves)
-    (done_of c.args.ports.now (number old) c.args.message)
-    (g.P.Port.traffic c.args.port.now) (g.P.Port.traffic c.hand_answer.new.port)
-    c.args.lines.now.items c.say_arrival.new.lines.items
-    (whole_part (g.P.Port.traffic c.args.port.now) (g.P.Port.traffic c.hand_answer.new.port)
-    (all_handed (posts_of c.args.ports.now c.arrive_message-answer.result))
+    (done_of was.ports.now (number old) c.args.message) before after
+    was.lines.now.items c.say_arrival.new.lines.items
+    (whole_part before after
+    (all_handed (posts_of was.ports.now c.arrive_message-answer.result))
     c.in_ok-hand_answer.ensures.hands)
     c.from_residual-in_err-say_arrival.result c.from_residual-in_err-say_arrival.ensures.1

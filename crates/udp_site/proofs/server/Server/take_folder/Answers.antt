@@ -4,13 +4,15 @@ use Rattle.bag_tree.specs.Facts.{TreeFacts}
 use Rattle.bag_tree.specs.Fault.{IsOrMemory}
 use Rattle.udp_site.specs.Turns.{deposits, takes_tree}
 use Rattle.udp_site.proofs.Said.{comes_too}
-use Rattle.udp_site.proofs.deposits.take_folder.Goals as goal
+use Rattle.udp_site.proofs.server.Server.take_folder.Goals as goal
 
 pub returns-in-Ok-clause-comes : goal.returns-in-Ok-clause-comes
 returns-in-Ok-clause-comes g c old there serves =
-    let gives = g.F.Folders.gives c.args.folders.now in
-    let before = g.P.Port.traffic c.args.port.now in
-    let after = g.P.Port.traffic c.take_tree.new.port in
+    let was = c.args.self.now in
+    let left = c.take_tree.new.self in
+    let gives = g.F.Folders.gives was.folders.now in
+    let before = g.P.Port.traffic was.port.now in
+    let after = g.P.Port.traffic left.port.now in
     comes_too (takes_tree g.C.Cell.device old c.args.client c.args.slot (Ok c.in-Ok.facts))
     (deposits g.C.Cell.device gives old c.args.client c.args.slot c.args.path.now)
     (λ done next is. (
@@ -19,14 +21,14 @@ returns-in-Ok-clause-comes g c old there serves =
           (λ answer. IsOrMemory {T = TreeFacts} (Ok c.in-Ok.facts) (answer path)))
           c.as_str.ensures.value c.in-Ok.ensures.known,
       is,
-    ))
-    before after c.args.lines.now.items c.take_tree.new.lines.items c.take_tree.new.site
-    c.take_tree.result
+    )) before after was.lines.now.items left.lines.now.items left.site.now c.take_tree.result
     (c.take_tree.ensures.comes old there serves)
 
 pub returns-in-Err-clause-comes : goal.returns-in-Err-clause-comes
 returns-in-Err-clause-comes g c old there serves =
-    let gives = g.F.Folders.gives c.args.folders.now in
+    let was = c.args.self.now in
+    let left = c.leave_folder.new.self in
+    let gives = g.F.Folders.gives was.folders.now in
     comes_too (takes_tree g.C.Cell.device old c.args.client c.args.slot (Err c.in-Err.fault))
     (deposits g.C.Cell.device gives old c.args.client c.args.slot c.args.path.now)
     (λ done next is. (
@@ -36,6 +38,6 @@ returns-in-Err-clause-comes g c old there serves =
           c.as_str.ensures.value c.in-Err.ensures.known,
       is,
     ))
-    (g.P.Port.traffic c.args.port.now) (g.P.Port.traffic c.leave_folder.new.port)
-    c.args.lines.now.items c.args.lines.now.items c.args.site.now c.leave_folder.result
-    (c.leave_folder.ensures.comes old there serves c.args.lines.now.items)
+    (g.P.Port.traffic was.port.now) (g.P.Port.traffic left.port.now)
+    was.lines.now.items left.lines.now.items left.site.now
+    c.leave_folder.result (c.leave_folder.ensures.comes old there serves)
