@@ -26,7 +26,7 @@ use Rattle.records.proofs.Words.{promised-push, vote-push}
 use Rattle.slot_table.specs.Rows.{Rows, row_at, IsWith}
 use Rattle.acceptor.specs.declared.row.Row.{Row}
 use Rattle.acceptor.specs.inner.Noted.{noted}
-use Rattle.acceptor.specs.Rows.{row_or_empty, row_of, StandsFor}
+use Rattle.acceptor.specs.Rows.{row_or_empty, row_of, Represents}
 
 -- the row that these records give
 abbrev row_from : SlotName → List Record → Row
@@ -42,7 +42,7 @@ row_push slot records r =
 -- the row of the record's slot takes its entry, and all others stay
 pub noted_stands : (old new : Rows Row) (r : Record)
     → IsWith old new r.slot (noted (row_of old r.slot) (Some r.body))
-    → (records : List Record) → StandsFor old records → StandsFor new (records ++ r ∷ [])
+    → (records : List Record) → Represents old records → Represents new (records ++ r ∷ [])
 noted_stands old new r put records stands slot =
     ap row_or_empty (put slot) ∙ go (same_slot r.slot slot) refl ∙ sym (row_push slot records r)
   where
@@ -55,7 +55,7 @@ noted_stands old new r put records stands slot =
         ∙ ap (λ (before : Row). noted before (Some r.body)) (stands slot)
     go false e = stands slot
 
--- rows that say the same stand for the same records
+-- rows that say the same represent the same records
 pub same_stands : (old new : Rows Row) → ((slot : SlotName) → row_of new slot ≡ row_of old slot)
-    → (records : List Record) → StandsFor old records → StandsFor new records
+    → (records : List Record) → Represents old records → Represents new records
 same_stands old new same records stands slot = same slot ∙ stands slot

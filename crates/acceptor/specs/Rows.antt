@@ -16,8 +16,8 @@ abbrev pub row_of : Rows Row → SlotName → Row
 row_of table slot = row_or_empty (row_at table slot)
 
 -- the acceptor knows of each slot what these records say: its promise and its vote
-abbrev pub StandsFor : Rows Row → List Record → Type 0
-StandsFor table records =
+abbrev pub Represents : Rows Row → List Record → Type 0
+Represents table records =
     (slot : SlotName)
     → row_of table slot
     ≡ record { promised = promised_of slot records; vote = vote_of slot records }

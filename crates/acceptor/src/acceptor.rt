@@ -12,7 +12,7 @@ ghost use Rattle.acceptor.specs.Decisions.{
   prepare_decision,
   accept_decision,
 };
-ghost use Rattle.acceptor.specs.Rows.{StandsFor, row_of};
+ghost use Rattle.acceptor.specs.Rows.{Represents, row_of};
 ghost use Rattle.acceptor.specs.inner.Noted.{noted};
 
 use crate::decision::{Answer, Decision};
@@ -43,7 +43,7 @@ impl Acceptor {
     /// An acceptor without records.
     #[tactic(auto, unfolding(records::specs::Words::promised_of, records::specs::Words::vote_of))]
     pub fn new(alloc: Global) -> Acceptor
-        ensures { StandsFor result [] }
+        ensures { Represents result [] }
     {
         Acceptor {
             table: SlotTable::new(alloc),
@@ -54,7 +54,7 @@ impl Acceptor {
     /// nothing.
     #[tactic(auto, unfolding(crate::specs::Decisions::prepare_decision))]
     pub fn prepare(&self, slot: &Slot, ballot: Ballot) -> Decision
-        ensures { (records : List declared_record) → StandsFor self.now records
+        ensures { (records : List declared_record) → Represents self.now records
             → result ≡ prepare_decision slot.now records ballot }
     {
         prepared(self.row(slot), ballot)
@@ -64,7 +64,7 @@ impl Acceptor {
     /// changes nothing.
     #[tactic(auto, unfolding(crate::specs::Decisions::accept_decision))]
     pub fn accept(&self, slot: &Slot, ballot: Ballot, bag: BagId) -> Decision
-        ensures { (records : List declared_record) → StandsFor self.now records
+        ensures { (records : List declared_record) → Represents self.now records
             → result ≡ accept_decision slot.now records (record { ballot = ballot; bag = bag }) }
     {
         accepted(self.row(slot), Vote { ballot, bag })
@@ -84,7 +84,7 @@ impl Acceptor {
     /// Takes note of a record that was committed.
     pub fn note(&mut self, new: &Record) -> Result<(), AllocError>
         ensures noted { OnOk result ((records : List declared_record)
-            → StandsFor self.old records → StandsFor self.new (records ++ new.now ∷ [])) }
+            → Represents self.old records → Represents self.new (records ++ new.now ∷ [])) }
         ensures unchanged { OnErr result ((s : SlotName) → row_of self.new s ≡ row_of self.old s) }
         ensures rooms { HasRooms self.old self.new }
         ensures succeeds { IsSome (row_at self.old new.now.slot) → IsOk result }

@@ -10,7 +10,7 @@ use Rattle.fed_types.specs.Laws.Lists.{has_none, is_in-nil}
 use Rattle.fed_types.specs.Laws.Quorums.{are_quorums}
 use Rattle.records.specs.declared.entry.Entry.TheVariants as entry
 use Rattle.audit.specs.Laws.{IsNamed}
-use Rattle.audit.specs.Tables.{ChosenBy, StandsFor}
+use Rattle.audit.specs.Tables.{ChosenBy, Represents}
 use Rattle.audit.proofs.KeptVersions.{is_on}
 use Rattle.audit.proofs.NamedBags.{nothing_named}
 
@@ -28,7 +28,7 @@ none_named q laws slot bag (inr known) =
     has_none (is_on [] known.0 slot (entry.Known bag) known.1)
 
 pub nothing_given : (m : Membership)
-    → StandsFor (record { members = m; votes = []; rows = [] }) []
+    → Represents (record { members = m; votes = []; rows = [] }) []
 nothing_given m = record {
   voters = λ slot vote n. (
     λ h. absurd (false≢true (sym (is_in-nil n) ∙ h)),

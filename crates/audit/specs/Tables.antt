@@ -1,4 +1,4 @@
--- What is kept of the records that were given, and what it stands for.
+-- What is kept of the records that were given, and what it represents.
 use Rattle.std.specs.Prelude.{◌≡◌, ◌↔◌, ℕ, List, true}
 use Rattle.fed_types.specs.declared.vote.Vote.{Vote}
 use Rattle.fed_types.specs.Lists.{is_in}
@@ -41,6 +41,6 @@ AreRows q rows given =
     (slot : SlotName)
     → IsRowFor q given slot (row_of empty_row rows slot)
 
-pub record StandsFor (t : Tables) (given : List SiteRecord) : Type 0 where
+pub record Represents (t : Tables) (given : List SiteRecord) : Type 0 where
   pub voters : AreVoters t.votes given
   pub rows : AreRows (quorums_of t.members) t.rows given

@@ -2,7 +2,7 @@ ghost use Rattle.std.specs.Prelude.{◌≡◌, ◌++◌, ◌∷◌, [], List, On
 ghost use Rattle.fed_types.specs.Quorums.{quorums_of};
 ghost use Rattle.audit.specs.Evidence.{SiteRecord};
 ghost use Rattle.audit.specs.Findings.{IsFinding};
-ghost use Rattle.audit.specs.Tables.{StandsFor};
+ghost use Rattle.audit.specs.Tables.{Represents};
 
 use crate::finding::Finding;
 use crate::rows::{Rows, fill, row_of};
@@ -39,7 +39,7 @@ impl Cells {
     /// No record was given.
     pub fn new(alloc: Global, members: Members) -> Cells
         ensures members { result.members ≡ members }
-        ensures nothing { StandsFor result [] }
+        ensures nothing { Represents result [] }
     {
         Cells {
             alloc,
@@ -51,7 +51,7 @@ impl Cells {
 
     /// What the records that were given say together of a version.
     pub fn finding(&self, slot: &Slot) -> Finding
-        ensures { (given : List SiteRecord) → StandsFor self.now given
+        ensures { (given : List SiteRecord) → Represents self.now given
             → IsFinding (quorums_of self.now.members) given slot.now result }
     {
         row_of(&self.rows, slot).finding()
@@ -59,8 +59,8 @@ impl Cells {
 
     /// A record of a cell of this site is given.
     pub fn note(&mut self, site: SiteNo, kept: &Record) -> Result<(), AllocError>
-        ensures noted { OnOk result ((given : List SiteRecord) → StandsFor self.old given
-            → StandsFor self.new (given ++ record { site = site; kept = kept.now } ∷ [])) }
+        ensures noted { OnOk result ((given : List SiteRecord) → Represents self.old given
+            → Represents self.new (given ++ record { site = site; kept = kept.now } ∷ [])) }
         ensures members { self.new.members ≡ self.old.members }
     {
         fill(

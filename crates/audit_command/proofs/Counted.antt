@@ -11,7 +11,7 @@ use Rattle.fed_types.specs.Slots.{SlotName, same_slot}
 use Rattle.records.specs.declared.record.Record.{Record}
 use Rattle.ledger.specs.Versions.{slots_of, with_slot}
 use Rattle.audit.specs.Evidence.{SiteRecord}
-use Rattle.audit.specs.Tables.{StandsFor}
+use Rattle.audit.specs.Tables.{Represents}
 use Rattle.audit_command.specs.declared.evidence.Evidence.{Evidence}
 use Rattle.audit_command.specs.declared.version.Version.{Version}
 use Rattle.audit_command.specs.CellReadings.{of_site}
@@ -30,7 +30,7 @@ no_slots = refl
 -- the version of the record goes to the end, if it is new
 pub one_record : (members : Membership) (old new : Evidence) (given : List SiteRecord)
     (s : SiteRecord) → IsEvidence members old given
-    → new.cells.members ≡ old.cells.members → StandsFor new.cells (given ++ s ∷ [])
+    → new.cells.members ≡ old.cells.members → Represents new.cells (given ++ s ∷ [])
     → new.slots.keys ≡ insert_key same_slot old.slots.keys s.kept.slot
     → IsEvidence members new (given ++ s ∷ [])
 one_record members old new given s is same stands put = record {

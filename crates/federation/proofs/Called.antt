@@ -46,7 +46,7 @@ use Rattle.world_law.specs.Worlds.{with_line, with_seen, sent_lines, at_member}
 use Rattle.world_tables.specs.Numbers as numbers
 use Rattle.world_tables.specs.Numbers.{is_named}
 use Rattle.federation.specs.declared.federation.Federation.{Federation}
-use Rattle.federation.specs.Federations.{StandsFor, IsStation, AreStations, IsSound}
+use Rattle.federation.specs.Federations.{Represents, IsStation, AreStations, IsSound}
 use Rattle.federation.specs.Inputs.{after, after_input, place_in}
 use Rattle.federation.specs.Said.{lines_said, seen_with}
 use Rattle.federation.specs.Sent.{lines_sent, places_from}
@@ -57,7 +57,7 @@ use Rattle.federation.proofs.Stands.{Comes, stands_after, taken, length_map}
 -- ---- members and modes
 
 -- the site at a place is a member
-pub is_member_at : (f : Federation) (w : World) (place : ℕ) → StandsFor f w
+pub is_member_at : (f : Federation) (w : World) (place : ℕ) → Represents f w
     → place < length f.stations.items → is_in (quorums w).members (place + 1) ≡ true
 is_member_at f w place is within =
     is_in-sites_to (count_of w.members) (place + 1) (omega arith) ∙ tests
@@ -72,9 +72,9 @@ is_member_at f w place is within =
 
 -- the station at a place, after it came to another state
 came_to : (f : Federation) (w : World) (place : ℕ) (old new : Station) (s : SiteState)
-    → StandsFor f w → place < length f.stations.items
+    → Represents f w → place < length f.stations.items
     → old ≡ get_or f.stations.items place old → owner_of new ≡ owner_of old
-    → stations.StandsFor (record { members = w.members; site = place + 1 }) (place_of new) s
+    → stations.Represents (record { members = w.members; site = place + 1 }) (place_of new) s
     → IsStation w.members (place + 1) new s
 came_to f w place old new s is within at whose stands =
     let owner : owner_of new ≡ record { members = w.members; site = place + 1 } =
@@ -82,13 +82,13 @@ came_to f w place old new s is within at whose stands =
     at).owner in
     record {
       owner = owner;
-      stands = subst (λ (o : Owner). stations.StandsFor o (place_of new) s) (sym owner) stands;
+      stands = subst (λ (o : Owner). stations.Represents o (place_of new) s) (sym owner) stands;
     }
 
 -- ---- a call
 
 pub undergone : (f g : Federation) (w : World) (place : ℕ) (input : ℕ → Input) (fate : Fate)
-    (old new : Station) (told : Told) (front : List Line) → StandsFor f w
+    (old new : Station) (told : Told) (front : List Line) → Represents f w
     → is_down (mode_of w (place + 1)) ≡ false
     → IsSound (quorums w) (takes (quorums w) w.network (place + 1) (input w.members.federation)
     fate).network
@@ -101,11 +101,11 @@ pub undergone : (f g : Federation) (w : World) (place : ℕ) (input : ℕ → In
     → front ≡ f.lines.items ++ lines_said w.seen (place + 1) (input w.members.federation) told.said
     → g.lines.items ≡ front ++ lines_sent (length f.sent.sent + 1) (map handed_out told.sends.items)
     → g.sent.sent ≡ f.sent.sent ++ places_from (length front) (length told.sends.items)
-    → numbers.StandsForSame f.sent g.sent
-    → StandsFor g (after_input w (place + 1) (input w.members.federation) fate)
+    → numbers.RepresentsSame f.sent g.sent
+    → Represents g (after_input w (place + 1) (input w.members.federation) fate)
 undergone f g w place input fate old new told front is up sound within at whose comes members
     stations_are trees seen says lines sent named =
-    subst (λ (h : Happening). StandsFor g (after w h)) (sym happens_so)
+    subst (λ (h : Happening). Represents g (after w h)) (sym happens_so)
     (stands_after f g w site o parts
     (subst (λ (h : Happening). IsSound (quorums w) h.network) happens_so sound) is)
   where
@@ -130,7 +130,7 @@ undergone f g w place input fate old new told front is up sound within at whose 
     came : ComesTo owner (input w.members.federation) (place_of new) told o
     came = subst (λ (whose : Owner). Undergoes whose (input whose.members.federation) fate
         (place_of old) (place_of new) told) at_place.owner comes (w.network.sites site)
-        (subst (λ (whose : Owner). stations.StandsFor whose (place_of old) (w.network.sites site))
+        (subst (λ (whose : Owner). stations.Represents whose (place_of old) (w.network.sites site))
         at_place.owner at_place.stands)
 
     own : List Line
@@ -225,15 +225,15 @@ when_up w number site Down e = absurd (cc)
 -- the parts of a federation after one of its stations came to an outcome, of which a line is said
 -- and nothing is sent
 pub one_line : (f g : Federation) (w : World) (place : ℕ) (old new : Station) (o : Outcome)
-    (line : Line) → StandsFor f w → IsSound (quorums w) (happening w.network (place + 1) o).network
+    (line : Line) → Represents f w → IsSound (quorums w) (happening w.network (place + 1) o).network
     → place < length f.stations.items → old ≡ get_or f.stations.items place old
     → owner_of new ≡ owner_of old
-    → stations.StandsFor (record { members = w.members; site = place + 1 }) (place_of new) o.site
+    → stations.Represents (record { members = w.members; site = place + 1 }) (place_of new) o.site
     → own_lines w.seen o.notice ≡ line ∷ [] → o.sends ≡ []
     → g.members ≡ f.members → g.stations.items ≡ slice_set f.stations.items place new
     → g.trees ≡ f.trees → g.seen ≡ f.seen → g.sent ≡ f.sent
     → g.lines.items ≡ f.lines.items ++ line ∷ []
-    → StandsFor g (after w (happening w.network (place + 1) o))
+    → Represents g (after w (happening w.network (place + 1) o))
 unfolding lines_sent places_from
 one_line f g w place old new o line is sound within at whose stands says none members stations_are
     trees seen sent lines =
@@ -257,23 +257,23 @@ one_line f g w place old new o line is sound within at whose stands says none me
     }) sound is
 
 pub stopped : (f g : Federation) (w : World) (number place : ℕ) (old new : Station) (line : Line)
-    → StandsFor f w → is_down (mode_of w (place + 1)) ≡ false
+    → Represents f w → is_down (mode_of w (place + 1)) ≡ false
     → place < length f.stations.items → old ≡ get_or f.stations.items place old
     → owner_of new ≡ owner_of old
-    → ((s : SiteState) → stations.StandsFor (owner_of old) (place_of old) s
-    → stations.StandsFor (owner_of old) (place_of new)
+    → ((s : SiteState) → stations.Represents (owner_of old) (place_of old) s
+    → stations.Represents (owner_of old) (place_of new)
     (goes_down (owner_of old).site s None []).site)
     → line ≡ printed.Down (place + 1)
     → g.members ≡ f.members → g.stations.items ≡ slice_set f.stations.items place new
     → g.trees ≡ f.trees → g.seen ≡ f.seen → g.sent ≡ f.sent
     → g.lines.items ≡ f.lines.items ++ line ∷ []
-    → StandsFor g (event_at w number (place + 1) (Stop (place + 1)))
+    → Represents g (event_at w number (place + 1) (Stop (place + 1)))
 unfolding after_event
 stopped f g w number place old new line is up within at whose closes line_is members stations_are
     trees seen sent lines =
-    subst (λ (v : World). StandsFor g v)
+    subst (λ (v : World). Represents g v)
     (sym (not_down w number (mode_of w site) (after_event w (Stop site)) up))
-    (subst (λ (h : Happening). StandsFor g (after w h)) (sym happens_so)
+    (subst (λ (h : Happening). Represents g (after w h)) (sym happens_so)
     (one_line f g w place old new o line is
     (subst (λ (h : Happening). IsSound (quorums w) h.network) happens_so
     (sound_after (quorums w) w.network (Stop site) tt is.sound))
@@ -289,9 +289,9 @@ stopped f g w number place old new line is up within at whose closes line_is mem
     at_place : IsStation w.members site old (w.network.sites site)
     at_place = station_at w.members f.stations.items w.network.sites place old is.stations within at
 
-    closed : stations.StandsFor (record { members = w.members; site = place + 1 }) (place_of new)
+    closed : stations.Represents (record { members = w.members; site = place + 1 }) (place_of new)
         o.site
-    closed = subst (λ (whose : Owner). stations.StandsFor whose (place_of new)
+    closed = subst (λ (whose : Owner). stations.Represents whose (place_of new)
         (goes_down whose.site (w.network.sites site) None []).site) at_place.owner
         (closes (w.network.sites site) at_place.stands)
 
@@ -300,24 +300,24 @@ stopped f g w number place old new line is up within at whose closes line_is mem
 
 pub started : (f g : Federation) (w : World) (number place : ℕ) (old new : Station) (count : ℕ)
     (line : Line)
-    → StandsFor f w → is_up (mode_of w (place + 1)) ≡ false
+    → Represents f w → is_up (mode_of w (place + 1)) ≡ false
     → place < length f.stations.items → old ≡ get_or f.stations.items place old
     → owner_of new ≡ owner_of old
-    → ((s : SiteState) → stations.StandsFor (owner_of old) (place_of old) s
-    → stations.StandsFor (owner_of old) (place_of new) (opened (owner_of old).site s).site
+    → ((s : SiteState) → stations.Represents (owner_of old) (place_of old) s
+    → stations.Represents (owner_of old) (place_of new) (opened (owner_of old).site s).site
     × (count ≡ length s.records))
     → line ≡ printed.Up (place + 1) count
     → g.members ≡ f.members → g.stations.items ≡ slice_set f.stations.items place new
     → g.trees ≡ f.trees → g.seen ≡ f.seen → g.sent ≡ f.sent
     → g.lines.items ≡ f.lines.items ++ line ∷ []
-    → StandsFor g (on_start w number (place + 1) (mode_of w (place + 1)))
+    → Represents g (on_start w number (place + 1) (mode_of w (place + 1)))
 unfolding after_event
 started f g w number place old new count line is down within at whose closes line_is members
     stations_are
     trees seen sent lines =
-    subst (λ (v : World). StandsFor g v)
+    subst (λ (v : World). Represents g v)
     (sym (not_up w number site (mode_of w site) down))
-    (subst (λ (h : Happening). StandsFor g (after w h)) (sym happens_so)
+    (subst (λ (h : Happening). Represents g (after w h)) (sym happens_so)
     (one_line f g w place old new o line is
     (subst (λ (h : Happening). IsSound (quorums w) h.network) happens_so
     (sound_after (quorums w) w.network (Start site) tt is.sound))
@@ -335,9 +335,9 @@ started f g w number place old new count line is down within at whose closes lin
     at_place : IsStation w.members site old (w.network.sites site)
     at_place = station_at w.members f.stations.items w.network.sites place old is.stations within at
 
-    opens : stations.StandsFor (record { members = w.members; site = place + 1 }) (place_of new)
+    opens : stations.Represents (record { members = w.members; site = place + 1 }) (place_of new)
         o.site × (count ≡ length (w.network.sites site).records)
-    opens = subst (λ (whose : Owner). stations.StandsFor whose (place_of new)
+    opens = subst (λ (whose : Owner). stations.Represents whose (place_of new)
         (opened whose.site (w.network.sites site)).site
         × (count ≡ length (w.network.sites site).records)) at_place.owner
         (closes (w.network.sites site) at_place.stands)
@@ -348,14 +348,14 @@ started f g w number place old new count line is down within at whose closes lin
 -- ---- a question to another member
 
 pub asks : (f g : Federation) (w : World) (number place asked to : ℕ) (slot : SlotName)
-    (fate : Fate) → StandsFor f w → asked < length f.stations.items → to ≡ asked + 1 → IsSlot slot
+    (fate : Fate) → Represents f w → asked < length f.stations.items → to ≡ asked + 1 → IsSlot slot
     → (IsSound (quorums w) (takes (quorums w) w.network (place + 1) (Asks slot to) fate).network
-    → StandsFor g (unless_down w number (mode_of w (place + 1))
+    → Represents g (unless_down w number (mode_of w (place + 1))
     (after_input w (place + 1) (Asks slot to) fate)))
-    → StandsFor g (event_at w number (place + 1) (Ask (place + 1) (asked + 1) slot fate))
+    → Represents g (event_at w number (place + 1) (Ask (place + 1) (asked + 1) slot fate))
 unfolding after_event happens
 asks f g w number place asked to slot fate is within to_is well called =
-    subst (λ (member : ℕ). StandsFor g (event_at w number (place + 1)
+    subst (λ (member : ℕ). Represents g (event_at w number (place + 1)
     (Ask (place + 1) member slot fate))) to_is
     (called (sound_after (quorums w) w.network (Ask (place + 1) to slot fate)
     (subst (λ (n : ℕ). IsSiteNumber n) (sym to_is) number_is, well) is.sound))
@@ -369,17 +369,17 @@ asks f g w number place asked to slot fate is within to_is well called =
 pub raw_arrives : (g : Federation) (w : World) (number site : ℕ) (message : Option Message)
     → IsSound (quorums w) w.network → is_some message ≡ false
     → (IsSound (quorums w) (takes (quorums w) w.network site (Arrives message) Whole).network
-    → StandsFor g (unless_down w number (mode_of w site)
+    → Represents g (unless_down w number (mode_of w site)
     (after_input w site (Arrives message) Whole)))
-    → StandsFor g (on_raw w number site message)
+    → Represents g (on_raw w number site message)
 unfolding on_raw after_event happens
 raw_arrives g w number site None sound none called =
     called (sound_after (quorums w) w.network (Raw site) tt sound)
 raw_arrives g w number site (Some m) sound none called = absurd (cc)
 
 pub raw_is_formed : (g : Federation) (w : World) (number site : ℕ) (message : Option Message)
-    → is_some message ≡ true → StandsFor g (skips w number reasons.Formed)
-    → StandsFor g (on_raw w number site message)
+    → is_some message ≡ true → Represents g (skips w number reasons.Formed)
+    → Represents g (on_raw w number site message)
 unfolding on_raw
 raw_is_formed g w number site None some skipped = absurd (cc)
 raw_is_formed g w number site (Some m) some skipped = skipped
@@ -448,20 +448,20 @@ with_seen_is w tree (Ok bag) = refl
 with_seen_is w tree (Err fault) = refl
 
 pub deposited : (f mid g : Federation) (w : World) (number place tree : ℕ) (slot : SlotName)
-    (fate : Fate) (found : Result BagId BagFault) → StandsFor f w → SameButSeen f mid
+    (fate : Fate) (found : Result BagId BagFault) → Represents f w → SameButSeen f mid
     → is_down (mode_of w (place + 1)) ≡ false → IsSlot slot → IfOk found IsBag
-    → firsts.StandsFor mid.seen (seen_with tree found w.seen)
-    → ((v : World) → StandsFor mid v → is_down (mode_of v (place + 1)) ≡ false
+    → firsts.Represents mid.seen (seen_with tree found w.seen)
+    → ((v : World) → Represents mid v → is_down (mode_of v (place + 1)) ≡ false
     → IsSound (quorums v)
     (takes (quorums v) v.network (place + 1) (Deposits slot found) fate).network
-    → StandsFor g (after_input v (place + 1) (Deposits slot found) fate))
-    → StandsFor g (on_checked w number (place + 1) tree slot fate found)
+    → Represents g (after_input v (place + 1) (Deposits slot found) fate))
+    → Represents g (on_checked w number (place + 1) tree slot fate found)
 unfolding after_event happens
 deposited f mid g w number place tree slot fate found is same up well well_bag seen called =
-    subst (λ (v : World). StandsFor g v)
+    subst (λ (v : World). Represents g v)
     (sym (not_down w number (mode_of w (place + 1))
     (after_event (with_seen w tree found) (Deposit (place + 1) slot found fate)) up))
-    (subst (λ (v : World). StandsFor g (after_event v (Deposit (place + 1) slot found fate)))
+    (subst (λ (v : World). Represents g (after_event v (Deposit (place + 1) slot found fate)))
     (sym (with_seen_is w tree found))
     (called v stands up
     (sound_after (quorums w) w.network (Deposit (place + 1) slot found fate) (well, well_bag)
@@ -470,7 +470,7 @@ deposited f mid g w number place tree slot fate found is same up well well_bag s
     v : World
     v = record w { seen = seen_with tree found w.seen }
 
-    stands : StandsFor mid v
+    stands : Represents mid v
     stands = record {
       members = same.members ∙ is.members;
       stations = rw same.stations is.stations;
@@ -483,38 +483,38 @@ deposited f mid g w number place tree slot fate found is same up well well_bag s
     }
 
 pub deposit_of_files : (f g : Federation) (w : World) (number site tree : ℕ) (slot : SlotName)
-    (fate : Fate) (files : Files) → StandsFor f w → Some files ≡ tree_at tree f.trees
-    → StandsFor g (on_checked w number site tree slot fate (check_of (facts_of_tree files)))
-    → StandsFor g (on_deposit w number site tree slot fate (tree_at tree w.trees))
+    (fate : Fate) (files : Files) → Represents f w → Some files ≡ tree_at tree f.trees
+    → Represents g (on_checked w number site tree slot fate (check_of (facts_of_tree files)))
+    → Represents g (on_deposit w number site tree slot fate (tree_at tree w.trees))
 unfolding on_deposit
 deposit_of_files f g w number site tree slot fate files is found done =
-    subst (λ (o : Option Files). StandsFor g (on_deposit w number site tree slot fate o))
+    subst (λ (o : Option Files). Represents g (on_deposit w number site tree slot fate o))
     (found ∙ ap (tree_at tree) is.trees) done
 
 pub no_files_to_deposit : (f g : Federation) (w : World) (number site tree : ℕ) (slot : SlotName)
-    (fate : Fate) → StandsFor f w → None ≡ tree_at tree f.trees
-    → StandsFor g (skips w number reasons.Tree)
-    → StandsFor g (on_deposit w number site tree slot fate (tree_at tree w.trees))
+    (fate : Fate) → Represents f w → None ≡ tree_at tree f.trees
+    → Represents g (skips w number reasons.Tree)
+    → Represents g (on_deposit w number site tree slot fate (tree_at tree w.trees))
 unfolding on_deposit
 no_files_to_deposit f g w number site tree slot fate is none skipped =
-    subst (λ (o : Option Files). StandsFor g (on_deposit w number site tree slot fate o))
+    subst (λ (o : Option Files). Represents g (on_deposit w number site tree slot fate o))
     (none ∙ ap (tree_at tree) is.trees) skipped
 
 -- ---- members, as the code finds them
 
-module _ (f g : Federation) (w : World) (number site : ℕ) (is : StandsFor f w) where
+module _ (f g : Federation) (w : World) (number site : ℕ) (is : Represents f w) where
   pub at_place : (place : ℕ) (next : ℕ → World)
       → Some place ≡ place_in (length f.stations.items) site
-      → (place < length f.stations.items → StandsFor g (next (place + 1)))
-      → StandsFor g (at_member w number site (next site))
+      → (place < length f.stations.items → Represents g (next (place + 1)))
+      → Represents g (at_member w number site (next site))
   at_place place next placed done =
       let p = member_at w.members (length f.stations.items) site place is.stations.count
       (sym placed) in
-      subst (λ (t : Bool). StandsFor g (cond t (next site) (skips w number reasons.Site)))
-      (sym p.member) (subst (λ (n : ℕ). StandsFor g (next n)) (sym p.number) (done p.within))
+      subst (λ (t : Bool). Represents g (cond t (next site) (skips w number reasons.Site)))
+      (sym p.member) (subst (λ (n : ℕ). Represents g (next n)) (sym p.number) (done p.within))
 
   pub nowhere : (next : World) → None ≡ place_in (length f.stations.items) site
-      → StandsFor g (skips w number reasons.Site) → StandsFor g (at_member w number site next)
+      → Represents g (skips w number reasons.Site) → Represents g (at_member w number site next)
   nowhere next none skipped =
-      subst (λ (t : Bool). StandsFor g (cond t next (skips w number reasons.Site)))
+      subst (λ (t : Bool). Represents g (cond t next (skips w number reasons.Site)))
       (sym (none_at w.members (length f.stations.items) site is.stations.count (sym none))) skipped

@@ -19,7 +19,7 @@ use Rattle.world_tables.specs.Numbers as numbers
 use Rattle.world_tables.specs.Numbers.{numbered}
 use Rattle.federation.specs.declared.arrival.Arrival.{Arrival}
 use Rattle.federation.specs.declared.federation.Federation.{Federation}
-use Rattle.federation.specs.Federations.{StandsFor, IsSound}
+use Rattle.federation.specs.Federations.{Represents, IsSound}
 use Rattle.federation.specs.Inputs.{after_input, place_in}
 use Rattle.federation.specs.Sent.{IsArrival, arriving, sent_by}
 use Rattle.federation.proofs.Arrivals.{arrives_as, delivers_as, reaches_nobody}
@@ -50,9 +50,9 @@ named_only f sent is = record {
 }
 
 pub stands_naming : (f g : Federation) (w : World) (k : ℕ) → SameButNames f g
-    → ((named : List ℕ) → numbers.StandsFor f.sent named
-    → numbers.StandsFor g.sent (named ++ k ∷ []))
-    → StandsFor f w → StandsFor g (with_named w k)
+    → ((named : List ℕ) → numbers.Represents f.sent named
+    → numbers.Represents g.sent (named ++ k ∷ []))
+    → Represents f w → Represents g (with_named w k)
 stands_naming f g w k same names is = record {
   members = same.members ∙ is.members;
   stations = rw same.stations is.stations;
@@ -66,13 +66,13 @@ stands_naming f g w k same names is = record {
 
 -- ---- the datagram of a number
 
-pub none_numbered : (f : Federation) (w : World) (k : ℕ) → StandsFor f w
+pub none_numbered : (f : Federation) (w : World) (k : ℕ) → Represents f w
     → numbered k f.sent.sent ≡ None → datagram_at k w.network.sent ≡ None
 none_numbered f w zero is at = refl
 none_numbered f w (suc k) is at =
     none_sent_at w.members.federation 1 f.lines.items f.sent.sent w.network.sent k is.sent at
 
-pub is_numbered : (f : Federation) (w : World) (k place : ℕ) → StandsFor f w
+pub is_numbered : (f : Federation) (w : World) (k place : ℕ) → Represents f w
     → numbered k f.sent.sent ≡ Some place
     → IsFound w.members.federation f.lines.items place (datagram_at k w.network.sent)
 is_numbered f w zero place is at = absurd (cc)
@@ -80,7 +80,7 @@ is_numbered f w (suc k) place is at =
     sent_at w.members.federation 1 f.lines.items f.sent.sent w.network.sent k place is.sent at
 
 -- no datagram of the number was sent, so nothing arrives
-pub none_arrives : (f : Federation) (w : World) (k : ℕ) → StandsFor f w
+pub none_arrives : (f : Federation) (w : World) (k : ℕ) → Represents f w
     → numbered k f.sent.sent ≡ None
     → IsArrival w.members.federation None (datagram_at k w.network.sent)
 none_arrives f w k is at =
@@ -90,7 +90,7 @@ none_arrives f w k is at =
 -- ---- an arrival
 
 -- the bytes are read as the message that was sent
-pub read_again : (f : Federation) (w : World) (k : ℕ) (d : Send) → StandsFor f w
+pub read_again : (f : Federation) (w : World) (k : ℕ) (d : Send) → Represents f w
     → datagram_at k w.network.sent ≡ Some d
     → message_of w.members.federation (datagram_of w.members.federation d.message)
     ≡ Some d.message
@@ -99,7 +99,7 @@ read_again f w k d is at =
     (is.sound.well_formed.sent d (at_number k w.network.sent d at)).1
 
 module _ (f g : Federation) (w : World) (number k to : ℕ) (bytes : List ℕ) (fate : Fate) (d : Send)
-    (is : StandsFor f w) (at : datagram_at k w.network.sent ≡ Some d)
+    (is : Represents f w) (at : datagram_at k w.network.sent ≡ Some d)
     (of : ◌≡◌ {A = ℕ × List ℕ} (to, bytes) (datagram w.members.federation d)) where
   to_is : to ≡ d.to
   to_is = ap (λ (p : ℕ × List ℕ). p.0) of
@@ -113,15 +113,15 @@ module _ (f g : Federation) (w : World) (number k to : ℕ) (bytes : List ℕ) (
       → (place < length f.stations.items
       → IsSound (quorums w) (takes (quorums w) w.network (place + 1)
       (Arrives (message_of w.members.federation bytes)) fate).network
-      → StandsFor g (unless_down w number (mode_of w (place + 1))
+      → Represents g (unless_down w number (mode_of w (place + 1))
       (after_input w (place + 1) (Arrives (message_of w.members.federation bytes)) fate)))
-      → StandsFor g (event_at w number d.to (Deliver k fate))
+      → Represents g (event_at w number d.to (Deliver k fate))
   arrived place placed called =
-      subst (λ (v : World). StandsFor g (unless_down w number (mode_of w d.to) v))
+      subst (λ (v : World). Represents g (unless_down w number (mode_of w d.to) v))
       (sym (delivers_as w k fate d at))
-      (subst (λ (site : ℕ). StandsFor g (unless_down w number (mode_of w site)
+      (subst (λ (site : ℕ). Represents g (unless_down w number (mode_of w site)
       (after_input w site (Arrives (Some d.message)) fate))) site_is
-      (subst (λ (input : Input). StandsFor g (unless_down w number (mode_of w (place + 1))
+      (subst (λ (input : Input). Represents g (unless_down w number (mode_of w (place + 1))
       (after_input w (place + 1) input fate))) input_is (called p.within sound)))
     where
       p : IsPlace w.members (length f.stations.items) to place
@@ -140,11 +140,11 @@ module _ (f g : Federation) (w : World) (number k to : ℕ) (bytes : List ℕ) (
           (sound_after (quorums w) w.network (Deliver k fate) tt is.sound)))
 
   pub nobody : place_in (length f.stations.items) to ≡ None
-      → StandsFor f (event_at w number d.to (Deliver k fate))
+      → Represents f (event_at w number d.to (Deliver k fate))
   nobody none =
-      subst (λ (v : World). StandsFor f v)
+      subst (λ (v : World). Represents f v)
       (sym (reaches_nobody w number k fate d at stranger (is.sound.others d.to stranger)))
-      (subst (λ (ls : List Line). StandsFor f (record w { lines = ls })) (sym (append-nil w.lines))
+      (subst (λ (ls : List Line). Represents f (record w { lines = ls })) (sym (append-nil w.lines))
       is)
     where
       stranger : is_in (quorums w).members d.to ≡ false
@@ -156,66 +156,66 @@ module _ (f g : Federation) (w : World) (number k to : ℕ) (bytes : List ℕ) (
 -- what arrives leads where the delivery does
 pub delivered : (g : Federation) (w : World) (number k : ℕ) (fate : Fate) (d : Send)
     → datagram_at k w.network.sent ≡ Some d
-    → StandsFor g (event_at (with_named w k) number d.to (Deliver k fate))
-    → StandsFor g (on_deliver w number k fate)
+    → Represents g (event_at (with_named w k) number d.to (Deliver k fate))
+    → Represents g (on_deliver w number k fate)
 unfolding on_deliver on_datagram
 delivered g w number k fate d at arrived =
-    subst (λ (o : Option Send). StandsFor g (on_datagram (with_named w k) number k fate o))
+    subst (λ (o : Option Send). Represents g (on_datagram (with_named w k) number k fate o))
     (sym at) arrived
 
 pub not_delivered : (g : Federation) (w : World) (number k : ℕ) (fate : Fate)
     → datagram_at k w.network.sent ≡ None
-    → StandsFor g (skips (with_named w k) number reasons.Datagram)
-    → StandsFor g (on_deliver w number k fate)
+    → Represents g (skips (with_named w k) number reasons.Datagram)
+    → Represents g (on_deliver w number k fate)
 unfolding on_deliver on_datagram
 not_delivered g w number k fate at skipped =
-    subst (λ (o : Option Send). StandsFor g (on_datagram (with_named w k) number k fate o))
+    subst (λ (o : Option Send). Represents g (on_datagram (with_named w k) number k fate o))
     (sym at) skipped
 
 -- ---- what arrives
 
 module _ (f mid g : Federation) (w : World) (number k : ℕ) (fate : Fate) (o : Option Arrival)
-    (is : StandsFor f w) (same : SameButNames f mid)
-    (names : (named : List ℕ) → numbers.StandsFor f.sent named
-    → numbers.StandsFor mid.sent (named ++ k ∷ []))
-    (found : (v : World) → StandsFor mid v
+    (is : Represents f w) (same : SameButNames f mid)
+    (names : (named : List ℕ) → numbers.Represents f.sent named
+    → numbers.Represents mid.sent (named ++ k ∷ []))
+    (found : (v : World) → Represents mid v
     → IsArrival v.members.federation o (datagram_at k v.network.sent)) where
-  stands : StandsFor mid (with_named w k)
+  stands : Represents mid (with_named w k)
   stands = stands_naming f mid w k same names is
 
   pub deliver_some : (a : Arrival) (to : ℕ) (bytes : List ℕ) → o ≡ Some a → to ≡ a.to
       → bytes ≡ a.bytes.items
-      → ((v : World) (j : ℕ) (d : Send) → StandsFor mid v → datagram_at j v.network.sent ≡ Some d
+      → ((v : World) (j : ℕ) (d : Send) → Represents mid v → datagram_at j v.network.sent ≡ Some d
       → ◌≡◌ {A = ℕ × List ℕ} (to, bytes) (datagram v.members.federation d)
-      → StandsFor g (event_at v number d.to (Deliver j fate)))
-      → StandsFor g (on_deliver w number k fate)
+      → Represents g (event_at v number d.to (Deliver j fate)))
+      → Represents g (on_deliver w number k fate)
   deliver_some a to bytes some to_is bytes_is arrives =
       go (datagram_at k w.network.sent) refl
       (subst (λ (x : Option Arrival). IsArrival w.members.federation x
       (datagram_at k w.network.sent)) some (found (with_named w k) stands))
     where
       go : (sent : Option Send) → datagram_at k w.network.sent ≡ sent
-          → IsArrival w.members.federation (Some a) sent → StandsFor g (on_deliver w number k fate)
+          → IsArrival w.members.federation (Some a) sent → Represents g (on_deliver w number k fate)
       go None at of = absurd of
       go (Some d) at of = delivered g w number k fate d at
           (arrives (with_named w k) k d stands at (rw (to_is, bytes_is) of))
 
   pub deliver_none : o ≡ None
-      → ((v : World) → StandsFor mid v → StandsFor g (skips v number reasons.Datagram))
-      → StandsFor g (on_deliver w number k fate)
+      → ((v : World) → Represents mid v → Represents g (skips v number reasons.Datagram))
+      → Represents g (on_deliver w number k fate)
   deliver_none none skipped =
       go (datagram_at k w.network.sent) refl
       (subst (λ (x : Option Arrival). IsArrival w.members.federation x
       (datagram_at k w.network.sent)) none (found (with_named w k) stands))
     where
       go : (sent : Option Send) → datagram_at k w.network.sent ≡ sent
-          → IsArrival w.members.federation None sent → StandsFor g (on_deliver w number k fate)
+          → IsArrival w.members.federation None sent → Represents g (on_deliver w number k fate)
       go None at of = not_delivered g w number k fate at (skipped (with_named w k) stands)
       go (Some d) at of = absurd of
 
 -- what a line says was sent is the datagram of its number
 pub arrives_from : (f : Federation) (w : World) (k place : ℕ) (a : Option Arrival)
-    (line : Option Line) → StandsFor f w → Some place ≡ numbered k f.sent.sent
+    (line : Option Line) → Represents f w → Some place ≡ numbered k f.sent.sent
     → line ≡ slice_get f.lines.items place → arriving a ≡ sent_by line
     → IsArrival w.members.federation a (datagram_at k w.network.sent)
 arrives_from f w k place a line is at here says =

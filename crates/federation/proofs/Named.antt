@@ -4,7 +4,7 @@ use Rattle.std.specs.Prelude.{OnOk}
 use Rattle.lines.specs.declared.line.Reason.TheVariants as reasons
 use Rattle.world_law.specs.Worlds.{World, skips, at_member}
 use Rattle.federation.specs.declared.federation.Federation.{Federation}
-use Rattle.federation.specs.Federations.{StandsFor}
+use Rattle.federation.specs.Federations.{Represents}
 use Rattle.federation.specs.Inputs.{place_in}
 use Rattle.federation.proofs.Answers.{then_ok}
 use Rattle.federation.proofs.Called.{at_place, nowhere}
@@ -13,14 +13,14 @@ use Rattle.federation.proofs.Called.{at_place, nowhere}
 module _ {E : Type 0} (r : Result (Unit {0}) E) (f g : Federation) (number site : ℕ)
     (next : World → ℕ → World) where
   pub to_member : (place : ℕ) → Some place ≡ place_in (length f.stations.items) site
-      → OnOk r ((w : World) → StandsFor f w → StandsFor g (next w (place + 1)))
-      → OnOk r ((w : World) → StandsFor f w → StandsFor g (at_member w number site (next w site)))
+      → OnOk r ((w : World) → Represents f w → Represents g (next w (place + 1)))
+      → OnOk r ((w : World) → Represents f w → Represents g (at_member w number site (next w site)))
   to_member place placed =
       then_ok r (λ done w is. at_place f g w number site is place (next w) placed
       (λ within. done w is))
 
   pub to_nobody : None ≡ place_in (length f.stations.items) site
-      → OnOk r ((w : World) → StandsFor f w → StandsFor g (skips w number reasons.Site))
-      → OnOk r ((w : World) → StandsFor f w → StandsFor g (at_member w number site (next w site)))
+      → OnOk r ((w : World) → Represents f w → Represents g (skips w number reasons.Site))
+      → OnOk r ((w : World) → Represents f w → Represents g (at_member w number site (next w site)))
   to_nobody none =
       then_ok r (λ skips w is. nowhere f g w number site is (next w site) none (skips w is))

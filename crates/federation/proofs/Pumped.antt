@@ -6,12 +6,12 @@ use Rattle.world_law.specs.Worlds.{World, next_unnamed, on_turn, on_deliver, pum
 use Rattle.world_law.proofs.Pumps.{idle_pump}
 use Rattle.world_tables.specs.Numbers as numbers
 use Rattle.federation.specs.declared.federation.Federation.{Federation}
-use Rattle.federation.specs.Federations.{StandsFor}
+use Rattle.federation.specs.Federations.{Represents}
 use Rattle.federation.proofs.Sent.{are_sent_length}
 
 pub stands_same : (f g : Federation) (w : World) → g.members ≡ f.members
     → g.stations ≡ f.stations → g.sent ≡ f.sent → g.trees ≡ f.trees → g.seen ≡ f.seen
-    → g.lines ≡ f.lines → StandsFor f w → StandsFor g w
+    → g.lines ≡ f.lines → Represents f w → Represents g w
 stands_same f g w members stations sent trees seen lines is = record {
   members = members ∙ is.members;
   stations = rw stations is.stations;
@@ -24,8 +24,8 @@ stands_same f g w members stations sent trees seen lines is = record {
 }
 
 -- which number comes next
-next_of : (f : Federation) (v : World) (next : Option ℕ) → StandsFor f v
-    → ((named : List ℕ) → numbers.StandsFor f.sent named
+next_of : (f : Federation) (v : World) (next : Option ℕ) → Represents f v
+    → ((named : List ℕ) → numbers.Represents f.sent named
     → next ≡ numbers.next_unnamed named (length f.sent.sent)) → next_unnamed v ≡ next
 next_of f v next is found =
     sym (found v.named is.named
@@ -35,30 +35,30 @@ next_of f v next is found =
 -- where the turns that are left lead
 abbrev pub Leads : Federation → World → (number left : ℕ) → World → Type 0
 Leads f w number left end =
-    (v : World) × StandsFor f v × (pumped v number left ≡ end)
+    (v : World) × Represents f v × (pumped v number left ≡ end)
 
 module _ (f : Federation) (w end : World) (number left : ℕ) where
   -- nothing is left to deliver
   pub pump_idles : Leads f w number left end
-      → ((named : List ℕ) → numbers.StandsFor f.sent named
+      → ((named : List ℕ) → numbers.Represents f.sent named
       → None ≡ numbers.next_unnamed named (length f.sent.sent))
-      → StandsFor f end
+      → Represents f end
   pump_idles (v, is, leads) none =
-      subst (λ (x : World). StandsFor f x)
+      subst (λ (x : World). Represents f x)
       (sym (idle_pump v number left (next_of f v None is none)) ∙ leads) is
 
   -- no turn is left
-  pub pump_ends : left ≡ 0 → Leads f w number left end → StandsFor f end
+  pub pump_ends : left ≡ 0 → Leads f w number left end → Represents f end
   unfolding pumped
   pump_ends none (v, is, leads) =
-      subst (λ (x : World). StandsFor f x)
+      subst (λ (x : World). Represents f x)
       (ap (λ (n : ℕ). pumped v number n) (sym none) ∙ leads) is
 
   -- a turn delivers the datagram of the next number
   pub pump_turns : (g : Federation) (rest k : ℕ) → left ≡ suc rest → Leads f w number left end
-      → ((named : List ℕ) → numbers.StandsFor f.sent named
+      → ((named : List ℕ) → numbers.Represents f.sent named
       → Some k ≡ numbers.next_unnamed named (length f.sent.sent))
-      → ((v : World) → StandsFor f v → StandsFor g (on_deliver v number k Whole))
+      → ((v : World) → Represents f v → Represents g (on_deliver v number k Whole))
       → Leads g w number rest end
   unfolding pumped on_turn
   pump_turns g rest k more (v, is, leads) next delivers = (

@@ -1,4 +1,4 @@
--- What a federation stands for, after one of its parts has changed.
+-- What a federation represents, after one of its parts has changed.
 use Rattle.std.proofs.Common.{ℕ, suc, ◌+◌, ◌≡◌, true, false, cond, Bool, List, [], ◌∷◌, ◌++◌}
 use Rattle.std.proofs.Common.{length, map}
 use Rattle.std.proofs.Common.{None, refl, ap, subst, ◌∙◌, arith, append_assoc}
@@ -15,7 +15,7 @@ use Rattle.world_law.specs.Networks.{Outcome, takes, reaches, happening}
 use Rattle.world_law.specs.Worlds.{World, quorums, own_lines, sent_lines}
 use Rattle.world_tables.specs.Numbers as numbers
 use Rattle.federation.specs.declared.federation.Federation.{Federation}
-use Rattle.federation.specs.Federations.{StandsFor, AreStations, IsSound}
+use Rattle.federation.specs.Federations.{Represents, AreStations, IsSound}
 use Rattle.federation.specs.Inputs.{after}
 use Rattle.federation.specs.Sent.{AreSent, lines_sent, places_from}
 use Rattle.federation.proofs.Places.{with_state}
@@ -33,8 +33,8 @@ pub record SameButLines (f g : Federation) : Type 0 where
   pub seen : g.seen ≡ f.seen
 
 pub stands_saying : (f g : Federation) (w : World) (more : List Line) → SameButLines f g
-    → g.lines.items ≡ f.lines.items ++ more → StandsFor f w
-    → StandsFor g (record w { lines = w.lines ++ more })
+    → g.lines.items ≡ f.lines.items ++ more → Represents f w
+    → Represents g (record w { lines = w.lines ++ more })
 stands_saying f g w more same lines is = record {
   members = same.members ∙ is.members;
   stations = rw same.stations is.stations;
@@ -77,7 +77,7 @@ pub record Comes (f g : Federation) (w : World) (site : ℕ) (o : Outcome) : Typ
       ≡ (f.lines.items ++ own) ++ lines_sent (length f.sent.sent + 1) datagrams
   pub sent : g.sent.sent
       ≡ f.sent.sent ++ places_from (length (f.lines.items ++ own)) (length datagrams)
-  pub named : numbers.StandsForSame f.sent g.sent
+  pub named : numbers.RepresentsSame f.sent g.sent
   pub trees : g.trees ≡ f.trees
   pub seen : g.seen ≡ f.seen
 
@@ -86,8 +86,8 @@ length_map f [] = refl
 length_map f (x ∷ xs) = ap suc (length_map f xs)
 
 pub stands_after : (f g : Federation) (w : World) (site : ℕ) (o : Outcome) → Comes f g w site o
-    → IsSound (quorums w) (happening w.network site o).network → StandsFor f w
-    → StandsFor g (after w (happening w.network site o))
+    → IsSound (quorums w) (happening w.network site o).network → Represents f w
+    → Represents g (after w (happening w.network site o))
 stands_after f g w site o c sound is = record {
   members = c.members ∙ is.members;
   stations = c.stations;

@@ -1,4 +1,4 @@
--- What a federation stands for, after one of its trees has changed.
+-- What a federation represents, after one of its trees has changed.
 use Rattle.std.proofs.Common.{ℕ, ◌≡◌, true, false, List, [], ◌∷◌, ◌++◌, Option, Some, None}
 use Rattle.std.proofs.Common.{sym, ap, subst, ◌∙◌}
 use Rattle.std.specs.Prelude.{is_some}
@@ -12,7 +12,7 @@ use Rattle.world_tables.specs.declared.trees.Added.TheVariants.{Done, NoTree, Ba
 use Rattle.world_tables.specs.Changes.{trees_with_folder, trees_with_file, trees_with_file_unless}
 use Rattle.world_tables.specs.Changes.{outcome_of_adding, outcome_unless}
 use Rattle.federation.specs.declared.federation.Federation.{Federation}
-use Rattle.federation.specs.Federations.{StandsFor}
+use Rattle.federation.specs.Federations.{Represents}
 
 -- the same but for the trees
 pub record SameButTrees (f g : Federation) : Type 0 where
@@ -23,7 +23,7 @@ pub record SameButTrees (f g : Federation) : Type 0 where
   pub lines : g.lines ≡ f.lines
 
 stands_with_trees : (f g : Federation) (w : World) (trees : List NumberedTree) → SameButTrees f g
-    → g.trees ≡ trees → StandsFor f w → StandsFor g (with_trees w trees)
+    → g.trees ≡ trees → Represents f w → Represents g (with_trees w trees)
 stands_with_trees f g w trees same new is = record {
   members = same.members ∙ is.members;
   stations = rw same.stations is.stations;
@@ -37,7 +37,7 @@ stands_with_trees f g w trees same new is = record {
 
 -- the trees are as they were
 stands_still : (f g : Federation) (w : World) → SameButTrees f g → g.trees ≡ w.trees
-    → StandsFor f w → StandsFor g w
+    → Represents f w → Represents g w
 stands_still f g w same new is = stands_with_trees f g w w.trees same new is
 
 no_true : {P : Type 0} → false ≡ true → P
@@ -50,10 +50,10 @@ module _ (f g : Federation) (w : World) (number tree : ℕ) where
   -- ---- a tree is declared
   pub tree_declared : SameButTrees f g → tree_at tree f.trees ≡ None
       → g.trees ≡ f.trees ++ record { number = tree; files = no_files } ∷ []
-      → StandsFor f w → StandsFor g (on_tree w number tree (tree_at tree w.trees))
+      → Represents f w → Represents g (on_tree w number tree (tree_at tree w.trees))
   unfolding on_tree
   tree_declared same none new is =
-      subst (λ (o : Option Files). StandsFor g (on_tree w number tree o)) (sym none_here)
+      subst (λ (o : Option Files). Represents g (on_tree w number tree o)) (sym none_here)
       (stands_with_trees f g w _ same
       (new ∙ ap (λ (ts : List NumberedTree). ts ++ record { number = tree; files = no_files } ∷ [])
       is.trees) is)
@@ -62,17 +62,17 @@ module _ (f g : Federation) (w : World) (number tree : ℕ) where
       none_here = ap (tree_at tree) (sym is.trees) ∙ none
 
   pub tree_was_declared : (files : Files) → tree_at tree f.trees ≡ Some files
-      → StandsFor g (skips w number reasons.Tree) → StandsFor f w
-      → StandsFor g (on_tree w number tree (tree_at tree w.trees))
+      → Represents g (skips w number reasons.Tree) → Represents f w
+      → Represents g (on_tree w number tree (tree_at tree w.trees))
   unfolding on_tree
   tree_was_declared files some skipped is =
-      subst (λ (o : Option Files). StandsFor g (on_tree w number tree o))
+      subst (λ (o : Option Files). Represents g (on_tree w number tree o))
       (sym (ap (tree_at tree) (sym is.trees) ∙ some)) skipped
 
   -- ---- a folder
   pub folder_added : SameButTrees f g → true ≡ is_some (tree_at tree f.trees)
       → g.trees ≡ trees_with_folder tree (tree_at tree f.trees) f.trees
-      → StandsFor f w → StandsFor g (on_folder w number tree (tree_at tree w.trees))
+      → Represents f w → Represents g (on_folder w number tree (tree_at tree w.trees))
   unfolding on_folder
   folder_added same some new is =
       go (tree_at tree w.trees)
@@ -80,14 +80,14 @@ module _ (f g : Federation) (w : World) (number tree : ℕ) where
       (new ∙ ap (λ (ts : List NumberedTree). trees_with_folder tree (tree_at tree ts) ts) is.trees)
     where
       go : (o : Option Files) → true ≡ is_some o → g.trees ≡ trees_with_folder tree o w.trees
-          → StandsFor g (on_folder w number tree o)
+          → Represents g (on_folder w number tree o)
       go None e new = no_false e
       go (Some files) e new = stands_with_trees f g w _ same new is
 
   pub no_folder : (h : Federation) → SameButTrees f g → false ≡ is_some (tree_at tree f.trees)
       → g.trees ≡ trees_with_folder tree (tree_at tree f.trees) f.trees
-      → (StandsFor g w → StandsFor h (skips w number reasons.Tree))
-      → StandsFor f w → StandsFor h (on_folder w number tree (tree_at tree w.trees))
+      → (Represents g w → Represents h (skips w number reasons.Tree))
+      → Represents f w → Represents h (on_folder w number tree (tree_at tree w.trees))
   unfolding on_folder
   no_folder h same none new skipped is =
       go (tree_at tree w.trees)
@@ -95,7 +95,7 @@ module _ (f g : Federation) (w : World) (number tree : ℕ) where
       (new ∙ ap (λ (ts : List NumberedTree). trees_with_folder tree (tree_at tree ts) ts) is.trees)
     where
       go : (o : Option Files) → false ≡ is_some o → g.trees ≡ trees_with_folder tree o w.trees
-          → StandsFor h (on_folder w number tree o)
+          → Represents h (on_folder w number tree o)
       go None e new = skipped (stands_still f g w same new is)
       go (Some files) e new = no_true e
 
@@ -103,7 +103,7 @@ module _ (f g : Federation) (w : World) (number tree : ℕ) where
   module _ (path bytes : List ℕ) (a : Added) (same : SameButTrees f g)
       (answer : a ≡ outcome_of_adding path bytes (tree_at tree f.trees))
       (new : g.trees ≡ trees_with_file tree path bytes (tree_at tree f.trees) f.trees)
-      (is : StandsFor f w) where
+      (is : Represents f w) where
     -- of the world's trees
     answer_here : a ≡ outcome_of_adding path bytes (tree_at tree w.trees)
     answer_here = answer
@@ -114,25 +114,25 @@ module _ (f g : Federation) (w : World) (number tree : ℕ) where
         trees_with_file tree path bytes (tree_at tree ts) ts) is.trees
 
     pub file_added : a ≡ Done
-        → StandsFor g (on_file w number tree path bytes (tree_at tree w.trees))
+        → Represents g (on_file w number tree path bytes (tree_at tree w.trees))
     unfolding on_file on_added
     file_added done = go (tree_at tree w.trees) (sym answer_here ∙ done) new_here
       where
         at : (files : Files) (fault : Option TreeFault) → outcome_unless fault ≡ Done
             → g.trees ≡ trees_with_file_unless tree path bytes files fault w.trees
-            → StandsFor g (on_added w number tree files path bytes fault)
+            → Represents g (on_added w number tree files path bytes fault)
         at files None e new = stands_with_trees f g w _ same new is
         at files (Some fault) e new = absurd (cc)
 
         go : (o : Option Files) → outcome_of_adding path bytes o ≡ Done
             → g.trees ≡ trees_with_file tree path bytes o w.trees
-            → StandsFor g (on_file w number tree path bytes o)
+            → Represents g (on_file w number tree path bytes o)
         go None e new = absurd (cc)
         go (Some files) e new = at files (fault_of_added files path bytes) e new
 
     pub file_without_tree : (h : Federation) → a ≡ NoTree
-        → (StandsFor g w → StandsFor h (skips w number reasons.Tree))
-        → StandsFor h (on_file w number tree path bytes (tree_at tree w.trees))
+        → (Represents g w → Represents h (skips w number reasons.Tree))
+        → Represents h (on_file w number tree path bytes (tree_at tree w.trees))
     unfolding on_file
     file_without_tree h none skipped = go (tree_at tree w.trees) (sym answer_here ∙ none) new_here
       where
@@ -142,24 +142,24 @@ module _ (f g : Federation) (w : World) (number tree : ℕ) where
 
         go : (o : Option Files) → outcome_of_adding path bytes o ≡ NoTree
             → g.trees ≡ trees_with_file tree path bytes o w.trees
-            → StandsFor h (on_file w number tree path bytes o)
+            → Represents h (on_file w number tree path bytes o)
         go None e new = skipped (stands_still f g w same new is)
         go (Some files) e new = absurd (at (fault_of_added files path bytes) e)
 
     pub file_refused : (h : Federation) → a ≡ BadFile
-        → (StandsFor g w → StandsFor h (skips w number reasons.Path))
-        → StandsFor h (on_file w number tree path bytes (tree_at tree w.trees))
+        → (Represents g w → Represents h (skips w number reasons.Path))
+        → Represents h (on_file w number tree path bytes (tree_at tree w.trees))
     unfolding on_file on_added
     file_refused h bad skipped = go (tree_at tree w.trees) (sym answer_here ∙ bad) new_here
       where
         at : (files : Files) (fault : Option TreeFault) → outcome_unless fault ≡ BadFile
             → g.trees ≡ trees_with_file_unless tree path bytes files fault w.trees
-            → StandsFor h (on_added w number tree files path bytes fault)
+            → Represents h (on_added w number tree files path bytes fault)
         at files None e new = absurd (cc)
         at files (Some fault) e new = skipped (stands_still f g w same new is)
 
         go : (o : Option Files) → outcome_of_adding path bytes o ≡ BadFile
             → g.trees ≡ trees_with_file tree path bytes o w.trees
-            → StandsFor h (on_file w number tree path bytes o)
+            → Represents h (on_file w number tree path bytes o)
         go None e new = absurd (cc)
         go (Some files) e new = at files (fault_of_added files path bytes) e new

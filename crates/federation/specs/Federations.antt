@@ -1,4 +1,4 @@
--- What a federation of the simulator stands for.
+-- What a federation of the simulator represents.
 use Rattle.std.specs.Prelude.{ℕ, ◌+◌, ◌≡◌, false, List, length, Some, slice_get}
 use Rattle.fed_types.specs.Lists.{is_in}
 use Rattle.fed_types.specs.Quorums.{QuorumSystem}
@@ -16,11 +16,11 @@ use Rattle.federation.specs.Sent.{AreSent}
 
 -- ---- the sites
 
--- the station is a member's of this number, and stands for its state
+-- the station is a member's of this number, and represents its state
 pub record IsStation (members : Membership) (site : ℕ) (station : Station) (s : SiteState) : Type 0
   where
     pub owner : owner_of station ≡ record { members = members; site = site }
-    pub stands : stations.StandsFor (owner_of station) (place_of station) s
+    pub stands : stations.Represents (owner_of station) (place_of station) s
 
 -- the stations of all members, that of site 1 first
 pub record AreStations (members : Membership) (all : List Station) (sites : ℕ → SiteState) : Type 0
@@ -43,14 +43,14 @@ pub record IsSound (q : QuorumSystem) (network : Network) : Type 0 where
 
 -- ---- the federation
 
--- its sites stand for those of the world, a line stands where it has to be for each datagram that
+-- its sites represent those of the world, a line stands where it has to be for each datagram that
 -- was sent; and trees, seen bags, named numbers and lines are the world's
-pub record StandsFor (f : Federation) (w : World) : Type 0 where
+pub record Represents (f : Federation) (w : World) : Type 0 where
   pub members : f.members ≡ w.members
   pub stations : AreStations w.members f.stations.items w.network.sites
   pub sent : AreSent w.members.federation 1 f.lines.items f.sent.sent w.network.sent
-  pub named : numbers.StandsFor f.sent w.named
+  pub named : numbers.Represents f.sent w.named
   pub trees : f.trees ≡ w.trees
-  pub seen : firsts.StandsFor f.seen w.seen
+  pub seen : firsts.Represents f.seen w.seen
   pub lines : f.lines.items ≡ w.lines
   pub sound : IsSound (quorums w) w.network

@@ -7,7 +7,7 @@ ghost use Rattle.site.specs.Datagrams.{datagram};
 ghost use Rattle.site.specs.Effects.{Send};
 ghost use Rattle.world_law.specs.Networks.{Deliver, datagram_at};
 ghost use Rattle.world_law.specs.Worlds.{World, on_deliver, on_raw, event_at, pumped};
-ghost use Rattle.federation.specs.Federations.{StandsFor};
+ghost use Rattle.federation.specs.Federations.{Represents};
 ghost use Rattle.federation.specs.Sent.{IsArrival, arriving, sent_by};
 
 use crate::federation::Federation;
@@ -34,8 +34,8 @@ impl Federation {
         datagram: usize,
         fate: Fate,
     ) -> Result<(), AllocError>
-        ensures { OnOk result ((w : World) → StandsFor self.old w
-            → StandsFor self.new (on_deliver w number datagram fate)) }
+        ensures { OnOk result ((w : World) → Represents self.old w
+            → Represents self.new (on_deliver w number datagram fate)) }
     {
         self.sent.name(datagram)?;
         match self.sent_as(datagram)? {
@@ -47,8 +47,8 @@ impl Federation {
     /// So many turns, each of which delivers the datagram of the least number that nothing has
     /// named. Where every number is named the pump ends.
     pub(crate) fn pump(&mut self, number: usize, turns: u32) -> Result<(), AllocError>
-        ensures { OnOk result ((w : World) → StandsFor self.old w
-            → StandsFor self.new (pumped w number turns)) }
+        ensures { OnOk result ((w : World) → Represents self.old w
+            → Represents self.new (pumped w number turns)) }
     {
         'turns: for _ in 0..turns {
             let Some(datagram) = self.sent.next_unnamed() else {
@@ -67,8 +67,8 @@ impl Federation {
         bytes: &[u8],
     ) -> Result<(), AllocError>
         requires { place < length self.old.stations.items }
-        ensures { OnOk result ((w : World) → StandsFor self.old w
-            → StandsFor self.new (on_raw w number (place + 1)
+        ensures { OnOk result ((w : World) → Represents self.old w
+            → Represents self.new (on_raw w number (place + 1)
             (message_of w.members.federation bytes.now))) }
     {
         if is_message(self.alloc, self.members.federation(), bytes)? {
@@ -80,7 +80,7 @@ impl Federation {
 
     // The datagram of this number, from its line.
     fn sent_as(&self, datagram: usize) -> Result<Option<Arrival>, AllocError>
-        ensures { IfOk result (λ arrival. (w : World) → StandsFor self.now w
+        ensures { IfOk result (λ arrival. (w : World) → Represents self.now w
             → IsArrival w.members.federation arrival (datagram_at datagram w.network.sent)) }
     {
         match self.sent.get(datagram) {
@@ -91,10 +91,10 @@ impl Federation {
 
     // A datagram arrives at a site. One to a site that is no member would reach nobody.
     fn arrive(&mut self, number: usize, to: u8, bytes: &[u8], fate: Fate) -> Result<(), AllocError>
-        ensures { OnOk result ((w : World) (k : ℕ) (d : Send) → StandsFor self.old w
+        ensures { OnOk result ((w : World) (k : ℕ) (d : Send) → Represents self.old w
             → datagram_at k w.network.sent ≡ Some d
             → (to, bytes.now) ≡ datagram w.members.federation d
-            → StandsFor self.new (event_at w number d.to (Deliver k fate))) }
+            → Represents self.new (event_at w number d.to (Deliver k fate))) }
     {
         match self.place_of(to) {
             Some(place) => {

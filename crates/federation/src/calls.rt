@@ -5,7 +5,7 @@ ghost use Rattle.stations.specs.Calls.{input_of};
 ghost use Rattle.stations.specs.Modes.{is_down, is_up};
 ghost use Rattle.world_law.specs.Networks.{takes, Propose, Ask};
 ghost use Rattle.world_law.specs.Worlds.{World, mode_of, quorums, unless_down, event_at};
-ghost use Rattle.federation.specs.Federations.{StandsFor, IsSound};
+ghost use Rattle.federation.specs.Federations.{Represents, IsSound};
 ghost use Rattle.federation.specs.Inputs.{after_input, place_in};
 
 use crate::federation::Federation;
@@ -34,21 +34,21 @@ impl Federation {
     /// The number of the site at this place.
     pub(crate) fn site_at(&self, place: usize) -> u8
         requires { place < length self.now.stations.items }
-        ensures { (w : World) → StandsFor self.now w → result ≡ place + 1 }
+        ensures { (w : World) → Represents self.now w → result ≡ place + 1 }
     {
         self.stations[place].number().number()
     }
 
     pub(crate) fn is_down(&self, place: usize) -> bool
         requires { place < length self.now.stations.items }
-        ensures { (w : World) → StandsFor self.now w → result ≡ is_down (mode_of w (place + 1)) }
+        ensures { (w : World) → Represents self.now w → result ≡ is_down (mode_of w (place + 1)) }
     {
         self.stations[place].is_down()
     }
 
     pub(crate) fn is_up(&self, place: usize) -> bool
         requires { place < length self.now.stations.items }
-        ensures { (w : World) → StandsFor self.now w → result ≡ is_up (mode_of w (place + 1)) }
+        ensures { (w : World) → Represents self.now w → result ≡ is_up (mode_of w (place + 1)) }
     {
         self.stations[place].is_up()
     }
@@ -62,10 +62,10 @@ impl Federation {
         fate: Fate,
     ) -> Result<(), AllocError>
         requires { place < length self.old.stations.items }
-        ensures { OnOk result ((w : World) → StandsFor self.old w
+        ensures { OnOk result ((w : World) → Represents self.old w
             → IsSound (quorums w) (takes (quorums w) w.network (place + 1)
             (input_of w.members.federation call.now) fate).network
-            → StandsFor self.new (unless_down w number (mode_of w (place + 1))
+            → Represents self.new (unless_down w number (mode_of w (place + 1))
             (after_input w (place + 1) (input_of w.members.federation call.now) fate))) }
     {
         if self.is_down(place) {
@@ -82,11 +82,11 @@ impl Federation {
         fate: Fate,
     ) -> Result<(), AllocError>
         requires { place < length self.old.stations.items }
-        ensures { OnOk result ((w : World) → StandsFor self.old w
+        ensures { OnOk result ((w : World) → Represents self.old w
             → is_down (mode_of w (place + 1)) ≡ false
             → IsSound (quorums w) (takes (quorums w) w.network (place + 1)
             (input_of w.members.federation call.now) fate).network
-            → StandsFor self.new
+            → Represents self.new
             (after_input w (place + 1) (input_of w.members.federation call.now) fate)) }
     {
         let site = self.site_at(place);
@@ -107,8 +107,8 @@ impl Federation {
         fate: Fate,
     ) -> Result<(), AllocError>
         requires { place < length self.old.stations.items }
-        ensures { OnOk result ((w : World) → StandsFor self.old w
-            → StandsFor self.new
+        ensures { OnOk result ((w : World) → Represents self.old w
+            → Represents self.new
             (event_at w number (place + 1) (Propose (place + 1) slot.now fate))) }
     {
         slots_are_well_formed(slot);
@@ -128,8 +128,8 @@ impl Federation {
     ) -> Result<(), AllocError>
         requires place { place < length self.old.stations.items }
         requires asked { asked < length self.old.stations.items }
-        ensures { OnOk result ((w : World) → StandsFor self.old w
-            → StandsFor self.new
+        ensures { OnOk result ((w : World) → Represents self.old w
+            → Represents self.new
             (event_at w number (place + 1) (Ask (place + 1) (asked + 1) slot.now fate))) }
     {
         slots_are_well_formed(slot);

@@ -4,7 +4,7 @@ ghost use Rattle.std.specs.Prelude.{◌<◌, ◌+◌, length, OnOk, IfOk};
 ghost use Rattle.world_law.specs.Networks.{Ask};
 ghost use Rattle.world_law.specs.Worlds.{World, after_line, after_command, on_call, at_member};
 ghost use Rattle.world_law.specs.Worlds.{event_at};
-ghost use Rattle.federation.specs.Federations.{StandsFor};
+ghost use Rattle.federation.specs.Federations.{Represents};
 
 use crate::federation::Federation;
 use fed_types::Slot;
@@ -16,8 +16,8 @@ impl Federation {
     /// Runs the line of this number: its command, if it has one. `Err`: out of memory, and the
     /// federation is given up.
     pub fn run_line(self, number: usize, line: &Option<Command>) -> Result<Federation, AllocError>
-        ensures { IfOk result (λ after. (w : World) → StandsFor self w
-            → StandsFor after (after_line w number line.now)) }
+        ensures { IfOk result (λ after. (w : World) → Represents self w
+            → Represents after (after_line w number line.now)) }
     {
         let mut federation = self;
         match line {
@@ -28,8 +28,8 @@ impl Federation {
     }
 
     fn run_command(&mut self, number: usize, command: &Command) -> Result<(), AllocError>
-        ensures { OnOk result ((w : World) → StandsFor self.old w
-            → StandsFor self.new (after_command w number command.now)) }
+        ensures { OnOk result ((w : World) → Represents self.old w
+            → Represents self.new (after_command w number command.now)) }
     {
         match command {
             Command::Tree { tree } => self.declare_tree(number, *tree),
@@ -61,8 +61,8 @@ impl Federation {
     }
 
     fn run_call(&mut self, number: usize, call: &Call, fate: Fate) -> Result<(), AllocError>
-        ensures { OnOk result ((w : World) → StandsFor self.old w
-            → StandsFor self.new (on_call w number call.now fate)) }
+        ensures { OnOk result ((w : World) → Represents self.old w
+            → Represents self.new (on_call w number call.now fate)) }
     {
         match call {
             Call::Deposit { site, tree, slot } => match self.place_of(*site) {
@@ -91,8 +91,8 @@ impl Federation {
         fate: Fate,
     ) -> Result<(), AllocError>
         requires { place < length self.old.stations.items }
-        ensures { OnOk result ((w : World) → StandsFor self.old w
-            → StandsFor self.new (at_member w number to (event_at w number (place + 1)
+        ensures { OnOk result ((w : World) → Represents self.old w
+            → Represents self.new (at_member w number to (event_at w number (place + 1)
             (Ask (place + 1) to slot.now fate)))) }
     {
         match self.place_of(to) {

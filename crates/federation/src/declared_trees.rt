@@ -3,7 +3,7 @@
 ghost use Rattle.std.specs.Prelude.{OnOk};
 ghost use Rattle.world_law.specs.Trees.{tree_at};
 ghost use Rattle.world_law.specs.Worlds.{World, on_tree, on_folder, on_file};
-ghost use Rattle.federation.specs.Federations.{StandsFor};
+ghost use Rattle.federation.specs.Federations.{Represents};
 
 use crate::federation::Federation;
 use lines::Reason;
@@ -14,8 +14,8 @@ use world_tables::Added;
 impl Federation {
     /// Declares an empty tree.
     pub(crate) fn declare_tree(&mut self, number: usize, tree: TreeNo) -> Result<(), AllocError>
-        ensures { OnOk result ((w : World) → StandsFor self.old w
-            → StandsFor self.new (on_tree w number tree (tree_at tree w.trees))) }
+        ensures { OnOk result ((w : World) → Represents self.old w
+            → Represents self.new (on_tree w number tree (tree_at tree w.trees))) }
     {
         match self.trees.get(tree) {
             None => self.trees.declare(tree),
@@ -25,8 +25,8 @@ impl Federation {
 
     /// Adds the payload's folder to a tree.
     pub(crate) fn add_folder(&mut self, number: usize, tree: TreeNo) -> Result<(), AllocError>
-        ensures { OnOk result ((w : World) → StandsFor self.old w
-            → StandsFor self.new (on_folder w number tree (tree_at tree w.trees))) }
+        ensures { OnOk result ((w : World) → Represents self.old w
+            → Represents self.new (on_folder w number tree (tree_at tree w.trees))) }
     {
         if self.trees.add_folder(tree) {
             return Ok(());
@@ -42,8 +42,8 @@ impl Federation {
         path: &str,
         bytes: &[u8],
     ) -> Result<(), AllocError>
-        ensures { OnOk result ((w : World) → StandsFor self.old w
-            → StandsFor self.new (on_file w number tree path.now bytes.now
+        ensures { OnOk result ((w : World) → Represents self.old w
+            → Represents self.new (on_file w number tree path.now bytes.now
             (tree_at tree w.trees))) }
     {
         match self.trees.add_file(tree, path, bytes)? {

@@ -11,7 +11,7 @@ ghost use Rattle.lines.specs.Named.{SeenBag};
 ghost use Rattle.world_law.specs.Trees.{tree_at};
 ghost use Rattle.world_law.specs.Worlds.{World, on_deposit, on_checked};
 ghost use Rattle.world_tables.specs.Firsts as firsts;
-ghost use Rattle.federation.specs.Federations.{StandsFor};
+ghost use Rattle.federation.specs.Federations.{Represents};
 ghost use Rattle.federation.specs.Said.{seen_with};
 
 use crate::federation::Federation;
@@ -35,8 +35,8 @@ impl Federation {
         fate: Fate,
     ) -> Result<(), AllocError>
         requires { place < length self.old.stations.items }
-        ensures { OnOk result ((w : World) → StandsFor self.old w
-            → StandsFor self.new (on_deposit w number (place + 1) tree slot.now fate
+        ensures { OnOk result ((w : World) → Represents self.old w
+            → Represents self.new (on_deposit w number (place + 1) tree slot.now fate
             (tree_at tree w.trees))) }
     {
         let Some(files) = self.trees.get(tree) else {
@@ -57,8 +57,8 @@ impl Federation {
         facts: &Facts,
     ) -> Result<(), AllocError>
         requires { place < length self.old.stations.items }
-        ensures { OnOk result ((w : World) → StandsFor self.old w
-            → StandsFor self.new (on_checked w number (place + 1) tree slot.now fate
+        ensures { OnOk result ((w : World) → Represents self.old w
+            → Represents self.new (on_checked w number (place + 1) tree slot.now fate
             (check_of facts.now))) }
     {
         if self.is_down(place) {
@@ -79,8 +79,8 @@ fn see(
     ensures well_formed { OnOk result ((found : Result BagId BagFault) → IsOrMemory checked found
         → IfOk found IsBag) }
     ensures seen { OnOk result ((found : Result BagId BagFault) → IsOrMemory checked found
-        → (bags : List SeenBag) → firsts.StandsFor seen.old bags
-        → firsts.StandsFor seen.new (seen_with tree found bags)) }
+        → (bags : List SeenBag) → firsts.Represents seen.old bags
+        → firsts.Represents seen.new (seen_with tree found bags)) }
 {
     match checked {
         Err(BagFault::Memory) => Err(AllocError),

@@ -2,7 +2,7 @@ ghost use Rattle.std.specs.Prelude.{◌≡◌, IfOk};
 ghost use Rattle.world_law.specs.Worlds.{new_world};
 ghost use Rattle.fed_types.specs.Sites.{IsSiteNumber};
 ghost use Rattle.world_law.specs.Networks.{new_site};
-ghost use Rattle.federation.specs.Federations.{StandsFor, AreNew, IsStation};
+ghost use Rattle.federation.specs.Federations.{Represents, AreNew, IsStation};
 
 use fed_types::{Members, SiteNo, members_are_well_formed};
 use lines::Line;
@@ -13,7 +13,7 @@ use world_tables::{Datagrams, SeenBags, Trees};
 
 /// A federation as a schedule makes it: its sites, the datagrams that they sent, each by the place
 /// of its line, the trees, the bags that were seen in deposits, and the lines so far. In the words
-/// of a clause it stands for a `World`.
+/// of a clause it represents a `World`.
 #[derive(Drop)]
 pub struct Federation {
     pub(crate) alloc: Global,
@@ -29,7 +29,7 @@ pub struct Federation {
 impl Federation {
     /// The federation of these members before anything has happened.
     pub fn new(alloc: Global, members: Members) -> Result<Federation, AllocError>
-        ensures { IfOk result (λ f. StandsFor f (new_world members)) }
+        ensures { IfOk result (λ f. Represents f (new_world members)) }
     {
         members_are_well_formed(&members);
         let stations = new_stations(alloc, &members)?;

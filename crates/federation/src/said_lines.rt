@@ -6,7 +6,7 @@ ghost use Rattle.lines.specs.Named.{SeenBag};
 ghost use Rattle.lines.specs.Named.{named_bag, named_reply};
 ghost use Rattle.world_law.specs.Worlds.{World, with_line, skips};
 ghost use Rattle.world_tables.specs.Firsts as firsts;
-ghost use Rattle.federation.specs.Federations.{StandsFor};
+ghost use Rattle.federation.specs.Federations.{Represents};
 ghost use Rattle.federation.specs.Said.{lines_said, line_said};
 
 use crate::federation::Federation;
@@ -20,8 +20,8 @@ use world_tables::SeenBags;
 impl Federation {
     /// Adds a line.
     pub(crate) fn say(&mut self, line: Line) -> Result<(), AllocError>
-        ensures { OnOk result ((w : World) → StandsFor self.old w
-            → StandsFor self.new (with_line w line)) }
+        ensures { OnOk result ((w : World) → Represents self.old w
+            → Represents self.new (with_line w line)) }
     {
         self.lines.push(line)?;
         Ok(())
@@ -29,8 +29,8 @@ impl Federation {
 
     /// Says why the command on the line of this number can't apply.
     pub(crate) fn skip(&mut self, number: usize, reason: Reason) -> Result<(), AllocError>
-        ensures { OnOk result ((w : World) → StandsFor self.old w
-            → StandsFor self.new (skips w number reason)) }
+        ensures { OnOk result ((w : World) → Represents self.old w
+            → Represents self.new (skips w number reason)) }
     {
         self.say(Line::Skip {
             line: number,
@@ -48,7 +48,7 @@ pub(crate) fn tell(
     call: &Call,
     said: Option<Said>,
 ) -> Result<(), AllocError>
-    ensures { OnOk result ((federation : ℕ) (bags : List SeenBag) → firsts.StandsFor seen.now bags
+    ensures { OnOk result ((federation : ℕ) (bags : List SeenBag) → firsts.Represents seen.now bags
         → lines.new.items ≡ lines.old.items
         ++ lines_said bags site (input_of federation call.now) said) }
 {
@@ -70,7 +70,7 @@ fn tell_line(
     call: &Call,
     line: SiteLine,
 ) -> Result<(), AllocError>
-    ensures { OnOk result ((federation : ℕ) (bags : List SeenBag) → firsts.StandsFor seen.now bags
+    ensures { OnOk result ((federation : ℕ) (bags : List SeenBag) → firsts.Represents seen.now bags
         → lines.new.items ≡ lines.old.items
         ++ line_said bags site (input_of federation call.now) line) }
 {
@@ -93,7 +93,7 @@ fn tell_line(
 
 /// A bag as a line names it.
 fn named(seen: &SeenBags, bag: BagId) -> NamedBag
-    ensures { (bags : List SeenBag) → firsts.StandsFor seen.now bags → result ≡ named_bag bags bag }
+    ensures { (bags : List SeenBag) → firsts.Represents seen.now bags → result ≡ named_bag bags bag }
 {
     NamedBag {
         bag,
@@ -103,7 +103,7 @@ fn named(seen: &SeenBags, bag: BagId) -> NamedBag
 
 /// A reply as a line gives it.
 pub(crate) fn named_reply(seen: &SeenBags, reply: Reply) -> NamedReply
-    ensures { (bags : List SeenBag) → firsts.StandsFor seen.now bags
+    ensures { (bags : List SeenBag) → firsts.Represents seen.now bags
         → result ≡ named_reply bags reply }
 {
     match reply {

@@ -2,7 +2,7 @@
 
 ghost use Rattle.std.specs.Prelude.{◌≡◌, ◌++◌, ◌+◌, ◌∷◌, [], length, map, OnOk, get_or};
 ghost use Rattle.site.specs.Datagrams.{handed_out};
-ghost use Rattle.world_tables.specs.Numbers.{StandsForSame};
+ghost use Rattle.world_tables.specs.Numbers.{RepresentsSame};
 ghost use Rattle.federation.specs.Sent.{line_sent, lines_sent, places_from, SENDER_PLACE};
 
 use lines::{Line, SentBytes};
@@ -24,7 +24,7 @@ pub(crate) fn send_all(
         ++ lines_sent (length sent.old.sent + 1) (map handed_out sends.items)) }
     ensures sent { OnOk result (sent.new.sent ≡ sent.old.sent
         ++ places_from (length lines.old.items) (length sends.items)) }
-    ensures named { OnOk result (StandsForSame sent.old sent.new) }
+    ensures named { OnOk result (RepresentsSame sent.old sent.new) }
 {
     for sealed in sends {
         send(lines, sent, sealed)?;
@@ -41,7 +41,7 @@ fn send(
     ensures lines { OnOk result (lines.new.items ≡ lines.old.items
         ++ line_sent (length sent.old.sent + 1) (handed_out sealed) ∷ []) }
     ensures sent { OnOk result (sent.new.sent ≡ sent.old.sent ++ length lines.old.items ∷ []) }
-    ensures named { OnOk result (StandsForSame sent.old sent.new) }
+    ensures named { OnOk result (RepresentsSame sent.old sent.new) }
 {
     sent.push(lines.len())?;
     lines.push(line_sent(sent.len(), sealed))?;

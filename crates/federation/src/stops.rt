@@ -4,7 +4,7 @@ ghost use Rattle.std.specs.Prelude.{◌≡◌, ◌<◌, ◌+◌, length, OnOk};
 ghost use Rattle.world_law.specs.Networks.{Query, Stop};
 ghost use Rattle.world_law.specs.Worlds.{World, event_at, mode_of, on_start, after_event};
 ghost use Rattle.stations.specs.Stations.{reply_in};
-ghost use Rattle.federation.specs.Federations.{StandsFor};
+ghost use Rattle.federation.specs.Federations.{Represents};
 ghost use Rattle.std.specs.Prelude.{Some};
 
 use crate::federation::Federation;
@@ -23,8 +23,8 @@ impl Federation {
         slot: &Slot,
     ) -> Result<(), AllocError>
         requires { place < length self.old.stations.items }
-        ensures { OnOk result ((w : World) → StandsFor self.old w
-            → StandsFor self.new (event_at w number (place + 1) (Query (place + 1) slot.now))) }
+        ensures { OnOk result ((w : World) → Represents self.old w
+            → Represents self.new (event_at w number (place + 1) (Query (place + 1) slot.now))) }
     {
         match self.stations[place].query(slot) {
             Some(reply) => self.reply(place, slot, reply),
@@ -40,9 +40,9 @@ impl Federation {
         reply: Result<Reply, SiteFault>,
     ) -> Result<(), AllocError>
         requires { place < length self.old.stations.items }
-        ensures { OnOk result ((w : World) → StandsFor self.old w
+        ensures { OnOk result ((w : World) → Represents self.old w
             → Some reply ≡ reply_in slot.now (w.network.sites (place + 1)) (mode_of w (place + 1))
-            → StandsFor self.new (after_event w (Query (place + 1) slot.now))) }
+            → Represents self.new (after_event w (Query (place + 1) slot.now))) }
     {
         let site = self.site_at(place);
         match reply {
@@ -58,8 +58,8 @@ impl Federation {
     /// A member stops between calls.
     pub(crate) fn stop(&mut self, number: usize, place: usize) -> Result<(), AllocError>
         requires { place < length self.old.stations.items }
-        ensures { OnOk result ((w : World) → StandsFor self.old w
-            → StandsFor self.new (event_at w number (place + 1) (Stop (place + 1)))) }
+        ensures { OnOk result ((w : World) → Represents self.old w
+            → Represents self.new (event_at w number (place + 1) (Stop (place + 1)))) }
     {
         if self.is_down(place) {
             return self.skip(number, Reason::Down);
@@ -74,8 +74,8 @@ impl Federation {
     /// A member that isn't up is opened.
     pub(crate) fn start(&mut self, number: usize, place: usize) -> Result<(), AllocError>
         requires { place < length self.old.stations.items }
-        ensures { OnOk result ((w : World) → StandsFor self.old w
-            → StandsFor self.new (on_start w number (place + 1) (mode_of w (place + 1)))) }
+        ensures { OnOk result ((w : World) → Represents self.old w
+            → Represents self.new (on_start w number (place + 1) (mode_of w (place + 1)))) }
     {
         if self.is_up(place) {
             return self.skip(number, Reason::Up);

@@ -1,4 +1,4 @@
--- What a learner stands for after it has heard of one more vote.
+-- What a learner represents after it has heard of one more vote.
 use Rattle.std.proofs.Common.{◌≡◌, ℕ, ◌&&◌, ◌||◌, Bool, true, false, cond, List, [], ◌∷◌}
 use Rattle.std.proofs.Common.{Option, Some, None, refl, sym, ap, subst, ◌∙◌}
 use Rattle.std.specs.Bool.{◌==◌, Decides}
@@ -26,7 +26,7 @@ use Rattle.learner.specs.declared.row.Row.{Row}
 use Rattle.learner.specs.inner.Counts.{KnowsSame, CountsSame, IsCounted, UnlessKnown}
 use Rattle.learner.specs.inner.Counts.{is_learned}
 use Rattle.learner.specs.LearnedBags.{with_vote, chosen_by, learned_from, unless_known}
-use Rattle.learner.specs.Ledgers.{known_in, counted_in, StandsFor}
+use Rattle.learner.specs.Ledgers.{known_in, counted_in, Represents}
 
 -- two votes are one exactly where the test says so
 same_parts : (a b : Vote) → a.ballot ≡ b.ballot → a.bag ≡ b.bag → a ≡ b
@@ -94,17 +94,17 @@ module _ (slot : SlotName) (from : ℕ) (vote : Vote) (heard : List Message) whe
       go false true = refl
       go false false = refl
 
--- rows that say the same stand for the same
+-- rows that say the same represent the same
 pub same_stands : (old new : Rows Row) → KnowsSame old new → CountsSame old new
     → (records : List Record) (heard : List Message)
-    → StandsFor old records heard → StandsFor new records heard
+    → Represents old records heard → Represents new records heard
 same_stands old new known counted records heard stands = record {
   known = λ s. known s ∙ stands.known s;
   votes = λ s none v n. ap (λ xs. is_in xs n) (counted s v) ∙ stands.votes s none v n;
 }
 
 module _ (old : Rows Row) (records : List Record) (heard : List Message) (slot : SlotName)
-    (from : ℕ) (vote : Vote) (stands : StandsFor old records heard) where
+    (from : ℕ) (vote : Vote) (stands : Represents old records heard) where
   -- the sites counted for a vote, as a set, before and after
   abbrev cast : SlotName → Vote → ℕ → Bool
   cast s v n = is_in (voters_for v (bodies_of s heard)) n
@@ -114,7 +114,7 @@ module _ (old : Rows Row) (records : List Record) (heard : List Message) (slot :
 
   -- of a slot whose bag is known nothing has to be counted
   pub heard_known : (bag : BagId) → known_in (row_at old slot) ≡ Some bag
-      → StandsFor old records (with_vote heard slot from vote)
+      → Represents old records (with_vote heard slot from vote)
   heard_known bag is = record {
     known = stands.known;
     votes = λ s none v n. stands.votes s none v n
@@ -138,7 +138,7 @@ module _ (old : Rows Row) (records : List Record) (heard : List Message) (slot :
   -- the site counts for the vote from now on
   pub heard_counted : (new : Rows Row) → KnowsSame old new
       → IsCounted old new slot vote (with_voter (counted_in (row_at old slot) vote) from)
-      → StandsFor new records (with_vote heard slot from vote)
+      → Represents new records (with_vote heard slot from vote)
   heard_counted new known counted = record {
     known = λ s. known s ∙ stands.known s;
     votes = λ s none v n. ap (λ xs. is_in xs n) (counted s v)
@@ -203,17 +203,17 @@ module _ (old : Rows Row) (records : List Record) (heard : List Message) (slot :
           (chosen_by quorums slot (with_vote heard slot from vote) vote))
           (sym (stands.known slot) ∙ e))
 
-  -- what the learner stands for, once the vote counts wherever no bag is known
+  -- what the learner represents, once the vote counts wherever no bag is known
   pub heard_as : (new : Rows Row) → KnowsSame old new
       → UnlessKnown (known_in (row_at old slot)) (CountsSame old new)
       (IsCounted old new slot vote (with_voter (counted_in (row_at old slot) vote) from))
-      → StandsFor new records (with_vote heard slot from vote)
+      → Represents new records (with_vote heard slot from vote)
   heard_as new known counted = go (known_in (row_at old slot)) refl counted
     where
       go : (k : Option BagId) → known_in (row_at old slot) ≡ k
           → UnlessKnown k (CountsSame old new)
           (IsCounted old new slot vote (with_voter (counted_in (row_at old slot) vote) from))
-          → StandsFor new records (with_vote heard slot from vote)
+          → Represents new records (with_vote heard slot from vote)
       go None e h = heard_counted new known h
       go (Some bag) e h =
           same_stands old new known h records (with_vote heard slot from vote) (heard_known bag e)

@@ -1,4 +1,4 @@
--- What a learner stands for after one more record.
+-- What a learner represents after one more record.
 use Rattle.std.proofs.Common.{◌≡◌, ℕ, Bool, true, false, cond, List, [], ◌∷◌, ◌++◌}
 use Rattle.std.proofs.Common.{Option, Some, None, refl, sym, ap, ◌∙◌}
 use Rattle.fed_types.specs.declared.bag_id.BagId.{BagId}
@@ -17,17 +17,17 @@ use Rattle.slot_table.specs.Rows.{Rows, row_at, IsWith}
 use Rattle.learner.specs.declared.row.Row.{Row}
 use Rattle.learner.specs.declared.row.Row.TheVariants as rows
 use Rattle.learner.specs.inner.Counts.{first_known}
-use Rattle.learner.specs.Ledgers.{known_in, counted_in, StandsFor}
+use Rattle.learner.specs.Ledgers.{known_in, counted_in, Represents}
 
 module _ (old : Rows Row) (records : List Record) (heard : List Message) (r : Record)
-    (stands : StandsFor old records heard) where
+    (stands : Represents old records heard) where
   push : (s : SlotName) → known_of s (records ++ r ∷ [])
       ≡ with_one earlier (known_of s records)
       (if_some bag_in (cond (same_slot r.slot s) (Some r.body) None))
   push s = known-push s records r
 
   -- a record that is no Known settles nothing
-  pub noted_other : bag_in r.body ≡ None → StandsFor old (records ++ r ∷ []) heard
+  pub noted_other : bag_in r.body ≡ None → Represents old (records ++ r ∷ []) heard
   noted_other other = record {
     known = λ s. stands.known s ∙ sym (same s);
     votes = λ s none v n. stands.votes s (sym (same s) ∙ none) v n;
@@ -43,7 +43,7 @@ module _ (old : Rows Row) (records : List Record) (heard : List Message) (r : Re
   -- a Known settles its slot
   pub noted_known : (new : Rows Row) (bag : BagId) → r.body ≡ entry.Known bag
       → IsWith old new r.slot (rows.Known (first_known (known_in (row_at old r.slot)) bag))
-      → StandsFor new (records ++ r ∷ []) heard
+      → Represents new (records ++ r ∷ []) heard
   noted_known new bag is put = record {
     known = λ s. ap known_in (put s) ∙ known s (same_slot r.slot s) refl ∙ sym (push s);
     votes = λ s none v n. ap (λ found. is_in (counted_in found v) n) (put s)

@@ -53,7 +53,7 @@ counted_in (Some (rows.Heard votes)) vote = voters_for_vote votes vote
 
 -- the learner knows of each slot its known bag, by the records; and, of a slot without one, for
 -- each vote the sites that were heard to have cast it
-pub record StandsFor (table : Rows Row) (records : List Record) (heard : List Message) : Type 0
+pub record Represents (table : Rows Row) (records : List Record) (heard : List Message) : Type 0
   where
     pub known : (slot : SlotName) → known_in (row_at table slot) ≡ known_of slot records
     pub votes :

@@ -17,7 +17,7 @@ ghost use Rattle.records.specs.Words.{known_of, known_in as known_in_entry};
 ghost use Rattle.dgram.specs.declared.message.Message.{Message};
 ghost use Rattle.slot_table.specs.Rows.{row_at, HasRooms};
 ghost use Rattle.learner.specs.LearnedBags.{with_vote, learned_from, learned_of_known};
-ghost use Rattle.learner.specs.Ledgers.{StandsFor, known_in};
+ghost use Rattle.learner.specs.Ledgers.{Represents, known_in};
 
 use crate::row::Row;
 use crate::table::{hear, reserve, settle};
@@ -48,7 +48,7 @@ impl<Q: Quorums + Drop> Learner<Q> {
     /// A learner without records that has heard nothing.
     #[tactic(auto, unfolding(records::specs::Words::known_of, dgram::specs::Heard::voters_for, dgram::specs::Heard::bodies_of))]
     pub fn new(alloc: Global, members: Q) -> Learner<Q>
-        ensures stands { StandsFor result.rows [] [] }
+        ensures stands { Represents result.rows [] [] }
         ensures members { result.members ≡ members }
     {
         Learner {
@@ -62,7 +62,7 @@ impl<Q: Quorums + Drop> Learner<Q> {
     pub fn known(&self, slot: &Slot) -> Option<BagId>
         ensures row { result ≡ known_in (row_at self.now.rows slot.now) }
         ensures known { (records : List declared_record) (heard : List Message)
-            → StandsFor self.now.rows records heard → result ≡ known_of slot.now records }
+            → Represents self.now.rows records heard → result ≡ known_of slot.now records }
     {
         match self.table.get(slot) {
             Some(Row::Known(bag)) => Some(*bag),
@@ -73,7 +73,7 @@ impl<Q: Quorums + Drop> Learner<Q> {
     /// What is learned from a site that knows this bag. It takes no memory.
     pub fn told(&self, slot: &Slot, bag: BagId) -> Option<BagId>
         ensures { (records : List declared_record) (heard : List Message)
-            → StandsFor self.now.rows records heard
+            → Represents self.now.rows records heard
             → result ≡ learned_of_known slot.now records bag }
     {
         match self.known(slot) {
@@ -92,19 +92,19 @@ impl<Q: Quorums + Drop> Learner<Q> {
         bag: BagId,
     ) -> Result<Option<BagId>, AllocError>
         ensures learned { IfOk result (λ o. (records : List declared_record)
-            (heard : List Message) → StandsFor self.old.rows records heard
+            (heard : List Message) → Represents self.old.rows records heard
             → o ≡ learned_from (Q.quorum_system self.old.members) slot.now records heard from
             (record { ballot = ballot; bag = bag })) }
         ensures heard { IfOk result (λ o. o ≡ None → (records : List declared_record)
-            (heard : List Message) → StandsFor self.old.rows records heard
-            → StandsFor self.new.rows records (with_vote heard slot.now from
+            (heard : List Message) → Represents self.old.rows records heard
+            → Represents self.new.rows records (with_vote heard slot.now from
             (record { ballot = ballot; bag = bag }))) }
         ensures unchanged { IfOk result (λ o. IsSome o → self.new ≡ self.old) }
         ensures memory { OnErr result ((records : List declared_record) (heard : List Message)
-            → StandsFor self.old.rows records heard → StandsFor self.new.rows records heard) }
+            → Represents self.old.rows records heard → Represents self.new.rows records heard) }
         // Memory can run out only where nothing is learned, and the vote still counts.
         ensures no_memory { OnErr result ((records : List declared_record)
-            (heard : List Message) → StandsFor self.old.rows records heard
+            (heard : List Message) → Represents self.old.rows records heard
             → (known_of slot.now records ≡ None)
             × (learned_from (Q.quorum_system self.old.members) slot.now records heard from
             (record { ballot = ballot; bag = bag }) ≡ None)) }
@@ -130,7 +130,7 @@ impl<Q: Quorums + Drop> Learner<Q> {
     /// the slot.
     pub fn reserve(&mut self, slot: &Slot) -> Result<(), AllocError>
         ensures same { (records : List declared_record) (heard : List Message)
-            → StandsFor self.old.rows records heard → StandsFor self.new.rows records heard }
+            → Represents self.old.rows records heard → Represents self.new.rows records heard }
         ensures rooms { HasRooms self.old.rows self.new.rows }
         ensures present { OnOk result (IsSome (row_at self.new.rows slot.now)) }
         ensures succeeds { IsSome (row_at self.old.rows slot.now) → IsOk result }
@@ -142,10 +142,10 @@ impl<Q: Quorums + Drop> Learner<Q> {
     /// Takes note of a record that was committed.
     pub fn note(&mut self, new: &Record) -> Result<(), AllocError>
         ensures noted { OnOk result ((records : List declared_record) (heard : List Message)
-            → StandsFor self.old.rows records heard
-            → StandsFor self.new.rows (records ++ new.now ∷ []) heard) }
+            → Represents self.old.rows records heard
+            → Represents self.new.rows (records ++ new.now ∷ []) heard) }
         ensures memory { OnErr result ((records : List declared_record) (heard : List Message)
-            → StandsFor self.old.rows records heard → StandsFor self.new.rows records heard) }
+            → Represents self.old.rows records heard → Represents self.new.rows records heard) }
         // Memory is taken for a Known record alone, of a slot without room.
         ensures no_memory { OnErr result (IsSome (known_in_entry new.now.body)) }
         ensures succeeds { IsSome (row_at self.old.rows new.now.slot) → IsOk result }

@@ -13,7 +13,7 @@ use Rattle.ledger.specs.Ledgers.{versions_text, ledger_text}
 use Rattle.ledger.specs.Lines.{ending_line}
 use Rattle.ledger.specs.Parts.{Told, and_part, HasTold, IsWhole, TellsLast}
 use Rattle.ledger.specs.Versions.{slots_of}
-use Rattle.ledger.specs.inner.Rows.{StandsFor}
+use Rattle.ledger.specs.inner.Rows.{Represents}
 
 no_versions : (listing : Listing) → versions_text listing [] ≡ []
 unfolding versions_text slots_of
@@ -43,7 +43,7 @@ text_of_all listing bytes told ending text (inr (none, ends, t)) lines =
 -- the lines after the last part
 module _ (listing : Listing) (lines : LedgerLines) (last : LastPart) where
   pub noted_last : (it : LastLines) → it.ending ≡ last.ending
-      → ((before : List Record) → StandsFor lines.versions.entries before
+      → ((before : List Record) → Represents lines.versions.entries before
       → string_bytes it.text ≡ versions_text listing (before ++ last.part.records.items)
       ++ ending_line last.ending)
       → (taken bytes : List ℕ) → (noted : HasNoted lines taken) → TellsLast bytes noted.0 last
@@ -55,7 +55,7 @@ module _ (listing : Listing) (lines : LedgerLines) (last : LastPart) where
 
   pub noted_end : (result : Result LastLines AllocError)
       → IfOk result (λ it. it.ending ≡ last.ending)
-      → IfOk result (λ it. (before : List Record) → StandsFor lines.versions.entries before
+      → IfOk result (λ it. (before : List Record) → Represents lines.versions.entries before
       → string_bytes it.text ≡ versions_text listing (before ++ last.part.records.items)
       ++ ending_line last.ending)
       → ((taken : List ℕ) (told : Told) → HasTold lines.reader taken told

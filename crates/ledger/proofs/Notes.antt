@@ -13,11 +13,11 @@ use Rattle.records.specs.Words.{deposit_of, known_of, vote_of}
 use Rattle.records.proofs.Words.{deposit-push, known-push, vote-push}
 use Rattle.slot_table.specs.Rows.{Rows, row_at, row_or, row_of, IsWith}
 use Rattle.ledger.specs.declared.row.Row.{Row}
-use Rattle.ledger.specs.inner.Rows.{empty_row, noted, row_after, row_from, StandsFor}
+use Rattle.ledger.specs.inner.Rows.{empty_row, noted, row_after, row_from, Represents}
 use Rattle.ledger.specs.Versions.{with_slot, slots_of}
 
 -- no records
-pub none_stand : StandsFor [] []
+pub none_stand : Represents [] []
 unfolding slots_of known_of deposit_of vote_of
 none_stand = record { slots = refl; says = λ slot. refl }
 
@@ -40,7 +40,7 @@ row_push records r slot =
 pub one_more : (old new : Rows Row) (r : Record)
     → new ≡ insert_entry same_slot old r.slot (row_after old r)
     → IsWith old new r.slot (row_after old r)
-    → (records : List Record) → StandsFor old records → StandsFor new (records ++ r ∷ [])
+    → (records : List Record) → Represents old records → Represents new (records ++ r ∷ [])
 one_more old new r is put records stands = record {
   slots = ap keys_of is ∙ keys_insert_entry same_slot old r.slot (row_after old r)
       ∙ ap (λ (slots : List SlotName). insert_key same_slot slots r.slot) stands.slots

@@ -13,7 +13,7 @@ use Rattle.ledger.specs.declared.listing.Listing.{Listing}
 use Rattle.ledger.specs.declared.row.Row.{Row}
 use Rattle.ledger.specs.Ledgers.{listed_line, versions_text}
 use Rattle.ledger.specs.Versions.{slots_of, standing_of}
-use Rattle.ledger.specs.inner.Rows.{text_if, listed_in, standing_by, StandsFor}
+use Rattle.ledger.specs.inner.Rows.{text_if, listed_in, standing_by, Represents}
 
 -- the text of one key more
 module _ {K V : Type 0} (f : K → List ℕ) where
@@ -46,7 +46,7 @@ same_lines f g same (slot ∷ slots) =
 
 -- the lines of what is kept are those of the records
 pub lines_are : (listing : Listing) (rows : Rows Row) (records : List Record)
-    → StandsFor rows records
+    → Represents rows records
     → flat_map (listed_in listing rows) (keys_of rows) ≡ versions_text listing records
 unfolding versions_text
 lines_are listing rows records stands =

@@ -8,7 +8,7 @@ use Rattle.ledger.specs.Cells.{Said, IsSaid}
 use Rattle.ledger.specs.Ledgers.{ledger_text}
 use Rattle.ledger.specs.Parts.{Told, HasTold}
 use Rattle.ledger.specs.Pieces.{IsHeadlessText}
-use Rattle.ledger.specs.inner.Rows.{StandsFor}
+use Rattle.ledger.specs.inner.Rows.{Represents}
 
 -- the lines of what the bytes of a cell say of its versions, and how the bytes end
 abbrev pub IsLedgerText : Listing → List ℕ → Ending → List ℕ → Type 0
@@ -21,7 +21,7 @@ IsLedgerText listing bytes ending text =
 abbrev pub HasNoted : LedgerLines → List ℕ → Type 0
 HasNoted lines taken =
     (told : Told) × HasTold lines.reader taken told
-    × StandsFor lines.versions.entries told.records
+    × Represents lines.versions.entries told.records
 
 -- after one more piece it goes on; or these are all lines, whatever follows
 abbrev pub IsNoted : Listing → LedgerLines → (taken : List ℕ) → Option LastLines → Type 0

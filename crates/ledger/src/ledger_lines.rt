@@ -6,7 +6,7 @@ ghost use Rattle.records.specs.declared.record.Record.{Record};
 ghost use Rattle.ledger.specs.Lines.{ending_line};
 ghost use Rattle.ledger.specs.Ledgers.{versions_text};
 ghost use Rattle.ledger.specs.LedgerPieces.{HasNoted, IsLedgerText, IsNoted};
-ghost use Rattle.ledger.specs.inner.Rows.{StandsFor};
+ghost use Rattle.ledger.specs.inner.Rows.{Represents};
 
 use crate::cell_reader::CellReader;
 use crate::journal_lines::LastLines;
@@ -75,7 +75,7 @@ impl LedgerLines {
     ) -> Result<LastLines, AllocError>
         ensures ending { IfOk result (λ lines. lines.ending ≡ last.ending) }
         ensures text { IfOk result (λ lines. (before : List Record)
-            → StandsFor self.old.versions.entries before
+            → Represents self.old.versions.entries before
             → string_bytes lines.text ≡ versions_text listing (before ++ last.part.records.items)
             ++ ending_line last.ending) }
     {

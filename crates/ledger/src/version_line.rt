@@ -9,7 +9,7 @@ ghost use Rattle.records.specs.declared.record.Record.{Record};
 ghost use Rattle.ledger.specs.Lines.{ending_line};
 ghost use Rattle.ledger.specs.Ledgers.{word_of, bag_text, version_line, listed_line};
 ghost use Rattle.ledger.specs.Ledgers.{versions_text};
-ghost use Rattle.ledger.specs.inner.Rows.{listed_in, slot_at, text_if, StandsFor};
+ghost use Rattle.ledger.specs.inner.Rows.{listed_in, slot_at, text_if, Represents};
 
 use crate::cell_text::push_ending;
 use crate::ending::Ending;
@@ -130,7 +130,7 @@ pub(crate) fn versions_text(
     ending: Ending,
 ) -> Result<String, AllocError>
     ensures { IfOk result (λ text. (records : List Record)
-        → StandsFor versions.now.entries records
+        → Represents versions.now.entries records
         → string_bytes text ≡ versions_text listing records ++ ending_line ending) }
 {
     let mut text = String::new(alloc);

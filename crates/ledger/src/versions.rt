@@ -6,7 +6,7 @@ ghost use Rattle.indexmap.specs.IndexMap.{insert_entry};
 ghost use Rattle.fed_types.specs.Slots.{same_slot};
 ghost use Rattle.records.specs.declared.record.Record.{Record};
 ghost use Rattle.slot_table.specs.Rows.{row_of, IsWith};
-ghost use Rattle.ledger.specs.inner.Rows.{empty_row, row_after, slot_at, standing_in, StandsFor};
+ghost use Rattle.ledger.specs.inner.Rows.{empty_row, row_after, slot_at, standing_in, Represents};
 
 use crate::row::Row;
 use crate::standing::Standing;
@@ -49,8 +49,8 @@ pub(crate) fn note_all(
     versions: &mut Versions,
     records: &[Record],
 ) -> Result<(), AllocError>
-    ensures { OnOk result ((before : List Record) → StandsFor versions.old.entries before
-        → StandsFor versions.new.entries (before ++ records.now)) }
+    ensures { OnOk result ((before : List Record) → Represents versions.old.entries before
+        → Represents versions.new.entries (before ++ records.now)) }
 {
     for kept in records {
         note(alloc, versions, kept)?;

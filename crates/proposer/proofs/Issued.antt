@@ -21,7 +21,7 @@ use Rattle.proposer.specs.Proposals.{Current}
 use Rattle.proposer.specs.Sessions.{Session, UnderWay, at_slot, hears, issues, waits}
 use Rattle.proposer.specs.Sessions.{promise_message, heard_if, of_round, issued_by, issued_if}
 use Rattle.proposer.specs.Sessions.{under_way_if}
-use Rattle.proposer.specs.Rows.{empty_row, BeginsFor, Counts, CountsFor, Knows, StandsFor, row_of}
+use Rattle.proposer.specs.Rows.{empty_row, BeginsFor, Counts, CountsFor, Knows, Represents, row_of}
 use Rattle.proposer.specs.Rows.{begun_in, current_in, waiting_as, waiting_in}
 use Rattle.proposer.specs.inner.Rounds.{issued, issued_with}
 use Rattle.proposer.specs.inner.Rows.{IssuesWaiting, IssuesAt, is_of_round, noted_row}
@@ -116,11 +116,11 @@ module _ (slot : SlotName) (own : Option BagId) (heard : List Message) where
 
 pub issued_stands : (old new : Rows Row) (slot : SlotName)
     (records : List Record) (session : Session) (under : UnderWay) → IssuesAt old new slot
-    → StandsFor old records session under
-    → StandsFor new records (heard_if session (under.waiting slot)) (waits under slot None)
+    → Represents old records session under
+    → Represents new records (heard_if session (under.waiting slot)) (waits under slot None)
 issued_stands old new slot records session under at stands =
     let h = stands slot in
-    subst (λ (w : Option Message). StandsFor new records (heard_if session w)
+    subst (λ (w : Option Message). Represents new records (heard_if session w)
     (waits under slot None)) h.waiting
     (by_round (current_in (row_of old slot)) (sym now.current)
     (issued_current slot (under.current_with slot) session.heard (session.current slot)
@@ -165,7 +165,7 @@ issued_stands old new slot records session under at stands =
         → CountsFor slot (under.current_with slot)
         (session.heard ++ promise_message slot p.site b p.prior ∷ []) (session.current slot)
         (current_in (row_of new slot))
-        → StandsFor new records (hears session (promise_message slot p.site b p.prior))
+        → Represents new records (hears session (promise_message slot p.site b p.prior))
         (waits under slot None)
     with_message from b p counts =
         let m = promise_message slot p.site b p.prior in
@@ -185,7 +185,7 @@ issued_stands old new slot records session under at stands =
 
     without : CountsFor slot (under.current_with slot) session.heard (session.current slot)
         (current_in (row_of new slot))
-        → StandsFor new records session (waits under slot None)
+        → Represents new records session (waits under slot None)
     without counts =
         stands_at old new slot (row_of new slot) records session (waits under slot None) at.0
         (row_knows session.heard refl counts)
@@ -195,7 +195,7 @@ issued_stands old new slot records session under at stands =
         → CountsFor slot (under.current_with slot)
         (heard_with slot (under.current_with slot) session.heard (waiting_as slot b w))
         (session.current slot) (current_in (row_of new slot))
-        → StandsFor new records (heard_if session (waiting_as slot b w)) (waits under slot None)
+        → Represents new records (heard_if session (waiting_as slot b w)) (waits under slot None)
     by_waiting b None counts = without counts
     by_waiting b (Some p) counts = with_message p.site b p counts
 
@@ -204,7 +204,7 @@ issued_stands old new slot records session under at stands =
         → CountsFor slot (under.current_with slot)
         (heard_with slot (under.current_with slot) session.heard (waiting_in slot o))
         (session.current slot) (option_map issued (current_in (row_of old slot)))
-        → StandsFor new records (heard_if session (waiting_in slot o)) (waits under slot None)
+        → Represents new records (heard_if session (waiting_in slot o)) (waits under slot None)
     by_round None e counts =
         without (subst (CountsFor slot (under.current_with slot) session.heard
         (session.current slot)) e counts)
@@ -225,7 +225,7 @@ of_round_is own (Some b) (Some round) n h =
     ap (λ (x : Round). cond (x.ballot.round == n) (Some b) None) (sym h.is)
 
 module _ (old new : Rows Row) (r : Record) (records : List Record) (session : Session)
-    (under : UnderWay) (stands : StandsFor old records session under) where
+    (under : UnderWay) (stands : Represents old records session under) where
   -- of another slot the record says nothing
   others_stay : (s : SlotName) → same_slot r.slot s ≡ false
       → Knows s (records ++ r ∷ []) session.heard (session.current s) (under.begun s)
@@ -245,7 +245,7 @@ module _ (old new : Rows Row) (r : Record) (records : List Record) (session : Se
   raised : (row : Row) (n : Option ℕ) → round_in r.body ≡ n → PutsAt old new r.slot row
       → row.used ≡ with_one max (row_of old r.slot).used n → row.floor ≡ (row_of old r.slot).floor
       → row.begun ≡ (row_of old r.slot).begun → row.current ≡ (row_of old r.slot).current
-      → StandsFor new (records ++ r ∷ []) session under
+      → Represents new (records ++ r ∷ []) session under
   raised row n is puts used floor begun current =
       stands_at old new r.slot row (records ++ r ∷ []) session under puts
       (raised_knows r.slot records r session.heard (session.current r.slot) (under.begun r.slot)
@@ -259,7 +259,7 @@ module _ (old new : Rows Row) (r : Record) (records : List Record) (session : Se
       → PutsAt old new r.slot row
       → row.used ≡ max (row_of old r.slot).used n → row.floor ≡ (row_of old r.slot).floor
       → row.begun ≡ None → row.current ≡ begun_in (row_of old r.slot) → under.begun r.slot ≡ Some b
-      → StandsFor new (records ++ r ∷ []) (issues session r.slot b)
+      → Represents new (records ++ r ∷ []) (issues session r.slot b)
       (under_way_if under r.slot (Some b))
   made_current row n b is puts used floor begun current next =
       stands_at old new r.slot row (records ++ r ∷ []) (issues session r.slot b)
@@ -340,7 +340,7 @@ module _ (old new : Rows Row) (r : Record) (records : List Record) (session : Se
             (row_of old r.slot).begun;
         current = (row_of old r.slot).current;
       }))
-      → StandsFor new (records ++ r ∷ [])
+      → Represents new (records ++ r ∷ [])
       (issued_if session r.slot (cond t (under.begun r.slot) None))
       (under_way_if under r.slot (cond t (under.begun r.slot) None))
   round_stands n false is of puts =
@@ -357,7 +357,7 @@ module _ (old new : Rows Row) (r : Record) (records : List Record) (session : Se
       go : (b : Option BallotNumber) (o : Option Round) → under.begun r.slot ≡ b
           → is_of_round n o ≡ true
           → BeginsFor (under.begun_with r.slot) b o
-          → StandsFor new (records ++ r ∷ []) (issued_if session r.slot b)
+          → Represents new (records ++ r ∷ []) (issued_if session r.slot b)
           (under_way_if under r.slot b)
       go None None e f h = absurd (cc f)
       go None (Some round) e f h = absurd h
@@ -374,11 +374,11 @@ module _ (old new : Rows Row) (r : Record) (records : List Record) (session : Se
   -- by the kind of its entry
   pub entry_stands : (body : Entry) → r.body ≡ body
       → PutsAt old new r.slot (noted_row (row_of old r.slot) (Some body))
-      → StandsFor new (records ++ r ∷ [])
+      → Represents new (records ++ r ∷ [])
       (issued_if session r.slot (issued_by (under.begun r.slot) body))
       (under_way_if under r.slot (issued_by (under.begun r.slot) body))
   entry_stands (entry.Round n) e puts =
-      subst (λ (b : Option BallotNumber). StandsFor new (records ++ r ∷ [])
+      subst (λ (b : Option BallotNumber). Represents new (records ++ r ∷ [])
       (issued_if session r.slot b) (under_way_if under r.slot b))
       (sym (of_round_is (under.begun_with r.slot) (under.begun r.slot)
       (begun_in (row_of old r.slot)) n (stands r.slot).begun))
@@ -396,8 +396,8 @@ pub noted_stands : (old mid new : Rows Row) (r : Record)
     (records : List Record) (session : Session) (under : UnderWay)
     → ((s : SlotName) → row_of mid s ≡ row_of old s)
     → IsWith mid new r.slot (noted_row (row_of mid r.slot) (Some r.body))
-    → StandsFor old records session under
-    → StandsFor new (records ++ r ∷ [])
+    → Represents old records session under
+    → Represents new (records ++ r ∷ [])
     (issued_if session r.slot (issued_by (under.begun r.slot) r.body))
     (under_way_if under r.slot (issued_by (under.begun r.slot) r.body))
 noted_stands old mid new r records session under same put stands =

@@ -1,4 +1,4 @@
--- What each call makes of what the rows stand for.
+-- What each call makes of what the rows represent.
 use Rattle.std.proofs.Common.{◌≡◌, ℕ, max, Bool, true, false, cond, refl, sym, ap, subst, ◌∙◌, List}
 use Rattle.std.proofs.Common.{[], ◌∷◌, ◌++◌, Option, None, Some, IsSome}
 use Rattle.std.specs.Prelude.{Box}
@@ -23,7 +23,7 @@ use Rattle.proposer.specs.Proposals.{Current, ballot_after, next_ballot, ready}
 use Rattle.proposer.specs.Sessions.{Session, UnderWay, new_session, nothing, at_slot, hears}
 use Rattle.proposer.specs.Sessions.{begins, waits, promise_message, refusal_message, heard_after}
 use Rattle.proposer.specs.Sessions.{waiting_after}
-use Rattle.proposer.specs.Rows.{empty_row, BeginsFor, Knows, StandsFor, row_of, begun_in}
+use Rattle.proposer.specs.Rows.{empty_row, BeginsFor, Knows, Represents, row_of, begun_in}
 use Rattle.proposer.specs.Rows.{current_in}
 use Rattle.proposer.specs.inner.Rounds.{after_promise}
 use Rattle.proposer.specs.inner.Rows.{OnlyAt, HeardPromise, HeardAt}
@@ -48,7 +48,7 @@ pub says_nothing : (slot s : SlotName) (body : Body) → same_slot slot s ≡ fa
 says_nothing slot s body e = ap (λ (t : Bool). cond t (Some body) None) e
 
 -- ---- a new proposer
-pub nothing_known : (rows : Rows Row) → rows ≡ [] → StandsFor rows [] new_session nothing
+pub nothing_known : (rows : Rows Row) → rows ≡ [] → Represents rows [] new_session nothing
 unfolding used_of floor_of bodies_of
 nothing_known rows e slot =
     subst (λ (r : Rows Row). Knows slot [] [] None None None None None (row_of r slot)) (sym e)
@@ -57,7 +57,7 @@ nothing_known rows e slot =
 -- ---- a ballot begun
 pub next_is : (rows : Rows Row) (site : ℕ) (slot : SlotName)
     (records : List Record) (session : Session) (under : UnderWay)
-    → StandsFor rows records session under
+    → Represents rows records session under
     → ballot_after site (max (row_of rows slot).used (row_of rows slot).floor)
     ≡ next_ballot site slot records session.heard
 unfolding next_ballot
@@ -84,8 +84,8 @@ begins_at old mid new slot box plan same put is =
 
 pub begun_stands : (old new : Rows Row) (slot : SlotName) (ballot : BallotNumber) (own : BagId)
     (records : List Record) (session : Session) (under : UnderWay)
-    → BeginsAt (fresh ballot own) old new slot → StandsFor old records session under
-    → StandsFor new records session (begins under slot ballot own)
+    → BeginsAt (fresh ballot own) old new slot → Represents old records session under
+    → Represents new records session (begins under slot ballot own)
 begun_stands old new slot ballot own records session under at stands =
     let h = stands slot in
     let now = at.1 in
@@ -123,8 +123,8 @@ put_present old new slot row put =
 -- ---- a message heard that is neither a promise nor a refusal: the site's other messages
 pub heard_stands : (rows : Rows Row) (m : Message)
     (records : List Record) (session : Session) (under : UnderWay) → refused_round m.body ≡ None
-    → ((b : BallotNumber) → promise_in b m.body ≡ None) → StandsFor rows records session under
-    → StandsFor rows records (hears session m) under
+    → ((b : BallotNumber) → promise_in b m.body ≡ None) → Represents rows records session under
+    → Represents rows records (hears session m) under
 heard_stands rows m records session under refuses promises stands s =
     heard_knows s records session.heard (session.current s) (under.begun s) (under.begun_with s)
     (under.current_with s) (under.waiting s) m (row_of rows s) (row_of rows s) refl refl refl
@@ -149,8 +149,8 @@ pub refused_stands : (old mid new : Rows Row) (slot : SlotName) (n from : ℕ)
     (asked standing : BallotNumber) (records : List Record) (session : Session) (under : UnderWay)
     → ((s : SlotName) → row_of mid s ≡ row_of old s)
     → IsWith mid new slot (with_floor (row_of mid slot) n) → n ≡ standing.round
-    → StandsFor old records session under
-    → StandsFor new records (hears session (refusal_message slot from asked standing)) under
+    → Represents old records session under
+    → Represents new records (hears session (refusal_message slot from asked standing)) under
 refused_stands old mid new slot n from asked standing records session under same put is stands =
     stands_at old new slot (with_floor (row_of mid slot) n) records (hears session m) under
     (puts_at old mid new slot (with_floor (row_of mid slot) n) same put)
@@ -216,7 +216,7 @@ module _ (q : QuorumSystem) (laws : AreQuorums q) (slot : SlotName) (from : ℕ)
     (ballot : BallotNumber) (prior : Option Vote) (old new : Rows Row) (given : Option BagId)
     (records : List Record) (session : Session) (under : UnderWay)
     (at : HeardAt q ballot (record { site = from; prior = prior }) old new slot given)
-    (stands : StandsFor old records session under) where
+    (stands : Represents old records session under) where
   pub promise_ready :
       given ≡ ready q (under.current_with slot) slot (session.current slot) session.heard ballot
       (record { site = from; prior = prior })
@@ -226,7 +226,7 @@ module _ (q : QuorumSystem) (laws : AreQuorums q) (slot : SlotName) (from : ℕ)
       (session.current slot) (current_in (row_of old slot)) (stands slot).current
 
   pub promise_stands :
-      StandsFor new records (heard_after given session (promise_message slot from ballot prior))
+      Represents new records (heard_after given session (promise_message slot from ballot prior))
       (waiting_after given under (promise_message slot from ballot prior))
   promise_stands = go given after
     where
@@ -259,7 +259,7 @@ module _ (q : QuorumSystem) (laws : AreQuorums q) (slot : SlotName) (from : ℕ)
       go : (o : Option BagId)
           → After slot from ballot prior (under.current_with slot) session.heard
           (session.current slot) (under.waiting slot) (current_in (row_of new slot)) o
-          → StandsFor new records (heard_after o session (promise_message slot from ballot prior))
+          → Represents new records (heard_after o session (promise_message slot from ballot prior))
           (waiting_after o under (promise_message slot from ballot prior))
       go None k =
           let h = stands slot in

@@ -7,7 +7,7 @@ use Rattle.records.specs.declared.record.Record.{Record}
 use Rattle.slot_table.specs.Rows.{Rows, row_at, row_or, IsWith, HasRooms}
 use Rattle.proposer.specs.declared.row.Row.{Row}
 use Rattle.proposer.specs.Sessions.{Session, UnderWay}
-use Rattle.proposer.specs.Rows.{Knows, StandsFor, row_of, empty_row}
+use Rattle.proposer.specs.Rows.{Knows, Represents, row_of, empty_row}
 use Rattle.proposer.specs.inner.Rows.{OnlyAt}
 
 -- one slot's row is this one, and the others are as before
@@ -46,7 +46,7 @@ pub stands_at : (old new : Rows Row) (slot : SlotName) (row : Row)
     → ((s : SlotName) → same_slot slot s ≡ false
     → Knows s records session.heard (session.current s) (under.begun s) (under.begun_with s)
     (under.current_with s) (under.waiting s) (row_of old s))
-    → StandsFor new records session under
+    → Represents new records session under
 stands_at old new slot row records session under puts at others s =
     subst (Knows s records session.heard (session.current s) (under.begun s) (under.begun_with s)
     (under.current_with s) (under.waiting s))
@@ -64,7 +64,7 @@ stands_at old new slot row records session under puts at others s =
 -- tables that say the same
 pub same_stands : (old new : Rows Row) → ((s : SlotName) → row_of new s ≡ row_of old s)
     → (records : List Record) (session : Session) (under : UnderWay)
-    → StandsFor old records session under → StandsFor new records session under
+    → Represents old records session under → Represents new records session under
 same_stands old new same records session under stands s =
     subst (Knows s records session.heard (session.current s) (under.begun s) (under.begun_with s)
     (under.current_with s) (under.waiting s))

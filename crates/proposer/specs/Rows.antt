@@ -93,8 +93,8 @@ pub record Knows
   pub waiting : waiting_in slot (current_in row) ≡ m
 
 -- so it is of every slot
-abbrev pub StandsFor : tables.Rows Row → List Record → Session → UnderWay → Type 0
-StandsFor rows records session under =
+abbrev pub Represents : tables.Rows Row → List Record → Session → UnderWay → Type 0
+Represents rows records session under =
     (slot : SlotName)
     → Knows slot records session.heard (session.current slot) (under.begun slot)
     (under.begun_with slot) (under.current_with slot) (under.waiting slot) (row_of rows slot)

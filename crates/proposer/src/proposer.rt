@@ -11,7 +11,7 @@ ghost use Rattle.proposer.specs.Sessions.{hears, refusal_message, heard_if, wait
 ghost use Rattle.proposer.specs.Sessions.{issued_by, issued_if, under_way_if};
 ghost use Rattle.proposer.specs.Rounds.{round_of};
 ghost use Rattle.proposer.specs.Faults.{next_or_spent, IsOrMemory};
-ghost use Rattle.proposer.specs.Rows.{StandsFor, IsOfSameSite, row_of};
+ghost use Rattle.proposer.specs.Rows.{Represents, IsOfSameSite, row_of};
 ghost use Rattle.proposer.specs.inner.Rows.{BeginsAt, HeardAt, IssuesAt};
 ghost use Rattle.proposer.specs.inner.Rows.{with_begun, with_floor, noted_row};
 
@@ -45,7 +45,7 @@ impl<Q: Quorums + Drop> Model for Proposer<Q> {
 impl<Q: Quorums + Drop> Proposer<Q> {
     /// A proposer that knows of no record and has heard nothing.
     pub fn new(alloc: Global, members: Q, site: SiteNo) -> Proposer<Q>
-        ensures stands { StandsFor result.rows [] new_session nothing }
+        ensures stands { Represents result.rows [] new_session nothing }
         ensures whose { (result.members ≡ members) × (result.site ≡ site) }
     {
         Proposer {
@@ -74,16 +74,16 @@ impl<Q: Quorums + Drop> Proposer<Q> {
     /// fails.
     pub fn begin(&mut self, slot: &Slot, own: BagId) -> Result<Ballot, ProposeFault>
         ensures answer { (records : List declared_record) (session : Session) (under : UnderWay)
-            → StandsFor self.old.rows records session under → IsOrMemory result
+            → Represents self.old.rows records session under → IsOrMemory result
             (next_or_spent (next_ballot self.old.site slot.now records session.heard)) }
         ensures spent { (records : List declared_record) (session : Session) (under : UnderWay)
-            → StandsFor self.old.rows records session under
+            → Represents self.old.rows records session under
             → next_ballot self.old.site slot.now records session.heard ≡ None
             → result ≡ Err ProposeFault.RoundsSpent }
         ensures begun { IfOk result (λ ballot.
             (records : List declared_record) (session : Session) (under : UnderWay)
-            → StandsFor self.old.rows records session under
-            → StandsFor self.new.rows records session (begins under slot.now ballot own)) }
+            → Represents self.old.rows records session under
+            → Represents self.new.rows records session (begins under slot.now ballot own)) }
         ensures present { IfOk result (λ ballot. IsSome (row_at self.new.rows slot.now)) }
         ensures unchanged { OnErr result
             ((s : SlotName) → row_of self.new.rows s ≡ row_of self.old.rows s) }
@@ -110,13 +110,13 @@ impl<Q: Quorums + Drop> Proposer<Q> {
         prior: Option<Vote>,
     ) -> Option<BagId>
         ensures ready { (records : List declared_record) (session : Session) (under : UnderWay)
-            → StandsFor self.old.rows records session under
+            → Represents self.old.rows records session under
             → result ≡ ready (Q.quorum_system self.old.members) (under.current_with slot.now)
             slot.now (session.current slot.now) session.heard ballot
             (record { site = from; prior = prior }) }
         ensures heard { (records : List declared_record) (session : Session) (under : UnderWay)
-            → StandsFor self.old.rows records session under
-            → StandsFor self.new.rows records
+            → Represents self.old.rows records session under
+            → Represents self.new.rows records
             (heard_after result session (promise_message slot.now from ballot prior))
             (waiting_after result under (promise_message slot.now from ballot prior)) }
         ensures rooms { HasRooms self.old.rows self.new.rows }
@@ -130,8 +130,8 @@ impl<Q: Quorums + Drop> Proposer<Q> {
     /// waits. It takes no memory.
     pub fn issued(&mut self, slot: &Slot)
         ensures heard { (records : List declared_record) (session : Session) (under : UnderWay)
-            → StandsFor self.old.rows records session under
-            → StandsFor self.new.rows records (heard_if session (under.waiting slot.now))
+            → Represents self.old.rows records session under
+            → Represents self.new.rows records (heard_if session (under.waiting slot.now))
             (waits under slot.now None) }
         ensures rooms { HasRooms self.old.rows self.new.rows }
         ensures whose { IsOfSameSite self.old self.new }
@@ -143,8 +143,8 @@ impl<Q: Quorums + Drop> Proposer<Q> {
     pub fn refused(&mut self, slot: &Slot, standing: Ballot) -> Result<(), AllocError>
         ensures heard { OnOk result ((from : ℕ) (asked : BallotNumber)
             (records : List declared_record) (session : Session) (under : UnderWay)
-            → StandsFor self.old.rows records session under
-            → StandsFor self.new.rows records
+            → Represents self.old.rows records session under
+            → Represents self.new.rows records
             (hears session (refusal_message slot.now from asked standing)) under) }
         ensures unchanged { OnErr result
             ((s : SlotName) → row_of self.new.rows s ≡ row_of self.old.rows s) }
@@ -162,8 +162,8 @@ impl<Q: Quorums + Drop> Proposer<Q> {
     pub fn note(&mut self, new: &Record) -> Result<(), AllocError>
         ensures noted { OnOk result (
             (records : List declared_record) (session : Session) (under : UnderWay)
-            → StandsFor self.old.rows records session under
-            → StandsFor self.new.rows (records ++ new.now ∷ [])
+            → Represents self.old.rows records session under
+            → Represents self.new.rows (records ++ new.now ∷ [])
             (issued_if session new.now.slot
             (issued_by (under.begun new.now.slot) new.now.body))
             (under_way_if under new.now.slot

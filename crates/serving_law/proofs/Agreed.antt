@@ -23,7 +23,7 @@ use Rattle.site.specs.declared.answer.Line.TheVariants as lines
 use Rattle.site.specs.Calls as calls
 use Rattle.site.specs.Calls.{effect_of, on_deposit, on_propose}
 use Rattle.site.specs.Effects.{Effect, to_each}
-use Rattle.site_tables.specs.Contents.{StandsFor}
+use Rattle.site_tables.specs.Contents.{Represents}
 use Rattle.udp_site.specs.Requests as requests
 use Rattle.udp_site.specs.Traffic.{From}
 use Rattle.udp_site.specs.Traffic.{Nothing}
@@ -100,7 +100,7 @@ module _ (bag : BagId) (request : Request 7 a bag) where
       ap (λ (c : Result BagId BagFault). on_deposit [] (session_of [] None) a c) request.checked
       ∙ on_deposit_is
 
-  deposited_stands : StandsFor (tables a three 1 none_heard) (records_of a (deposited bag ∷ []))
+  deposited_stands : Represents (tables a three 1 none_heard) (records_of a (deposited bag ∷ []))
       (session_of [] None) (begun_with a None)
   unfolding known_of used_of voters_for bodies_of floor_of is_in same_slot
   deposited_stands =
@@ -163,7 +163,7 @@ module _ (bag : BagId) (request : Request 7 a bag) where
       same_slot
   proposes_it = refl
 
-  prepared_stands : StandsFor (tables a three 1 none_promised)
+  prepared_stands : Represents (tables a three 1 none_promised)
       (records_of a (deposited bag ∷ proposed bag ∷ [])) (session_of [] (Some issued))
       (begun_with a (Some bag))
   unfolding known_of used_of deposit_of voters_for bodies_of floor_of is_in same_slot gathered

@@ -244,7 +244,7 @@ module _ (bag : BagId) (request : Request 7 a bag) where
   answers HearsOther = rw itself refl
   answers HearsLate = refl
 
-  -- ---- the tables stand for what was heard
+  -- ---- the tables represent what was heard
 
   -- of one vote, or of the same twice, the voters are those that were heard
   one : (same : Bool) (n : ℕ)

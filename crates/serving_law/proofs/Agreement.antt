@@ -20,7 +20,7 @@ use Rattle.site.specs.declared.answer.Line.{Line}
 use Rattle.site.specs.Calls as calls
 use Rattle.site.specs.Calls.{effect_of}
 use Rattle.site.specs.Effects.{Effect, Send}
-use Rattle.site_tables.specs.Contents.{StandsFor}
+use Rattle.site_tables.specs.Contents.{Represents}
 use Rattle.udp_site.specs.Requests as requests
 use Rattle.udp_site.specs.Turns.{Serving}
 use Rattle.serving_law.specs.Disks.{Disk, device}
@@ -109,10 +109,10 @@ Answers h =
     effect_of (quorums_of three) h.n (records_of a h.old.es)
     (session_of h.old.bs h.old.current) (calls.Arrives (Some (m h.body))) ≡ comes_to h
 
--- and the rows then stand for what is on record and was heard
+-- and the rows then represent what is on record and was heard
 abbrev pub Stands : Hearing → UnderWay → Type 0
 Stands h under =
-    StandsFor (tables a three h.n h.rows) (kept (records_of a h.old.es) h.commits)
+    Represents (tables a three h.n h.rows) (kept (records_of a h.old.es) h.commits)
     (session_of h.bs h.old.current) under
 
 -- what is on record, comes and is recorded is well-formed

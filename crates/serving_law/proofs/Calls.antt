@@ -30,7 +30,7 @@ use Rattle.site.specs.Answered.{Keeps, Gives}
 use Rattle.site.specs.Calls.{Input, Deposits, Proposes, Asks, Arrives, effect_of}
 use Rattle.site.specs.Datagrams.{handed_out, datagram}
 use Rattle.site.specs.Effects.{Effect}
-use Rattle.site.specs.Sites.{StandsFor}
+use Rattle.site.specs.Sites.{Represents}
 use Rattle.lines.specs.Notices.{Notice, Registered, notice_of}
 use Rattle.world_law.specs.Networks.{Network, SiteState, Up, Down}
 use Rattle.world_law.proofs.Deeds.{Deed, MayDeposit, some_same}
@@ -340,11 +340,11 @@ module _ {C : Type 0} (device : C → Device) (members : Membership) (s : Scene 
         unopened fault f gives =
             subst (λ (f : SiteFault). Gives old.site new.site old.session e (Err f)) f gives
 
-    -- a site that refuses stands for what it stood for
+    -- a site that refuses represents what it represented
     pub err_stands : (fault : SiteFault) (new : Serving C)
         → Keeps device e.commits (Err fault) old.site.book new.site.book
         → Gives old.site new.site old.session e (Err fault) → new.site.book.needs_opening ≡ false
-        → StandsFor new.site old.session
+        → Represents new.site old.session
     err_stands faults.Memory new keeps gives opened = gives
     err_stands faults.Device new keeps gives opened =
         absurd (false≢true (sym opened

@@ -27,7 +27,7 @@ use Rattle.site.specs.Calls.{on_deposit}
 use Rattle.site.specs.Calls as calls
 use Rattle.site.specs.Effects.{Effect}
 use Rattle.site.specs.Sites.{effect}
-use Rattle.site_tables.specs.Contents.{Contents, StandsFor}
+use Rattle.site_tables.specs.Contents.{Contents, Represents}
 use Rattle.udp_site.specs.Traffic.{From}
 use Rattle.udp_site.specs.Requests as requests
 use Rattle.udp_site.specs.Replies.{deposit_answer}
@@ -64,7 +64,7 @@ module _ (members : Membership) (is_membership : IsMembership members) (slot : S
       go true = refl
       go false = refl
 
-  it_stands : StandsFor its_tables (records_of slot (entry.Deposit bag ∷ [])) new_session
+  it_stands : Represents its_tables (records_of slot (entry.Deposit bag ∷ [])) new_session
       (begun_with slot None)
   unfolding floor_of bodies_of voters_for
   it_stands =

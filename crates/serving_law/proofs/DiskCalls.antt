@@ -24,7 +24,7 @@ use Rattle.site.specs.Calls.{Input}
 use Rattle.site.specs.Calls as calls
 use Rattle.site.specs.Effects.{Effect}
 use Rattle.site.specs.Sites.{effect}
-use Rattle.site_tables.specs.Contents.{Contents, StandsFor}
+use Rattle.site_tables.specs.Contents.{Contents, Represents}
 use Rattle.udp_site.specs.Traffic.{Taken, From}
 use Rattle.udp_site.specs.Requests as requests
 use Rattle.udp_site.specs.Turns.{Serving, Done, IsCalled, turn_of, comes_of, notices_of, posts_of}
@@ -76,7 +76,7 @@ module _ (members : Membership) (is_membership : IsMembership members) (n : ℕ)
       (is : effect (serving records tables session idle tried).site session input ≡ e)
       (says : e.says ≡ said line) (keep : IsKept e.commits) (ms : AreMessages e.sends)
       (few : length (seals members.federation e.sends ms) < 2 ^ 63)
-      (under : UnderWay) (stands : StandsFor then (kept records e.commits) e.session under) where
+      (under : UnderWay) (stands : Represents then (kept records e.commits) e.session under) where
     abbrev old : Serving Disk
     old = serving records tables session idle tried
 

@@ -41,7 +41,7 @@ unfolding all_encoded
 of_none owner [] e = append-nil (header_bytes owner)
 of_none owner (r ∷ records) e = absurd (cc e)
 
--- all of its bytes stand for now
+-- all of its bytes represent now
 at_end : (owner : Owner) (records : List Record) (k : ℕ) → suc (length records) ≤ k
     → bytes_at (Holds owner records) k ≡ journal owner records
 at_end owner records zero le = absurd (omega (arith, le))

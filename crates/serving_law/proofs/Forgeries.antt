@@ -30,7 +30,7 @@ use Rattle.site.specs.Arrivals.{on_arrival, on_body, is_member}
 use Rattle.site.specs.Calls as calls
 use Rattle.site.specs.Effects.{Effect}
 use Rattle.site.specs.Sites.{effect}
-use Rattle.site_tables.specs.Contents.{Contents, StandsFor}
+use Rattle.site_tables.specs.Contents.{Contents, Represents}
 use Rattle.udp_site.specs.Turns.{Serving, turn_of}
 use Rattle.serving_law.specs.Disks.{Disk, Blank, device}
 use Rattle.serving_law.specs.Examples.{IsFooled, FooledByAForgedKnown}
@@ -78,7 +78,7 @@ module _ (members : Membership) (is_membership : IsMembership members) (two : 2 
   abbrev after_tables : Contents
   after_tables = tables slot members 1 (record { own = empty_row; heard = rows.Known bag })
 
-  it_stands : StandsFor after_tables (records_of slot (entry.Known bag ∷ [])) heard
+  it_stands : Represents after_tables (records_of slot (entry.Known bag ∷ [])) heard
       (begun_with slot None)
   it_stands =
       stands slot members 1 (entry.Known bag ∷ []) (Known 2 bag ∷ []) heard refl (λ s f. refl) None

@@ -1,4 +1,4 @@
--- Each happening leads from what stands for a network to what stands for a later one, in which
+-- Each happening leads from what represents a network to what represents a later one, in which
 -- what it reports was chosen before.
 use Rattle.std.proofs.Common.{ℕ, ◌≡◌, ◌⊎◌, inl, inr, refl, sym, ap, subst, ◌∙◌, Bool, true, false}
 use Rattle.std.proofs.Common.{List, [], ◌++◌, append-nil, take, Option, None, Some, cond}
@@ -36,7 +36,7 @@ use Rattle.dgram.specs.Decoded.{message_of}
 use Rattle.dgram.proofs.MessageOf.{message_of-again}
 use Rattle.proposer.specs.Sessions.{new_session}
 use Rattle.site.specs.Opened.{Opens}
-use Rattle.site.specs.Sites.{OpenSite, StandsFor}
+use Rattle.site.specs.Sites.{OpenSite, Represents}
 use Rattle.lines.specs.Notices.{Notice, Registered}
 use Rattle.world_law.specs.Laws.{report_of, IsChosen}
 use Rattle.world_law.specs.Networks.{Network, SiteState, Up}
@@ -540,13 +540,13 @@ module _ {C : Type 0} (device : C → Device) (members : Membership)
           by_test true e =
               absurd (false≢true (sym not_last ∙ (came n member old serves step takes).last e))
 
-      -- a site that stands for what it has heard does so after the turn
+      -- a site that represents what it has heard does so after the turn
       pub stands_then : (n : ℕ) (member : Has n (members_of members)) (old : Serving C)
           (serves : f.members n ≡ Serves old) (step : Step C) → Takes device members f old step
           → turns.IsServing old → turns.IsServing step.next
       stands_then n member old serves step takes before opened =
           (came n member old serves step takes).stands
-          (subst (λ (s : Serving C). StandsFor s.site s.session)
+          (subst (λ (s : Serving C). Represents s.site s.session)
           (is_serving device members n old (w.sites n) (served_at n old serves))
           (before (served_at n old serves).opened))
           opened

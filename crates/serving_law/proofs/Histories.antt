@@ -1,4 +1,4 @@
--- Every history stands for a network, in which all that was reported is chosen.
+-- Every history represents a network, in which all that was reported is chosen.
 use Rattle.std.proofs.Common.{ℕ, ◌≡◌, ◌⊎◌, inl, inr, refl, sym, ap, subst}
 use Rattle.std.proofs.Common.{List, [], ◌∷◌, ◌++◌, Option}
 use Rattle.std.specs.Prelude.{Result}

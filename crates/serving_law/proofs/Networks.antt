@@ -1,4 +1,4 @@
--- A network that a federation of sites that serve stands for: the same records and sessions, and a
+-- A network that a federation of sites that serve represents: the same records and sessions, and a
 -- message for each datagram that was handed out.
 use Rattle.std.proofs.Common.{ℕ, ◌≡◌, ◌≢◌, ◌⊎◌, inl, inr, false}
 use Rattle.std.proofs.Common.{List, Some}

@@ -1,4 +1,4 @@
--- A member whose process serves, in a network that stands for its federation.
+-- A member whose process serves, in a network that represents its federation.
 use Rattle.std.specs.Prelude.{ℕ, List}
 use Rattle.fed_types.specs.Lists.{Has}
 use Rattle.fed_types.specs.Sites.{Membership, members_of}

@@ -16,7 +16,7 @@ use Rattle.learner.proofs.HeardVotes.{same_vote_decides}
 use Rattle.proposer.specs.declared.row.Row.{Row as own_row}
 use Rattle.proposer.specs.Proposals.{Current, gathered, highest_prior}
 use Rattle.proposer.specs.Sessions.{Session, at_slot}
-use Rattle.site_tables.specs.Contents.{StandsFor}
+use Rattle.site_tables.specs.Contents.{Represents}
 use Rattle.serving_law.specs.ExamplesAgreed.{three, a, ballot, vote}
 use Rattle.serving_law.proofs.Tables.{records_of, heard_of, tables, begun_with, stands}
 
@@ -79,7 +79,7 @@ pub counted : (bag : BagId) (voters : List ℕ) (v : Vote)
 counted bag voters v =
     ap (λ (t : Bool). ledgers.voters_or_none (cond t (Some voters) None)) (turned v (vote bag))
 
--- ---- the tables stand for it
+-- ---- the tables represent it
 
 module _ (n : ℕ) (es : List Entry) (bs : List Body) (heard : heard_row)
     (known : ledgers.known_in (Some heard) ≡ known_of a (records_of a es))
@@ -89,7 +89,7 @@ module _ (n : ℕ) (es : List Entry) (bs : List Body) (heard : heard_row)
     (floor : 0 ≡ floor_of (bodies_of a (heard_of a bs))) where
   -- where it has no ballot
   pub stands_idle : 0 ≡ used_of a (records_of a es)
-      → StandsFor (tables a three n (record { own = no_ballot; heard = heard }))
+      → Represents (tables a three n (record { own = no_ballot; heard = heard }))
       (records_of a es) (session_of bs None) (begun_with a None)
   stands_idle used =
       stands a three n es bs (session_of bs None) refl (elsewhere None) None
@@ -102,7 +102,7 @@ module _ (n : ℕ) (es : List Entry) (bs : List Body) (heard : heard_row)
       → deposit_of a (records_of a es) ≡ Some bag
       → voters ≡ promisers (gathered a issued (heard_of a bs))
       → None ≡ highest_prior (gathered a issued (heard_of a bs))
-      → StandsFor (tables a three n (record { own = promised_by bag voters; heard = heard }))
+      → Represents (tables a three n (record { own = promised_by bag voters; heard = heard }))
       (records_of a es) (session_of bs (Some issued)) (begun_with a (Some bag))
   unfolding same_slot
   stands_issued bag voters used deposit promised best =

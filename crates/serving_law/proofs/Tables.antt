@@ -21,7 +21,7 @@ use Rattle.proposer.specs.declared.row.Row.{Row as own_row}
 use Rattle.proposer.specs.Rows.{Knows, row_of, empty_row}
 use Rattle.proposer.specs.Sessions.{Session, UnderWay, at_slot}
 use Rattle.slot_table.specs.Rows.{row_at, row_or}
-use Rattle.site_tables.specs.Contents.{Contents, StandsFor}
+use Rattle.site_tables.specs.Contents.{Contents, Represents}
 
 -- no ballot is begun, and no promise waits; the current one was begun with this bag
 abbrev pub begun_with : SlotName → Option BagId → UnderWay
@@ -184,7 +184,7 @@ module _ (slot : SlotName) where
         ((same_slot_decides slot s).0 e) (is_own bag is)
     deposits_at s bag false e is = absurd (cc is)
 
-    pub stands : StandsFor (tables members site rows) (records_of es) session (begun_with slot own)
+    pub stands : Represents (tables members site rows) (records_of es) session (begun_with slot own)
     stands = record {
       proposer = λ s. proposer_at s (same_slot slot s) refl;
       begun = λ s bag e. absurd (cc e);

@@ -22,7 +22,7 @@ use Rattle.site.specs.declared.fault.SiteFault.{SiteFault}
 use Rattle.site.specs.declared.fault.SiteFault.TheVariants as faults
 use Rattle.site.specs.Calls.{Input, effect_of}
 use Rattle.site.specs.Effects.{Effect}
-use Rattle.site.specs.Sites.{StandsFor}
+use Rattle.site.specs.Sites.{Represents}
 use Rattle.lines.specs.Notices.{Notice, Refused, Dropped}
 use Rattle.world_law.specs.Laws.{IsChosen}
 use Rattle.world_law.specs.Networks.{Network}
@@ -67,7 +67,7 @@ module _ {C : Type 0} (device : C → Device) (members : Membership) (s : Scene 
 
   -- What comes of a turn, in which this may be deposited: where the site can go on; where it needs
   -- opening, and its process ends, which a line says; and where its process is killed in it. A site
-  -- that stood for its session does so then.
+  -- that represented its session does so then.
   pub record Ends (done : Done) (new : Serving C) (D : May) : Type 0 where
     pub goes : new.site.book.needs_opening ≡ false → Goes device members w n done (Serves new) D
     pub fails : new.site.book.needs_opening ≡ true → (records : List Record)
@@ -77,9 +77,9 @@ module _ {C : Type 0} (device : C → Device) (members : Membership) (s : Scene 
         → MayRecoverTo owner (device cell) (device new.site.book.cell) records
         → (x : Network) × Moves device members w x n (Down records) D
     pub last : new.site.book.needs_opening ≡ true → or_one done.notices ≡ true
-    pub stands : StandsFor (serving device members n (w.sites n).records (w.sites n).session cell
+    pub stands : Represents (serving device members n (w.sites n).records (w.sites n).session cell
         tables 0 0).site (w.sites n).session
-        → new.site.book.needs_opening ≡ false → StandsFor new.site new.session
+        → new.site.book.needs_opening ≡ false → Represents new.site new.session
 
   -- ---- notices that report nothing
 
@@ -194,7 +194,7 @@ module _ {C : Type 0} (device : C → Device) (members : Membership) (s : Scene 
               absurd (cc (calling.failed_by_device device members s idle tried input (Ok answer)
               new c needs));
           stands = λ before opened.
-              subst (λ (h : Session). StandsFor new.site h) (sym c.session)
+              subst (λ (h : Session). Represents new.site h) (sym c.session)
               (c.answered refl).gives.2;
         }
 
@@ -229,7 +229,7 @@ module _ {C : Type 0} (device : C → Device) (members : Membership) (s : Scene 
               said (same_fault (calling.failed_by_device device members s idle tried input
               (Err fault) new c needs));
           stands = λ before opened.
-              subst (λ (h : Session). StandsFor new.site h) (sym c.session)
+              subst (λ (h : Session). Represents new.site h) (sym c.session)
               (calling.err_stands device members s idle tried input fault new
               (c.answered refl).keeps (c.answered refl).gives opened);
         }

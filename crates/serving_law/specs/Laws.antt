@@ -27,7 +27,7 @@ pub record WasDeposited {C : Type 0} (federation : ℕ) (history : List (Happeni
 module _ {C : Type 0} (device : C → Device) (members : Membership) where
   -- The turn is one that may happen, with these ports, and with what it is known that folders give,
   -- or, where that isn't known, some folders. It goes on only where its site needs no opening, and
-  -- its site stands for what it has heard, as `serve` asks of one that begins.
+  -- its site represents what it has heard, as `serve` asks of one that begins.
   abbrev pub IsStep : List (Happening C) → (old next : Serving C) → List ℕ
       → Option (List ℕ → Result TreeFacts TreeFault) → Turned → Type 0
   IsStep history old next ports gives turn =

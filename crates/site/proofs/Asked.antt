@@ -9,11 +9,11 @@ use Rattle.site.specs.declared.answer.Line.{Line}
 use Rattle.site.specs.Answered.{IsAnswered}
 use Rattle.site.specs.Calls.{Asks, on_ask}
 use Rattle.site.specs.Datagrams.{handed_out}
-use Rattle.site.specs.Sites.{OpenSite, StandsFor, effect}
+use Rattle.site.specs.Sites.{OpenSite, Represents, effect}
 use Rattle.site.specs.inner.Concluded.{one_datagram}
 
 pub asked : {C : Type 0} (device : C → Device) (s : OpenSite C) (session : Session)
-    (slot same_slot : SlotName) (to from : ℕ) (answer : Answer) → StandsFor s session
+    (slot same_slot : SlotName) (to from : ℕ) (answer : Answer) → Represents s session
     → same_slot ≡ slot → from ≡ s.book.owner.site → answer.line ≡ None
     → map handed_out answer.sends.items ≡ one_datagram s same_slot (Ask from) to
     → IsAnswered device s s session (effect s session (Asks slot to)) (Ok answer)

@@ -13,7 +13,7 @@ use Rattle.proposer.specs.declared.fault.ProposeFault.TheVariants as proposals
 use Rattle.proposer.specs.Faults.{next_or_spent, IsOrMemory}
 use Rattle.proposer.specs.Proposals.{next_ballot}
 use Rattle.proposer.specs.Sessions.{Session, UnderWay, begins}
-use Rattle.site_tables.specs.Contents.{Contents, IsOf, StandsFor, StandsForSame}
+use Rattle.site_tables.specs.Contents.{Contents, IsOf, Represents, RepresentsSame}
 use Rattle.site.specs.declared.answer.Answer.{Answer}
 use Rattle.site.specs.declared.fault.SiteFault.{SiteFault}
 use Rattle.site.specs.declared.fault.SiteFault.TheVariants as faults
@@ -76,12 +76,12 @@ module _ (owner : Owner) (old new : Contents) (slot : SlotName) (own : BagId)
     (result : Result (Record × Answer) SiteFault) where
   -- no ballot was begun
   pub not_begun : (fault : ProposeFault) → result ≡ Err (propose_fault fault)
-      → StandsForSame old new
+      → RepresentsSame old new
       → ((records : List Record) (session : Session) (under : UnderWay) → IsOf old owner records
-      → StandsFor old records session under
+      → Represents old records session under
       → IsOrMemory (Err fault) (next_or_spent (next_ballot owner.site slot records session.heard)))
       → ((records : List Record) (session : Session) (under : UnderWay) → IsOf old owner records
-      → StandsFor old records session under
+      → Represents old records session under
       → next_ballot owner.site slot records session.heard ≡ None
       → ◌≡◌ {A = Result BallotNumber ProposeFault} (Err fault) (Err proposals.RoundsSpent))
       → BeginsBallot owner old new slot own result
@@ -98,7 +98,7 @@ module _ (owner : Owner) (old new : Contents) (slot : SlotName) (own : BagId)
           → IsOrMemory (Err f) (next_or_spent (next_ballot owner.site slot records session.heard))
           → (next_ballot owner.site slot records session.heard ≡ None
           → ◌≡◌ {A = Result BallotNumber ProposeFault} (Err f) (Err proposals.RoundsSpent))
-          → StandsFor new records session under
+          → Represents new records session under
           → Begins owner new slot own records session under (Err (propose_fault f))
       go proposals.RoundsSpent records session under is spent stands = (none_left _ is, stands)
       go proposals.Memory records session under is spent stands =
@@ -107,12 +107,12 @@ module _ (owner : Owner) (old new : Contents) (slot : SlotName) (own : BagId)
   module _ (ballot : BallotNumber)
       (order : (records : List Record) → IsOf old owner records → IsOf new owner records)
       (begun : (records : List Record) (session : Session) (under : UnderWay)
-      → StandsFor old records session under → deposit_of slot records ≡ Some own
-      → StandsFor new records session (begins under slot ballot own)) where
+      → Represents old records session under → deposit_of slot records ≡ Some own
+      → Represents new records session (begins under slot ballot own)) where
     -- memory ran out for the answer
     pub begun_in_vain : result ≡ Err faults.Memory
         → ((records : List Record) (session : Session) (under : UnderWay)
-        → IsOf old owner records → StandsFor old records session under
+        → IsOf old owner records → Represents old records session under
         → IsOrMemory (Ok ballot)
         (next_or_spent (next_ballot owner.site slot records session.heard)))
         → BeginsBallot owner old new slot own result
@@ -131,7 +131,7 @@ module _ (owner : Owner) (old new : Contents) (slot : SlotName) (own : BagId)
     pub ballot_begun : (new_record : Record) (answer : Answer)
         → result ≡ Ok (new_record, answer) → IsOfBallot owner slot ballot new_record answer
         → ((records : List Record) (session : Session) (under : UnderWay)
-        → IsOf old owner records → StandsFor old records session under
+        → IsOf old owner records → Represents old records session under
         → IsOrMemory (Ok ballot)
         (next_or_spent (next_ballot owner.site slot records session.heard)))
         → BeginsBallot owner old new slot own result

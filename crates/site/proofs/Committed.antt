@@ -8,7 +8,7 @@ use Rattle.book.specs.declared.fault.CommitFault.{CommitFault}
 use Rattle.book.specs.declared.fault.CommitFault.TheVariants as commits
 use Rattle.book.specs.Volumes.{Volume}
 use Rattle.proposer.specs.Sessions.{Session, UnderWay}
-use Rattle.site_tables.specs.Contents.{Contents, IsOf, StandsForSame}
+use Rattle.site_tables.specs.Contents.{Contents, IsOf, RepresentsSame}
 use Rattle.site_tables.specs.Contents as tables
 use Rattle.site.specs.declared.fault.SiteFault.{SiteFault}
 use Rattle.site.specs.declared.fault.SiteFault.TheVariants as faults
@@ -24,13 +24,13 @@ err_of (Ok x) fault is = absurd is
 err_of (Err e) fault is = ap (λ (f : SiteFault). Err f) is
 
 module _ {C : Type 0} (device : C → Device) (old new : OpenSite C) (r : Record) where
-  -- tables that stand for the same, over the same records
+  -- tables that represent the same, over the same records
   module _ (records : new.book.records ≡ old.book.records) (owner : new.book.owner ≡ old.book.owner)
-      (same : StandsForSame old.tables new.tables) where
+      (same : RepresentsSame old.tables new.tables) where
     pub same_stands : (session : Session) (under : UnderWay) → Stands old session under
         → Stands new session under
     same_stands session under stands =
-        subst (λ (rs : List Record). tables.StandsFor new.tables rs session under) (sym records)
+        subst (λ (rs : List Record). tables.Represents new.tables rs session under) (sym records)
         (same.stands old.book.records session under stands)
 
     pub same_order : IsInOrder old → IsInOrder new
@@ -47,7 +47,7 @@ module _ {C : Type 0} (device : C → Device) (old new : OpenSite C) (r : Record
 
   -- memory ran out before the commit
   pub not_tried : (result : Result (Unit {0}) SiteFault) → result ≡ Err faults.Memory
-      → new.book ≡ old.book → StandsForSame old.tables new.tables
+      → new.book ≡ old.book → RepresentsSame old.tables new.tables
       → IsCommitted device old new r result
   not_tried result is book same =
       subst (λ (x : Result (Unit {0}) SiteFault). IsCommitted device old new r x) (sym is) (record {
@@ -63,7 +63,7 @@ module _ {C : Type 0} (device : C → Device) (old new : OpenSite C) (r : Record
   -- the commit was refused
   pub refused : (result : Result (Unit {0}) SiteFault) (fault : CommitFault)
       → result ≡ Err (commit_fault fault) → ¬ (fault ≡ commits.NeedsOpen)
-      → Commits device old.book r (Err fault) new.book → StandsForSame old.tables new.tables
+      → Commits device old.book r (Err fault) new.book → RepresentsSame old.tables new.tables
       → IsCommitted device old new r result
   refused result commits.Device is opened c same =
       subst (λ (x : Result (Unit {0}) SiteFault). IsCommitted device old new r x) (sym is) (record {
@@ -83,14 +83,14 @@ module _ {C : Type 0} (device : C → Device) (old new : OpenSite C) (r : Record
       })
   refused result commits.NeedsOpen is opened c same = absurd (opened refl)
 
-  -- the record was committed, and noted in tables that stood for the same
+  -- the record was committed, and noted in tables that represented the same
   pub done : (mid : Contents) → Commits device old.book r (Ok tt) new.book
-      → StandsForSame old.tables mid
+      → RepresentsSame old.tables mid
       → (IsOf mid old.book.owner old.book.records
       → IsOf new.tables old.book.owner (old.book.records ++ r ∷ []))
       → ((session : Session) (under : UnderWay)
-      → tables.StandsFor mid old.book.records session under
-      → tables.StandsFor new.tables (old.book.records ++ r ∷ []) (noted_session session under r)
+      → tables.Represents mid old.book.records session under
+      → tables.Represents new.tables (old.book.records ++ r ∷ []) (noted_session session under r)
       (noted_under under r))
       → IsCommitted device old new r (Ok tt)
   done mid c same of stands = record {
@@ -113,7 +113,7 @@ module _ {C : Type 0} (device : C → Device) (old new : OpenSite C) (r : Record
       all_stands : (session : Session) (under : UnderWay) → Stands old session under
           → Stands new (noted_session session under r) (noted_under under r)
       all_stands session under s =
-          subst (λ (rs : List Record). tables.StandsFor new.tables rs
+          subst (λ (rs : List Record). tables.Represents new.tables rs
           (noted_session session under r)
           (noted_under under r)) (sym c.committed.0)
           (stands session under (same.stands old.book.records session under s))

@@ -23,7 +23,7 @@ use Rattle.site.specs.declared.fault.SiteFault.TheVariants as faults
 use Rattle.site.specs.Answered.{Commits, Keeps, Gives, IsAnswered, commit_of}
 use Rattle.site.specs.Datagrams.{datagram}
 use Rattle.site.specs.Effects.{Effect, record_of}
-use Rattle.site.specs.Sites.{OpenSite, StandsFor}
+use Rattle.site.specs.Sites.{OpenSite, Represents}
 use Rattle.site.specs.inner.Concluded.{Stands, session_after, under_after, Concludes, IsCommitted}
 use Rattle.site.specs.inner.Concluded.{committed}
 
@@ -89,7 +89,7 @@ module _ {C : Type 0} (device : C → Device) (old mid new : OpenSite C)
       → Stands mid session under
       → e.says ≡ Ok line → datagrams ≡ map (datagram federation) e.sends
       → (Stands new (session_after session under e.commits) (under_after under e.commits)
-      → StandsFor new e.session)
+      → Represents new e.session)
       → Gives old new session e result
   gives (Ok answer) c stands says sends after = (
     says ∙ ap (λ (l : Option Line). Ok l) (sym (c.says answer refl).0),
@@ -111,7 +111,7 @@ module _ {C : Type 0} (device : C → Device) (old mid new : OpenSite C)
       → mid.book ≡ old.book → Stands mid session under
       → e.says ≡ Ok line → datagrams ≡ map (datagram federation) e.sends
       → (Stands new (session_after session under e.commits) (under_after under e.commits)
-      → StandsFor new e.session)
+      → Represents new e.session)
       → IsAnswered device old new session e result
   concluded result c book stands says sends after = record {
     keeps = subst (λ (b : Volume C). Keeps device e.commits result b new.book) book c.keeps;

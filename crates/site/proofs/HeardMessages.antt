@@ -29,7 +29,7 @@ use Rattle.proposer.specs.Proposals.{ready}
 use Rattle.proposer.specs.Sessions.{Session, UnderWay, hears, heard_if, waits, promise_message}
 use Rattle.proposer.specs.Sessions.{refusal_message}
 use Rattle.learner.specs.LearnedBags.{learned_from, learned_of_known}
-use Rattle.site_tables.specs.Contents.{Contents, IsOf, StandsForSame}
+use Rattle.site_tables.specs.Contents.{Contents, IsOf, RepresentsSame}
 use Rattle.site_tables.specs.Contents as tables
 use Rattle.site_tables.proofs.Heard.{hears_other, hears_known}
 use Rattle.site.specs.declared.answer.Answer.{Answer}
@@ -42,7 +42,7 @@ use Rattle.site.specs.Arrivals.{on_body, decided, learning, proposing, telling, 
 use Rattle.site.specs.Arrivals.{addressees, is_member, on_arrival}
 use Rattle.site.specs.Datagrams.{handed_out, datagram}
 use Rattle.site.specs.Effects.{Effect, record_of, to_each, only_says, quiet}
-use Rattle.site.specs.Sites.{OpenSite, StandsFor, IsInOrder}
+use Rattle.site.specs.Sites.{OpenSite, Represents, IsInOrder}
 use Rattle.site.specs.inner.Concluded.{Stands, session_after, under_after, Concludes, HearsBody}
 use Rattle.site.specs.inner.Concluded.{Issues, one_datagram, all_datagrams}
 use Rattle.site.proofs.Conclusions.{concluded, IsNoRound, noted_same, prepare_issues_none}
@@ -70,7 +70,7 @@ module _ {C : Type 0} (device : C → Device) (old new : OpenSite C) (slot : Slo
       (map (datagram old.book.owner.members.federation)
       (to_each slot (answer_body old.book.owner.site d.answer)
       (addressees (quorums_of old.book.owner.members) asker d.answer))) result
-      → (session : Session) → StandsFor old session
+      → (session : Session) → Represents old session
       → IsAnswered device old new session
       (decided (quorums_of old.book.owner.members) old.book.owner.site slot asker d
       (hears session (record { slot = slot; body = body }))) result
@@ -149,10 +149,10 @@ module _ {C : Type 0} (device : C → Device) (old new : OpenSite C) (slot : Slo
 module _ {C : Type 0} (book : Volume C) (old new : Contents)
     (of : (owner : Owner) (records : List Record) → IsOf old owner records
     → IsOf new owner records) where
-  -- it stays in order, whatever session it stands for then
+  -- it stays in order, whatever session it represents then
   pub stays_in_order :
-      ((session : Session) (under : UnderWay) → tables.StandsFor old book.records session under
-      → (s : Session) × ((u : UnderWay) × tables.StandsFor new book.records s u))
+      ((session : Session) (under : UnderWay) → tables.Represents old book.records session under
+      → (s : Session) × ((u : UnderWay) × tables.Represents new book.records s u))
       → IsInOrder (record { book = book; tables = old })
       → IsInOrder (record { book = book; tables = new })
   stays_in_order stands order = record {
@@ -160,8 +160,8 @@ module _ {C : Type 0} (book : Volume C) (old new : Contents)
     session = stands order.session.0 order.session.1.0 order.session.1.1;
   }
 
-  -- and where they stand for the same
-  pub same_in_order : StandsForSame old new → IsInOrder (record { book = book; tables = old })
+  -- and where they represent the same
+  pub same_in_order : RepresentsSame old new → IsInOrder (record { book = book; tables = old })
       → IsInOrder (record { book = book; tables = new })
   same_in_order same =
       stays_in_order (λ session under stands. (
@@ -172,21 +172,21 @@ module _ {C : Type 0} (book : Volume C) (old new : Contents)
 module _ {C : Type 0} (device : C → Device) (old new : OpenSite C) where
   -- what is dropped
   says_dropped : (session : Session) (a : Answer)
-      → (a.line ≡ Some lines.Dropped) × (a.sends.items ≡ []) → new ≡ old → StandsFor old session
+      → (a.line ≡ Some lines.Dropped) × (a.sends.items ≡ []) → new ≡ old → Represents old session
       → IsAnswered device old new session (only_says lines.Dropped session) (Ok a)
   says_dropped session a is same stands = record {
     keeps = ap (λ (s : OpenSite C). s.book) same;
     gives = (
       ap (λ (l : Option Line). Ok l) (sym is.0),
       ap (map handed_out) is.1,
-      subst (λ (s : OpenSite C). StandsFor s session) (sym same) stands,
+      subst (λ (s : OpenSite C). Represents s session) (sym same) stands,
     );
   }
 
 module _ {C : Type 0} (device : C → Device) (old new : OpenSite C) (slot : SlotName) where
   -- ---- nothing comes of a message but the session
   says_nothing : (session now : Session) (a : Answer)
-      → (a.line ≡ None) × (a.sends.items ≡ []) → new.book ≡ old.book → StandsFor new now
+      → (a.line ≡ None) × (a.sends.items ≡ []) → new.book ≡ old.book → Represents new now
       → IsAnswered device old new session (quiet now) (Ok a)
   says_nothing session now a is book stands = record {
     keeps = book;
@@ -199,7 +199,7 @@ module _ {C : Type 0} (device : C → Device) (old new : OpenSite C) (slot : Slo
 
   -- memory ran out
   out_of_memory : (session now : Session) (result : Result Answer SiteFault)
-      → result ≡ Err faults.Memory → new.book ≡ old.book → StandsFor new session
+      → result ≡ Err faults.Memory → new.book ≡ old.book → Represents new session
       → IsAnswered device old new session (quiet now) result
   out_of_memory session now result is book stands =
       subst (λ (r : Result Answer SiteFault). IsAnswered device old new session (quiet now) r)
@@ -532,7 +532,7 @@ module _ {C : Type 0} (device : C → Device) (old new : OpenSite C) where
   pub takes_in : (m : Message) (result : Result Answer SiteFault)
       → is_member (quorums_of old.book.owner.members) (body_from m.body) ≡ true
       → HearsBody device old new m.slot m.body result
-      → (session : Session) → StandsFor old session
+      → (session : Session) → Represents old session
       → IsAnswered device old new session (arrived session (Some m)) result
   unfolding on_arrival
   takes_in m result member hears_body session stands =
@@ -545,7 +545,7 @@ module _ {C : Type 0} (device : C → Device) (old new : OpenSite C) where
   pub drops : (m : Message) (a : Answer)
       → is_member (quorums_of old.book.owner.members) (body_from m.body) ≡ false
       → (a.line ≡ Some lines.Dropped) × (a.sends.items ≡ []) → new ≡ old
-      → (session : Session) → StandsFor old session
+      → (session : Session) → Represents old session
       → IsAnswered device old new session (arrived session (Some m)) (Ok a)
   unfolding on_arrival
   drops m a stranger dropped same session stands =
@@ -557,7 +557,7 @@ module _ {C : Type 0} (device : C → Device) (old new : OpenSite C) where
   -- and so is what is no message
   pub drops_bytes : (o : Option Message) (a : Answer) → o ≡ None
       → (a.line ≡ Some lines.Dropped) × (a.sends.items ≡ []) → new ≡ old
-      → (session : Session) → StandsFor old session
+      → (session : Session) → Represents old session
       → IsAnswered device old new session (arrived session o) (Ok a)
   unfolding on_arrival
   drops_bytes o a none dropped same session stands =

@@ -23,7 +23,7 @@ use Rattle.site.specs.Answered.{Keeps, IsAnswered, IsRefused}
 use Rattle.site.specs.Calls.{Proposes, on_propose, issuing_if}
 use Rattle.site.specs.Datagrams.{handed_out}
 use Rattle.site.specs.Effects.{Effect}
-use Rattle.site.specs.Sites.{OpenSite, StandsFor, IsInOrder, effect}
+use Rattle.site.specs.Sites.{OpenSite, Represents, IsInOrder, effect}
 use Rattle.site.specs.inner.Begun.{Begins, BeginsBallot}
 use Rattle.site.specs.inner.Concluded.{Stands, noted_under, Concludes}
 use Rattle.site.proofs.Conclusions.{concluded}
@@ -80,7 +80,7 @@ module _ {C : Type 0} (device : C → Device) (old mid : OpenSite C) (slot : Slo
         some : (r : Result (Record × Answer) SiteFault)
             → Begins old.book.owner mid.tables slot own old.book.records order.session.0
             order.session.1.0 r
-            → StandsFor (record { book = old.book; tables = mid.tables }) order.session.0
+            → Represents (record { book = old.book; tables = mid.tables }) order.session.0
         some (Ok x) (ballot, next, of_ballot, stands) =
             (begins order.session.1.0 slot ballot own, stands)
         some (Err faults.RoundsSpent) (none, stands) = (order.session.1.0, stands)
@@ -93,7 +93,7 @@ module _ {C : Type 0} (device : C → Device) (old mid : OpenSite C) (slot : Slo
         some (Err faults.NoDeposit) x = absurd x
         some (Err faults.AlreadyKnown) x = absurd x
 
-    module _ (session : Session) (stands : StandsFor old session)
+    module _ (session : Session) (stands : Represents old session)
         (known : known_of slot old.book.records ≡ None) where
       propose_effect : (next : Option BallotNumber)
           → next_ballot old.book.owner.site slot old.book.records session.heard ≡ next

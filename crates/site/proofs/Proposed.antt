@@ -14,10 +14,10 @@ use Rattle.site.specs.declared.fault.SiteFault.TheVariants as faults
 use Rattle.site.specs.Answered.{IsAnswered, IsRefused}
 use Rattle.site.specs.Calls.{Proposes, on_propose, issuing_if}
 use Rattle.site.specs.Effects.{Effect}
-use Rattle.site.specs.Sites.{OpenSite, StandsFor, effect}
+use Rattle.site.specs.Sites.{OpenSite, Represents, effect}
 
 module _ {C : Type 0} (device : C → Device) (s : OpenSite C) (session : Session)
-    (slot : SlotName) (stands : StandsFor s session) where
+    (slot : SlotName) (stands : Represents s session) where
   -- the definitions, by what is known and the deposit
   by_bags : (known own : Option BagId) → known ≡ known_of slot s.book.records
       → own ≡ deposit_of slot s.book.records

@@ -17,11 +17,11 @@ use Rattle.site.specs.Answered.{Keeps, Gives, IsAnswered}
 use Rattle.site.specs.Calls.{on_deposit}
 use Rattle.site.specs.Effects.{Effect}
 use Rattle.site.specs.Faults.{check_fault}
-use Rattle.site.specs.Sites.{OpenSite, StandsFor}
+use Rattle.site.specs.Sites.{OpenSite, Represents}
 
 module _ {C : Type 0} (device : C → Device) (old : OpenSite C) (session : Session) where
   -- memory ran out before anything was done
-  pub out_of_memory : (e : Effect) → StandsFor old session
+  pub out_of_memory : (e : Effect) → Represents old session
       → IsAnswered device old old session e (Err faults.Memory)
   out_of_memory e stands = record { keeps = keeps e.commits; gives = stands }
     where
@@ -31,7 +31,7 @@ module _ {C : Type 0} (device : C → Device) (old : OpenSite C) (session : Sess
 
   -- the check of a tree has found a fault, or no memory
   pub check_refused : (slot : SlotName) (wanted : Result BagId BagFault) (fault : BagFault)
-      → IsOrMemory {T = BagId} (Err fault) wanted → StandsFor old session
+      → IsOrMemory {T = BagId} (Err fault) wanted → Represents old session
       → IsAnswered device old old session (on_deposit old.book.records session slot wanted)
       (Err (check_fault fault))
   unfolding on_deposit

@@ -17,7 +17,7 @@ use Rattle.site.specs.Answered.{IsAnswered}
 use Rattle.site.specs.Calls.{Deposits, on_deposit, registering, other_than, deposit_fault}
 use Rattle.site.specs.Datagrams.{handed_out}
 use Rattle.site.specs.Effects.{Effect}
-use Rattle.site.specs.Sites.{OpenSite, StandsFor, effect}
+use Rattle.site.specs.Sites.{OpenSite, Represents, effect}
 use Rattle.site.specs.inner.Concluded.{Concludes}
 use Rattle.site.proofs.Conclusions.{concluded}
 
@@ -39,7 +39,7 @@ none_of (Some a) e = absurd (differ e)
 module _ {C : Type 0} (device : C → Device) (old : OpenSite C) (session : Session)
     (slot : SlotName) (bag : BagId) (own known : Option BagId)
     (o : own ≡ deposit_of slot old.book.records) (k : known ≡ known_of slot old.book.records)
-    (stands : StandsFor old session) where
+    (stands : Represents old session) where
   -- what the definitions say, by the two bags
   deposit_effect : (fault : Option SiteFault)
       → deposit_fault (other_than bag own) (other_than bag known) ≡ fault

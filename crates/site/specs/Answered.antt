@@ -23,7 +23,7 @@ use Rattle.site.specs.declared.fault.SiteFault.{SiteFault}
 use Rattle.site.specs.declared.fault.SiteFault.TheVariants as faults
 use Rattle.site.specs.Datagrams.{handed_out, datagram}
 use Rattle.site.specs.Effects.{Effect}
-use Rattle.site.specs.Sites.{OpenSite, StandsFor}
+use Rattle.site.specs.Sites.{OpenSite, Represents}
 
 -- ---- the record
 
@@ -72,7 +72,7 @@ Keeps device (Some r) result old new =
 -- ---- the answer
 
 -- the call says what it has to and hands out the datagrams, in order; a refusal is that of the
--- definitions, and then, as where memory runs out, the site stands for what it stood for; Device
+-- definitions, and then, as where memory runs out, the site represents what it represented; Device
 -- can come only where there is a record
 abbrev pub Gives :
     {C : Type 0} → (old new : OpenSite C) → Session → Effect → Result Answer SiteFault → Type 0
@@ -80,11 +80,11 @@ Gives old new session e (Ok answer) =
     (e.says ≡ Ok answer.line)
     × (map handed_out answer.sends.items
     ≡ map (datagram old.book.owner.members.federation) e.sends)
-    × StandsFor new e.session
-Gives old new session e (Err faults.Memory) = StandsFor new session
+    × Represents new e.session
+Gives old new session e (Err faults.Memory) = Represents new session
 Gives old new session e (Err faults.Device) = IsSome e.commits
 Gives old new session e (Err faults.NeedsOpen) = ⊥
-Gives old new session e (Err fault) = (e.says ≡ Err fault) × StandsFor new session
+Gives old new session e (Err fault) = (e.says ≡ Err fault) × Represents new session
 
 -- a call of a site that needs no opening answers as the definitions say
 pub record IsAnswered

@@ -1,4 +1,4 @@
--- A site that is open, as a clause sees it, and what it stands for.
+-- A site that is open, as a clause sees it, and what it represents.
 use Rattle.fed_types.specs.Quorums.{quorums_of}
 use Rattle.book.specs.Volumes.{Volume}
 use Rattle.proposer.specs.Sessions.{Session, UnderWay}
@@ -12,15 +12,15 @@ pub record OpenSite (C : Type 0) : Type 0 where
   pub book : Volume C
   pub tables : Contents
 
--- The site stands for a session: what its tables count is what the definitions find in its records
+-- The site represents a session: what its tables count is what the definitions find in its records
 -- and in the messages that the session has heard, whatever a call has begun in them.
-abbrev pub StandsFor : {C : Type 0} → OpenSite C → Session → Type 0
-StandsFor s session = (under : UnderWay) × tables.StandsFor s.tables s.book.records session under
+abbrev pub Represents : {C : Type 0} → OpenSite C → Session → Type 0
+Represents s session = (under : UnderWay) × tables.Represents s.tables s.book.records session under
 
--- what is so of every site: its tables are those of its records, and it stands for some session
+-- what is so of every site: its tables are those of its records, and it represents some session
 pub record IsInOrder {C : Type 0} (s : OpenSite C) : Type 0 where
   pub of : IsOf s.tables s.book.owner s.book.records
-  pub session : (session : Session) × StandsFor s session
+  pub session : (session : Session) × Represents s session
 
 -- what the definitions say that it does with an input in a session
 abbrev pub effect : {C : Type 0} → OpenSite C → Session → Input → Effect

@@ -14,7 +14,7 @@ ghost use Rattle.site.specs.Arrivals.{answer_body, addressees, is_member, on_arr
 ghost use Rattle.site.specs.Calls.{Arrives};
 ghost use Rattle.site.specs.Datagrams.{handed_out, datagram};
 ghost use Rattle.site.specs.Effects.{record_of, to_each};
-ghost use Rattle.site.specs.Sites.{StandsFor, effect};
+ghost use Rattle.site.specs.Sites.{Represents, effect};
 ghost use Rattle.site.specs.declared.answer.Line.TheVariants as lines;
 ghost use Rattle.site.specs.inner.Concluded.{Concludes, HearsBody, Issues, all_datagrams};
 
@@ -32,7 +32,7 @@ impl<C: Cell> Site<C> {
     /// A datagram arrives. Bytes that are no message of the federation take no memory.
     pub fn arrive(&mut self, bytes: &[u8]) -> Result<Answer, SiteFault>
         ensures answer { self.old.book.needs_opening ≡ false → (session : Session)
-            → StandsFor self.old session
+            → Represents self.old session
             → IsAnswered C.device self.old self.new session
             (effect self.old session
             (Arrives (message_of self.old.book.owner.members.federation bytes.now))) result }
@@ -56,7 +56,7 @@ impl<C: Cell> Site<C> {
     /// Like `arrive`, of a datagram of the federation that was decoded already, to this message.
     pub fn arrive_message(&mut self, message: Message) -> Result<Answer, SiteFault>
         ensures answer { self.old.book.needs_opening ≡ false → (session : Session)
-            → StandsFor self.old session
+            → Represents self.old session
             → IsAnswered C.device self.old self.new session
             (effect self.old session (Arrives (Some message))) result }
         ensures reported { self.old.book.needs_opening ≡ false → IfOk result
@@ -89,7 +89,7 @@ impl<C: Cell> Site<C> {
     // What doesn't come from a member is dropped.
     fn take_in(&mut self, message: Message) -> Result<Answer, SiteFault>
         requires { self.old.book.needs_opening ≡ false }
-        ensures answer { (session : Session) → StandsFor self.old session
+        ensures answer { (session : Session) → Represents self.old session
             → IsAnswered C.device self.old self.new session
             (on_arrival (quorums_of self.old.book.owner.members) self.old.book.owner.site
             self.old.book.records session (Some message)) result }

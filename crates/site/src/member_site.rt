@@ -12,7 +12,7 @@ ghost use Rattle.site.specs.Calls.{Deposits, Proposes, Asks, reply_of, other_tha
 ghost use Rattle.site.specs.declared.answer.Line.TheVariants as lines;
 ghost use Rattle.site.specs.Datagrams.{handed_out};
 ghost use Rattle.site.specs.Opened.{Opens, book_of};
-ghost use Rattle.site.specs.Sites.{StandsFor, effect};
+ghost use Rattle.site.specs.Sites.{Represents, effect};
 ghost use Rattle.site.specs.inner.Concluded.{Concludes, one_datagram, all_datagrams};
 
 use crate::answer::{Answer, Line, Reply, Sealed};
@@ -54,7 +54,7 @@ impl<C: Cell> Site<C> {
     /// ballot of it is current. On a refusal the cell is handed back.
     pub fn open(alloc: Global, cell: C, owner: Owner) -> Result<Site<C>, (C, OpenFault)>
         ensures opened { Opens C.device owner cell (book_of result) }
-        ensures stands { IfOk result (λ s. StandsFor s new_session) }
+        ensures stands { IfOk result (λ s. Represents s new_session) }
     {
         let Owner { members, site } = owner;
         let book = Book::open(alloc, cell, Owner { members, site })?;
@@ -139,7 +139,7 @@ impl<C: Cell> Site<C> {
     /// Asks a member for the bag that it knows. The caller ensures that it is one.
     pub fn ask(&self, slot: &Slot, to: SiteNo) -> Result<Answer, SiteFault>
         ensures answer { self.now.book.needs_opening ≡ false → (session : Session)
-            → StandsFor self.now session
+            → Represents self.now session
             → IsAnswered C.device self.now self.now session
             (effect self.now session (Asks slot.now to)) result }
         ensures needs_open { IsErrOf result SiteFault.NeedsOpen
@@ -160,7 +160,7 @@ impl<C: Cell> Site<C> {
     /// another known bag is in the way.
     pub fn deposit(&mut self, slot: &Slot, facts: &Facts) -> Result<Answer, SiteFault>
         ensures answer { self.old.book.needs_opening ≡ false → (session : Session)
-            → StandsFor self.old session
+            → Represents self.old session
             → IsAnswered C.device self.old self.new session
             (effect self.old session (Deposits slot.now (check_of facts.now))) result }
         ensures needs_open { IsErrOf result SiteFault.NeedsOpen
@@ -178,11 +178,11 @@ impl<C: Cell> Site<C> {
     /// Where that is refused, it takes no memory.
     pub fn propose(&mut self, slot: &Slot) -> Result<Answer, SiteFault>
         ensures answer { self.old.book.needs_opening ≡ false → (session : Session)
-            → StandsFor self.old session
+            → Represents self.old session
             → IsAnswered C.device self.old self.new session
             (effect self.old session (Proposes slot.now)) result }
         ensures refused { self.old.book.needs_opening ≡ false → (session : Session)
-            → StandsFor self.old session
+            → Represents self.old session
             → IsRefused (effect self.old session (Proposes slot.now)) result }
         ensures needs_open { IsErrOf result SiteFault.NeedsOpen
             ↔ (self.old.book.needs_opening ≡ true) }
@@ -203,7 +203,7 @@ impl<C: Cell> Site<C> {
     // Takes a valid bag as the slot's deposit.
     fn register(&mut self, slot: &Slot, bag: BagId) -> Result<Answer, SiteFault>
         requires { self.old.book.needs_opening ≡ false }
-        ensures { (session : Session) → StandsFor self.old session
+        ensures { (session : Session) → Represents self.old session
             → IsAnswered C.device self.old self.new session
             (effect self.old session (Deposits slot.now (Ok bag))) result }
     {
@@ -227,11 +227,11 @@ impl<C: Cell> Site<C> {
     fn issue(&mut self, slot: &Slot, own: BagId) -> Result<Answer, SiteFault>
         requires opened { self.old.book.needs_opening ≡ false }
         requires deposit { deposit_of slot.now self.old.book.records ≡ Some own }
-        ensures answer { (session : Session) → StandsFor self.old session
+        ensures answer { (session : Session) → Represents self.old session
             → known_of slot.now self.old.book.records ≡ None
             → IsAnswered C.device self.old self.new session
             (effect self.old session (Proposes slot.now)) result }
-        ensures refused { (session : Session) → StandsFor self.old session
+        ensures refused { (session : Session) → Represents self.old session
             → known_of slot.now self.old.book.records ≡ None
             → IsRefused (effect self.old session (Proposes slot.now)) result }
     {

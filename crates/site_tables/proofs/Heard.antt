@@ -1,4 +1,4 @@
--- What the tables stand for with one message more.
+-- What the tables represent with one message more.
 use Rattle.std.proofs.Common.{◌≡◌, ℕ, Bool, true, false, cond, List, [], ◌∷◌, ◌++◌}
 use Rattle.std.proofs.Common.{Option, Some, None, refl, sym, ap, subst, ◌∙◌, append-nil}
 use Rattle.std.specs.List.{cons_option, filter_map}
@@ -24,7 +24,7 @@ use Rattle.proposer.proofs.Stands.{heard_stands}
 use Rattle.learner.specs.declared.row.Row.{Row as learner_row}
 use Rattle.learner.specs.Ledgers as learners
 use Rattle.learner.proofs.HeardVotes.{heard_known}
-use Rattle.site_tables.specs.Contents.{Contents, StandsFor}
+use Rattle.site_tables.specs.Contents.{Contents, Represents}
 
 -- ---- the learner
 
@@ -39,10 +39,10 @@ no_voter m no_vote s v = go (same_slot m.slot s)
     go false = refl
 
 module _ (rows : Rows learner_row) (records : List Record) (heard : List Message)
-    (stands : learners.StandsFor rows records heard) where
-  -- so it changes nothing of what the learner stands for
+    (stands : learners.Represents rows records heard) where
+  -- so it changes nothing of what the learner represents
   pub learner_hears : (m : Message) → ((v : Vote) → voter_in v m.body ≡ None)
-      → learners.StandsFor rows records (heard ++ m ∷ [])
+      → learners.Represents rows records (heard ++ m ∷ [])
   learner_hears m no_vote = record {
     known = stands.known;
     votes = λ s none v n. stands.votes s none v n
@@ -59,9 +59,9 @@ module _ (rows : Rows learner_row) (records : List Record) (heard : List Message
 
 -- a promise, which is heard unless it waits
 pub learner_hears_promise : (rows : Rows learner_row) (records : List Record) (session : Session)
-    → learners.StandsFor rows records session.heard → (given : Option BagId)
+    → learners.Represents rows records session.heard → (given : Option BagId)
     (slot : SlotName) (from : ℕ) (ballot : BallotNumber) (prior : Option Vote)
-    → learners.StandsFor rows records
+    → learners.Represents rows records
     (heard_after given session (promise_message slot from ballot prior)).heard
 learner_hears_promise rows records session stands None slot from ballot prior =
     learner_hears rows records session.heard stands (promise_message slot from ballot prior)
@@ -71,39 +71,39 @@ learner_hears_promise rows records session stands (Some bag) slot from ballot pr
 -- what waits in a proposer is a promise
 pub learner_hears_waiting : (rows : Rows learner_row) (proposing : Rows proposer_row)
     (records : List Record) (session : Session) (under : UnderWay)
-    → proposers.StandsFor proposing records session under
-    → learners.StandsFor rows records session.heard → (slot : SlotName)
-    → learners.StandsFor rows records (heard_if session (under.waiting slot)).heard
+    → proposers.Represents proposing records session under
+    → learners.Represents rows records session.heard → (slot : SlotName)
+    → learners.Represents rows records (heard_if session (under.waiting slot)).heard
 learner_hears_waiting rows proposing records session under proposes stands slot =
     go (proposers.current_in (proposers.row_of proposing slot)) (proposes slot).waiting
   where
     waits : (ballot : BallotNumber) (p : Option Waiting)
         → proposers.waiting_as slot ballot p ≡ under.waiting slot
-        → learners.StandsFor rows records (heard_if session (under.waiting slot)).heard
+        → learners.Represents rows records (heard_if session (under.waiting slot)).heard
     waits ballot None e =
-        subst (λ (m : Option Message). learners.StandsFor rows records (heard_if session m).heard)
+        subst (λ (m : Option Message). learners.Represents rows records (heard_if session m).heard)
         e stands
     waits ballot (Some p) e =
-        subst (λ (m : Option Message). learners.StandsFor rows records (heard_if session m).heard)
+        subst (λ (m : Option Message). learners.Represents rows records (heard_if session m).heard)
         e
         (learner_hears rows records session.heard stands
         (promise_message slot p.site ballot p.prior) (λ v. refl))
 
     go : (o : Option Round) → proposers.waiting_in slot o ≡ under.waiting slot
-        → learners.StandsFor rows records (heard_if session (under.waiting slot)).heard
+        → learners.Represents rows records (heard_if session (under.waiting slot)).heard
     go None e =
-        subst (λ (m : Option Message). learners.StandsFor rows records (heard_if session m).heard)
+        subst (λ (m : Option Message). learners.Represents rows records (heard_if session m).heard)
         e stands
     go (Some round) e = waits round.ballot round.waiting e
 
 -- ---- the tables
 
 module _ (t : Contents) (records : List Record) (session : Session) (under : UnderWay)
-    (stands : StandsFor t records session under) where
-  -- a message that is no promise, no refusal and no vote changes nothing of what they stand for
+    (stands : Represents t records session under) where
+  -- a message that is no promise, no refusal and no vote changes nothing of what they represent
   pub hears_other : (m : Message) → ((b : BallotNumber) → promise_in b m.body ≡ None)
       → refused_round m.body ≡ None → ((v : Vote) → voter_in v m.body ≡ None)
-      → StandsFor t records (hears session m) under
+      → Represents t records (hears session m) under
   hears_other m no_promise no_refusal no_vote = record {
     proposer = heard_stands t.proposer.rows m records session under no_refusal no_promise
         stands.proposer;
@@ -115,7 +115,7 @@ module _ (t : Contents) (records : List Record) (session : Session) (under : Und
   -- nor does a vote of a slot whose bag is known
   pub hears_known : (slot : SlotName) (from : ℕ) (vote : Vote) (bag : BagId)
       → known_of slot records ≡ Some bag
-      → StandsFor t records (hears session (record { slot = slot; body = Accepted from vote }))
+      → Represents t records (hears session (record { slot = slot; body = Accepted from vote }))
       under
   hears_known slot from vote bag known = record {
     proposer = heard_stands t.proposer.rows (record { slot = slot; body = Accepted from vote })

@@ -1,4 +1,4 @@
--- What the tables say and stand for with one record more.
+-- What the tables say and represent with one record more.
 use Rattle.std.proofs.Common.{◌≡◌, List, [], ◌∷◌, ◌++◌, Option, Some, None, refl, sym, ap, subst}
 use Rattle.std.proofs.Common.{◌∙◌}
 use Rattle.fed_types.specs.Ballots.{BallotNumber}
@@ -13,7 +13,7 @@ use Rattle.proposer.specs.Rows as proposers
 use Rattle.proposer.specs.Sessions.{Session, UnderWay, new_session, nothing, issued_by, issued_if}
 use Rattle.proposer.specs.Sessions.{under_way_if}
 use Rattle.learner.specs.Ledgers as learners
-use Rattle.site_tables.specs.Contents.{Contents, IsOf, StandsFor, with_deposit}
+use Rattle.site_tables.specs.Contents.{Contents, IsOf, Represents, with_deposit}
 use Rattle.site_tables.proofs.Begun.{deposits_stay, begun_stays, current_stays}
 use Rattle.site_tables.proofs.Deposited.{deposits-push}
 
@@ -26,16 +26,16 @@ heard_same session slot (Some ballot) = refl
 -- each part takes note of the record
 pub record Notes (old new : Contents) (r : Record) : Type 0 where
   pub deposits : new.deposits ≡ with_deposit old.deposits r
-  pub acceptor : (records : List Record) → acceptors.StandsFor old.acceptor records
-      → acceptors.StandsFor new.acceptor (records ++ r ∷ [])
+  pub acceptor : (records : List Record) → acceptors.Represents old.acceptor records
+      → acceptors.Represents new.acceptor (records ++ r ∷ [])
   pub proposer : (records : List Record) (session : Session) (under : UnderWay)
-      → proposers.StandsFor old.proposer.rows records session under
-      → proposers.StandsFor new.proposer.rows (records ++ r ∷ [])
+      → proposers.Represents old.proposer.rows records session under
+      → proposers.Represents new.proposer.rows (records ++ r ∷ [])
       (issued_if session r.slot (issued_by (under.begun r.slot) r.body))
       (under_way_if under r.slot (issued_by (under.begun r.slot) r.body))
   pub learner : (records : List Record) (heard : List Message)
-      → learners.StandsFor old.learner.rows records heard
-      → learners.StandsFor new.learner.rows (records ++ r ∷ []) heard
+      → learners.Represents old.learner.rows records heard
+      → learners.Represents new.learner.rows (records ++ r ∷ []) heard
   pub whose : proposers.IsOfSameSite old.proposer new.proposer
   pub members : new.learner.members ≡ old.learner.members
 
@@ -54,10 +54,10 @@ module _ (old new : Contents) (r : Record) (notes : Notes old new r) where
     learner_members = notes.members ∙ of.learner_members;
   }
 
-  -- and stand for them
+  -- and represent them
   pub noted_stands : (records : List Record) (session : Session) (under : UnderWay)
-      → StandsFor old records session under
-      → StandsFor new (records ++ r ∷ [])
+      → Represents old records session under
+      → Represents new (records ++ r ∷ [])
       (issued_if session r.slot (issued_by (under.begun r.slot) r.body))
       (under_way_if under r.slot (issued_by (under.begun r.slot) r.body))
   noted_stands records session under stands = record {
@@ -67,7 +67,7 @@ module _ (old new : Contents) (r : Record) (notes : Notes old new r) where
     current = current_stays under r.slot (issued_by (under.begun r.slot) r.body)
         (records ++ r ∷ []) (deposits_stay under.begun_with records r stands.begun)
         (deposits_stay under.current_with records r stands.current);
-    learner = subst (learners.StandsFor new.learner.rows (records ++ r ∷ []))
+    learner = subst (learners.Represents new.learner.rows (records ++ r ∷ []))
         (heard_same session r.slot (issued_by (under.begun r.slot) r.body))
         (notes.learner records session.heard stands.learner);
   }
@@ -82,9 +82,9 @@ none_issued (entry.Known bag) = refl
 
 -- so a record leaves a new session new
 pub stays_new : (t : Contents) (records : List Record) (r : Record)
-    → StandsFor t records (issued_if new_session r.slot (issued_by None r.body))
+    → Represents t records (issued_if new_session r.slot (issued_by None r.body))
     (under_way_if nothing r.slot (issued_by None r.body))
-    → StandsFor t records new_session nothing
+    → Represents t records new_session nothing
 stays_new t records r stands =
-    subst (λ (b : Option BallotNumber). StandsFor t records (issued_if new_session r.slot b)
+    subst (λ (b : Option BallotNumber). Represents t records (issued_if new_session r.slot b)
     (under_way_if nothing r.slot b)) (none_issued r.body) stands

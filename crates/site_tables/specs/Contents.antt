@@ -1,4 +1,4 @@
--- What a site's tables hold, and what they stand for.
+-- What a site's tables hold, and what they represent.
 use Rattle.std.specs.Prelude.{◌≡◌, ℕ, ◌<◌, List, [], ◌∷◌, ◌++◌, Option, Some, None, IsSome, fold}
 use Rattle.std.specs.Prelude.{slice_get}
 use Rattle.std.specs.Option.{option_map}
@@ -49,8 +49,8 @@ slot_at rows place = option_map (λ row. row.0) (slice_get rows place)
 -- the learner has heard, it knows the bags that they say are known.
 pub record IsOf (t : Contents) (owner : Owner) (records : List Record) : Type 0 where
   pub deposits : t.deposits ≡ deposits_of records
-  pub acceptor : acceptors.StandsFor t.acceptor records
-  pub learner : (heard : List Message) × learners.StandsFor t.learner.rows records heard
+  pub acceptor : acceptors.Represents t.acceptor records
+  pub learner : (heard : List Message) × learners.Represents t.learner.rows records heard
   pub proposer_members : t.proposer.members ≡ owner.members
   pub proposer_site : t.proposer.site ≡ owner.site
   pub learner_members : t.learner.members ≡ owner.members
@@ -60,14 +60,14 @@ abbrev pub AreDeposits : (SlotName → Option BagId) → List Record → Type 0
 AreDeposits bags records =
     (slot : SlotName) (bag : BagId) → bags slot ≡ Some bag → deposit_of slot records ≡ Some bag
 
--- they stand for the records, and for what was heard since the site was opened
-pub record StandsFor
+-- they represent the records, and what was heard since the site was opened
+pub record Represents
     (t : Contents) (records : List Record) (session : Session) (under : UnderWay)
     : Type 0 where
-  pub proposer : proposers.StandsFor t.proposer.rows records session under
+  pub proposer : proposers.Represents t.proposer.rows records session under
   pub begun : AreDeposits under.begun_with records
   pub current : AreDeposits under.current_with records
-  pub learner : learners.StandsFor t.learner.rows records session.heard
+  pub learner : learners.Represents t.learner.rows records session.heard
 
 -- there is room for a record of this slot
 pub record HasRoom (t : Contents) (slot : SlotName) : Type 0 where
@@ -76,8 +76,8 @@ pub record HasRoom (t : Contents) (slot : SlotName) : Type 0 where
   pub proposer : IsSome (row_at t.proposer.rows slot)
   pub learner : IsSome (row_at t.learner.rows slot)
 
--- whatever owner, records and messages the old contents stand for, the new ones stand for
-pub record StandsForSame (old new : Contents) : Type 0 where
+-- whatever owner, records and messages the old contents represent, the new ones represent
+pub record RepresentsSame (old new : Contents) : Type 0 where
   pub of : (owner : Owner) (records : List Record) → IsOf old owner records → IsOf new owner records
   pub stands : (records : List Record) (session : Session) (under : UnderWay)
-      → StandsFor old records session under → StandsFor new records session under
+      → Represents old records session under → Represents new records session under

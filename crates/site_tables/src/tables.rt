@@ -15,7 +15,7 @@ ghost use Rattle.proposer.specs.Sessions.{hears, refusal_message, heard_if, wait
 ghost use Rattle.proposer.specs.Sessions.{issued_by, issued_if, under_way_if};
 ghost use Rattle.learner.specs.LearnedBags.{learned_from, learned_of_known};
 ghost use Rattle.dgram.specs.declared.body.Body.TheVariants.{Accepted};
-ghost use Rattle.site_tables.specs.Contents.{IsOf, StandsFor, StandsForSame, HasRoom};
+ghost use Rattle.site_tables.specs.Contents.{IsOf, Represents, RepresentsSame, HasRoom};
 ghost use Rattle.site_tables.specs.Contents.{deposits_of, slot_at};
 
 use crate::deposits::Deposits;
@@ -54,7 +54,7 @@ impl Tables {
     /// The tables of a site without records that has heard nothing.
     pub fn new(alloc: Global, owner: Owner) -> Tables
         ensures of { IsOf result owner [] }
-        ensures stands { StandsFor result [] new_session nothing }
+        ensures stands { Represents result [] new_session nothing }
     {
         Tables {
             deposits: Deposits::new(alloc),
@@ -67,7 +67,7 @@ impl Tables {
     /// The tables of a site with these records that has heard nothing.
     pub fn of(alloc: Global, owner: Owner, records: &[Record]) -> Result<Tables, AllocError>
         ensures of { IfOk result (λ t. IsOf t owner records.now) }
-        ensures stands { IfOk result (λ t. StandsFor t records.now new_session nothing) }
+        ensures stands { IfOk result (λ t. Represents t records.now new_session nothing) }
     {
         let mut tables = Tables::new(alloc, owner);
         for r in records {
@@ -124,20 +124,20 @@ impl Tables {
     pub fn begin(&mut self, slot: &Slot, own: BagId) -> Result<Ballot, ProposeFault>
         ensures answer { (owner : declared_owner) (records : List declared_record)
             (session : Session) (under : UnderWay) → IsOf self.old owner records
-            → StandsFor self.old records session under → IsOrMemory result
+            → Represents self.old records session under → IsOrMemory result
             (next_or_spent (next_ballot owner.site slot.now records session.heard)) }
         ensures spent { (owner : declared_owner) (records : List declared_record)
             (session : Session) (under : UnderWay) → IsOf self.old owner records
-            → StandsFor self.old records session under
+            → Represents self.old records session under
             → next_ballot owner.site slot.now records session.heard ≡ None
             → result ≡ Err ProposeFault.RoundsSpent }
         ensures begun { IfOk result (λ ballot. (records : List declared_record)
-            (session : Session) (under : UnderWay) → StandsFor self.old records session under
+            (session : Session) (under : UnderWay) → Represents self.old records session under
             → deposit_of slot.now records ≡ Some own
-            → StandsFor self.new records session (begins under slot.now ballot own)) }
+            → Represents self.new records session (begins under slot.now ballot own)) }
         ensures of { (owner : declared_owner) (records : List declared_record)
             → IsOf self.old owner records → IsOf self.new owner records }
-        ensures same { OnErr result (StandsForSame self.old self.new) }
+        ensures same { OnErr result (RepresentsSame self.old self.new) }
     {
         self.proposer.begin(slot, own)
     }
@@ -153,13 +153,13 @@ impl Tables {
     ) -> Option<BagId>
         ensures ready { (owner : declared_owner) (records : List declared_record)
             (session : Session) (under : UnderWay) → IsOf self.old owner records
-            → StandsFor self.old records session under
+            → Represents self.old records session under
             → result ≡ ready (quorums_of owner.members) (deposit_of slot.now records) slot.now
             (session.current slot.now) session.heard ballot
             (record { site = from; prior = prior }) }
         ensures heard { (records : List declared_record) (session : Session) (under : UnderWay)
-            → StandsFor self.old records session under
-            → StandsFor self.new records
+            → Represents self.old records session under
+            → Represents self.new records
             (heard_after result session (promise_message slot.now from ballot prior))
             (waiting_after result under (promise_message slot.now from ballot prior)) }
         ensures of { (owner : declared_owner) (records : List declared_record)
@@ -171,8 +171,8 @@ impl Tables {
     /// The proposal that became ready is sent: the promise that waits is heard, if one waits.
     pub fn issued(&mut self, slot: &Slot)
         ensures heard { (records : List declared_record) (session : Session) (under : UnderWay)
-            → StandsFor self.old records session under
-            → StandsFor self.new records (heard_if session (under.waiting slot.now))
+            → Represents self.old records session under
+            → Represents self.new records (heard_if session (under.waiting slot.now))
             (waits under slot.now None) }
         ensures of { (owner : declared_owner) (records : List declared_record)
             → IsOf self.old owner records → IsOf self.new owner records }
@@ -184,12 +184,12 @@ impl Tables {
     pub fn refused(&mut self, slot: &Slot, standing: Ballot) -> Result<(), AllocError>
         ensures heard { OnOk result ((from : ℕ) (asked : BallotNumber)
             (records : List declared_record) (session : Session) (under : UnderWay)
-            → StandsFor self.old records session under
-            → StandsFor self.new records
+            → Represents self.old records session under
+            → Represents self.new records
             (hears session (refusal_message slot.now from asked standing)) under) }
         ensures of { (owner : declared_owner) (records : List declared_record)
             → IsOf self.old owner records → IsOf self.new owner records }
-        ensures same { OnErr result (StandsForSame self.old self.new) }
+        ensures same { OnErr result (RepresentsSame self.old self.new) }
     {
         self.proposer.refused(slot, standing)
     }
@@ -203,21 +203,21 @@ impl Tables {
     ) -> Result<Option<BagId>, AllocError>
         ensures learned { IfOk result (λ o. (owner : declared_owner)
             (records : List declared_record) (session : Session) (under : UnderWay)
-            → IsOf self.old owner records → StandsFor self.old records session under
+            → IsOf self.old owner records → Represents self.old records session under
             → o ≡ learned_from (quorums_of owner.members) slot.now records session.heard from
             vote) }
         ensures heard { IfOk result (λ o. o ≡ None → (records : List declared_record)
-            (session : Session) (under : UnderWay) → StandsFor self.old records session under
-            → StandsFor self.new records
+            (session : Session) (under : UnderWay) → Represents self.old records session under
+            → Represents self.new records
             (hears session (record { slot = slot.now; body = Accepted from vote })) under) }
         ensures unchanged { IfOk result (λ o. IsSome o → self.new ≡ self.old) }
         ensures of { (owner : declared_owner) (records : List declared_record)
             → IsOf self.old owner records → IsOf self.new owner records }
-        ensures same { OnErr result (StandsForSame self.old self.new) }
+        ensures same { OnErr result (RepresentsSame self.old self.new) }
         // Memory can run out only where nothing is learned, and the vote still counts.
         ensures no_memory { OnErr result ((owner : declared_owner)
             (records : List declared_record) (session : Session) (under : UnderWay)
-            → IsOf self.old owner records → StandsFor self.old records session under
+            → IsOf self.old owner records → Represents self.old records session under
             → (known_of slot.now records ≡ None)
             × (learned_from (quorums_of owner.members) slot.now records session.heard from vote
             ≡ None)) }
@@ -239,7 +239,7 @@ impl Tables {
 
     /// Makes room for a record of this slot.
     pub fn reserve(&mut self, slot: &Slot) -> Result<(), AllocError>
-        ensures same { StandsForSame self.old self.new }
+        ensures same { RepresentsSame self.old self.new }
         ensures room { OnOk result (HasRoom self.new slot.now) }
         ensures succeeds { HasRoom self.old slot.now → IsOk result }
     {
@@ -255,8 +255,8 @@ impl Tables {
         ensures of { (owner : declared_owner) (records : List declared_record)
             → IsOf self.old owner records → IsOf self.new owner (records ++ new ∷ []) }
         ensures stands { (records : List declared_record) (session : Session)
-            (under : UnderWay) → StandsFor self.old records session under
-            → StandsFor self.new (records ++ new ∷ [])
+            (under : UnderWay) → Represents self.old records session under
+            → Represents self.new (records ++ new ∷ [])
             (issued_if session new.slot (issued_by (under.begun new.slot) new.body))
             (under_way_if under new.slot (issued_by (under.begun new.slot) new.body)) }
     {

@@ -37,7 +37,7 @@ pub record Done (old new : OpenSite MemoryCell) (input : Input) (told : Told) (e
     pub records : new.book.records ≡ old.book.records ++ option_to_list e.commits
     pub opened : new.book.needs_opening ≡ false
     pub whose : new.book.owner ≡ old.book.owner
-    pub session : sites.StandsFor new e.session
+    pub session : sites.Represents new e.session
     pub sends : map handed_out told.sends.items
         ≡ map (datagram old.book.owner.members.federation) e.sends
     pub notice : notice_said old.book.owner.site input told.said
@@ -79,7 +79,7 @@ module _ (old new : OpenSite MemoryCell) (input : Input) (told : Told) (session 
   refused : (e : Effect) (fault : SiteFault) → RefusesOnly session e
       → old.book.needs_opening ≡ false
       → answered.Keeps device_of e.commits (Err fault) old.book new.book → Tells (Err fault) told
-      → (e.says ≡ Err fault) × sites.StandsFor new session → CameOf e
+      → (e.says ≡ Err fault) × sites.Represents new session → CameOf e
   refused e fault only opened keeps tells gives =
       subst (λ (x : Effect). answered.Keeps device_of x.commits (Err fault) old.book new.book
       → CameOf x) (sym (only fault gives.0)) so keeps
@@ -186,9 +186,9 @@ same_site a = record {
   medium = refl;
 }
 
--- they stand for the same, and keep the same
+-- they represent the same, and keep the same
 pub same_session : (a b : OpenSite MemoryCell) → DiffersByFuse a b → (session : Session)
-    → sites.StandsFor a session → sites.StandsFor b session
+    → sites.Represents a session → sites.Represents b session
 same_session a b d session s = (s.0, rw (d.tables, d.records) s.1)
 
 pub same_kept : (a b : OpenSite MemoryCell) → DiffersByFuse a b → (owner : Owner)

@@ -20,7 +20,7 @@ use Rattle.site.specs.Sites as sites
 use Rattle.site.specs.Sites.{OpenSite}
 use Rattle.world_law.specs.Networks.{Mode, Up, Down, NeedsOpening, SiteState, goes_down}
 use Rattle.stations.specs.declared.place.Place.TheVariants.{Running, AtRest}
-use Rattle.stations.specs.Stations.{Keeps, IsOpened, StandsFor}
+use Rattle.stations.specs.Stations.{Keeps, IsOpened, Represents}
 use Rattle.stations.proofs.Returns.{state}
 
 fuse_is : {a b : FuseState} → ◌≡◌ {A = Option FuseState} (Some a) (Some b) → a ≡ b
@@ -44,7 +44,7 @@ found rs ss (inr (inr e)) = absurd (differ e)
 -- a cell that was restarted is opened with the records that it keeps
 pub opened : (owner : Owner) (cell after : MemoryCell) (site : OpenSite MemoryCell)
     → image_of after ≡ all_synced (image_of cell) → fuse_of after ≡ Clear
-    → Opens device_of owner after (Ok site.book) → sites.StandsFor site new_session
+    → Opens device_of owner after (Ok site.book) → sites.Represents site new_session
     → (records : List Record) → Keeps owner cell records → IsOpened owner records site
 opened owner cell after site image fuse opens stands records keeps = record {
   whose = opens.whose.0;
@@ -62,13 +62,13 @@ pub stopped : (owner : Owner) (site : OpenSite MemoryCell) (cell : MemoryCell)
     → cell ≡ site.book.cell
     → (site.book.needs_opening ≡ false
     → RecoversTo site.book.owner site.book.records (Some (image_of cell)))
-    → (s : SiteState) → StandsFor owner (Running site) s
-    → StandsFor owner (AtRest cell) (goes_down owner.site s None []).site
+    → (s : SiteState) → Represents owner (Running site) s
+    → Represents owner (AtRest cell) (goes_down owner.site s None []).site
 stopped owner site cell same recovers s stands = go s.records s.session s.mode stands
   where
     go : (records : List Record) (session : Session) (mode : Mode)
-        → StandsFor owner (Running site) (state records session mode)
-        → StandsFor owner (AtRest cell)
+        → Represents owner (Running site) (state records session mode)
+        → Represents owner (AtRest cell)
         (goes_down owner.site (state records session mode) None []).site
     go records session Up (whose, up) = (
       rw (append-nil records) (subst (λ (rs : List Record). Keeps owner cell rs) up.records
@@ -84,13 +84,13 @@ stopped owner site cell same recovers s stands = go s.records s.session s.mode s
 
 -- one that is down stays as it is
 pub rests : (owner : Owner) (cell : MemoryCell) (s : SiteState)
-    → StandsFor owner (AtRest cell) s
-    → StandsFor owner (AtRest cell) (goes_down owner.site s None []).site
+    → Represents owner (AtRest cell) s
+    → Represents owner (AtRest cell) (goes_down owner.site s None []).site
 rests owner cell s stands = go s.records s.session s.mode stands
   where
     go : (records : List Record) (session : Session) (mode : Mode)
-        → StandsFor owner (AtRest cell) (state records session mode)
-        → StandsFor owner (AtRest cell)
+        → Represents owner (AtRest cell) (state records session mode)
+        → Represents owner (AtRest cell)
         (goes_down owner.site (state records session mode) None []).site
     go records session Up up = absurd up
     go records session NeedsOpening needs = absurd needs

@@ -32,7 +32,7 @@ use Rattle.world_law.specs.Networks.{Mode, Up, Down, NeedsOpening, SiteState, ou
 use Rattle.stations.specs.declared.place.Place.TheVariants.{Running}
 use Rattle.stations.specs.declared.told.Told.{Told}
 use Rattle.stations.specs.Fuses.{fuse_in}
-use Rattle.stations.specs.Stations.{Keeps, IsUp, NeedsToOpen, StandsFor, ComesTo}
+use Rattle.stations.specs.Stations.{Keeps, IsUp, NeedsToOpen, Represents, ComesTo}
 use Rattle.stations.specs.Stations.{Undergoes, under_fate, reached}
 use Rattle.stations.specs.Told.{Tells}
 use Rattle.stations.proofs.Came.{Done, Failed, FailedIn, Came, DiffersByFuse, came}
@@ -168,7 +168,7 @@ module _ (old armed called new : OpenSite MemoryCell) (front : DiffersByFuse old
     (back : DiffersByFuse called new) (input : Input) (told : Told)
     (result : Result Answer SiteFault)
     (answer : armed.book.needs_opening ≡ false → (session : Session)
-    → sites.StandsFor armed session
+    → sites.Represents armed session
     → IsAnswered device_of armed called session (effect armed session input) result)
     (needs : IsErrOf result faults.NeedsOpen ↔ (armed.book.needs_opening ≡ true))
     (untouched : armed.book.needs_opening ≡ true → called ≡ armed)
@@ -228,7 +228,7 @@ module _ (old armed called new : OpenSite MemoryCell) (front : DiffersByFuse old
   whole_as : (mode : Mode)
       → (fuse_of old.book.cell ≡ Clear → fuse_of armed.book.cell ≡ Clear)
       → fuse_of called.book.cell ≡ fuse_of new.book.cell
-      → StandsFor old.book.owner (Running old) (state records session mode)
+      → Represents old.book.owner (Running old) (state records session mode)
       → Comes mode fates.Whole
   unfolding outcome
   whole_as Up clear same stands = whole old new input told records session says
@@ -241,7 +241,7 @@ module _ (old armed called new : OpenSite MemoryCell) (front : DiffersByFuse old
       → (fuse_of old.book.cell ≡ Clear
       → (fuse_of armed.book.cell ≡ Burning (fuse_in device how kept)))
       → fuse_of new.book.cell ≡ fuse_after_set None (fuse_of called.book.cell)
-      → StandsFor old.book.owner (Running old) (state records session mode)
+      → Represents old.book.owner (Running old) (state records session mode)
       → Comes mode (fates.FailsIn device kept)
   unfolding outcome
   fails_as Up device how kept burning taken stands =
@@ -254,7 +254,7 @@ module _ (old armed called new : OpenSite MemoryCell) (front : DiffersByFuse old
 -- the call is done, and the site goes on
 pub goes_on : (old new : OpenSite MemoryCell) (input : Input) (told : Told)
     (result : Result Answer SiteFault)
-    → (old.book.needs_opening ≡ false → (session : Session) → sites.StandsFor old session
+    → (old.book.needs_opening ≡ false → (session : Session) → sites.Represents old session
     → IsAnswered device_of old new session (effect old session input) result)
     → (IsErrOf result faults.NeedsOpen ↔ (old.book.needs_opening ≡ true))
     → (old.book.needs_opening ≡ true → new ≡ old) → Tells result told
@@ -270,7 +270,7 @@ pub fails_in : (old armed called new : OpenSite MemoryCell) (device : DeviceCall
     → fuse_of armed.book.cell
     ≡ fuse_after_set (Some (fuse_in device how kept)) (fuse_of old.book.cell)
     → fuse_of new.book.cell ≡ fuse_after_set None (fuse_of called.book.cell)
-    → (armed.book.needs_opening ≡ false → (session : Session) → sites.StandsFor armed session
+    → (armed.book.needs_opening ≡ false → (session : Session) → sites.Represents armed session
     → IsAnswered device_of armed called session (effect armed session (input armed.book.owner))
     result)
     → (IsErrOf result faults.NeedsOpen ↔ (armed.book.needs_opening ≡ true))
@@ -281,7 +281,7 @@ fails_in old armed called new device how kept input told result front back set t
     untouched tells s stands =
     fails_as old armed called new front back (input old.book.owner) told result
     (subst (λ (o : Owner). armed.book.needs_opening ≡ false → (session : Session)
-    → sites.StandsFor armed session
+    → sites.Represents armed session
     → IsAnswered device_of armed called session (effect armed session (input o)) result)
     front.whose answer) needs untouched tells s.records s.session s.mode device how kept
     (λ clear. set ∙ ap (λ (f : FuseState). fuse_after_set (Some (fuse_in device how kept)) f) clear)

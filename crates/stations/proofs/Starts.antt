@@ -1,4 +1,4 @@
--- What a station stands for when it is called, asked and started.
+-- What a station represents when it is called, asked and started.
 use Rattle.std.specs.Prelude.{◌≡◌, ℕ, false, true, not, List, [], length}
 use Rattle.std.specs.Prelude.{Some, None, Result, Ok, Err}
 use Rattle.std.proofs.Common.{append-nil, refl, ap, subst, ◌∙◌}
@@ -19,7 +19,7 @@ use Rattle.world_law.specs.Networks as networks
 use Rattle.stations.specs.declared.place.Place.{Place}
 use Rattle.stations.specs.declared.place.Place.TheVariants.{Running, AtRest}
 use Rattle.stations.specs.declared.told.Told.{Told}
-use Rattle.stations.specs.Stations.{Keeps, IsOpened, StandsFor, reply_in, Undergoes, ComesTo}
+use Rattle.stations.specs.Stations.{Keeps, IsOpened, Represents, reply_in, Undergoes, ComesTo}
 use Rattle.stations.specs.Stations.{reached}
 use Rattle.stations.specs.Modes.{is_up, is_down}
 use Rattle.stations.proofs.Returns.{state}
@@ -42,7 +42,7 @@ none_comes owner input fate cell told said sends s stands =
     go s.records s.session s.mode stands
   where
     go : (records : List Record) (session : Session) (mode : Mode)
-        → StandsFor owner (AtRest cell) (state records session mode)
+        → Represents owner (AtRest cell) (state records session mode)
         → ComesTo owner input (AtRest cell) told (reached (quorums_of owner.members) owner.site
         (state records session mode) mode input fate)
     go records session Up up = absurd up
@@ -58,12 +58,12 @@ pub replies : (owner : Owner) (site : OpenSite MemoryCell) (slot : SlotName)
     (result : Result Reply SiteFault)
     → (site.book.needs_opening ≡ false → result ≡ Ok (reply_of slot site.book.records))
     → (site.book.needs_opening ≡ true → result ≡ Err faults.NeedsOpen)
-    → (s : SiteState) → StandsFor owner (Running site) s
+    → (s : SiteState) → Represents owner (Running site) s
     → Some result ≡ reply_in slot s s.mode
 replies owner site slot result reply needs s stands = go s.records s.session s.mode stands
   where
     go : (records : List Record) (session : Session) (mode : Mode)
-        → StandsFor owner (Running site) (state records session mode)
+        → Represents owner (Running site) (state records session mode)
         → Some result ≡ reply_in slot (state records session mode) mode
     go records session Up (whose, up) = ap (λ (r : Result Reply SiteFault). Some r)
         (reply up.opened ∙ ap (λ (rs : List Record). Ok (reply_of slot rs)) up.records)
@@ -72,11 +72,11 @@ replies owner site slot result reply needs s stands = go s.records s.session s.m
     go records session Down (whose, down) = absurd down
 
 pub replies_none : (owner : Owner) (cell : MemoryCell) (slot : SlotName) (s : SiteState)
-    → StandsFor owner (AtRest cell) s → None ≡ reply_in slot s s.mode
+    → Represents owner (AtRest cell) s → None ≡ reply_in slot s s.mode
 replies_none owner cell slot s stands = go s.records s.session s.mode stands
   where
     go : (records : List Record) (session : Session) (mode : Mode)
-        → StandsFor owner (AtRest cell) (state records session mode)
+        → Represents owner (AtRest cell) (state records session mode)
         → None ≡ reply_in slot (state records session mode) mode
     go records session Up up = absurd up
     go records session NeedsOpening needs = absurd needs
@@ -85,12 +85,12 @@ replies_none owner cell slot s stands = go s.records s.session s.mode stands
 -- the cell that a stopped site leaves is opened with its records
 pub started : (owner : Owner) (old : Place) (cell : MemoryCell) (site : OpenSite MemoryCell)
     (count : ℕ)
-    → ((o : Owner) (s : SiteState) → StandsFor o old s
-    → StandsFor o (AtRest cell) (goes_down o.site s None []).site)
+    → ((o : Owner) (s : SiteState) → Represents o old s
+    → Represents o (AtRest cell) (goes_down o.site s None []).site)
     → ((records : List Record) → Keeps owner cell records → IsOpened owner records site)
     → count ≡ length site.book.records
-    → (s : SiteState) → StandsFor owner old s
-    → StandsFor owner (Running site) (networks.opened owner.site s).site ×
+    → (s : SiteState) → Represents owner old s
+    → Represents owner (Running site) (networks.opened owner.site s).site ×
     (count ≡ length s.records)
 started owner old cell site count closes opens counts s stands =
     ((is.whose, is.up), counts ∙ ap (λ (rs : List Record). length rs) is.up.records)
@@ -101,23 +101,23 @@ started owner old cell site count closes opens counts s stands =
 
 -- whether it is up, and whether it is down
 pub up_of : (owner : Owner) (site : OpenSite MemoryCell) (s : SiteState)
-    → StandsFor owner (Running site) s
+    → Represents owner (Running site) s
     → (not site.book.needs_opening ≡ is_up s.mode) × (false ≡ is_down s.mode)
 up_of owner site s stands = go s.records s.session s.mode stands
   where
     go : (records : List Record) (session : Session) (mode : Mode)
-        → StandsFor owner (Running site) (state records session mode)
+        → Represents owner (Running site) (state records session mode)
         → (not site.book.needs_opening ≡ is_up mode) × (false ≡ is_down mode)
     go records session Up (whose, up) = (rw up.opened refl, refl)
     go records session NeedsOpening (whose, n) = (rw n.failed refl, refl)
     go records session Down (whose, down) = absurd down
 
 pub down_of : (owner : Owner) (cell : MemoryCell) (s : SiteState)
-    → StandsFor owner (AtRest cell) s → (false ≡ is_up s.mode) × (true ≡ is_down s.mode)
+    → Represents owner (AtRest cell) s → (false ≡ is_up s.mode) × (true ≡ is_down s.mode)
 down_of owner cell s stands = go s.records s.session s.mode stands
   where
     go : (records : List Record) (session : Session) (mode : Mode)
-        → StandsFor owner (AtRest cell) (state records session mode)
+        → Represents owner (AtRest cell) (state records session mode)
         → (false ≡ is_up mode) × (true ≡ is_down mode)
     go records session Up up = absurd up
     go records session NeedsOpening needs = absurd needs

@@ -26,13 +26,13 @@ use Rattle.stations.specs.declared.place.Place.TheVariants.{Running}
 use Rattle.stations.specs.declared.told.Said.TheVariants as said
 use Rattle.stations.specs.declared.told.Told.{Told}
 use Rattle.stations.specs.Fates.{before_stop}
-use Rattle.stations.specs.Stations.{StandsFor, ComesTo, Undergoes, under_fate, reached}
+use Rattle.stations.specs.Stations.{Represents, ComesTo, Undergoes, under_fate, reached}
 use Rattle.stations.proofs.Returns.{state}
 
 module _ (owner : Owner) (input : Input) (first : ℕ) (old : OpenSite MemoryCell)
     (before place : Place) (told after : Told)
-    (closes : (s : SiteState) → StandsFor owner before s
-    → StandsFor owner place (goes_down owner.site s None []).site)
+    (closes : (s : SiteState) → Represents owner before s
+    → Represents owner place (goes_down owner.site s None []).site)
     (said : after.said ≡ Some said.GoesDown)
     (sends : after.sends.items ≡ take first told.sends.items) where
   -- of an outcome: the site is down, with the same records, and the first of the sends went out
@@ -42,7 +42,7 @@ module _ (owner : Owner) (input : Input) (first : ℕ) (old : OpenSite MemoryCel
       → ComesTo owner input place after
       (goes_down owner.site s kept (take first o.sends))
   stops o s kept same comes = record {
-    stands = subst (λ (rs : List Record). StandsFor owner place (state rs new_session Down))
+    stands = subst (λ (rs : List Record). Represents owner place (state rs new_session Down))
         (append-nil o.site.records ∙ sym same) (closes o.site comes.stands);
     sends = ap (λ (xs : List Sealed). map handed_out xs) sends
         ∙ sym (take-map handed_out first told.sends.items)
@@ -66,7 +66,7 @@ module _ (owner : Owner) (input : Input) (first : ℕ) (old : OpenSite MemoryCel
     where
       go : (records : List Record) (session : Session) (mode : Mode)
           → Undergoes owner input fates.Whole (Running old) before told
-          → StandsFor owner (Running old) (state records session mode)
+          → Represents owner (Running old) (state records session mode)
           → ComesTo owner input place after (reached (quorums_of owner.members) owner.site
           (state records session mode) mode input (fates.StopsAfter first))
       go records session Up comes stands = whole_stops (state records session Up)
@@ -102,7 +102,7 @@ module _ (owner : Owner) (input : Input) (first : ℕ) (old : OpenSite MemoryCel
       where
         go : (records : List Record) (session : Session) (mode : Mode)
             → Undergoes owner input (fates.FailsIn device kept) (Running old) before told
-            → StandsFor owner (Running old) (state records session mode)
+            → Represents owner (Running old) (state records session mode)
             → ComesTo owner input place after (reached (quorums_of owner.members)
             owner.site (state records session mode) mode input (fates.StopsIn device kept))
         go records session Up comes stands = failed_stops (state records session Up)

@@ -1,4 +1,4 @@
--- What a station of a simulator stands for, and what comes of each of its calls, in the words of
+-- What a station of a simulator represents, and what comes of each of its calls, in the words of
 -- `Networks`.
 use Rattle.std.specs.Prelude.{◌≡◌, ℕ, true, false, List, [], map, Option, Some, None, Result, Ok}
 use Rattle.std.specs.Prelude.{Err}
@@ -30,17 +30,17 @@ use Rattle.stations.specs.declared.told.Said.{Said}
 use Rattle.stations.specs.declared.told.Said.TheVariants as said
 use Rattle.stations.specs.declared.told.Told.{Told}
 
--- ---- what it stands for
+-- ---- what it represents
 
 -- a read of the cell says these records
 abbrev pub Keeps : Owner → MemoryCell → List Record → Type 0
 Keeps owner cell records = Says owner (image_of cell).seen (Ok records)
 
--- a site that is up: it has the state's records, and stands for its session; no fuse is set
+-- a site that is up: it has the state's records, and represents its session; no fuse is set
 pub record IsUp (site : OpenSite MemoryCell) (s : SiteState) : Type 0 where
   pub opened : site.book.needs_opening ≡ false
   pub records : site.book.records ≡ s.records
-  pub session : sites.StandsFor site s.session
+  pub session : sites.Represents site s.session
   pub clear : fuse_of site.book.cell ≡ Clear
 
 -- the owner's site was opened, has these records, and heard nothing
@@ -67,10 +67,10 @@ RestsAs owner cell s Down = Keeps owner cell s.records × (s.session ≡ new_ses
 RestsAs owner cell s Up = ⊥
 RestsAs owner cell s NeedsOpening = ⊥
 
--- the owner's site stands for a state of the network
-abbrev pub StandsFor : Owner → Place → SiteState → Type 0
-StandsFor owner (Running site) s = (site.book.owner ≡ owner) × RunsAs site s s.mode
-StandsFor owner (AtRest cell) s = RestsAs owner cell s s.mode
+-- the owner's site represents a state of the network
+abbrev pub Represents : Owner → Place → SiteState → Type 0
+Represents owner (Running site) s = (site.book.owner ≡ owner) × RunsAs site s s.mode
+Represents owner (AtRest cell) s = RestsAs owner cell s s.mode
 
 -- ---- what comes of a call
 
@@ -97,14 +97,14 @@ reached q site s Down input fate = record { site = s; sends = []; notice = None 
 -- the place and what is told are those of an outcome
 pub record ComesTo (owner : Owner) (input : Input) (new : Place) (told : Told) (o : Outcome)
     : Type 0 where
-  pub stands : StandsFor owner new o.site
+  pub stands : Represents owner new o.site
   pub sends : map handed_out told.sends.items
       ≡ map (datagram owner.members.federation) o.sends
   pub notice : notice_said owner.site input told.said ≡ o.notice
 
--- what an input brings about at a place that stands for a state, under a fate
+-- what an input brings about at a place that represents a state, under a fate
 abbrev pub Undergoes : Owner → Input → Fate → (old new : Place) → Told → Type 0
-Undergoes owner input fate old new told = (s : SiteState) → StandsFor owner old s
+Undergoes owner input fate old new told = (s : SiteState) → Represents owner old s
     → ComesTo owner input new told
     (reached (quorums_of owner.members) owner.site s s.mode input fate)
 

@@ -2,7 +2,7 @@ ghost use Rattle.std.specs.Prelude.{◌≡◌, ◌↔◌, true, false, IsErrOf};
 ghost use Rattle.cell_device.specs.Memory.{device_of};
 ghost use Rattle.proposer.specs.Sessions.{Session};
 ghost use Rattle.site.specs.Answered.{IsAnswered};
-ghost use Rattle.site.specs.Sites.{StandsFor, effect};
+ghost use Rattle.site.specs.Sites.{Represents, effect};
 ghost use Rattle.stations.specs.Calls.{input_of};
 
 use bag_tree::Facts;
@@ -26,7 +26,7 @@ pub enum Call<'a> {
 /// Makes the call.
 pub(crate) fn make(site: &mut Site<MemoryCell>, call: &Call) -> Result<Answer, SiteFault>
     ensures answer { site.old.book.needs_opening ≡ false → (session : Session)
-        → StandsFor site.old session
+        → Represents site.old session
         → IsAnswered device_of site.old site.new session (effect site.old session
         (input_of site.old.book.owner.members.federation call.now)) result }
     ensures needs_open { IsErrOf result SiteFault.NeedsOpen

@@ -1,7 +1,7 @@
 ghost use Rattle.std.specs.Prelude.{[], None};
 ghost use Rattle.records.specs.declared.owner.Owner.{Owner};
 ghost use Rattle.world_law.specs.Networks.{SiteState, goes_down};
-ghost use Rattle.stations.specs.Stations.{StandsFor};
+ghost use Rattle.stations.specs.Stations.{Represents};
 ghost use Rattle.stations.specs.declared.place.Place.TheVariants.{AtRest};
 
 use cell_device::MemoryCell;
@@ -17,8 +17,8 @@ pub enum Place {
 impl Place {
     /// The cell, once the site has stopped.
     pub(crate) fn closed(self) -> MemoryCell
-        ensures { (owner : Owner) (s : SiteState) → StandsFor owner self s
-            → StandsFor owner (AtRest result) (goes_down owner.site s None []).site }
+        ensures { (owner : Owner) (s : SiteState) → Represents owner self s
+            → Represents owner (AtRest result) (goes_down owner.site s None []).site }
     {
         match self {
             Place::Running(site) => site.close(),

@@ -6,7 +6,7 @@ ghost use Rattle.world_law.specs.Networks.{SiteState, new_site, opened, goes_dow
 ghost use Rattle.stations.specs.Calls.{input_of};
 ghost use Rattle.stations.specs.Fates.{before_stop};
 ghost use Rattle.stations.specs.Modes as modes;
-ghost use Rattle.stations.specs.Stations.{StandsFor, Undergoes, reply_in};
+ghost use Rattle.stations.specs.Stations.{Represents, Undergoes, reply_in};
 ghost use Rattle.stations.specs.declared.place.Place.TheVariants.{Running};
 ghost use Rattle.stations.specs.declared.told.Said.TheVariants as said;
 
@@ -35,7 +35,7 @@ impl Station {
     /// A new site, which is up: it has no records. `Err`: out of memory.
     pub fn new(alloc: Global, owner: Owner) -> Result<Station, AllocError>
         ensures whose { IfOk result (λ station. station.owner ≡ owner) }
-        ensures is_new { IfOk result (λ station. StandsFor owner station.place new_site) }
+        ensures is_new { IfOk result (λ station. Represents owner station.place new_site) }
     {
         let Owner { members, site } = owner;
         let empty = MemoryCell::new(alloc, Vec::new(alloc));
@@ -63,7 +63,7 @@ impl Station {
 
     /// It isn't running.
     pub fn is_down(&self) -> bool
-        ensures { (s : SiteState) → StandsFor self.now.owner self.now.place s
+        ensures { (s : SiteState) → Represents self.now.owner self.now.place s
             → result ≡ modes.is_down s.mode }
     {
         matches!(self.place, Place::AtRest(_))
@@ -71,7 +71,7 @@ impl Station {
 
     /// It runs, and its device hasn't failed since it was opened.
     pub fn is_up(&self) -> bool
-        ensures { (s : SiteState) → StandsFor self.now.owner self.now.place s
+        ensures { (s : SiteState) → Represents self.now.owner self.now.place s
             → result ≡ modes.is_up s.mode }
     {
         match &self.place {
@@ -131,7 +131,7 @@ impl Station {
 
     /// What the site knows of the slot, unless it is down.
     pub fn query(&self, slot: &Slot) -> Option<Result<Reply, SiteFault>>
-        ensures { (s : SiteState) → StandsFor self.now.owner self.now.place s
+        ensures { (s : SiteState) → Represents self.now.owner self.now.place s
             → result ≡ reply_in slot.now s s.mode }
     {
         match &self.place {
@@ -143,8 +143,8 @@ impl Station {
     /// The site stops between calls.
     pub fn stop(self) -> Station
         ensures whose { result.owner ≡ self.owner }
-        ensures stops { (s : SiteState) → StandsFor self.owner self.place s
-            → StandsFor self.owner result.place (goes_down self.owner.site s None []).site }
+        ensures stops { (s : SiteState) → Represents self.owner self.place s
+            → Represents self.owner result.place (goes_down self.owner.site s None []).site }
     {
         let Station {
             alloc,
@@ -162,8 +162,8 @@ impl Station {
     pub fn start(self) -> Result<(Station, usize), AllocError>
         ensures whose { IfOk result (λ done. done.0.owner ≡ self.owner) }
         ensures starts { IfOk result (λ done. (s : SiteState)
-            → StandsFor self.owner self.place s
-            → (StandsFor self.owner done.0.place (opened self.owner.site s).site)
+            → Represents self.owner self.place s
+            → (Represents self.owner done.0.place (opened self.owner.site s).site)
             × (done.1 ≡ length s.records)) }
     {
         let Station {
@@ -201,8 +201,8 @@ impl Station {
         ensures whose { result.0.owner ≡ self.owner }
         ensures said { result.1.said ≡ Some said.GoesDown }
         ensures sends { result.1.sends.items ≡ take first told.sends.items }
-        ensures stops { (s : SiteState) → StandsFor self.owner self.place s
-            → StandsFor self.owner result.0.place (goes_down self.owner.site s None []).site }
+        ensures stops { (s : SiteState) → Represents self.owner self.place s
+            → Represents self.owner result.0.place (goes_down self.owner.site s None []).site }
     {
         let station = self.stop();
         let mut sends = told.sends;

@@ -11,7 +11,7 @@ use Rattle.site.specs.declared.fault.SiteFault.TheVariants as faults
 use Rattle.site.specs.Answered.{IsAnswered, Keeps}
 use Rattle.site.specs.Calls.{Input}
 use Rattle.site.specs.Effects.{Effect}
-use Rattle.site.specs.Sites.{OpenSite, StandsFor, effect}
+use Rattle.site.specs.Sites.{OpenSite, Represents, effect}
 use Rattle.site.proofs.Refused.{out_of_memory}
 use Rattle.udp_site.specs.Turns.{Serving, IsServing, IsCalled, session_after}
 
@@ -30,10 +30,10 @@ module _ {C : Type 0} (device : C → Device) (old : OpenSite C) (new : OpenSite
   needs_opening_then (Some r) is (inl unchanged) = absurd (not_memory unchanged.0)
   needs_opening_then (Some r) is (inr commits) = (commits.device_failed refl).1
 
-  -- what was answered leaves a site that stands for what it has heard then, unless it needs opening
+  -- what was answered leaves a site that represents what it has heard then, unless it needs opening
   stands_then : (e : Effect) (result : Result Answer SiteFault)
       → IsAnswered device old new session e result → new.book.needs_opening ≡ false
-      → StandsFor new (session_after e session result)
+      → Represents new (session_after e session result)
   stands_then e (Ok answer) answered opened = answered.gives.2
   stands_then e (Err faults.Memory) answered opened = answered.gives
   stands_then e (Err faults.Device) answered opened =
@@ -46,7 +46,7 @@ module _ {C : Type 0} (device : C → Device) (input : Input) (result : Result A
     (start site : OpenSite C) where
   abbrev pub Answers : Type 0
   Answers =
-      start.book.needs_opening ≡ false → (session : Session) → StandsFor start session
+      start.book.needs_opening ≡ false → (session : Session) → Represents start session
       → IsAnswered device start site session (effect start session input) result
 
   abbrev pub NeedsOpen : Type 0

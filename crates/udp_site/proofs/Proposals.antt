@@ -17,7 +17,7 @@ use Rattle.site.specs.declared.fault.SiteFault.TheVariants as faults
 use Rattle.site.specs.Answered.{IsAnswered, IsRefused}
 use Rattle.site.specs.Calls.{Proposes, Input, on_propose, issuing, issuing_if}
 use Rattle.site.specs.Effects.{Effect}
-use Rattle.site.specs.Sites.{OpenSite, StandsFor, effect}
+use Rattle.site.specs.Sites.{OpenSite, Represents, effect}
 use Rattle.site.proofs.Refused.{out_of_memory}
 use Rattle.lines.specs.declared.line.Line as notes
 use Rattle.udp_site.specs.declared.fault.ServeFault.{ServeFault}
@@ -34,7 +34,7 @@ use Rattle.udp_site.proofs.Handed.{Part}
 abbrev pub RefusesAt :
     {C : Type 0} → Input → Result Answer SiteFault → (start : OpenSite C) → Type 0
 RefusesAt input result start =
-    start.book.needs_opening ≡ false → (session : Session) → StandsFor start session
+    start.book.needs_opening ≡ false → (session : Session) → Represents start session
     → IsRefused (effect start session input) result
 
 pub refuses : {C : Type 0} (old : Serving C) (input : Input) (result : Result Answer SiteFault)
@@ -90,7 +90,7 @@ module _ {C : Type 0} {device : C → Device} {old : Serving C} {slot : SlotName
       before after
 
 module _ {C : Type 0} (device : C → Device) (s : OpenSite C) (session : Session)
-    (stands : StandsFor s session) where
+    (stands : Represents s session) where
   -- a refusal that changes nothing
   abbrev CouldRefuse : Effect → Type 0
   CouldRefuse e =

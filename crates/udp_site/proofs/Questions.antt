@@ -21,7 +21,7 @@ use Rattle.site.specs.Calls as calls
 use Rattle.site.specs.Calls.{on_ask}
 use Rattle.site.specs.Datagrams.{handed_out}
 use Rattle.site.specs.Effects.{to_each}
-use Rattle.site.specs.Sites.{OpenSite, StandsFor, effect}
+use Rattle.site.specs.Sites.{OpenSite, Represents, effect}
 use Rattle.lines.specs.declared.line.Line.{Line}
 use Rattle.lines.specs.Notices.{Notice, Refused}
 use Rattle.lines.specs.Named.{line_of}
@@ -168,7 +168,7 @@ module _ {C : Type 0} (ports : List ℕ) (s : Serving C) (slot : SlotName) where
     module _ (device : C → Device) (start : OpenSite C) (there : s.site ≡ start)
         (serves : IsServing s) (opened : start.book.needs_opening ≡ false) (answer : Answer)
         (answers : start.book.needs_opening ≡ false → (session : Session)
-        → StandsFor start session
+        → Represents start session
         → IsAnswered device start start session
         (effect start session (calls.Asks slot member)) (Ok answer)) where
       abbrev question : List ℕ
@@ -180,7 +180,7 @@ module _ {C : Type 0} (ports : List ℕ) (s : Serving C) (slot : SlotName) where
           let there_opened : s.site.book.needs_opening ≡ false =
           subst (λ (o : OpenSite C). o.book.needs_opening ≡ false) (sym there) opened in
           subst (λ (o : OpenSite C). o.book.needs_opening ≡ false → (session : Session)
-          → StandsFor o session
+          → Represents o session
           → IsAnswered device o o session (effect o session (calls.Asks slot member)) (Ok answer))
           (sym there) answers there_opened s.session (serves there_opened)
 

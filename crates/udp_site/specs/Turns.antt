@@ -31,7 +31,7 @@ use Rattle.site.specs.Answered.{IsAnswered, IsRefused}
 use Rattle.site.specs.Calls as calls
 use Rattle.site.specs.Calls.{Input, reply_of}
 use Rattle.site.specs.Effects.{Effect}
-use Rattle.site.specs.Sites.{OpenSite, StandsFor, effect}
+use Rattle.site.specs.Sites.{OpenSite, Represents, effect}
 use Rattle.lines.specs.Notices.{Notice, Replied, Refused, Dropped, notice_of}
 use Rattle.udp_site.specs.Traffic.{Post, Taken}
 use Rattle.udp_site.specs.Requests.{Request, Waits, Says, Deposits, Queries, Noise, request_of}
@@ -58,9 +58,9 @@ members s = s.site.book.owner.members
 abbrev pub number : {C : Type 0} → Serving C → ℕ
 number s = s.site.book.owner.site
 
--- it stands for what it has heard, unless it needs opening
+-- it represents what it has heard, unless it needs opening
 abbrev pub IsServing : {C : Type 0} → Serving C → Type 0
-IsServing s = s.site.book.needs_opening ≡ false → StandsFor s.site s.session
+IsServing s = s.site.book.needs_opening ≡ false → Represents s.site s.session
 
 -- ---- what it hands out
 

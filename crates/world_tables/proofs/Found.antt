@@ -8,7 +8,7 @@ use Rattle.std.specs.Option.{option_or}
 use Rattle.std.proofs.lemmas.List.Folds.{find-append}
 use Rattle.std.proofs.lemmas.Bool.Decides.{eqb_tells}
 use Rattle.fed_types.specs.Lists.{is_in}
-use Rattle.world_tables.specs.Numbers.{Sending, StandsFor, IsLast, next_unnamed}
+use Rattle.world_tables.specs.Numbers.{Sending, Represents, IsLast, next_unnamed}
 use Rattle.world_law.specs.Worlds.{numbers_to}
 
 -- every number up to this one passes
@@ -51,7 +51,7 @@ find_next test (suc n) last within all not_it =
 module _ {T : Type 0} (table sending : Sending T) (marks : List Bool) (named : List ℕ)
     (count last : ℕ) (seen : table ≡ sending) (same : marks ≡ table.marks)
     (many : count ≡ length table.sent) (last_is : IsLast marks table.others count last)
-    (stands : StandsFor sending named) where
+    (stands : Represents sending named) where
   all_sent : count ≡ length sending.sent
   all_sent = many ∙ ap (λ (d : Sending T). length d.sent) seen
 

@@ -7,7 +7,7 @@ use Rattle.fed_types.specs.declared.bag_id.BagId.{BagId}
 use Rattle.fed_types.specs.Bags.{same_bag}
 use Rattle.fed_types.specs.Laws.Bags.{same_bag_decides}
 use Rattle.lines.specs.Named.{SeenBag, first_tree}
-use Rattle.world_tables.specs.Firsts.{Firsts, first_of, StandsFor}
+use Rattle.world_tables.specs.Firsts.{Firsts, first_of, Represents}
 
 -- nothing was seen
 pub first_of-nil : (bag : BagId) → None ≡ first_of bag []
@@ -41,8 +41,8 @@ or_none (Some x) = refl
 
 -- a bag that was seen is seen once more
 pub seen_again : (firsts : Firsts) (bag : BagId) (tree : ℕ) → IsSome (lookup (same_bag bag) firsts)
-    → (seen : List SeenBag) → StandsFor firsts seen
-    → StandsFor firsts (seen ++ record { bag = bag; tree = tree } ∷ [])
+    → (seen : List SeenBag) → Represents firsts seen
+    → Represents firsts (seen ++ record { bag = bag; tree = tree } ∷ [])
 seen_again firsts bag tree there seen stands b =
     go (same_bag bag b) refl ∙ sym (first_of-push b seen (record { bag = bag; tree = tree }))
   where
@@ -59,8 +59,8 @@ seen_again firsts bag tree there seen stands b =
 pub seen_first : (old new : Firsts) (bag : BagId) (tree : ℕ) → lookup (same_bag bag) old ≡ None
     → ((b : BagId)
     → lookup (same_bag b) new ≡ cond (same_bag bag b) (Some tree) (lookup (same_bag b) old))
-    → (seen : List SeenBag) → StandsFor old seen
-    → StandsFor new (seen ++ record { bag = bag; tree = tree } ∷ [])
+    → (seen : List SeenBag) → Represents old seen
+    → Represents new (seen ++ record { bag = bag; tree = tree } ∷ [])
 seen_first old new bag tree none put seen stands b =
     put b ∙ go (same_bag bag b) refl
     ∙ sym (first_of-push b seen (record { bag = bag; tree = tree }))

@@ -15,9 +15,9 @@ first_of bag [] = None
 first_of bag (seen ∷ others) = if same_bag seen.bag bag then Some seen.tree else first_of bag others
 
 -- the firsts of these bags, in the order of their deposits
-abbrev pub StandsFor : Firsts → List SeenBag → Type 0
-StandsFor firsts seen = (bag : BagId) → lookup (same_bag bag) firsts ≡ first_of bag seen
+abbrev pub Represents : Firsts → List SeenBag → Type 0
+Represents firsts seen = (bag : BagId) → lookup (same_bag bag) firsts ≡ first_of bag seen
 
--- whatever bags the old firsts stand for, the new ones stand for
-abbrev pub StandsForSame : (old new : Firsts) → Type 0
-StandsForSame old new = (seen : List SeenBag) → StandsFor old seen → StandsFor new seen
+-- whatever bags the old firsts represent, the new ones represent
+abbrev pub RepresentsSame : (old new : Firsts) → Type 0
+RepresentsSame old new = (seen : List SeenBag) → Represents old seen → Represents new seen

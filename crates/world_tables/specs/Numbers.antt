@@ -31,12 +31,12 @@ abbrev pub AreNamed : List Bool → (others : List ℕ) → (last : ℕ) → Typ
 AreNamed marks others last = (k : ℕ) → 1 ≤ k → k ≤ last → is_named marks others k ≡ true
 
 -- the numbers that were named are these
-abbrev pub StandsFor : {T : Type 0} → Sending T → (named : List ℕ) → Type 0
-StandsFor d named = (k : ℕ) → is_named d.marks d.others k ≡ is_in named k
+abbrev pub Represents : {T : Type 0} → Sending T → (named : List ℕ) → Type 0
+Represents d named = (k : ℕ) → is_named d.marks d.others k ≡ is_in named k
 
--- whatever numbers the old ones stand for, the new ones stand for
-abbrev pub StandsForSame : {T : Type 0} → (old new : Sending T) → Type 0
-StandsForSame old new = (named : List ℕ) → StandsFor old named → StandsFor new named
+-- whatever numbers the old ones represent, the new ones represent
+abbrev pub RepresentsSame : {T : Type 0} → (old new : Sending T) → Type 0
+RepresentsSame old new = (named : List ℕ) → Represents old named → Represents new named
 
 -- the least number of a datagram, of so many that were sent, that nothing has named
 abbrev pub next_unnamed : (named : List ℕ) → (count : ℕ) → Option ℕ

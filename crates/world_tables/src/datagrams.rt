@@ -1,6 +1,6 @@
 ghost use Rattle.std.specs.Prelude.{◌≡◌, ◌++◌, ◌∷◌, [], ℕ, List, length, OnOk, OnErr};
 ghost use Rattle.std.specs.Option.{option_copied};
-ghost use Rattle.world_tables.specs.Numbers.{numbered, next_unnamed, StandsFor, StandsForSame};
+ghost use Rattle.world_tables.specs.Numbers.{numbered, next_unnamed, Represents, RepresentsSame};
 ghost use Rattle.world_tables.specs.Numbers.{is_marked, is_named, AreNamed, IsLast};
 
 use indexmap::IndexSet;
@@ -37,7 +37,7 @@ impl<T: Drop> Datagrams<T> {
     /// Nothing was sent, and no number was named.
     pub fn new(alloc: Global) -> Datagrams<T>
         ensures sent { result.sent ≡ [] }
-        ensures named { StandsFor result [] }
+        ensures named { Represents result [] }
     {
         Datagrams {
             datagrams: Vec::new(alloc),
@@ -58,7 +58,7 @@ impl<T: Drop> Datagrams<T> {
     pub fn push(&mut self, datagram: T) -> Result<(), AllocError>
         ensures ok { OnOk result (self.new.sent ≡ self.old.sent ++ datagram ∷ []) }
         ensures err { OnErr result (self.new.sent ≡ self.old.sent) }
-        ensures named { StandsForSame self.old self.new }
+        ensures named { RepresentsSame self.old self.new }
     {
         self.marks.push(false)?;
         self.datagrams.push(datagram)?;
@@ -78,9 +78,9 @@ impl<T: Drop> Datagrams<T> {
     /// Names a number, whether it was sent or not.
     pub fn name(&mut self, number: usize) -> Result<(), AllocError>
         ensures sent { self.new.sent ≡ self.old.sent }
-        ensures ok { OnOk result ((named : List ℕ) → StandsFor self.old named
-            → StandsFor self.new (named ++ number ∷ [])) }
-        ensures err { OnErr result (StandsForSame self.old self.new) }
+        ensures ok { OnOk result ((named : List ℕ) → Represents self.old named
+            → Represents self.new (named ++ number ∷ [])) }
+        ensures err { OnErr result (RepresentsSame self.old self.new) }
     {
         if 1 <= number && number <= self.marks.len() {
             self.marks[number - 1] = true;
@@ -92,7 +92,7 @@ impl<T: Drop> Datagrams<T> {
 
     /// The least number of a datagram that was sent and whose number nothing has named.
     pub fn next_unnamed(&mut self) -> Option<usize>
-        ensures next { (named : List ℕ) → StandsFor self.old named
+        ensures next { (named : List ℕ) → Represents self.old named
             → result ≡ next_unnamed named (length self.old.sent) }
         ensures same { self.new ≡ self.old }
     {

@@ -1,6 +1,6 @@
 ghost use Rattle.std.specs.Prelude.{◌≡◌, ◌++◌, ◌∷◌, [], List, OnOk, OnErr};
 ghost use Rattle.lines.specs.Named.{SeenBag, first_tree};
-ghost use Rattle.world_tables.specs.Firsts.{StandsFor, StandsForSame};
+ghost use Rattle.world_tables.specs.Firsts.{Represents, RepresentsSame};
 
 use fed_types::BagId;
 use indexmap::IndexMap;
@@ -26,7 +26,7 @@ impl Model for SeenBags {
 impl SeenBags {
     /// No bag was seen.
     pub fn new(alloc: Global) -> SeenBags
-        ensures { StandsFor result [] }
+        ensures { Represents result [] }
     {
         SeenBags {
             firsts: IndexMap::new(alloc),
@@ -35,9 +35,9 @@ impl SeenBags {
 
     /// Sees the bag in a deposit of this tree.
     pub fn see(&mut self, bag: BagId, tree: TreeNo) -> Result<(), AllocError>
-        ensures ok { OnOk result ((seen : List SeenBag) → StandsFor self.old seen
-            → StandsFor self.new (seen ++ record { bag = bag; tree = tree } ∷ [])) }
-        ensures err { OnErr result (StandsForSame self.old self.new) }
+        ensures ok { OnOk result ((seen : List SeenBag) → Represents self.old seen
+            → Represents self.new (seen ++ record { bag = bag; tree = tree } ∷ [])) }
+        ensures err { OnErr result (RepresentsSame self.old self.new) }
     {
         if self.firsts.contains_key(&bag) {
             return Ok(());
@@ -48,7 +48,7 @@ impl SeenBags {
 
     /// The number of the tree in which the bag was seen first, and 0 where none has held it.
     pub fn first_tree(&self, bag: BagId) -> u32
-        ensures { (seen : List SeenBag) → StandsFor self.now seen → result ≡ first_tree bag seen }
+        ensures { (seen : List SeenBag) → Represents self.now seen → result ≡ first_tree bag seen }
     {
         match self.firsts.get(&bag) {
             Some(tree) => tree.number(),

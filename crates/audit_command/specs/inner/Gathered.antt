@@ -5,7 +5,7 @@ use Rattle.std.specs.String.{string_bytes}
 use Rattle.fed_types.specs.Sites.{Membership}
 use Rattle.ledger.specs.Versions.{slots_of}
 use Rattle.audit.specs.Evidence.{SiteRecord}
-use Rattle.audit.specs.Tables.{StandsFor}
+use Rattle.audit.specs.Tables.{Represents}
 use Rattle.audit_command.specs.declared.evidence.Evidence.{Evidence}
 use Rattle.audit_command.specs.declared.gathered.Gathered.{Gathered}
 use Rattle.audit_command.specs.Audits.{all_used}
@@ -16,7 +16,7 @@ use Rattle.audit_command.specs.CellReadings.{Reading, all_given}
 pub record IsEvidence (members : Membership) (e : Evidence) (given : List SiteRecord)
     : Type 0 where
   pub members_are : e.cells.members ≡ members
-  pub stands : StandsFor e.cells given
+  pub stands : Represents e.cells given
   pub slots : e.slots.keys ≡ slots_of (map (λ s. s.kept) given)
 
 -- what was gathered is what these readings give

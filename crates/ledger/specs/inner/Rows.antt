@@ -39,7 +39,7 @@ row_from records slot = record {
 }
 
 -- the versions are those of the records, in their order, and what is kept of each is what they say
-pub record StandsFor (rows : Rows Row) (records : List Record) : Type 0 where
+pub record Represents (rows : Rows Row) (records : List Record) : Type 0 where
   pub slots : keys_of rows ≡ slots_of records
   pub says : (slot : SlotName) → row_of empty_row rows slot ≡ row_from records slot
 

@@ -11,7 +11,7 @@ use Rattle.records.specs.Words.{deposit_of}
 use Rattle.dgram.specs.declared.body.Body.TheVariants.{Prepare}
 use Rattle.proposer.specs.Proposals.{next_ballot}
 use Rattle.proposer.specs.Sessions.{Session, UnderWay, begins}
-use Rattle.site_tables.specs.Contents.{Contents, IsOf, StandsFor}
+use Rattle.site_tables.specs.Contents.{Contents, IsOf, Represents}
 use Rattle.site.specs.declared.answer.Answer.{Answer}
 use Rattle.site.specs.declared.fault.SiteFault.{SiteFault}
 use Rattle.site.specs.declared.fault.SiteFault.TheVariants as faults
@@ -37,22 +37,22 @@ Begins owner tables slot own records session under (Ok x) =
     (ballot : BallotNumber)
     × (next_ballot owner.site slot records session.heard ≡ Some ballot)
     × IsOfBallot owner slot ballot x.0 x.1
-    × StandsFor tables records session (begins under slot ballot own)
+    × Represents tables records session (begins under slot ballot own)
 Begins owner tables slot own records session under (Err faults.RoundsSpent) =
     (next_ballot owner.site slot records session.heard ≡ None)
-    × StandsFor tables records session under
+    × Represents tables records session under
 Begins owner tables slot own records session under (Err faults.Memory) =
     IsSome (next_ballot owner.site slot records session.heard)
-    × (after : UnderWay) × StandsFor tables records session after
+    × (after : UnderWay) × Represents tables records session after
 Begins owner tables slot own records session under (Err fault) = ⊥
 
--- so it is of each session that the tables stand for, where this bag is the slot's deposit
+-- so it is of each session that the tables represent, where this bag is the slot's deposit
 pub record BeginsBallot
     (owner : Owner) (old new : Contents) (slot : SlotName) (own : BagId)
     (result : Result (Record × Answer) SiteFault)
     : Type 0 where
   pub order : (records : List Record) → IsOf old owner records → IsOf new owner records
   pub begun : (records : List Record) (session : Session) (under : UnderWay)
-      → IsOf old owner records → StandsFor old records session under
+      → IsOf old owner records → Represents old records session under
       → deposit_of slot records ≡ Some own
       → Begins owner new slot own records session under result

@@ -22,11 +22,11 @@ use Rattle.site.specs.Answered.{Commits, Keeps, IsAnswered}
 use Rattle.site.specs.Arrivals.{on_body}
 use Rattle.site.specs.Datagrams.{handed_out, datagram}
 use Rattle.site.specs.Effects.{to_each}
-use Rattle.site.specs.Sites.{OpenSite, StandsFor, IsInOrder}
+use Rattle.site.specs.Sites.{OpenSite, Represents, IsInOrder}
 
--- the tables, with the records, stand for a session and what is under way
+-- the tables, with the records, represent a session and what is under way
 abbrev pub Stands : {C : Type 0} → OpenSite C → Session → UnderWay → Type 0
-Stands s session under = tables.StandsFor s.tables s.book.records session under
+Stands s session under = tables.Represents s.tables s.book.records session under
 
 -- the session, and what is under way, once a record is noted
 abbrev pub noted_session : Session → UnderWay → Record → Session
@@ -54,8 +54,8 @@ abbrev pub committed : Result (Unit {0}) SiteFault → Result (Unit {0}) CommitF
 committed (Ok x) = Ok tt
 committed (Err fault) = Err (fault_of fault)
 
--- a commit: only the device or memory may have refused it; then the site stands for what it stood
--- for
+-- a commit: only the device or memory may have refused it; then the site represents what it
+-- represented before
 pub record IsCommitted
     {C : Type 0} (device : C → Device) (old new : OpenSite C) (r : Record)
     (result : Result (Unit {0}) SiteFault)
@@ -113,6 +113,6 @@ abbrev pub HearsBody :
     {C : Type 0} → (C → Device) → (old new : OpenSite C) → SlotName → Body
     → Result Answer SiteFault → Type 0
 HearsBody device old new slot body result =
-    (session : Session) → StandsFor old session → IsAnswered device old new session
+    (session : Session) → Represents old session → IsAnswered device old new session
     (on_body (quorums_of old.book.owner.members) old.book.owner.site old.book.records session
     (hears session (record { slot = slot; body = body })) slot body) result

@@ -1,6 +1,6 @@
 use Rattle.std.proofs.Common.{◌≡◌, ◌+◌, ◌++◌, length, map}
 use Rattle.site.specs.Datagrams.{handed_out}
-use Rattle.world_tables.specs.Numbers.{StandsForSame}
+use Rattle.world_tables.specs.Numbers.{RepresentsSame}
 use Rattle.federation.specs.Sent.{lines_sent, places_from}
 use Rattle.federation.proofs.sends.send_all.Given as goal
 
@@ -10,4 +10,4 @@ invariant-loop-sealed l =
     (l.lines.items ≡ l.fn.lines.items
     ++ lines_sent (length l.fn.sent.sent + 1) (map handed_out l.yielded))
     × (l.sent.sent ≡ l.fn.sent.sent ++ places_from (length l.fn.lines.items) (length l.yielded))
-    × StandsForSame l.fn.sent l.sent
+    × RepresentsSame l.fn.sent l.sent

@@ -2,13 +2,13 @@ use Rattle.std.proofs.Common.{◌≡◌, ◌+◌, ◌++◌, ◌∷◌, [], List,
 use Rattle.std.proofs.Common.{append_assoc, append-nil}
 use Rattle.std.proofs.lemmas.List.{take_more}
 use Rattle.records.specs.declared.record.Record.{Record}
-use Rattle.ledger.specs.inner.Rows.{StandsFor}
+use Rattle.ledger.specs.inner.Rows.{Represents}
 use Rattle.ledger.proofs.Notes.{one_more}
 use Rattle.ledger.proofs.versions.note_all.Goals as goal
 
 pub loop-kept-init : goal.loop-kept-init
 loop-kept-init c = λ before stands.
-    subst (StandsFor c.args.versions.now.entries) (sym (append-nil before)) stands
+    subst (Represents c.args.versions.now.entries) (sym (append-nil before)) stands
 
 pub loop-kept-preserved : goal.loop-kept-preserved
 loop-kept-preserved c = λ before stands.
@@ -18,7 +18,7 @@ loop-kept-preserved c = λ before stands.
     let more : take (i + 1) records ≡ take i records ++ r ∷ [] =
     take_more records i r c.loop-kept-test.true
     ∙ ap (λ (x : Record). take i records ++ x ∷ []) (sym c.kept-item.is) in
-    subst (StandsFor c.note.new.versions.entries)
+    subst (Represents c.note.new.versions.entries)
     (append_assoc before (take i records) (r ∷ [])
     ∙ ap (λ (rs : List Record). before ++ rs) (sym more))
     (one_more c.loop-kept.versions.entries c.note.new.versions.entries r

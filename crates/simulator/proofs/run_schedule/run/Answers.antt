@@ -2,7 +2,7 @@ use Rattle.std.proofs.Common.{◌≡◌, ◌<◌, ◌≤◌, length, take, get_o
 use Rattle.world_law.specs.Headline.{LinesAgree, ReportsWereDeposited}
 use Rattle.world_law.specs.Worlds.{World, new_world, run_from}
 use Rattle.world_law.proofs.Promised as laws
-use Rattle.federation.specs.Federations.{StandsFor}
+use Rattle.federation.specs.Federations.{Represents}
 use Rattle.simulator.proofs.LineByLine.{run_from-none, run_from-more, run_from-all}
 use Rattle.simulator.proofs.run_schedule.run.Goals as goal
 
@@ -10,8 +10,8 @@ pub lines-init : goal.lines-init
 lines-init c =
     let f = c.in_ok-federation.federation in
     let w = new_world c.args.schedule.now.members in
-    subst (StandsFor f) (sym (run_from-none c.first_line-first.result w))
-    (subst (λ m. StandsFor f (new_world m)) c.members.ensures c.in_ok-federation.ensures)
+    subst (Represents f) (sym (run_from-none c.first_line-first.result w))
+    (subst (λ m. Represents f (new_world m)) c.members.ensures c.in_ok-federation.ensures)
 
 pub lines-preserved : goal.lines-preserved
 lines-preserved c =
@@ -22,7 +22,7 @@ lines-preserved c =
     rw (← c.lines-line-items.ensures.value) c.lines-test.true in
     let is : c.line-item.result ≡ get_or lines c.lines.index c.line-item.result =
     rw (← c.lines-line-items.ensures.value) c.line-item.is in
-    subst (StandsFor c.in_ok-federation-2.federation)
+    subst (Represents c.in_ok-federation-2.federation)
     (run_from-more first c.lines.index w lines c.line-item.result within is)
     (c.in_ok-federation-2.ensures (run_from first w (take c.lines.index lines)) c.lines.invariant)
 

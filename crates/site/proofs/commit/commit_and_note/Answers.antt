@@ -69,7 +69,7 @@ returns g c =
     (λ of. subst (λ (r : Record). IsOf c.note.new.self c.args.book.now.owner
     (c.args.book.now.records ++ r ∷ [])) c.in_ok-noted.ensures
     (c.note.ensures.of c.args.book.now.owner c.args.book.now.records of))
-    (λ session under stands. subst (λ (r : Record). tables.StandsFor c.note.new.self
+    (λ session under stands. subst (λ (r : Record). tables.Represents c.note.new.self
     (c.args.book.now.records ++ r ∷ []) (noted_session session under r) (noted_under under r))
     c.in_ok-noted.ensures
     (c.note.ensures.stands c.args.book.now.records session under stands))

@@ -1,7 +1,7 @@
 use Rattle.std.proofs.Common.{◌+◌, subst}
 use Rattle.bag_check.specs.Check.{check_of}
 use Rattle.world_law.specs.Worlds.{on_checked}
-use Rattle.federation.specs.Federations.{StandsFor}
+use Rattle.federation.specs.Federations.{Represents}
 use Rattle.federation.proofs.Answers.{then_ok}
 use Rattle.federation.proofs.Called.{no_files_to_deposit, deposit_of_files}
 use Rattle.federation.proofs.federation.Federation.deposit.Goals as goal
@@ -16,7 +16,7 @@ returns c =
     then_ok c.deposit_facts.result
     (λ done w is. deposit_of_files c.args.self.now _ w c.args.number _
     c.args.tree c.args.slot.now c.args.fate c.in-Some.files.now is c.in-Some.ensures
-    (subst (λ facts. StandsFor c.deposit_facts.new.self
+    (subst (λ facts. Represents c.deposit_facts.new.self
     (on_checked w c.args.number (c.args.place + 1)
     c.args.tree
     c.args.slot.now c.args.fate (check_of facts))) c.in_ok-facts.ensures (done w is)))

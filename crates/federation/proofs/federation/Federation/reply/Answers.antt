@@ -3,14 +3,14 @@ use Rattle.fed_types.specs.Slots.{SlotName}
 use Rattle.lines.specs.declared.line.Line.TheVariants as printed
 use Rattle.lines.specs.declared.line.NamedReply.{NamedReply}
 use Rattle.world_law.specs.Worlds.{World, with_line}
-use Rattle.federation.specs.Federations.{StandsFor}
+use Rattle.federation.specs.Federations.{Represents}
 use Rattle.federation.proofs.Answers.{then_ok}
 use Rattle.federation.proofs.Called.{replied, is_member_at}
 use Rattle.federation.proofs.federation.Federation.reply.Goals as goal
 
 pub returns-in_ok-slot-in-Ok : goal.returns-in_ok-slot-in-Ok
 returns-in_ok-slot-in-Ok c =
-    then_ok c.say.result (λ says w is so. subst (λ (v : World). StandsFor c.say.new.self v)
+    then_ok c.say.result (λ says w is so. subst (λ (v : World). Represents c.say.new.self v)
     (ap (λ (n : ℕ). with_line w (printed.Replied n c.in_ok-slot-in-Ok.slot
     c.named_reply-reply.result)) (c.site_at-site.ensures w is)
     ∙ ap (λ (s : SlotName). with_line w
@@ -26,7 +26,7 @@ returns-in_ok-slot-in-Ok c =
 pub returns-in-Err : goal.returns-in-Err
 returns-in-Err c =
     then_ok c.say-in-Err.result (λ says w is so. subst (λ (v : World).
-    StandsFor c.say-in-Err.new.self v)
+    Represents c.say-in-Err.new.self v)
     (ap (λ (n : ℕ). with_line w (printed.Refused n c.in-Err.fault)) (c.site_at-site.ensures w is)
     ∙ sym (replied w (c.args.place + 1) c.args.slot.now (Err c.in-Err.fault)
     (is_member_at c.args.self.now w c.args.place is c.requires)

@@ -1,7 +1,7 @@
 use Rattle.std.proofs.Common.{◌≡◌, refl, sym, ap, subst, get_or}
 use Rattle.lines.specs.declared.line.Line.TheVariants as lines
 use Rattle.world_law.specs.Worlds.{World, mode_of}
-use Rattle.federation.specs.Federations.{StandsFor}
+use Rattle.federation.specs.Federations.{Represents}
 use Rattle.federation.proofs.Answers.{then_ok}
 use Rattle.federation.proofs.Called.{started, when_up}
 use Rattle.federation.proofs.Places.{put_twice}
@@ -10,7 +10,7 @@ use Rattle.federation.proofs.federation.Federation.start.Goals as goal
 
 pub returns-then-is_up : goal.returns-then-is_up
 returns-then-is_up c =
-    then_ok c.skip.result (λ skips w is. subst (λ (v : World). StandsFor c.skip.new.self v)
+    then_ok c.skip.result (λ skips w is. subst (λ (v : World). Represents c.skip.new.self v)
     (sym (when_up w c.args.number _ (mode_of w _) (sym (c.if-is_up.ensures w is)))) (skips w is))
     c.skip.ensures
 

@@ -1,7 +1,7 @@
 use Rattle.std.proofs.Common.{◌≡◌, true, false, sym, ap, subst, ◌∙◌}
 use Rattle.fed_types.specs.Voters.{with_voter}
 use Rattle.slot_table.specs.Rows.{row_at}
-use Rattle.learner.specs.Ledgers.{Ledger, StandsFor, known_in, counted_in}
+use Rattle.learner.specs.Ledgers.{Ledger, Represents, known_in, counted_in}
 use Rattle.learner.specs.inner.Counts.{is_learned}
 use Rattle.learner.proofs.HeardVotes.{heard_as, learned_as}
 use Rattle.learner.proofs.Rows.{err_of}
@@ -68,6 +68,6 @@ pub returns-clause-heard : goal.returns-clause-heard
 returns-clause-heard g c none records heard stands =
     heard_as c.self.inside.table records heard c.args.slot.now c.args.from
     (record { ballot = c.args.ballot; bag = c.args.bag })
-    (subst (λ (l : Ledger g.row.Q.Denot). StandsFor l.rows records heard) (sym c.self.view_is)
+    (subst (λ (l : Ledger g.row.Q.Denot). Represents l.rows records heard) (sym c.self.view_is)
     stands)
     c.hear.new.table c.hear.ensures.known (c.in_ok-learned.ensures.counted c.if-learned.false)

@@ -2,7 +2,7 @@ use Rattle.std.proofs.Common.{[], subst, sym}
 use Rattle.slot_table.specs.Rows.{Rows}
 use Rattle.ledger.specs.declared.row.Row.{Row}
 use Rattle.ledger.specs.Parts.{nothing}
-use Rattle.ledger.specs.inner.Rows.{StandsFor}
+use Rattle.ledger.specs.inner.Rows.{Represents}
 use Rattle.ledger.proofs.Notes.{none_stand}
 use Rattle.ledger.proofs.ledger_lines.LedgerLines.new.Goals as goal
 
@@ -10,5 +10,5 @@ pub returns : goal.returns
 returns c = (
   nothing,
   c.new.ensures,
-  subst (λ (rows : Rows Row). StandsFor rows []) (sym c.new-2.ensures.empty) none_stand,
+  subst (λ (rows : Rows Row). Represents rows []) (sym c.new-2.ensures.empty) none_stand,
 )

@@ -2,7 +2,7 @@ use Rattle.std.proofs.Common.{Some, refl, sym, subst, ◌∙◌}
 use Rattle.dgram.specs.Decoded.{message_of}
 use Rattle.proposer.specs.Sessions.{Session}
 use Rattle.site.specs.Calls.{Arrives}
-use Rattle.site.specs.Sites.{OpenSite, StandsFor}
+use Rattle.site.specs.Sites.{OpenSite, Represents}
 use Rattle.site.proofs.HeardMessages.{drops_bytes}
 use Rattle.site.proofs.Reports.{reported_of}
 use Rattle.site.proofs.member_site.Site.arrive.Goals as goal
@@ -18,6 +18,6 @@ returns-in-Some-clause-reported g c opened =
     reported_of g.C.Cell.device c.args.self.now c.take_in.new.self some.0
     (Arrives (Some c.in-Some.message)) c.take_in.result (c.take_in.ensures.answer some.0 some.1)
   where
-    some : (session : Session) × StandsFor c.args.self.now session
-    some = subst (λ (s : OpenSite g.row.C.Denot). (session : Session) × StandsFor s session)
+    some : (session : Session) × Represents c.args.self.now session
+    some = subst (λ (s : OpenSite g.row.C.Denot). (session : Session) × Represents s session)
         c.self.view_is c.self.invariant.session

@@ -1,7 +1,7 @@
 use Rattle.std.proofs.Common.{Some, subst}
 use Rattle.proposer.specs.Sessions.{Session}
 use Rattle.site.specs.Calls.{Arrives}
-use Rattle.site.specs.Sites.{OpenSite, StandsFor}
+use Rattle.site.specs.Sites.{OpenSite, Represents}
 use Rattle.site.proofs.Reports.{reported_of}
 use Rattle.site.proofs.member_site.Site.arrive_message.Goals as goal
 
@@ -11,6 +11,6 @@ returns-then-not-needs_opening-clause-reported g c opened =
     reported_of g.C.Cell.device c.args.self.now c.take_in.new.self some.0
     (Arrives (Some c.args.message)) c.take_in.result (c.take_in.ensures.answer some.0 some.1)
   where
-    some : (session : Session) × StandsFor c.args.self.now session
-    some = subst (λ (s : OpenSite g.row.C.Denot). (session : Session) × StandsFor s session)
+    some : (session : Session) × Represents c.args.self.now session
+    some = subst (λ (s : OpenSite g.row.C.Denot). (session : Session) × Represents s session)
         c.self.view_is c.self.invariant.session

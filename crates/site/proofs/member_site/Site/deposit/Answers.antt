@@ -6,7 +6,7 @@ use Rattle.site.specs.declared.fault.SiteFault.{SiteFault}
 use Rattle.site.specs.Answered.{IsAnswered}
 use Rattle.site.specs.Calls.{on_deposit}
 use Rattle.site.specs.Faults.{check_fault}
-use Rattle.site.specs.Sites.{OpenSite, StandsFor}
+use Rattle.site.specs.Sites.{OpenSite, Represents}
 use Rattle.site.proofs.Conclusions.{answer_err_of}
 use Rattle.site.proofs.Refused.{check_refused, needs_none}
 use Rattle.site.proofs.member_site.Site.deposit.Goals as goal
@@ -29,8 +29,8 @@ returns-clause-needs_open g c = (
   λ e. absurd (differ (sym e ∙ opened)),
 )
   where
-    some : (session : Session) × StandsFor c.args.self.now session
-    some = subst (λ (s : OpenSite g.row.C.Denot). (session : Session) × StandsFor s session)
+    some : (session : Session) × Represents c.args.self.now session
+    some = subst (λ (s : OpenSite g.row.C.Denot). (session : Session) × Represents s session)
         c.self.view_is c.self.invariant.session
 
     opened : c.args.self.now.book.needs_opening ≡ false

@@ -2,7 +2,7 @@ use Rattle.std.proofs.Common.{◌≡◌, true, false, sym, subst, ◌∙◌}
 use Rattle.records.specs.Words.{known_of, deposit_of}
 use Rattle.proposer.specs.Sessions.{Session}
 use Rattle.site.specs.Calls.{Proposes}
-use Rattle.site.specs.Sites.{OpenSite, StandsFor, effect}
+use Rattle.site.specs.Sites.{OpenSite, Represents, effect}
 use Rattle.site.proofs.Proposed.{known_already, no_deposit, known_refused, no_deposit_refused}
 use Rattle.site.proofs.Refused.{needs_none}
 use Rattle.site.proofs.Registered.{some_of, none_of}
@@ -37,8 +37,8 @@ returns-in-Some-clause-needs_open g c = (
   λ e. absurd (differ (sym e ∙ opened)),
 )
   where
-    some : (session : Session) × StandsFor c.args.self.now session
-    some = subst (λ (s : OpenSite g.row.C.Denot). (session : Session) × StandsFor s session)
+    some : (session : Session) × Represents c.args.self.now session
+    some = subst (λ (s : OpenSite g.row.C.Denot). (session : Session) × Represents s session)
         c.self.view_is c.self.invariant.session
 
     opened : c.args.self.now.book.needs_opening ≡ false

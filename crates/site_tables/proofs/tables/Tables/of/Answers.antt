@@ -2,7 +2,7 @@ use Rattle.std.proofs.Common.{◌≡◌, ◌+◌, ℕ, List, [], ◌∷◌, ◌+
 use Rattle.std.proofs.lemmas.List.{take_all, take_more}
 use Rattle.records.specs.declared.record.Record.{Record}
 use Rattle.proposer.specs.Sessions.{new_session, nothing}
-use Rattle.site_tables.specs.Contents.{IsOf, StandsFor}
+use Rattle.site_tables.specs.Contents.{IsOf, Represents}
 use Rattle.site_tables.proofs.Noted.{stays_new}
 use Rattle.site_tables.proofs.tables.Tables.of.Goals as goal
 
@@ -21,7 +21,7 @@ loop-r-preserved c =
       subst (IsOf c.note.new.self c.args.owner) (sym one_more)
           (c.note.ensures.of c.args.owner (take i records)
           (reserved.of c.args.owner (take i records) (c.loop-r.invariant).0)),
-      subst (λ (rs : List Record). StandsFor c.note.new.self rs new_session nothing) (sym one_more)
+      subst (λ (rs : List Record). Represents c.note.new.self rs new_session nothing) (sym one_more)
           (stays_new c.note.new.self (take i records ++ r ∷ []) r
           (c.note.ensures.stands (take i records) new_session nothing
           (reserved.stands (take i records) new_session nothing (c.loop-r.invariant).1))),
@@ -34,5 +34,5 @@ returns-clause-of c =
 
 pub returns-clause-stands : goal.returns-clause-stands
 returns-clause-stands c =
-    subst (λ (rs : List Record). StandsFor c.loop-r.tables rs new_session nothing)
+    subst (λ (rs : List Record). Represents c.loop-r.tables rs new_session nothing)
     (take_all c.loop-r.r-index c.args.records.now c.loop-r-test.false) (c.loop-r.invariant).1

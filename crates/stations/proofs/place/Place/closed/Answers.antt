@@ -1,10 +1,10 @@
 use Rattle.std.proofs.Common.{subst}
 use Rattle.stations.specs.declared.place.Place.{Place}
-use Rattle.stations.specs.Stations.{StandsFor}
+use Rattle.stations.specs.Stations.{Represents}
 use Rattle.stations.proofs.Rest.{stopped}
 use Rattle.stations.proofs.place.Place.closed.Goals as goal
 
 pub returns-in-Running : goal.returns-in-Running
 returns-in-Running c owner s stands =
     stopped owner c.in-Running.site c.close.result c.close.ensures.cell c.close.ensures.recovers s
-    (subst (λ (p : Place). StandsFor owner p s) c.in-Running.is stands)
+    (subst (λ (p : Place). Represents owner p s) c.in-Running.is stands)

@@ -2,7 +2,7 @@ use Rattle.std.proofs.Common.{subst}
 use Rattle.records.specs.declared.owner.Owner.{Owner}
 use Rattle.stations.specs.Calls.{input_of}
 use Rattle.stations.specs.Fates.{before_stop}
-use Rattle.stations.specs.Stations.{StandsFor, Undergoes}
+use Rattle.stations.specs.Stations.{Represents, Undergoes}
 use Rattle.stations.specs.declared.place.Place.{Place}
 use Rattle.stations.specs.declared.place.Place.TheVariants.{Running}
 use Rattle.stations.proofs.station.Station.call.Goals as goal
@@ -12,8 +12,8 @@ returns-in_ok-told-in-Running-clause-comes c s stands =
     let owner = c.args.self.owner in
     let old = c.in-Running.site in
     let told = c.in_ok-told-in-Running.told in
-    let runs : StandsFor owner (Running old) s =
-    subst (λ (p : Place). StandsFor owner p s) c.in-Running.is stands in
+    let runs : Represents owner (Running old) s =
+    subst (λ (p : Place). Represents owner p s) c.in-Running.is stands in
     c.ended.ensures.ends (input_of owner.members.federation c.args.call.now) old
     (subst (λ (o : Owner). Undergoes o (input_of o.members.federation c.args.call.now)
     (before_stop c.args.fate) (Running old) (Running c.undergo.new.site) told) runs.0
