@@ -26,7 +26,7 @@ use Rattle.learner.specs.declared.row.Row.{Row}
 use Rattle.learner.specs.inner.Counts.{KnowsSame, CountsSame, IsCounted, UnlessKnown}
 use Rattle.learner.specs.inner.Counts.{is_learned}
 use Rattle.learner.specs.LearnedBags.{with_vote, chosen_by, learned_from, unless_known}
-use Rattle.learner.specs.Ledgers.{known_in, counted_in, Represents}
+use Rattle.learner.specs.Ledgers.{Ledger, known_in, counted_in, Represents}
 
 -- two votes are one exactly where the test says so
 same_parts : (a b : Vote) → a.ballot ≡ b.ballot → a.bag ≡ b.bag → a ≡ b
@@ -217,3 +217,19 @@ module _ (old : Rows Row) (records : List Record) (heard : List Message) (slot :
       go None e h = heard_counted new known h
       go (Some bag) e h =
           same_stands old new known h records (with_vote heard slot from vote) (heard_known bag e)
+
+-- what a learner learns, as a clause sees it
+pub learned_by : {Q : Type 0} (system : Q → QuorumSystem)
+    → ((members : Q) → AreQuorums (system members)) → {inside now : Ledger Q} → inside ≡ now
+    → (slot : SlotName) (from : ℕ) (vote : Vote) (records : List Record) (heard : List Message)
+    → Represents now.rows records heard → (learned : Bool)
+    → learned ≡ is_learned (system inside.members) (known_in (row_at inside.rows slot))
+    (with_voter (counted_in (row_at inside.rows slot) vote) from)
+    → cond learned (Some vote.bag) None
+    ≡ learned_from (system now.members) slot records heard from vote
+learned_by {Q} system laws {inside} {now} seen slot from vote records heard stands learned is =
+    learned_as now.rows records heard slot from vote stands (system now.members)
+    (laws now.members) learned
+    (subst (λ (l : Ledger Q). learned ≡ is_learned (system l.members)
+    (known_in (row_at l.rows slot)) (with_voter (counted_in (row_at l.rows slot) vote) from))
+    seen is)

@@ -1,5 +1,5 @@
 -- What each call makes of what the rows represent.
-use Rattle.std.proofs.Common.{◌≡◌, ℕ, max, Bool, true, false, cond, refl, sym, ap, subst, ◌∙◌, List}
+use Rattle.std.proofs.Common.{◌≡◌, ◌×◌, ℕ, max, Bool, true, false, cond, refl, sym, ap, subst, ◌∙◌, List}
 use Rattle.std.proofs.Common.{[], ◌∷◌, ◌++◌, Option, None, Some, IsSome}
 use Rattle.std.specs.Prelude.{Box}
 use Rattle.std.specs.declared.alloc.Global.{Global}
@@ -24,7 +24,7 @@ use Rattle.proposer.specs.Sessions.{Session, UnderWay, new_session, nothing, at_
 use Rattle.proposer.specs.Sessions.{begins, waits, promise_message, refusal_message, heard_after}
 use Rattle.proposer.specs.Sessions.{waiting_after}
 use Rattle.proposer.specs.Rows.{empty_row, BeginsFor, Knows, Represents, row_of, begun_in}
-use Rattle.proposer.specs.Rows.{current_in}
+use Rattle.proposer.specs.Rows.{current_in, Proposing}
 use Rattle.proposer.specs.inner.Rounds.{after_promise}
 use Rattle.proposer.specs.inner.Rows.{OnlyAt, HeardPromise, HeardAt}
 use Rattle.proposer.specs.inner.Rows.{BeginsAt, with_begun, with_floor}
@@ -290,3 +290,25 @@ module _ (q : QuorumSystem) (laws : AreQuorums q) (slot : SlotName) (from : ℕ)
           (λ s e. subst (λ (w : Option Message). Knows s records session.heard (session.current s)
           (under.begun s) (under.begun_with s) (under.current_with s) w (row_of old s))
           (sym (at_other slot s (Some m) under.waiting e)) (stands s))
+
+-- what a proposer hears of a promise, as a clause sees it: what gets ready, and what it represents
+pub promise_heard : {Q : Type 0} (system : Q → QuorumSystem)
+    → ((members : Q) → AreQuorums (system members)) → {inside now : Proposing Q} → inside ≡ now
+    → (slot : SlotName) (from : ℕ) (ballot : BallotNumber) (prior : Option Vote) (new : Rows Row)
+    (given : Option BagId) (records : List Record) (session : Session) (under : UnderWay)
+    → HeardAt (system inside.members) ballot (record { site = from; prior = prior }) inside.rows
+    new slot given
+    → Represents now.rows records session under
+    → (given ≡ ready (system now.members) (under.current_with slot) slot (session.current slot)
+    session.heard ballot (record { site = from; prior = prior }))
+    × Represents new records (heard_after given session (promise_message slot from ballot prior))
+    (waiting_after given under (promise_message slot from ballot prior))
+promise_heard {Q} system laws {inside} {now} seen slot from ballot prior new given records session
+    under at stands =
+    let here = subst (λ (p : Proposing Q). HeardAt (system p.members) ballot
+    (record { site = from; prior = prior }) p.rows new slot given) seen at in (
+      promise_ready (system now.members) (laws now.members) slot from ballot prior now.rows new
+          given records session under here stands,
+      promise_stands (system now.members) (laws now.members) slot from ballot prior now.rows new
+          given records session under here stands,
+    )

@@ -64,16 +64,25 @@ IsRequest _ = ⊥
 
 module _ {C : Type 0} (device : C → Device) (old new : OpenSite C) (slot : SlotName)
     (result : Result Answer SiteFault) where
-  -- what the acceptor has decided is concluded, and the message that asked for it is heard
-  hears_decided : (body : Body) (asker : ℕ) (d : Decision) → IsOther body → IsNoRound d.entry
-      → Concludes device old new (record_of slot d.entry) None
+  -- what a decision concludes
+  abbrev Gives : (asker : ℕ) → Decision → Type 0
+  Gives asker d =
+      Concludes device old new (record_of slot d.entry) None
       (map (datagram old.book.owner.members.federation)
       (to_each slot (answer_body old.book.owner.site d.answer)
       (addressees (quorums_of old.book.owner.members) asker d.answer))) result
-      → (session : Session) → Represents old session
-      → IsAnswered device old new session
+
+  -- and how a site answers it that hears a message of this body
+  abbrev AnswersAs : Body → (asker : ℕ) → Decision → Session → Type 0
+  AnswersAs body asker d session =
+      IsAnswered device old new session
       (decided (quorums_of old.book.owner.members) old.book.owner.site slot asker d
       (hears session (record { slot = slot; body = body }))) result
+
+  -- what the acceptor has decided is concluded, and the message that asked for it is heard
+  hears_decided : (body : Body) (asker : ℕ) (d : Decision) → IsOther body → IsNoRound d.entry
+      → Gives asker d → (session : Session) → Represents old session
+      → AnswersAs body asker d session
   hears_decided body asker d other none c session (under, stands) =
       concluded device old old new session under
       (decided (quorums_of old.book.owner.members) old.book.owner.site slot asker d
@@ -99,51 +108,35 @@ module _ {C : Type 0} (device : C → Device) (old new : OpenSite C) (slot : Slo
           (subst (λ (s : Session). Stands new s (under_after under (record_of slot d.entry)))
           (noted_same slot d.entry none session under).0 after)
 
+  -- so it is where the decision is the one that the definitions make
+  hears_as : (body : Body) (asker sender : ℕ) (d made : Decision) → IsOther body → asker ≡ sender
+      → d ≡ made → IsNoRound made.entry → Gives asker d → (session : Session)
+      → Represents old session → AnswersAs body sender made session
+  hears_as body asker sender d made other from is none c session stands =
+      subst (λ (x : Decision). AnswersAs body sender x session) is
+      (subst (λ (n : ℕ). AnswersAs body n d session) from
+      (hears_decided body asker d other
+      (subst (λ (x : Decision). IsNoRound x.entry) (sym is) none) c session stands))
+
   pub hears_prepare : (ballot : BallotNumber) (asker : ℕ) (d : Decision) → asker ≡ ballot.site
-      → d ≡ prepare_decision slot old.book.records ballot
-      → Concludes device old new (record_of slot d.entry) None
-      (map (datagram old.book.owner.members.federation)
-      (to_each slot (answer_body old.book.owner.site d.answer)
-      (addressees (quorums_of old.book.owner.members) asker d.answer))) result
+      → d ≡ prepare_decision slot old.book.records ballot → Gives asker d
       → HearsBody device old new slot (bodies.Prepare ballot) result
   unfolding on_body
-  hears_prepare ballot asker d from is c session stands =
-      subst (λ (x : Decision). IsAnswered device old new session
-      (decided (quorums_of old.book.owner.members) old.book.owner.site slot ballot.site x
-      (hears session m)) result) is
-      (subst (λ (n : ℕ). IsAnswered device old new session
-      (decided (quorums_of old.book.owner.members) old.book.owner.site slot n d
-      (hears session m)) result) from
-      (hears_decided m.body asker d
-      (record { no_promise = λ b. refl; no_refusal = refl; no_vote = λ v. refl })
-      (subst (λ (x : Decision). IsNoRound x.entry) (sym is)
-      (prepare_issues_none slot old.book.records ballot)) c session stands))
-    where
-      m : Message
-      m = record { slot = slot; body = bodies.Prepare ballot }
+  hears_prepare ballot asker d from is =
+      hears_as (bodies.Prepare ballot) asker ballot.site d
+      (prepare_decision slot old.book.records ballot)
+      (record { no_promise = λ b. refl; no_refusal = refl; no_vote = λ v. refl }) from is
+      (prepare_issues_none slot old.book.records ballot)
 
   pub hears_accept : (vote : Vote) (asker : ℕ) (d : Decision) → asker ≡ vote.ballot.site
-      → d ≡ accept_decision slot old.book.records vote
-      → Concludes device old new (record_of slot d.entry) None
-      (map (datagram old.book.owner.members.federation)
-      (to_each slot (answer_body old.book.owner.site d.answer)
-      (addressees (quorums_of old.book.owner.members) asker d.answer))) result
+      → d ≡ accept_decision slot old.book.records vote → Gives asker d
       → HearsBody device old new slot (bodies.Accept vote) result
   unfolding on_body
-  hears_accept vote asker d from is c session stands =
-      subst (λ (x : Decision). IsAnswered device old new session
-      (decided (quorums_of old.book.owner.members) old.book.owner.site slot vote.ballot.site x
-      (hears session m)) result) is
-      (subst (λ (n : ℕ). IsAnswered device old new session
-      (decided (quorums_of old.book.owner.members) old.book.owner.site slot n d
-      (hears session m)) result) from
-      (hears_decided m.body asker d
-      (record { no_promise = λ b. refl; no_refusal = refl; no_vote = λ v. refl })
-      (subst (λ (x : Decision). IsNoRound x.entry) (sym is)
-      (accept_issues_none slot old.book.records vote)) c session stands))
-    where
-      m : Message
-      m = record { slot = slot; body = bodies.Accept vote }
+  hears_accept vote asker d from is =
+      hears_as (bodies.Accept vote) asker vote.ballot.site d
+      (accept_decision slot old.book.records vote)
+      (record { no_promise = λ b. refl; no_refusal = refl; no_vote = λ v. refl }) from is
+      (accept_issues_none slot old.book.records vote)
 
 -- ---- a site whose tables hear something, and whose book stays
 module _ {C : Type 0} (book : Volume C) (old new : Contents)

@@ -1,7 +1,7 @@
 -- Calls that are refused.
 use Rattle.std.proofs.Common.{◌≡◌, inl, Option, Some, None, Result, Err, refl, sym}
-use Rattle.std.proofs.Common.{subst}
-use Rattle.std.specs.Prelude.{IsErrOf}
+use Rattle.std.proofs.Common.{subst, true, false, ◌∙◌}
+use Rattle.std.specs.Prelude.{IsErrOf, ◌↔◌}
 use Rattle.fed_types.specs.declared.bag_id.BagId.{BagId}
 use Rattle.fed_types.specs.Slots.{SlotName}
 use Rattle.bag_check.specs.declared.fault.BagFault.{BagFault}
@@ -86,3 +86,25 @@ pub needs_none : {C : Type 0} (device : C → Device) (old new : OpenSite C) (se
     → IsAnswered device old new session e result → IsErrOf result faults.NeedsOpen → ⊥
 needs_none device old new session e result answered is =
     subst (λ (r : Result Answer SiteFault). Gives old new session e r) is answered.gives
+
+-- so a call that answers as a session's effect says refuses for that reason exactly where the site,
+-- as a clause sees it, needs opening: never
+pub never_needs : {C : Type 0} (device : C → Device) {inside now : OpenSite C} → inside ≡ now
+    → ((session : Session) × Represents inside session) → inside.book.needs_opening ≡ false
+    → (new : OpenSite C) (effect : Session → Effect) (result : Result Answer SiteFault)
+    → ((session : Session) → Represents now session
+    → IsAnswered device now new session (effect session) result)
+    → IsErrOf result faults.NeedsOpen ↔ (now.book.needs_opening ≡ true)
+never_needs {C} device {inside} {now} seen some opened new effect result answered = (
+  λ e. absurd (needs_none device now new here.0 (effect here.0) result (answered here.0 here.1) e),
+  λ e. absurd (differ (sym e ∙ still)),
+)
+  where
+    here : (session : Session) × Represents now session
+    here = subst (λ (s : OpenSite C). (session : Session) × Represents s session) seen some
+
+    still : now.book.needs_opening ≡ false
+    still = subst (λ (s : OpenSite C). s.book.needs_opening ≡ false) seen opened
+
+    differ : true ≡ false → ⊥
+    differ e = cc

@@ -1,6 +1,8 @@
 -- What the tables say and represent with one record more.
 use Rattle.std.proofs.Common.{◌≡◌, List, [], ◌∷◌, ◌++◌, Option, Some, None, refl, sym, ap, subst}
-use Rattle.std.proofs.Common.{◌∙◌}
+use Rattle.std.proofs.Common.{◌∙◌, IsSome, Result}
+use Rattle.std.specs.Prelude.{IsOk, OnOk, Unit}
+use Rattle.slot_table.specs.Rows.{row_at}
 use Rattle.fed_types.specs.Ballots.{BallotNumber}
 use Rattle.fed_types.specs.Slots.{SlotName}
 use Rattle.records.specs.declared.entry.Entry.{Entry}
@@ -13,9 +15,10 @@ use Rattle.proposer.specs.Rows as proposers
 use Rattle.proposer.specs.Sessions.{Session, UnderWay, new_session, nothing, issued_by, issued_if}
 use Rattle.proposer.specs.Sessions.{under_way_if}
 use Rattle.learner.specs.Ledgers as learners
-use Rattle.site_tables.specs.Contents.{Contents, IsOf, Represents, with_deposit}
+use Rattle.site_tables.specs.Contents.{Contents, HasRoom, IsOf, Represents, with_deposit}
 use Rattle.site_tables.proofs.Begun.{deposits_stay, begun_stays, current_stays}
 use Rattle.site_tables.proofs.Deposited.{deposits-push}
+use Rattle.site_tables.proofs.Outcomes.{always}
 
 -- a ballot that becomes current changes nothing of what was heard
 heard_same : (session : Session) (slot : SlotName) (ballot : Option BallotNumber)
@@ -24,20 +27,54 @@ heard_same session slot None = refl
 heard_same session slot (Some ballot) = refl
 
 -- each part takes note of the record
+abbrev pub AcceptorNotes : (old new : Contents) → Record → Type 0
+AcceptorNotes old new r =
+    (records : List Record)
+    → acceptors.Represents old.acceptor records
+    → acceptors.Represents new.acceptor (records ++ r ∷ [])
+
+abbrev pub ProposerNotes : (old new : Contents) → Record → Type 0
+ProposerNotes old new r =
+    (records : List Record) (session : Session) (under : UnderWay)
+    → proposers.Represents old.proposer.rows records session under
+    → proposers.Represents new.proposer.rows (records ++ r ∷ [])
+    (issued_if session r.slot (issued_by (under.begun r.slot) r.body))
+    (under_way_if under r.slot (issued_by (under.begun r.slot) r.body))
+
+abbrev pub LearnerNotes : (old new : Contents) → Record → Type 0
+LearnerNotes old new r =
+    (records : List Record) (heard : List Message)
+    → learners.Represents old.learner.rows records heard
+    → learners.Represents new.learner.rows (records ++ r ∷ []) heard
+
 pub record Notes (old new : Contents) (r : Record) : Type 0 where
   pub deposits : new.deposits ≡ with_deposit old.deposits r
-  pub acceptor : (records : List Record) → acceptors.Represents old.acceptor records
-      → acceptors.Represents new.acceptor (records ++ r ∷ [])
-  pub proposer : (records : List Record) (session : Session) (under : UnderWay)
-      → proposers.Represents old.proposer.rows records session under
-      → proposers.Represents new.proposer.rows (records ++ r ∷ [])
-      (issued_if session r.slot (issued_by (under.begun r.slot) r.body))
-      (under_way_if under r.slot (issued_by (under.begun r.slot) r.body))
-  pub learner : (records : List Record) (heard : List Message)
-      → learners.Represents old.learner.rows records heard
-      → learners.Represents new.learner.rows (records ++ r ∷ []) heard
+  pub acceptor : AcceptorNotes old new r
+  pub proposer : ProposerNotes old new r
+  pub learner : LearnerNotes old new r
   pub whose : proposers.IsOfSameSite old.proposer new.proposer
   pub members : new.learner.members ≡ old.learner.members
+
+-- so they do where there is room for it, and a part that has room fails never
+pub all_note : {A P L : Type 0} (old new : Contents) (r : Record) → HasRoom old r.slot
+    → new.deposits ≡ with_deposit old.deposits r
+    → (acceptor : Result (Unit {0}) A) (proposer : Result (Unit {0}) P)
+    (learner : Result (Unit {0}) L)
+    → (IsSome (row_at old.acceptor r.slot) → IsOk acceptor)
+    → (IsSome (row_at old.proposer.rows r.slot) → IsOk proposer)
+    → (IsSome (row_at old.learner.rows r.slot) → IsOk learner)
+    → OnOk acceptor (AcceptorNotes old new r) → OnOk proposer (ProposerNotes old new r)
+    → OnOk learner (LearnerNotes old new r) → proposers.IsOfSameSite old.proposer new.proposer
+    → new.learner.members ≡ old.learner.members → Notes old new r
+all_note old new r room deposits acceptor proposer learner a p l noted_a noted_p noted_l whose
+    members = record {
+  deposits = deposits;
+  acceptor = always acceptor (a room.acceptor) noted_a;
+  proposer = always proposer (p room.proposer) noted_p;
+  learner = always learner (l room.learner) noted_l;
+  whose = whose;
+  members = members;
+}
 
 module _ (old new : Contents) (r : Record) (notes : Notes old new r) where
   -- so the tables say what the records say

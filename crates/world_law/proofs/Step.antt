@@ -31,9 +31,9 @@ use Rattle.world_law.proofs.Kept.{vote_for, Promises, Proposes, Says, Means, Rem
 use Rattle.world_law.proofs.Grows.{Grows, says_grows, means_grows, remembers_grows}
 
 -- site n adds this record, if there is one, has this session and mode, and sends these
-abbrev pub moved :
-    Network → (n : ℕ) → Option Record → Session → Mode → List Send → Option Notice → Happening
-moved w n kept session mode sends notice = happening w n (record {
+abbrev pub outcome :
+    Network → (n : ℕ) → Option Record → Session → Mode → List Send → Option Notice → Outcome
+outcome w n kept session mode sends notice = record {
   site = record {
     records = (w.sites n).records ++ option_to_list kept;
     session = session;
@@ -41,7 +41,12 @@ moved w n kept session mode sends notice = happening w n (record {
   };
   sends = sends;
   notice = notice;
-})
+}
+
+abbrev pub moved :
+    Network → (n : ℕ) → Option Record → Session → Mode → List Send → Option Notice → Happening
+moved w n kept session mode sends notice =
+    happening w n (outcome w n kept session mode sends notice)
 
 -- what the notice reports was chosen before
 pub record ReportsChosen (q : QuorumSystem) (w : Network) (notice : Option Notice) : Type 0 where
@@ -194,15 +199,7 @@ module _ (q : QuorumSystem) (w : Network) (n : ℕ) (kept : Option Record) (sess
   x = (moved w n kept session mode sends notice).network
 
   abbrev out : Outcome
-  out = record {
-    site = record {
-      records = (w.sites n).records ++ option_to_list kept;
-      session = session;
-      mode = mode;
-    };
-    sends = sends;
-    notice = notice;
-  }
+  out = outcome w n kept session mode sends notice
 
   -- a record of x is old, or the new one
   pub record_cases : (k : ℕ) (r : Record) → Has r (x.sites k).records

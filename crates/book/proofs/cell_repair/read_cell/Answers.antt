@@ -1,7 +1,7 @@
 use Rattle.std.proofs.Common.{List, ℕ, sym, subst}
 use Rattle.records.specs.Journals.{Says}
 use Rattle.book.proofs.Commits.{leaves_text, recovers}
-use Rattle.book.proofs.Alike.{said_seen, answered, synced, repaired}
+use Rattle.book.proofs.Alike.{said_seen, answered, synced, repaired_read}
 use Rattle.book.proofs.cell_repair.read_cell.Goals as goal
 
 pub returns-in_err-journal-clause-only : goal.returns-in_err-journal-clause-only
@@ -38,29 +38,19 @@ returns-in_err-sync-clause-any_moment g c =
 
 pub returns-in_err-repair-clause-any_moment : goal.returns-in_err-repair-clause-any_moment
 returns-in_err-repair-clause-any_moment g c =
-    let device = g.C.Cell.device in
-    let records = c.in_ok-journal.journal.records.items in
-    let read = c.in_ok-bytes in
-    let said = said_seen c.args.owner (device c.args.cell.now).image read.bytes.items
-    c.deref.result.now records read.ensures.read c.deref.ensures.value
-    c.in_ok-journal.ensures.said in
-    repaired c.args.owner device g.met.C.Cell.only_now c.args.cell.now read.bytes
-    c.in_ok-sync.field-0 c.load.new.self c.sync.new.self c.repair.new.cell records said
-    read.ensures.does.bytes c.load.ensures.does.time c.in_ok-sync.ensures.does.bytes
-    c.sync.ensures.does.time c.repair.ensures.any_moment
+    repaired_read c.args.owner g.C.Cell.device g.met.C.Cell.only_now c.args.cell.now
+    c.in_ok-bytes.bytes c.in_ok-sync.field-0 c.load.new.self c.sync.new.self c.repair.new.cell
+    c.in_ok-journal.journal.records.items c.in_ok-bytes.ensures.read c.deref.ensures.value
+    c.in_ok-journal.ensures.said c.in_ok-bytes.ensures.does.bytes c.load.ensures.does.time
+    c.in_ok-sync.ensures.does.bytes c.sync.ensures.does.time c.repair.ensures.any_moment
 
 pub returns-clause-any_moment : goal.returns-clause-any_moment
 returns-clause-any_moment g c =
-    let device = g.C.Cell.device in
-    let records = c.in_ok-journal.journal.records.items in
-    let read = c.in_ok-bytes in
-    let said = said_seen c.args.owner (device c.args.cell.now).image read.bytes.items
-    c.deref.result.now records read.ensures.read c.deref.ensures.value
-    c.in_ok-journal.ensures.said in
-    repaired c.args.owner device g.met.C.Cell.only_now c.args.cell.now read.bytes
-    c.in_ok-sync.field-0 c.load.new.self c.sync.new.self c.repair.new.cell records said
-    read.ensures.does.bytes c.load.ensures.does.time c.in_ok-sync.ensures.does.bytes
-    c.sync.ensures.does.time c.repair.ensures.any_moment
+    repaired_read c.args.owner g.C.Cell.device g.met.C.Cell.only_now c.args.cell.now
+    c.in_ok-bytes.bytes c.in_ok-sync.field-0 c.load.new.self c.sync.new.self c.repair.new.cell
+    c.in_ok-journal.journal.records.items c.in_ok-bytes.ensures.read c.deref.ensures.value
+    c.in_ok-journal.ensures.said c.in_ok-bytes.ensures.does.bytes c.load.ensures.does.time
+    c.in_ok-sync.ensures.does.bytes c.sync.ensures.does.time c.repair.ensures.any_moment
 
 pub returns-clause-recovers : goal.returns-clause-recovers
 returns-clause-recovers g c =

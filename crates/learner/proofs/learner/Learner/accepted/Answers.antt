@@ -3,7 +3,7 @@ use Rattle.fed_types.specs.Voters.{with_voter}
 use Rattle.slot_table.specs.Rows.{row_at}
 use Rattle.learner.specs.Ledgers.{Ledger, Represents, known_in, counted_in}
 use Rattle.learner.specs.inner.Counts.{is_learned}
-use Rattle.learner.proofs.HeardVotes.{heard_as, learned_as}
+use Rattle.learner.proofs.HeardVotes.{heard_as, learned_by}
 use Rattle.learner.proofs.Rows.{err_of}
 use Rattle.learner.proofs.learner.Learner.accepted.Goals as goal
 
@@ -14,55 +14,31 @@ returns-in_err-learned-clause-no_memory g c =
           ∙ sym (ap (λ (l : Ledger g.row.Q.Denot). known_in (row_at l.rows c.args.slot.now))
           c.self.view_is)
           ∙ c.in_err-learned.ensures.unknown,
-      sym (learned_as c.args.self.now.rows records heard c.args.slot.now c.args.from
-          (record { ballot = c.args.ballot; bag = c.args.bag }) stands
-          (g.Q.Quorums.quorum_system c.args.self.now.members)
-          (record {
-            meet = g.met.Q.Quorums.quorums_meet c.args.self.now.members;
-            grow = g.met.Q.Quorums.quorum_grows c.args.self.now.members;
-          })
-          false
-          (subst (λ (l : Ledger g.row.Q.Denot). false
-          ≡ is_learned (g.Q.Quorums.quorum_system l.members)
-          (known_in (row_at l.rows c.args.slot.now))
-          (with_voter (counted_in (row_at l.rows c.args.slot.now)
-          (record { ballot = c.args.ballot; bag = c.args.bag })) c.args.from)) c.self.view_is
-          c.in_err-learned.ensures.memory)),
+      sym (learned_by g.Q.Quorums.quorum_system (λ m. record {
+      meet = g.met.Q.Quorums.quorums_meet m;
+      grow = g.met.Q.Quorums.quorum_grows m;
+    }) c.self.view_is c.args.slot.now c.args.from
+          (record { ballot = c.args.ballot; bag = c.args.bag }) records heard stands false
+          c.in_err-learned.ensures.memory),
     ))
 
 pub returns-then-learned-clause-learned : goal.returns-then-learned-clause-learned
 returns-then-learned-clause-learned g c records heard stands =
-    learned_as c.args.self.now.rows records heard c.args.slot.now c.args.from
-    (record { ballot = c.args.ballot; bag = c.args.bag }) stands
-    (g.Q.Quorums.quorum_system c.args.self.now.members)
-    (record {
-      meet = g.met.Q.Quorums.quorums_meet c.args.self.now.members;
-      grow = g.met.Q.Quorums.quorum_grows c.args.self.now.members;
-    })
-    true
-    (subst (λ (l : Ledger g.row.Q.Denot). true
-    ≡ is_learned (g.Q.Quorums.quorum_system l.members)
-    (known_in (row_at l.rows c.args.slot.now))
-    (with_voter (counted_in (row_at l.rows c.args.slot.now)
-    (record { ballot = c.args.ballot; bag = c.args.bag })) c.args.from)) c.self.view_is
-    (sym c.if-learned.true ∙ c.in_ok-learned.ensures.learned))
+    learned_by g.Q.Quorums.quorum_system (λ m. record {
+      meet = g.met.Q.Quorums.quorums_meet m;
+      grow = g.met.Q.Quorums.quorum_grows m;
+    }) c.self.view_is c.args.slot.now c.args.from
+    (record { ballot = c.args.ballot; bag = c.args.bag }) records heard stands true
+    (sym c.if-learned.true ∙ c.in_ok-learned.ensures.learned)
 
 pub returns-clause-learned : goal.returns-clause-learned
 returns-clause-learned g c records heard stands =
-    learned_as c.args.self.now.rows records heard c.args.slot.now c.args.from
-    (record { ballot = c.args.ballot; bag = c.args.bag }) stands
-    (g.Q.Quorums.quorum_system c.args.self.now.members)
-    (record {
-      meet = g.met.Q.Quorums.quorums_meet c.args.self.now.members;
-      grow = g.met.Q.Quorums.quorum_grows c.args.self.now.members;
-    })
-    false
-    (subst (λ (l : Ledger g.row.Q.Denot). false
-    ≡ is_learned (g.Q.Quorums.quorum_system l.members)
-    (known_in (row_at l.rows c.args.slot.now))
-    (with_voter (counted_in (row_at l.rows c.args.slot.now)
-    (record { ballot = c.args.ballot; bag = c.args.bag })) c.args.from)) c.self.view_is
-    (sym c.if-learned.false ∙ c.in_ok-learned.ensures.learned))
+    learned_by g.Q.Quorums.quorum_system (λ m. record {
+      meet = g.met.Q.Quorums.quorums_meet m;
+      grow = g.met.Q.Quorums.quorum_grows m;
+    }) c.self.view_is c.args.slot.now c.args.from
+    (record { ballot = c.args.ballot; bag = c.args.bag }) records heard stands false
+    (sym c.if-learned.false ∙ c.in_ok-learned.ensures.learned)
 
 pub returns-clause-heard : goal.returns-clause-heard
 returns-clause-heard g c none records heard stands =

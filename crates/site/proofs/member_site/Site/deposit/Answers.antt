@@ -8,7 +8,7 @@ use Rattle.site.specs.Calls.{on_deposit}
 use Rattle.site.specs.Faults.{check_fault}
 use Rattle.site.specs.Sites.{OpenSite, Represents}
 use Rattle.site.proofs.Conclusions.{answer_err_of}
-use Rattle.site.proofs.Refused.{check_refused, needs_none}
+use Rattle.site.proofs.Refused.{check_refused, never_needs}
 use Rattle.site.proofs.member_site.Site.deposit.Goals as goal
 
 pub returns-in_err-bag-clause-answer : goal.returns-in_err-bag-clause-answer
@@ -22,20 +22,8 @@ returns-in_err-bag-clause-answer g c opened session stands =
     (check_of c.args.facts.now) c.in_err-bag.field-0.0 c.in_err-bag.ensures.exact stands)
 
 pub returns-clause-needs_open : goal.returns-clause-needs_open
-returns-clause-needs_open g c = (
-  λ e. absurd (needs_none g.C.Cell.device c.args.self.now c.register.new.self some.0
-      (on_deposit c.args.self.now.book.records some.0 c.args.slot.now (Ok c.in_ok-bag.bag))
-      c.register.result (c.register.ensures some.0 some.1) e),
-  λ e. absurd (differ (sym e ∙ opened)),
-)
-  where
-    some : (session : Session) × Represents c.args.self.now session
-    some = subst (λ (s : OpenSite g.row.C.Denot). (session : Session) × Represents s session)
-        c.self.view_is c.self.invariant.session
-
-    opened : c.args.self.now.book.needs_opening ≡ false
-    opened = subst (λ (s : OpenSite g.row.C.Denot). s.book.needs_opening ≡ false) c.self.view_is
-        (sym c.needs_opening.ensures ∙ c.if-needs_opening.false)
-
-    differ : true ≡ false → ⊥
-    differ e = cc
+returns-clause-needs_open g c =
+    never_needs g.C.Cell.device c.self.view_is c.self.invariant.session
+    (sym c.needs_opening.ensures ∙ c.if-needs_opening.false) c.register.new.self
+    (λ session. on_deposit c.args.self.now.book.records session c.args.slot.now
+    (Ok c.in_ok-bag.bag)) c.register.result c.register.ensures

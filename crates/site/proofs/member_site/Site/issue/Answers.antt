@@ -10,7 +10,8 @@ use Rattle.site.proofs.member_site.Site.issue.Goals as goal
 
 pub invariant_of-self : goal.invariant_of-self
 invariant_of-self g c =
-    mid_order g.C.Cell.device _ (record { book = c.self.inside.book; tables = c.begin_ballot.new.tables })
+    mid_order g.C.Cell.device _
+    (record { book = c.self.inside.book; tables = c.begin_ballot.new.tables })
     c.args.slot.now c.args.own refl c.begin_ballot.result c.owner-owner.result
     c.owner-owner.ensures c.begin_ballot.ensures c.self.invariant c.args.self.now c.self.view_is
     c.requires.deposit
@@ -24,12 +25,14 @@ returns-in_err-new g c = rw (← c.self.view_is) (record {
       (effect (record { book = c.self.inside.book; tables = c.self.inside.tables }) session
       (Proposes c.args.slot.now)) r)
       (sym (answer_err_of c.from_residual.result c.in_err-new.field-0.0 c.from_residual.ensures.1))
-      (not_issued g.C.Cell.device _ (record { book = c.self.inside.book; tables = c.begin_ballot.new.tables })
+      (not_issued g.C.Cell.device _
+      (record { book = c.self.inside.book; tables = c.begin_ballot.new.tables })
       c.args.slot.now c.args.own refl c.begin_ballot.result c.owner-owner.result
       c.owner-owner.ensures c.begin_ballot.ensures c.self.invariant c.args.self.now c.self.view_is
       c.requires.deposit session stands known c.in_err-new.field-0.0 c.in_err-new.was);
   refused = λ session stands known.
-      refused_or_issued g.C.Cell.device _ (record { book = c.self.inside.book; tables = c.begin_ballot.new.tables })
+      refused_or_issued g.C.Cell.device _
+      (record { book = c.self.inside.book; tables = c.begin_ballot.new.tables })
       c.args.slot.now c.args.own refl c.begin_ballot.result c.owner-owner.result
       c.owner-owner.ensures c.begin_ballot.ensures c.self.invariant c.args.self.now c.self.view_is
       c.requires.deposit session stands known c.from_residual.result
@@ -40,7 +43,8 @@ returns-in_err-new g c = rw (← c.self.view_is) (record {
 
 pub invariant_of-self-2 : goal.invariant_of-self-2
 invariant_of-self-2 g c =
-    mid_order g.C.Cell.device _ (record { book = c.self.inside.book; tables = c.begin_ballot.new.tables })
+    mid_order g.C.Cell.device _
+    (record { book = c.self.inside.book; tables = c.begin_ballot.new.tables })
     c.args.slot.now c.args.own refl c.begin_ballot.result c.owner-owner.result
     c.owner-owner.ensures c.begin_ballot.ensures c.self.invariant c.args.self.now c.self.view_is
     c.requires.deposit
@@ -48,13 +52,15 @@ invariant_of-self-2 g c =
 pub returns : goal.returns
 returns g c = rw (← c.self.view_is) (record {
   answer = λ session stands known.
-      issued g.C.Cell.device _ (record { book = c.self.inside.book; tables = c.begin_ballot.new.tables })
+      issued g.C.Cell.device _
+      (record { book = c.self.inside.book; tables = c.begin_ballot.new.tables })
       c.args.slot.now c.args.own refl c.begin_ballot.result c.owner-owner.result
       c.owner-owner.ensures c.begin_ballot.ensures c.self.invariant c.args.self.now c.self.view_is
       c.requires.deposit session stands known c.conclude.new.self
       (c.in_ok-new.new, c.in_ok-new.answer) c.conclude.result c.in_ok-new.was c.conclude.ensures;
   refused = λ session stands known.
-      refused_or_issued g.C.Cell.device _ (record { book = c.self.inside.book; tables = c.begin_ballot.new.tables })
+      refused_or_issued g.C.Cell.device _
+      (record { book = c.self.inside.book; tables = c.begin_ballot.new.tables })
       c.args.slot.now c.args.own refl c.begin_ballot.result c.owner-owner.result
       c.owner-owner.ensures c.begin_ballot.ensures c.self.invariant c.args.self.now c.self.view_is
       c.requires.deposit session stands known c.conclude.result

@@ -4,7 +4,7 @@ use Rattle.proposer.specs.Sessions.{Session}
 use Rattle.site.specs.Calls.{Proposes}
 use Rattle.site.specs.Sites.{OpenSite, Represents, effect}
 use Rattle.site.proofs.Proposed.{known_already, no_deposit, known_refused, no_deposit_refused}
-use Rattle.site.proofs.Refused.{needs_none}
+use Rattle.site.proofs.Refused.{never_needs}
 use Rattle.site.proofs.Registered.{some_of, none_of}
 use Rattle.site.proofs.Seen.{as_seen}
 use Rattle.site.proofs.member_site.Site.propose.Goals as goal
@@ -18,42 +18,34 @@ returns-then-is_some-clause-answer g c opened session stands =
 
 pub issue-requires-clause-deposit : goal.issue-requires-clause-deposit
 issue-requires-clause-deposit g c =
-    sym (as_seen (deposit_of c.args.slot.now) c.self.view_is (c.deposit.ensures _ _ c.self.invariant.of))
+    sym (as_seen (deposit_of c.args.slot.now) c.self.view_is
+    (c.deposit.ensures _ _ c.self.invariant.of))
     ∙ c.in-Some.is
 
 pub returns-in-Some-clause-answer : goal.returns-in-Some-clause-answer
 returns-in-Some-clause-answer g c opened session stands =
     c.issue.ensures.answer session stands
-    (sym (as_seen (known_of c.args.slot.now) c.self.view_is (c.known.ensures _ _ c.self.invariant.of))
+    (sym (as_seen (known_of c.args.slot.now) c.self.view_is
+    (c.known.ensures _ _ c.self.invariant.of))
     ∙ none_of c.known.result (sym c.if-is_some.ensures))
 
 pub returns-in-Some-clause-needs_open : goal.returns-in-Some-clause-needs_open
-returns-in-Some-clause-needs_open g c = (
-  λ e. absurd (needs_none g.C.Cell.device c.args.self.now c.issue.new.self some.0
-      (effect c.args.self.now some.0 (Proposes c.args.slot.now))
-      c.issue.result (c.issue.ensures.answer some.0 some.1
-      (sym (as_seen (known_of c.args.slot.now) c.self.view_is (c.known.ensures _ _ c.self.invariant.of))
-      ∙ none_of c.known.result (sym c.if-is_some.ensures))) e),
-  λ e. absurd (differ (sym e ∙ opened)),
-)
-  where
-    some : (session : Session) × Represents c.args.self.now session
-    some = subst (λ (s : OpenSite g.row.C.Denot). (session : Session) × Represents s session)
-        c.self.view_is c.self.invariant.session
-
-    opened : c.args.self.now.book.needs_opening ≡ false
-    opened = subst (λ (s : OpenSite g.row.C.Denot). s.book.needs_opening ≡ false) c.self.view_is
-        (sym c.needs_opening.ensures ∙ c.if-needs_opening.false)
-
-    differ : true ≡ false → ⊥
-    differ e = cc
+returns-in-Some-clause-needs_open g c =
+    never_needs g.C.Cell.device c.self.view_is c.self.invariant.session
+    (sym c.needs_opening.ensures ∙ c.if-needs_opening.false) c.issue.new.self
+    (λ session. effect c.args.self.now session (Proposes c.args.slot.now)) c.issue.result
+    (λ session stands. c.issue.ensures.answer session stands
+    (sym (as_seen (known_of c.args.slot.now) c.self.view_is
+    (c.known.ensures _ _ c.self.invariant.of))
+    ∙ none_of c.known.result (sym c.if-is_some.ensures)))
 
 pub returns-in-None-clause-answer : goal.returns-in-None-clause-answer
 returns-in-None-clause-answer g c opened session stands =
     no_deposit g.C.Cell.device c.args.self.now session c.args.slot.now stands
     (sym (none_of c.known.result (sym c.if-is_some.ensures))
     ∙ as_seen (known_of c.args.slot.now) c.self.view_is (c.known.ensures _ _ c.self.invariant.of))
-    (sym c.in-None.is ∙ as_seen (deposit_of c.args.slot.now) c.self.view_is (c.deposit.ensures _ _ c.self.invariant.of))
+    (sym c.in-None.is ∙ as_seen (deposit_of c.args.slot.now) c.self.view_is
+    (c.deposit.ensures _ _ c.self.invariant.of))
 
 pub returns-then-is_some-clause-refused : goal.returns-then-is_some-clause-refused
 returns-then-is_some-clause-refused g c opened session stands =
@@ -65,7 +57,8 @@ returns-then-is_some-clause-refused g c opened session stands =
 pub returns-in-Some-clause-refused : goal.returns-in-Some-clause-refused
 returns-in-Some-clause-refused g c opened session stands =
     c.issue.ensures.refused session stands
-    (sym (as_seen (known_of c.args.slot.now) c.self.view_is (c.known.ensures _ _ c.self.invariant.of))
+    (sym (as_seen (known_of c.args.slot.now) c.self.view_is
+    (c.known.ensures _ _ c.self.invariant.of))
     ∙ none_of c.known.result (sym c.if-is_some.ensures))
 
 pub returns-in-None-clause-refused : goal.returns-in-None-clause-refused
@@ -73,4 +66,5 @@ returns-in-None-clause-refused g c opened session stands =
     no_deposit_refused g.C.Cell.device c.args.self.now session c.args.slot.now stands
     (sym (none_of c.known.result (sym c.if-is_some.ensures))
     ∙ as_seen (known_of c.args.slot.now) c.self.view_is (c.known.ensures _ _ c.self.invariant.of))
-    (sym c.in-None.is ∙ as_seen (deposit_of c.args.slot.now) c.self.view_is (c.deposit.ensures _ _ c.self.invariant.of))
+    (sym c.in-None.is ∙ as_seen (deposit_of c.args.slot.now) c.self.view_is
+    (c.deposit.ensures _ _ c.self.invariant.of))

@@ -14,7 +14,8 @@ pub returns-in-Some : goal.returns-in-Some
 returns-in-Some g c session stands =
     deposit_refused g.C.Cell.device c.args.self.now session c.args.slot.now c.args.bag
     c.deposit-own.result c.known.result
-    (as_seen (deposit_of c.args.slot.now) c.self.view_is (c.deposit-own.ensures _ _ c.self.invariant.of))
+    (as_seen (deposit_of c.args.slot.now) c.self.view_is
+    (c.deposit-own.ensures _ _ c.self.invariant.of))
     (as_seen (known_of c.args.slot.now) c.self.view_is (c.known.ensures _ _ c.self.invariant.of))
     stands c.in-Some.fault
     (sym c.deposit_fault.ensures ∙ c.in-Some.is)
@@ -24,7 +25,8 @@ returns-then-is_some g c session stands =
     let there = some_of c.deposit-own.result (sym c.if-is_some.ensures) in
     deposited_again g.C.Cell.device c.args.self.now session c.args.slot.now c.args.bag
     c.deposit-own.result c.known.result
-    (as_seen (deposit_of c.args.slot.now) c.self.view_is (c.deposit-own.ensures _ _ c.self.invariant.of))
+    (as_seen (deposit_of c.args.slot.now) c.self.view_is
+    (c.deposit-own.ensures _ _ c.self.invariant.of))
     (as_seen (known_of c.args.slot.now) c.self.view_is (c.known.ensures _ _ c.self.invariant.of))
     stands
     (sym c.deposit_fault.ensures ∙ c.in_default.is) there.0 there.1 _ refl
@@ -34,7 +36,8 @@ pub returns : goal.returns
 returns g c session stands =
     deposited g.C.Cell.device c.args.self.now session c.args.slot.now c.args.bag
     c.deposit-own.result c.known.result
-    (as_seen (deposit_of c.args.slot.now) c.self.view_is (c.deposit-own.ensures _ _ c.self.invariant.of))
+    (as_seen (deposit_of c.args.slot.now) c.self.view_is
+    (c.deposit-own.ensures _ _ c.self.invariant.of))
     (as_seen (known_of c.args.slot.now) c.self.view_is (c.known.ensures _ _ c.self.invariant.of))
     stands
     (sym c.deposit_fault.ensures ∙ c.in_default.is) c.conclude.new.self

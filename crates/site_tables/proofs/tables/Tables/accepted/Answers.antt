@@ -1,15 +1,14 @@
-use Rattle.std.proofs.Common.{refl, sym, subst}
+use Rattle.std.proofs.Common.{refl}
 use Rattle.dgram.specs.declared.body.Body.TheVariants.{Accepted}
 use Rattle.proposer.proofs.Stands.{heard_stands}
-use Rattle.site_tables.specs.Contents.{Contents, Represents}
 use Rattle.site_tables.proofs.Outcomes.{if_ok}
+use Rattle.site_tables.proofs.Inside.{was_inside}
 use Rattle.site_tables.proofs.tables.Tables.accepted.Goals as goal
 
 pub returns-clause-heard : goal.returns-clause-heard
 returns-clause-heard c = if_ok c.accepted.result c.accepted.ensures.heard
     (λ o hears none records session under stands.
-    let was = subst (λ (t : Contents). Represents t records session under) (sym c.self.view_is)
-    stands in
+    let was = was_inside c.self.view_is records session under stands in
     record {
       proposer = heard_stands c.self.inside.proposer.rows
           (record { slot = c.args.slot.now; body = Accepted c.args.from c.args.vote })

@@ -1,25 +1,23 @@
-use Rattle.std.proofs.Common.{ℕ, Some, sym, ap, subst, ◌∙◌}
+use Rattle.std.proofs.Common.{ℕ, Some, ap, subst, ◌∙◌}
 use Rattle.proposer.specs.Faults.{next_or_spent, IsOrMemory}
 use Rattle.proposer.specs.Proposals.{next_ballot}
-use Rattle.site_tables.specs.Contents.{Contents, IsOf, Represents}
 use Rattle.site_tables.proofs.Begun.{at_deposits}
 use Rattle.site_tables.proofs.Outcomes.{if_ok}
+use Rattle.site_tables.proofs.Inside.{is_inside, was_inside}
 use Rattle.site_tables.proofs.tables.Tables.begin.Goals as goal
 
 pub returns-clause-answer : goal.returns-clause-answer
 returns-clause-answer c owner records session under of stands =
-    let is = subst (λ (t : Contents). IsOf t owner records) (sym c.self.view_is) of in
-    let was = subst (λ (t : Contents). Represents t records session under) (sym c.self.view_is)
-    stands in
+    let is = is_inside c.self.view_is owner records of in
+    let was = was_inside c.self.view_is records session under stands in
     subst (λ (site : ℕ). IsOrMemory c.begin.result
     (next_or_spent (next_ballot site c.args.slot.now records session.heard))) is.proposer_site
     (c.begin.ensures.answer records session under was.proposer)
 
 pub returns-clause-spent : goal.returns-clause-spent
 returns-clause-spent c owner records session under of stands none =
-    let is = subst (λ (t : Contents). IsOf t owner records) (sym c.self.view_is) of in
-    let was = subst (λ (t : Contents). Represents t records session under) (sym c.self.view_is)
-    stands in
+    let is = is_inside c.self.view_is owner records of in
+    let was = was_inside c.self.view_is records session under stands in
     c.begin.ensures.spent records session under was.proposer
     (ap (λ (site : ℕ). next_ballot site c.args.slot.now records session.heard) is.proposer_site
     ∙ none)
@@ -27,8 +25,7 @@ returns-clause-spent c owner records session under of stands none =
 pub returns-clause-begun : goal.returns-clause-begun
 returns-clause-begun c = if_ok c.begin.result c.begin.ensures.begun
     (λ ballot begins records session under stands own.
-    let was = subst (λ (t : Contents). Represents t records session under) (sym c.self.view_is)
-    stands in
+    let was = was_inside c.self.view_is records session under stands in
     record {
       proposer = begins records session under was.proposer;
       begun = at_deposits under.begun_with c.args.slot.now (Some c.args.own) records was.begun

@@ -1,13 +1,13 @@
-use Rattle.std.proofs.Common.{sym, ap, subst, ◌∙◌}
+use Rattle.std.proofs.Common.{ap, ◌∙◌}
 use Rattle.fed_types.specs.declared.bag_id.BagId.{BagId}
 use Rattle.slot_table.specs.Rows.{Rows, row_at}
-use Rattle.site_tables.specs.Contents.{Contents, IsOf}
 use Rattle.site_tables.proofs.Deposited.{deposit_at}
+use Rattle.site_tables.proofs.Inside.{is_inside}
 use Rattle.site_tables.proofs.tables.Tables.deposit.Goals as goal
 
 pub returns : goal.returns
 returns c owner records of =
-    let is = subst (λ (t : Contents). IsOf t owner records) (sym c.self.view_is) of in
+    let is = is_inside c.self.view_is owner records of in
     c.of.ensures
     ∙ ap (λ (rows : Rows BagId). row_at rows c.args.slot.now) is.deposits
     ∙ deposit_at c.args.slot.now records

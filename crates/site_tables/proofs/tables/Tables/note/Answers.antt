@@ -3,8 +3,7 @@ use Rattle.records.specs.declared.entry.Entry.{Entry}
 use Rattle.records.specs.Words.{deposit_in}
 use Rattle.site_tables.specs.Contents.{Contents, HasRoom, with_bag}
 use Rattle.site_tables.proofs.Deposited.{says_no_deposit}
-use Rattle.site_tables.proofs.Noted.{Notes, noted_of, noted_stands}
-use Rattle.site_tables.proofs.Outcomes.{always}
+use Rattle.site_tables.proofs.Noted.{Notes, all_note, noted_of, noted_stands}
 use Rattle.site_tables.proofs.tables.Tables.note.Goals as goal
 
 pub returns-in-Deposit : goal.returns-in-Deposit
@@ -18,18 +17,15 @@ returns-in-Deposit c =
     } in
     let room = subst (λ (t : Contents). HasRoom t c.args.new.slot) (sym c.self.view_is)
     c.requires in
-    let notes = subst (λ (t : Contents). Notes t new c.args.new) c.self.view_is (record {
-      deposits = c.note-in-Deposit.ensures
-          ∙ sym (ap (λ (e : Entry). with_bag c.self.inside.deposits.bags c.args.new.slot
-          (deposit_in e)) c.in-Deposit.is);
-      acceptor = always c.note.result (c.note.ensures.succeeds room.acceptor) c.note.ensures.noted;
-      proposer = always c.note-2.result (c.note-2.ensures.succeeds room.proposer)
-          c.note-2.ensures.noted;
-      learner = always c.note-3.result (c.note-3.ensures.succeeds room.learner)
-          c.note-3.ensures.noted;
-      whose = c.note-2.ensures.whose;
-      members = c.note-3.ensures.members;
-    }) in
+    let notes = subst (λ (t : Contents). Notes t new c.args.new) c.self.view_is
+    (all_note _ new c.args.new room
+    (c.note-in-Deposit.ensures
+    ∙ sym (ap (λ (e : Entry). with_bag c.self.inside.deposits.bags c.args.new.slot (deposit_in e))
+    c.in-Deposit.is))
+    c.note.result c.note-2.result c.note-3.result c.note.ensures.succeeds
+    c.note-2.ensures.succeeds c.note-3.ensures.succeeds c.note.ensures.noted
+    c.note-2.ensures.noted c.note-3.ensures.noted c.note-2.ensures.whose
+    c.note-3.ensures.members) in
     record {
       of = noted_of c.args.self.now new c.args.new notes;
       stands = noted_stands c.args.self.now new c.args.new notes;
@@ -46,17 +42,14 @@ returns-in_default c =
     } in
     let room = subst (λ (t : Contents). HasRoom t c.args.new.slot) (sym c.self.view_is)
     c.requires in
-    let notes = subst (λ (t : Contents). Notes t new c.args.new) c.self.view_is (record {
-      deposits = sym (ap (with_bag c.self.inside.deposits.bags c.args.new.slot)
-          (says_no_deposit c.args.new.body c.in_default.not-Deposit));
-      acceptor = always c.note.result (c.note.ensures.succeeds room.acceptor) c.note.ensures.noted;
-      proposer = always c.note-2.result (c.note-2.ensures.succeeds room.proposer)
-          c.note-2.ensures.noted;
-      learner = always c.note-3.result (c.note-3.ensures.succeeds room.learner)
-          c.note-3.ensures.noted;
-      whose = c.note-2.ensures.whose;
-      members = c.note-3.ensures.members;
-    }) in
+    let notes = subst (λ (t : Contents). Notes t new c.args.new) c.self.view_is
+    (all_note _ new c.args.new room
+    (sym (ap (with_bag c.self.inside.deposits.bags c.args.new.slot)
+    (says_no_deposit c.args.new.body c.in_default.not-Deposit)))
+    c.note.result c.note-2.result c.note-3.result c.note.ensures.succeeds
+    c.note-2.ensures.succeeds c.note-3.ensures.succeeds c.note.ensures.noted
+    c.note-2.ensures.noted c.note-3.ensures.noted c.note-2.ensures.whose
+    c.note-3.ensures.members) in
     record {
       of = noted_of c.args.self.now new c.args.new notes;
       stands = noted_stands c.args.self.now new c.args.new notes;

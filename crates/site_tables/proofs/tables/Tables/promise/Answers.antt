@@ -1,20 +1,19 @@
-use Rattle.std.proofs.Common.{sym, ap, subst, ◌∙◌}
+use Rattle.std.proofs.Common.{ap, ◌∙◌}
 use Rattle.fed_types.specs.Quorums.{quorums_of}
 use Rattle.fed_types.specs.Sites.{Membership}
 use Rattle.records.specs.Words.{deposit_of}
 use Rattle.proposer.specs.Proposals.{ready}
 use Rattle.proposer.specs.Rows.{current_in, row_of}
 use Rattle.proposer.specs.Sessions.{promise_message}
-use Rattle.site_tables.specs.Contents.{Contents, IsOf, Represents}
 use Rattle.site_tables.proofs.Begun.{ready_with_deposit, begun_waits, current_waits}
 use Rattle.site_tables.proofs.Heard.{learner_hears_promise}
+use Rattle.site_tables.proofs.Inside.{is_inside, was_inside}
 use Rattle.site_tables.proofs.tables.Tables.promise.Goals as goal
 
 pub returns-clause-ready : goal.returns-clause-ready
 returns-clause-ready c owner records session under of stands =
-    let is = subst (λ (t : Contents). IsOf t owner records) (sym c.self.view_is) of in
-    let was = subst (λ (t : Contents). Represents t records session under) (sym c.self.view_is)
-    stands in
+    let is = is_inside c.self.view_is owner records of in
+    let was = was_inside c.self.view_is records session under stands in
     c.promise.ensures.ready records session under was.proposer
     ∙ ready_with_deposit (quorums_of c.self.inside.proposer.members) c.args.slot.now
     (under.current_with c.args.slot.now) (deposit_of c.args.slot.now records) session.heard
@@ -28,8 +27,7 @@ returns-clause-ready c owner records session under of stands =
 
 pub returns-clause-heard : goal.returns-clause-heard
 returns-clause-heard c records session under stands =
-    let was = subst (λ (t : Contents). Represents t records session under) (sym c.self.view_is)
-    stands in
+    let was = was_inside c.self.view_is records session under stands in
     record {
       proposer = c.promise.ensures.heard records session under was.proposer;
       begun = begun_waits under c.promise.result

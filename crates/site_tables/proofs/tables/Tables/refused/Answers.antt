@@ -1,15 +1,14 @@
-use Rattle.std.proofs.Common.{refl, sym, subst}
+use Rattle.std.proofs.Common.{refl}
 use Rattle.proposer.specs.Sessions.{refusal_message}
-use Rattle.site_tables.specs.Contents.{Contents, Represents}
 use Rattle.site_tables.proofs.Heard.{learner_hears}
 use Rattle.site_tables.proofs.Outcomes.{on_ok}
+use Rattle.site_tables.proofs.Inside.{was_inside}
 use Rattle.site_tables.proofs.tables.Tables.refused.Goals as goal
 
 pub returns-clause-heard : goal.returns-clause-heard
 returns-clause-heard c = on_ok c.refused.result c.refused.ensures.heard
     (λ hears from asked records session under stands.
-    let was = subst (λ (t : Contents). Represents t records session under) (sym c.self.view_is)
-    stands in
+    let was = was_inside c.self.view_is records session under stands in
     record {
       proposer = hears from asked records session under was.proposer;
       begun = was.begun;
