@@ -68,13 +68,13 @@ pub all_note : {A P L : Type 0} (old new : Contents) (r : Record) → HasRoom ol
     → new.learner.members ≡ old.learner.members → Notes old new r
 all_note old new r room deposits acceptor proposer learner a p l noted_a noted_p noted_l whose
     members = record {
-  deposits = deposits;
-  acceptor = always acceptor (a room.acceptor) noted_a;
-  proposer = always proposer (p room.proposer) noted_p;
-  learner = always learner (l room.learner) noted_l;
-  whose = whose;
-  members = members;
-}
+      deposits = deposits;
+      acceptor = always acceptor (a room.acceptor) noted_a;
+      proposer = always proposer (p room.proposer) noted_p;
+      learner = always learner (l room.learner) noted_l;
+      whose = whose;
+      members = members;
+    }
 
 module _ (old new : Contents) (r : Record) (notes : Notes old new r) where
   -- so the tables say what the records say

@@ -15,9 +15,9 @@ returns-in_err-learned-clause-no_memory g c =
           c.self.view_is)
           ∙ c.in_err-learned.ensures.unknown,
       sym (learned_by g.Q.Quorums.quorum_system (λ m. record {
-      meet = g.met.Q.Quorums.quorums_meet m;
-      grow = g.met.Q.Quorums.quorum_grows m;
-    }) c.self.view_is c.args.slot.now c.args.from
+        meet = g.met.Q.Quorums.quorums_meet m;
+        grow = g.met.Q.Quorums.quorum_grows m;
+      }) c.self.view_is c.args.slot.now c.args.from
           (record { ballot = c.args.ballot; bag = c.args.bag }) records heard stands false
           c.in_err-learned.ensures.memory),
     ))
