@@ -25,9 +25,10 @@ In each turn the site waits for one datagram, and prints a line for what it does
   dropped N                     what came was no message for it
 In a turn in which nothing comes it may propose one of its deposits to all. While nothing moves,
 each such turn waits twice as long as the one before, up to --wait-most; a deposit, and from another
-site an Accept, a vote or a known bag, bring the first wait back. However much comes, such a turn is taken once ten times --wait, 250 ms and its wait have passed since the last
-one. After a deposit such turns are taken at once, until the site may propose it; but not while a
-proposal of its own is under way.
+site an Accept, a vote or a known bag, bring the first wait back. However much comes, such a turn is
+taken once ten times --wait, 250 ms and its wait have passed since the last one. After a deposit
+such turns are taken at once, until the site may propose it; but not while a proposal of its own is
+under way.
 
 With --bags a path that is absolute or has `..` in it is refused as a missing folder (21).
 

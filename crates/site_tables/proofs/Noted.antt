@@ -55,26 +55,30 @@ pub record Notes (old new : Contents) (r : Record) : Type 0 where
   pub whose : proposers.IsOfSameSite old.proposer new.proposer
   pub members : new.learner.members ≡ old.learner.members
 
--- so they do where there is room for it, and a part that has room fails never
-pub all_note : {A P L : Type 0} (old new : Contents) (r : Record) → HasRoom old r.slot
-    → new.deposits ≡ with_deposit old.deposits r
+-- so they do where there is room for it, as a clause sees the tables: a part that has room never
+-- fails
+pub all_note : {A P L : Type 0} {inside old : Contents} → inside ≡ old → (new : Contents)
+    (r : Record) → HasRoom old r.slot → new.deposits ≡ with_deposit inside.deposits r
     → (acceptor : Result (Unit {0}) A) (proposer : Result (Unit {0}) P)
     (learner : Result (Unit {0}) L)
-    → (IsSome (row_at old.acceptor r.slot) → IsOk acceptor)
-    → (IsSome (row_at old.proposer.rows r.slot) → IsOk proposer)
-    → (IsSome (row_at old.learner.rows r.slot) → IsOk learner)
-    → OnOk acceptor (AcceptorNotes old new r) → OnOk proposer (ProposerNotes old new r)
-    → OnOk learner (LearnerNotes old new r) → proposers.IsOfSameSite old.proposer new.proposer
-    → new.learner.members ≡ old.learner.members → Notes old new r
-all_note old new r room deposits acceptor proposer learner a p l noted_a noted_p noted_l whose
-    members = record {
+    → (IsSome (row_at inside.acceptor r.slot) → IsOk acceptor)
+    → (IsSome (row_at inside.proposer.rows r.slot) → IsOk proposer)
+    → (IsSome (row_at inside.learner.rows r.slot) → IsOk learner)
+    → OnOk acceptor (AcceptorNotes inside new r) → OnOk proposer (ProposerNotes inside new r)
+    → OnOk learner (LearnerNotes inside new r)
+    → proposers.IsOfSameSite inside.proposer new.proposer
+    → new.learner.members ≡ inside.learner.members → Notes old new r
+all_note {inside = inside} seen new r room_seen deposits acceptor proposer learner a p l noted_a
+    noted_p noted_l whose members =
+    let room = subst (λ (t : Contents). HasRoom t r.slot) (sym seen) room_seen in
+    subst (λ (t : Contents). Notes t new r) seen (record {
       deposits = deposits;
       acceptor = always acceptor (a room.acceptor) noted_a;
       proposer = always proposer (p room.proposer) noted_p;
       learner = always learner (l room.learner) noted_l;
       whose = whose;
       members = members;
-    }
+    })
 
 module _ (old new : Contents) (r : Record) (notes : Notes old new r) where
   -- so the tables say what the records say

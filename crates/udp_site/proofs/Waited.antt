@@ -12,12 +12,14 @@ use Rattle.site.specs.Sites.{OpenSite}
 use Rattle.lines.specs.declared.line.Line.{Line}
 use Rattle.udp_site.specs.declared.fault.ServeFault.{ServeFault}
 use Rattle.udp_site.specs.declared.fault.ServeFault.TheVariants as faults
+use Rattle.udp_site.specs.declared.idle_turns.IdleProgress.{IdleProgress}
 use Rattle.udp_site.specs.Rounds.{next_waiting}
 use Rattle.udp_site.specs.Traffic.{Move, all_handed}
 use Rattle.udp_site.specs.Turns.{Serving, Coming, Done, IsServing, number, posts_of}
 use Rattle.udp_site.specs.Turns.{proposal_notices, one_more_idle, tries, slot_of, proposing}
 use Rattle.udp_site.specs.Turns.{proposes, proposes_next, idles_if, idles}
 use Rattle.udp_site.specs.inner.Outcomes.{ComesTo, at}
+use Rattle.udp_site.specs.inner.Servers.{Stands}
 use Rattle.udp_site.proofs.Handed.{grows_by_no_posts, no_part}
 use Rattle.udp_site.proofs.Proposals.{could_propose}
 use Rattle.udp_site.proofs.Said.{broken_off}
@@ -48,27 +50,29 @@ comes_through coming other through a b before after site (Err faults.Cell) came 
 comes_through coming other through a b before after site (Err faults.Output) came = absurd came
 
 module _ {C : Type 0} (device : C → Device) (ports : List ℕ) (old : Serving C)
-    (start : OpenSite C) (there : old.site ≡ start) (serves : IsServing old)
-    (idle tried : ℕ) (idle_is : old.idle ≡ idle) (tried_is : old.tried ≡ tried)
+    (start : OpenSite C) (progress : IdleProgress) (stands : Stands old start progress)
     (from : ℕ) (from_is : from ≡ start.book.owner.site) where
-  waited : Serving C
-  waited = one_more_idle old
+  abbrev idle : ℕ
+  idle = progress.idle
+
+  abbrev tried : ℕ
+  tried = progress.tried
 
   count_is : (idle + 1) % from ≡ (old.idle + 1) % number old
-  count_is = ap (λ (n : ℕ). (n + 1) % from) (sym idle_is)
+  count_is = ap (λ (n : ℕ). (n + 1) % from) (sym stands.idle)
       ∙ ap (λ (n : ℕ). (old.idle + 1) % n)
-      (from_is ∙ ap (λ (s : OpenSite C). s.book.owner.site) (sym there))
+      (from_is ∙ ap (λ (s : OpenSite C). s.book.owner.site) (sym stands.there))
 
   next_is : (o : Option ℕ) → o ≡ next_waiting start.book.records tried
       → next_waiting old.site.book.records old.tried ≡ o
   next_is o is =
-      ap (λ (s : OpenSite C). next_waiting s.book.records old.tried) there
-      ∙ (ap (λ (n : ℕ). next_waiting start.book.records n) tried_is ∙ sym is)
+      ap (λ (s : OpenSite C). next_waiting s.book.records old.tried) stands.there
+      ∙ (ap (λ (n : ℕ). next_waiting start.book.records n) stands.tried ∙ sym is)
 
   slot_is : (place : ℕ) (o : Option SlotName) → o ≡ slot_at (deposits_of start.book.records) place
       → slot_at (deposits_of old.site.book.records) place ≡ o
   slot_is place o is =
-      ap (λ (s : OpenSite C). slot_at (deposits_of s.book.records) place) there ∙ sym is
+      ap (λ (s : OpenSite C). slot_at (deposits_of s.book.records) place) stands.there ∙ sym is
 
   not_its_turn : (idle + 1) % from ≢ 0 → idles device ports old nothing (one_more_idle old)
   not_its_turn e =
@@ -110,9 +114,9 @@ module _ {C : Type 0} (device : C → Device) (ports : List ℕ) (old : Serving 
     counts so = (
       nothing,
       one_more_idle old,
-      (so, ap (λ (n : ℕ). n + 1) idle_is, tried_is),
-      there,
-      serves,
+      (so, ap (λ (n : ℕ). n + 1) stands.idle, stands.tried),
+      stands.there,
+      stands.serves,
       grows_by_no_posts traffic,
       sym (append-nil lines),
     )
@@ -150,7 +154,7 @@ module _ {C : Type 0} (device : C → Device) (ports : List ℕ) (old : Serving 
       its_turn e done next
           (proposes_at place (Some slot) is slot_there done next
           (result, called, refuses, done_is)),
-      called.idle ∙ ap (λ (n : ℕ). n + 1) idle_is,
+      called.idle ∙ ap (λ (n : ℕ). n + 1) stands.idle,
       called.tried,
     )
 
@@ -162,18 +166,18 @@ module _ {C : Type 0} (device : C → Device) (ports : List ℕ) (old : Serving 
     proposal_comes a b before after site r came =
         comes_through (proposing device ports tried_now slot)
         (at (idle + 1) (place + 1) (idles device ports old)) idles_so a b before after site r
-        (came tried_now there serves)
+        (came tried_now stands.there stands.serves)
 
     -- memory ran out before the call
     pub no_memory : (a : Option (List Move)) (lines : List Line)
         → (r : Result (Unit {0}) ServeFault) → IsErrAnd r (λ f. f ≡ faults.Memory)
         → ComesTo (at (idle + 1) (place + 1) (idles device ports old)) a a lines lines start r
     no_memory a lines r failed =
-        let call = could_propose device tried_now slot serves in
+        let call = could_propose device tried_now slot stands.serves in
         let done : Done = record {
           posts = posts_of ports call.0;
           notices = proposal_notices (number tried_now) (Proposes slot) call.0;
         } in
         broken_off (at (idle + 1) (place + 1) (idles device ports old)) a a lines lines start done
-        tried_now (idles_so done tried_now (call.0, call.1, call.2, refl)) there
+        tried_now (idles_so done tried_now (call.0, call.1, call.2, refl)) stands.there
         (no_part a (all_handed done.posts)) r failed

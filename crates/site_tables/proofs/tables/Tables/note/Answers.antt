@@ -1,9 +1,9 @@
-use Rattle.std.proofs.Common.{sym, ap, subst, ◌∙◌}
+use Rattle.std.proofs.Common.{sym, ap, ◌∙◌}
 use Rattle.records.specs.declared.entry.Entry.{Entry}
 use Rattle.records.specs.Words.{deposit_in}
-use Rattle.site_tables.specs.Contents.{Contents, HasRoom, with_bag}
+use Rattle.site_tables.specs.Contents.{Contents, with_bag}
 use Rattle.site_tables.proofs.Deposited.{says_no_deposit}
-use Rattle.site_tables.proofs.Noted.{Notes, all_note, noted_of, noted_stands}
+use Rattle.site_tables.proofs.Noted.{all_note, noted_of, noted_stands}
 use Rattle.site_tables.proofs.tables.Tables.note.Goals as goal
 
 pub returns-in-Deposit : goal.returns-in-Deposit
@@ -15,17 +15,14 @@ returns-in-Deposit c =
       proposer = c.note-2.new.self;
       learner = c.note-3.new.self;
     } in
-    let room = subst (λ (t : Contents). HasRoom t c.args.new.slot) (sym c.self.view_is)
-    c.requires in
-    let notes = subst (λ (t : Contents). Notes t new c.args.new) c.self.view_is
-    (all_note _ new c.args.new room
+    let notes = all_note c.self.view_is new c.args.new c.requires
     (c.note-in-Deposit.ensures
     ∙ sym (ap (λ (e : Entry). with_bag c.self.inside.deposits.bags c.args.new.slot (deposit_in e))
     c.in-Deposit.is))
     c.note.result c.note-2.result c.note-3.result c.note.ensures.succeeds
     c.note-2.ensures.succeeds c.note-3.ensures.succeeds c.note.ensures.noted
     c.note-2.ensures.noted c.note-3.ensures.noted c.note-2.ensures.whose
-    c.note-3.ensures.members) in
+    c.note-3.ensures.members in
     record {
       of = noted_of c.args.self.now new c.args.new notes;
       stands = noted_stands c.args.self.now new c.args.new notes;
@@ -40,16 +37,13 @@ returns-in_default c =
       proposer = c.note-2.new.self;
       learner = c.note-3.new.self;
     } in
-    let room = subst (λ (t : Contents). HasRoom t c.args.new.slot) (sym c.self.view_is)
-    c.requires in
-    let notes = subst (λ (t : Contents). Notes t new c.args.new) c.self.view_is
-    (all_note _ new c.args.new room
+    let notes = all_note c.self.view_is new c.args.new c.requires
     (sym (ap (with_bag c.self.inside.deposits.bags c.args.new.slot)
     (says_no_deposit c.args.new.body c.in_default.not-Deposit)))
     c.note.result c.note-2.result c.note-3.result c.note.ensures.succeeds
     c.note-2.ensures.succeeds c.note-3.ensures.succeeds c.note.ensures.noted
     c.note-2.ensures.noted c.note-3.ensures.noted c.note-2.ensures.whose
-    c.note-3.ensures.members) in
+    c.note-3.ensures.members in
     record {
       of = noted_of c.args.self.now new c.args.new notes;
       stands = noted_stands c.args.self.now new c.args.new notes;
