@@ -196,6 +196,16 @@ def attempt(failing):
     return has_failed, lines, why and f"{why}: status {status}, {lines}"
 
 
+def tried(failing):
+    """The same, twice more at most where lines are missing: a machine that stands still has turns
+    idle before their time, of which there are only so many."""
+    for _ in range(3):
+        has_failed, lines, why = attempt(failing)
+        if not why or not why.startswith(("not the whole run", "lines that are lost")):
+            break
+    return has_failed, lines, why
+
+
 for socket in sockets:
     socket.setblocking(False)
 prepare()
@@ -204,7 +214,7 @@ passed, failed, ends = 0, 0, {}
 failing, has_failed = 0, True
 while has_failed and failing < TOO_MANY:
     failing += 1
-    has_failed, lines, why = attempt(failing)
+    has_failed, lines, why = tried(failing)
     end = lines[-1] if lines and lines[-1] in STOPPED else "went on"
     ends[end] = ends.get(end, 0) + 1
     if why:

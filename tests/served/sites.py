@@ -16,6 +16,8 @@ from testing import PROGRAM, run
 
 TURNS = "4294967295"
 SITES = (1, 2, 3)
+# What keeps the ports that this process was given from the other tests that run.
+KEPT = []
 
 
 def socket_at(port=0):
@@ -26,15 +28,20 @@ def socket_at(port=0):
 
 
 def free_ports(count):
-    """The numbers of ports that were free just now, of those that no client is given."""
+    """The numbers of ports that were free just now, of those that no client is given. No other
+    test is given one of them while this process runs, whether a site is there or not."""
     ports = []
     while len(ports) < count:
         port = random.randrange(10000, 32000)
+        kept = socket.socket(socket.AF_UNIX, socket.SOCK_DGRAM)
         try:
+            kept.bind(f"\0bagpaxos: port {port}")
             socket_at(port).close()
         except OSError:
+            kept.close()
             continue
-        ports += [] if port in ports else [port]
+        KEPT.append(kept)
+        ports.append(port)
     return ports
 
 
