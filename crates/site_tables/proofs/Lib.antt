@@ -1,4 +1,5 @@
 pub mod Outcomes
+pub mod Inside
 pub mod Deposited
 pub mod Heard
 pub mod Begun
