@@ -1,5 +1,9 @@
 //! What the cells of several sites show together: which bags were chosen. It works on records that
 //! were read; `audit_command` reads the cells and prints.
+//!
+//! ```
+//! let finding = evidence.cells.finding(slot);
+//! ```
 #![tactic(auto)]
 
 mod cells;

@@ -1,4 +1,8 @@
 //! The command `audit`: what the cells of several sites show together.
+//!
+//! ```
+//! Ok(Some(Task::Audit(task))) => exit_of(print_audit(rt, &task)),
+//! ```
 #![tactic(auto)]
 
 mod arguments;

@@ -1,5 +1,11 @@
 //! All that is wrong with a tree of files that is to be a bag: each fault, at each place where it
 //! holds.
+//!
+//! ```
+//! let lines = explain(alloc, facts)?;
+//! let verdict = verdict_of(alloc, facts);
+//! with_lines(alloc, verdict, lines.as_str())
+//! ```
 #![tactic(auto)]
 
 mod entries;

@@ -1,5 +1,12 @@
 //! What a checker knows of a tree, read from where it is: from a disk, whose files are read and
 //! hashed in pieces and never held whole but for the texts that describe a bag, or from memory.
+//!
+//! ```
+//! match self.folders.read(path.as_str()) {
+//!     Ok(facts) => self.take_tree(client, slot, &facts),
+//!     Err(fault) => self.leave_folder(client, slot, fault),
+//! }
+//! ```
 #![tactic(auto)]
 
 mod disk_folders;

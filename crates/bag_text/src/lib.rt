@@ -1,5 +1,13 @@
 //! The texts of a bag: lines, the bag declaration and the manifests (RFC 8493, 2), each read
 //! exactly, with the first malformed line where there is one.
+//!
+//! ```
+//! let entries = match manifest(alloc, algorithm, text) {
+//!     Ok(entries) => entries,
+//!     Err(TextFault::Malformed(_)) => return Err(BagFault::MalformedLine),
+//!     Err(TextFault::Memory) => return Err(BagFault::Memory),
+//! };
+//! ```
 #![tactic(auto)]
 
 mod algorithm;

@@ -1,5 +1,14 @@
 //! Trees of files, which files one may have, and what a checker knows of a tree: for each file its
 //! path, its digests and, for the texts that describe a bag, its bytes.
+//!
+//! ```
+//! tree.add("bagit.txt", DECLARATION.as_bytes())?;
+//! tree.add("manifest-sha512.txt", manifest)?;
+//! if folder {
+//!     tree.add_folder();
+//! }
+//! Ok(facts_of(alloc, tree)?)
+//! ```
 #![tactic(auto)]
 
 mod facts;

@@ -1,5 +1,10 @@
 //! What a check of a folder found, in words, for `check --words`: each place with the names as they
 //! are, what was wanted and what was found, and what is no fault but worth knowing.
+//!
+//! ```
+//! let are_named = task.paths.len() != 1;
+//! SpokenFolders::new(rt, task.words, are_named, folders)
+//! ```
 #![tactic(auto)]
 
 mod bag;

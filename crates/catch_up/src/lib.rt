@@ -1,4 +1,8 @@
 //! The command `catch-up`: a site that was down learns what others know.
+//!
+//! ```
+//! Ok(Some(Task::CatchUp(task))) => exit_of(catch_up_site(rt, &task)),
+//! ```
 #![tactic(auto)]
 
 mod arguments;

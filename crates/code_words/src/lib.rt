@@ -1,5 +1,13 @@
 //! The codes that the program prints, with what each says and what to do about it: one table, from
 //! which come the words of `--words`, `help codes` and docs/CODES.md.
+//!
+//! ```
+//! let Some(meaning) = meaning_of_line(rt.alloc(), line)? else {
+//!     return Ok(());
+//! };
+//! push_subject(text, asked, line, meaning)?;
+//! meaning.push(text)?;
+//! ```
 #![tactic(auto)]
 
 mod bag_codes;

@@ -1,5 +1,13 @@
 //! The fields that datagrams and journal records are made of: how each is encoded, and how it is
 //! read from left to right.
+//!
+//! ```
+//! let mut reader = Reader::new(bytes);
+//! let from = reader.byte()?;
+//! let slot = reader.slot_ref()?;
+//! let body = read_last_body(alloc, kind, from, &mut reader)?;
+//! let slot = slot.to_slot(alloc)?;
+//! ```
 #![tactic(auto)]
 
 mod checksum;

@@ -1,5 +1,10 @@
 //! The command `check`: whether folders are valid bags, what is wrong where they aren't, and how
 //! far a check is.
+//!
+//! ```
+//! let mut folders = NotedFolders::new(alloc, folders);
+//! let status = check_all_on(alloc, &mut folders, paths, report, output)?;
+//! ```
 #![tactic(auto)]
 
 mod all_folders;

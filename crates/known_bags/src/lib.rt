@@ -1,5 +1,15 @@
 //! Which bags are known for which versions, by what cells and printed ledgers say: read for
 //! `catch-up` and `check --registered`.
+//!
+//! ```
+//! let mut versions = Vec::new(rt.alloc());
+//! for path in &task.files {
+//!     match push_source(rt, &mut versions, path) {
+//!         Ok(()) => {}
+//!         Err(fault) => return write_source_fault(rt.alloc(), &mut output, fault),
+//!     }
+//! }
+//! ```
 #![tactic(auto)]
 
 mod known_bag;

@@ -1,5 +1,13 @@
 //! A reader of cells, which changes none: whose cell it is, its records, how it ends, and what its
 //! records say of each version.
+//!
+//! ```
+//! match read_contents(alloc, bytes) {
+//!     Ok(Some(contents)) => push_contents(alloc, bags, &contents),
+//!     Ok(None) => end_of(headless_ending(bytes)),
+//!     Err(AllocError) => Err(SourceFault::Memory),
+//! }
+//! ```
 #![tactic(auto)]
 
 mod batch;

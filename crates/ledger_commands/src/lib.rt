@@ -1,4 +1,9 @@
 //! The commands `journal` and `ledger`: what a cell says, read without a lock, and never changed.
+//!
+//! ```
+//! Ok(Some(Task::Journal(task))) => exit_of(print_journal(rt, &task)),
+//! Ok(Some(Task::Ledger(task))) => exit_of(print_ledger(rt, &task)),
+//! ```
 #![tactic(auto)]
 
 mod cell_file;

@@ -1,5 +1,11 @@
 //! What is wrong with a line of a schedule or of a members file, in words: what was wanted, and
 //! what was found.
+//!
+//! ```
+//! let mut text = String::new(rt.alloc());
+//! push_schedule_words(rt.alloc(), &mut text, bytes, line)?;
+//! let _ = rt.eprintln(text.as_str());
+//! ```
 #![tactic(auto)]
 
 mod command_line;

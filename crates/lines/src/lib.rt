@@ -1,4 +1,12 @@
 //! The lines that a run of sites prints, and the text of each.
+//!
+//! ```
+//! let mut text = String::new(alloc);
+//! for line in trace.lines() {
+//!     push_printed(alloc, &mut text, options, line)?;
+//! }
+//! Ok(text)
+//! ```
 #![tactic(auto)]
 
 mod line;

@@ -1,4 +1,15 @@
 //! The members file: the number of a federation, and the port and the weight of each of its sites.
+//!
+//! ```
+//! let Ok(members) = read_members(rt.alloc(), bytes.as_slice()) else {
+//!     return None;
+//! };
+//! let place = usize::from(asked.site).checked_sub(1)?;
+//! match members.sites().get(place) {
+//!     Some(site) => Some(site.port),
+//!     None => None,
+//! }
+//! ```
 #![tactic(auto)]
 
 mod law;

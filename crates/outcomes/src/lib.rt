@@ -1,5 +1,12 @@
 //! How a command of the program ends: its exit status, and what it wrote. Reading and writing to
 //! the end.
+//!
+//! ```
+//! match push_table(&mut text) {
+//!     Ok(()) => write_answer(&mut output, 0, text.as_str()),
+//!     Err(AllocError) => write_answer(&mut output, 1, "memory\n"),
+//! }
+//! ```
 #![tactic(auto)]
 
 mod answer;

@@ -1,5 +1,12 @@
 //! Checks of folders against the bags that sites know: are the bags that an archive holds those
 //! that were agreed on?
+//!
+//! ```
+//! match task.registered {
+//!     Some(list) => check_registered(rt, task, list),
+//!     None => check_folders(rt, task),
+//! }
+//! ```
 #![tactic(auto)]
 
 mod command;

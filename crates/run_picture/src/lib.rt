@@ -1,5 +1,9 @@
 //! A run as a picture in SVG, for `run --draw`: one column per site, time downwards, one arrow per
 //! datagram.
+//!
+//! ```
+//! let picture = picture_of(rt.alloc(), story)?;
+//! ```
 #![tactic(auto)]
 
 mod arrows;

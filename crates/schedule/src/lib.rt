@@ -1,4 +1,10 @@
 //! Schedules: texts of commands, one a line, that a federation of sites runs.
+//!
+//! ```
+//! if let Err(ParseFault::Line(line)) = parse(rt.alloc(), bytes) {
+//!     let _ = say_line(rt, bytes, line);
+//! }
+//! ```
 #![tactic(auto)]
 
 mod call;

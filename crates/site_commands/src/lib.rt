@@ -1,5 +1,10 @@
 //! The commands `site`, `send` and `members`: a site that serves, over a file and a socket, its
 //! client, and the file that says who the sites are.
+//!
+//! ```
+//! let members = members_at(rt, task.members)?;
+//! let target = port_of(&members, task.to)?;
+//! ```
 #![tactic(auto)]
 
 mod client;

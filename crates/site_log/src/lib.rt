@@ -1,5 +1,12 @@
 //! The log of a site that serves: what it prints, with the time, the sender and, for what is
 //! refused, the request. It stands around a port, folders and an output, whose contracts it keeps.
+//!
+//! ```
+//! match SiteLog::open(rt, path, means.members, task.number, means.port.port()) {
+//!     Ok(log) => serve_logged(rt, task, means, &log),
+//!     Err(AllocError) => write_stop(rt.alloc(), output, Stop::Memory),
+//! }
+//! ```
 #![tactic(auto)]
 
 mod log_file;

@@ -1,6 +1,11 @@
 //! Tools of the tests and benches, beside the crate `site`. A script calls the sites of a
 //! federation one by one, each over a cell in memory, and hands their datagrams on; and the calls
 //! of one site are timed. They are proved safe and have no clauses: what they print is compared.
+//!
+//! ```
+//! let script = input(rt)?;
+//! Ok(site_tools::answers(rt.alloc(), script.as_str(), tries)?)
+//! ```
 #![tactic(auto)]
 
 mod answer_text;

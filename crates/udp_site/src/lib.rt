@@ -1,5 +1,13 @@
 //! A site that serves: datagrams of sites and clients come in at a port, and what the site answers
 //! is handed out.
+//!
+//! ```
+//! match UdpPort::bind(rt, federation, number, waits) {
+//!     Ok(port) => Ok(port),
+//!     Err(PortFault::Device) => Err(Stop::Socket),
+//!     Err(PortFault::Memory) => Err(Stop::Memory),
+//! }
+//! ```
 #![tactic(auto)]
 
 mod arrivals;

@@ -1,6 +1,17 @@
 //! The words of a text's lines: where a line ends, what its words are, which numbers and texts they
 //! stand for, and how a name is written as one word. Schedules, members files and printed lines are
 //! made of them.
+//!
+//! ```
+//! let words = split_words(alloc, line)?;
+//! match known_in(alloc, words.as_slice())? {
+//!     Some(known) => {
+//!         bags.push(known)?;
+//!         Ok(true)
+//!     }
+//!     None => Ok(is_passed_over(words.as_slice())),
+//! }
+//! ```
 #![tactic(auto)]
 
 mod escape;

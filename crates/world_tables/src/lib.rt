@@ -1,6 +1,14 @@
 //! The tables of a run: the declared trees by their numbers, the bags that were seen in deposits,
 //! and the datagrams that were sent, with which of their numbers were named. Each call takes
 //! constant time, amortized, however much went before.
+//!
+//! ```
+//! match self.trees.add_file(tree, path, bytes)? {
+//!     Added::Done => Ok(()),
+//!     Added::NoTree => self.skip(number, Reason::Tree),
+//!     Added::BadFile => self.skip(number, Reason::Path),
+//! }
+//! ```
 #![tactic(auto)]
 
 mod datagrams;
