@@ -1,7 +1,7 @@
 -- What the tables say and represent with one record more.
 use Rattle.std.proofs.Common.{◌≡◌, List, [], ◌∷◌, ◌++◌, Option, Some, None, refl, sym, ap, subst}
 use Rattle.std.proofs.Common.{◌∙◌, IsSome, Result}
-use Rattle.std.specs.Prelude.{IsOk, OnOk, Unit}
+use Rattle.std.specs.Prelude.{IsOk, OnOk}
 use Rattle.slot_table.specs.Rows.{row_at}
 use Rattle.fed_types.specs.Ballots.{BallotNumber}
 use Rattle.fed_types.specs.Slots.{SlotName}
