@@ -65,8 +65,8 @@ IsRequest _ = ⊥
 module _ {C : Type 0} (device : C → Device) (old new : OpenSite C) (slot : SlotName)
     (result : Result Answer SiteFault) where
   -- what a decision concludes
-  abbrev Gives : (asker : ℕ) → Decision → Type 0
-  Gives asker d =
+  abbrev ConcludesAs : (asker : ℕ) → Decision → Type 0
+  ConcludesAs asker d =
       Concludes device old new (record_of slot d.entry) None
       (map (datagram old.book.owner.members.federation)
       (to_each slot (answer_body old.book.owner.site d.answer)
@@ -81,7 +81,7 @@ module _ {C : Type 0} (device : C → Device) (old new : OpenSite C) (slot : Slo
 
   -- what the acceptor has decided is concluded, and the message that asked for it is heard
   hears_decided : (body : Body) (asker : ℕ) (d : Decision) → IsOther body → IsNoRound d.entry
-      → Gives asker d → (session : Session) → Represents old session
+      → ConcludesAs asker d → (session : Session) → Represents old session
       → AnswersAs body asker d session
   hears_decided body asker d other none c session (under, stands) =
       concluded device old old new session under
@@ -110,7 +110,7 @@ module _ {C : Type 0} (device : C → Device) (old new : OpenSite C) (slot : Slo
 
   -- so it is where the decision is the one that the definitions make
   hears_as : (body : Body) (asker sender : ℕ) (d made : Decision) → IsOther body → asker ≡ sender
-      → d ≡ made → IsNoRound made.entry → Gives asker d → (session : Session)
+      → d ≡ made → IsNoRound made.entry → ConcludesAs asker d → (session : Session)
       → Represents old session → AnswersAs body sender made session
   hears_as body asker sender d made other from is none c session stands =
       subst (λ (x : Decision). AnswersAs body sender x session) is
@@ -119,7 +119,7 @@ module _ {C : Type 0} (device : C → Device) (old new : OpenSite C) (slot : Slo
       (subst (λ (x : Decision). IsNoRound x.entry) (sym is) none) c session stands))
 
   pub hears_prepare : (ballot : BallotNumber) (asker : ℕ) (d : Decision) → asker ≡ ballot.site
-      → d ≡ prepare_decision slot old.book.records ballot → Gives asker d
+      → d ≡ prepare_decision slot old.book.records ballot → ConcludesAs asker d
       → HearsBody device old new slot (bodies.Prepare ballot) result
   unfolding on_body
   hears_prepare ballot asker d from is =
@@ -129,7 +129,7 @@ module _ {C : Type 0} (device : C → Device) (old new : OpenSite C) (slot : Slo
       (prepare_issues_none slot old.book.records ballot)
 
   pub hears_accept : (vote : Vote) (asker : ℕ) (d : Decision) → asker ≡ vote.ballot.site
-      → d ≡ accept_decision slot old.book.records vote → Gives asker d
+      → d ≡ accept_decision slot old.book.records vote → ConcludesAs asker d
       → HearsBody device old new slot (bodies.Accept vote) result
   unfolding on_body
   hears_accept vote asker d from is =

@@ -1,12 +1,10 @@
-use Rattle.std.proofs.Common.{◌≡◌, true, false, Result, Ok, sym, subst, ◌∙◌}
+use Rattle.std.proofs.Common.{Result, Ok, sym, subst, ◌∙◌}
 use Rattle.bag_check.specs.Check.{check_of}
-use Rattle.proposer.specs.Sessions.{Session}
 use Rattle.site.specs.declared.answer.Answer.{Answer}
 use Rattle.site.specs.declared.fault.SiteFault.{SiteFault}
 use Rattle.site.specs.Answered.{IsAnswered}
 use Rattle.site.specs.Calls.{on_deposit}
 use Rattle.site.specs.Faults.{check_fault}
-use Rattle.site.specs.Sites.{OpenSite, Represents}
 use Rattle.site.proofs.Conclusions.{answer_err_of}
 use Rattle.site.proofs.Refused.{check_refused, never_needs}
 use Rattle.site.proofs.member_site.Site.deposit.Goals as goal

@@ -1,4 +1,4 @@
-use Rattle.std.proofs.Common.{◌≡◌, Result, refl, sym, subst}
+use Rattle.std.proofs.Common.{Result, refl, sym, subst}
 use Rattle.site.specs.declared.answer.Answer.{Answer}
 use Rattle.site.specs.Answered.{IsAnswered}
 use Rattle.site.specs.Calls.{Proposes}

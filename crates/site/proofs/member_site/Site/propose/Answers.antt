@@ -1,8 +1,7 @@
-use Rattle.std.proofs.Common.{◌≡◌, true, false, sym, subst, ◌∙◌}
+use Rattle.std.proofs.Common.{sym, ◌∙◌}
 use Rattle.records.specs.Words.{known_of, deposit_of}
-use Rattle.proposer.specs.Sessions.{Session}
 use Rattle.site.specs.Calls.{Proposes}
-use Rattle.site.specs.Sites.{OpenSite, Represents, effect}
+use Rattle.site.specs.Sites.{effect}
 use Rattle.site.proofs.Proposed.{known_already, no_deposit, known_refused, no_deposit_refused}
 use Rattle.site.proofs.Refused.{never_needs}
 use Rattle.site.proofs.Registered.{some_of, none_of}

@@ -1,10 +1,9 @@
-use Rattle.std.proofs.Common.{◌≡◌, map, Some, refl, sym, ap, subst, ◌∙◌}
+use Rattle.std.proofs.Common.{map, Some, refl, sym, ap, subst, ◌∙◌}
 use Rattle.fed_types.specs.Slots.{SlotName}
 use Rattle.records.specs.declared.entry.Entry.TheVariants as entry
 use Rattle.records.specs.Words.{known_of, deposit_of}
 use Rattle.site.specs.declared.answer.Line.TheVariants as lines
 use Rattle.site.specs.Datagrams.{handed_out}
-use Rattle.site.specs.Sites.{OpenSite}
 use Rattle.site.specs.inner.Concluded.{Concludes}
 use Rattle.site.proofs.Registered.{some_of, none_of, deposit_refused, deposited_again, deposited}
 use Rattle.site.proofs.Seen.{as_seen}
