@@ -1,7 +1,7 @@
 //! What is wrong with the first command of a schedule.
 
-use crate::command_line::{push_comment_words, push_first_fault};
 use crate::kind::Kind;
+use crate::schedule_command::{push_comment_words, push_first_fault};
 use crate::word_text::push_found;
 use std::alloc::{AllocError, Global};
 

@@ -8,11 +8,11 @@
 //! ```
 #![tactic(auto)]
 
-mod command_line;
 mod federation_line;
 mod form;
 mod kind;
 mod members_line;
+mod schedule_command;
 mod schedule_line;
 mod text_lines;
 mod word_text;

@@ -1,7 +1,7 @@
 //! What is wrong with a line of a members file.
 
-use crate::command_line::{push_comment_words, push_first_fault, push_wrong};
 use crate::kind::Kind;
+use crate::schedule_command::{push_comment_words, push_first_fault, push_wrong};
 use crate::schedule_line::push_tab_words;
 use crate::text_lines::line_at;
 use crate::word_text::push_found;

@@ -1,7 +1,7 @@
 //! What is wrong with a line of a schedule.
 
-use crate::command_line::push_command_words;
 use crate::federation_line::push_first_words;
+use crate::schedule_command::push_command_words;
 use crate::text_lines::{has_command_before, line_at};
 use std::alloc::{AllocError, Global};
 use words::split_words;

@@ -67,12 +67,12 @@ fn equip<'a>(rt: &HostRuntime, task: &SiteTask<'a>) -> Result<Means<UdpPort, Bag
     if task.listed {
         expect_listed(rt.alloc(), &file)?;
     }
-    let number = port_of(&file, task.number)?;
+    let port_number = port_of(&file, task.number)?;
     let ports = ports_of(rt.alloc(), &file)?;
     let members = file.members();
     let folders = folders_of(rt, task)?;
     let cell = cell_of(rt, task)?;
-    let port = socket(rt, members.federation(), number, task.waits)?;
+    let port = socket(rt, members.federation(), port_number, task.waits)?;
     Ok(Means {
         members,
         ports,
@@ -90,7 +90,7 @@ fn serve_with<W: Write>(
     output: &mut W,
 ) -> Result<u8, ProgramFault> {
     let Some(path) = task.log else {
-        return serve_on(rt, task, means, None, output);
+        return serve_by(rt, task, means, None, output);
     };
     match SiteLog::open(rt, path, means.members, task.number, means.port.port()) {
         Ok(log) => serve_logged(rt, task, means, &log),
@@ -120,10 +120,11 @@ fn serve_logged(
         port: LoggedPort::new(log, port),
     };
     let mut output = LoggedOutput::new(log, output_of(rt, task));
-    serve_on(rt, task, means, Some(log), &mut output)
+    serve_by(rt, task, means, Some(log), &mut output)
 }
 
-fn serve_on<P: Port + Drop, F: Folders + Drop, W: Write>(
+// Serves by these means.
+fn serve_by<P: Port + Drop, F: Folders + Drop, W: Write>(
     rt: &HostRuntime,
     task: &SiteTask<'_>,
     means: Means<P, F>,

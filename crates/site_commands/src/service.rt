@@ -60,13 +60,13 @@ fn serve_as<C: Cell + Drop, P: Port, F: Folders, W: Write>(
         log.begins(site.records());
     }
     match service.turns {
-        Turns::Count(turns) => serve_on(alloc, site, port, folders, service.ports, turns, output),
+        Turns::Count(turns) => serve_for(alloc, site, port, folders, service.ports, turns, output),
         Turns::Forever => serve_forever(alloc, site, port, folders, service.ports, output),
     }
 }
 
 // Serves this many turns, and says why it stopped before them.
-fn serve_on<C: Cell + Drop, P: Port, F: Folders, W: Write>(
+fn serve_for<C: Cell + Drop, P: Port, F: Folders, W: Write>(
     alloc: Global,
     site: &mut Site<C>,
     port: &mut P,
