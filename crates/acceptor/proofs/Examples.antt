@@ -7,7 +7,7 @@ use Rattle.fed_types.specs.Slots.{SlotName, same_slot}
 use Rattle.records.specs.declared.entry.Entry.{Entry}
 use Rattle.records.specs.declared.entry.Entry.TheVariants as entry
 use Rattle.records.specs.declared.record.Record.{Record}
-use Rattle.records.specs.Words.{promised_of, vote_of}
+use Rattle.records.specs.SlotStates.{promised_of, vote_of}
 use Rattle.acceptor.specs.Decisions.{promises, votes, votes_again, refuses}
 use Rattle.acceptor.specs.Decisions.{prepare_decision, accept_decision}
 

@@ -21,8 +21,8 @@ use Rattle.fed_types.specs.Slots.{SlotName, same_slot}
 use Rattle.fed_types.specs.Laws.Slots.{same_slot_decides}
 use Rattle.records.specs.declared.entry.Entry.{Entry}
 use Rattle.records.specs.declared.record.Record.{Record}
-use Rattle.records.specs.Words.{promised_of, vote_of}
-use Rattle.records.proofs.Words.{promised-push, vote-push}
+use Rattle.records.specs.SlotStates.{promised_of, vote_of}
+use Rattle.records.proofs.SlotStates.{promised-push, vote-push}
 use Rattle.slot_table.specs.Rows.{Rows, row_at, IsWith}
 use Rattle.acceptor.specs.declared.row.Row.{Row}
 use Rattle.acceptor.specs.inner.Noted.{noted}

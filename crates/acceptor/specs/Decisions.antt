@@ -10,9 +10,9 @@ use Rattle.fed_types.specs.Ballots.{BallotNumber, below, same_ballot}
 use Rattle.fed_types.specs.Slots.{SlotName}
 use Rattle.records.specs.declared.entry.Entry.TheVariants as entry
 use Rattle.records.specs.declared.record.Record.{Record}
-use Rattle.records.specs.Words.{promised_of, vote_of}
+use Rattle.records.specs.SlotStates.{promised_of, vote_of}
 use Rattle.acceptor.specs.declared.decision.Decision.{Decision}
-use Rattle.acceptor.specs.declared.decision.Answer.TheVariants as answer
+use Rattle.acceptor.specs.declared.decision.Response.TheVariants as answer
 
 -- it promises the ballot, and names the vote of the greatest ballot that it has cast
 abbrev pub promises : BallotNumber → Option Vote → Decision

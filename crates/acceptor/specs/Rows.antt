@@ -2,7 +2,7 @@
 use Rattle.std.specs.Prelude.{◌≡◌, List, Option, Some, None}
 use Rattle.fed_types.specs.Slots.{SlotName}
 use Rattle.records.specs.declared.record.Record.{Record}
-use Rattle.records.specs.Words.{promised_of, vote_of}
+use Rattle.records.specs.SlotStates.{promised_of, vote_of}
 use Rattle.slot_table.specs.Rows.{Rows, row_at}
 use Rattle.acceptor.specs.declared.row.Row.{Row}
 

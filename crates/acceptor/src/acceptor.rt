@@ -15,7 +15,7 @@ ghost use Rattle.acceptor.specs.Decisions.{
 ghost use Rattle.acceptor.specs.Rows.{Represents, row_of};
 ghost use Rattle.acceptor.specs.inner.Noted.{noted};
 
-use crate::decision::{Answer, Decision};
+use crate::decision::{Decision, Response};
 use crate::row::Row;
 use fed_types::{BagId, Ballot, Slot, Vote};
 use records::{Entry, Record};
@@ -41,7 +41,7 @@ impl Model for Acceptor {
 
 impl Acceptor {
     /// An acceptor without records.
-    #[tactic(auto, unfolding(records::specs::Words::promised_of, records::specs::Words::vote_of))]
+    #[tactic(auto, unfolding(records::specs::SlotStates::promised_of, records::specs::SlotStates::vote_of))]
     pub fn new(alloc: Global) -> Acceptor
         ensures { Represents result [] }
     {
@@ -123,7 +123,7 @@ fn prepared(row: Row, ballot: Ballot) -> Decision
         Some(promised) if promised >= ballot => refused(ballot, promised),
         _ => Decision {
             entry: Some(Entry::Promise(ballot)),
-            answer: Answer::Promised(ballot, row.vote),
+            answer: Response::Promised(ballot, row.vote),
         },
     }
 }
@@ -134,7 +134,7 @@ fn accepted(row: Row, asked: Vote) -> Decision
     if is_vote(row.vote, asked.ballot, asked.bag) {
         Decision {
             entry: None,
-            answer: Answer::Accepted(asked),
+            answer: Response::Accepted(asked),
         }
     } else {
         newly_accepted(row, asked)
@@ -150,7 +150,7 @@ fn newly_accepted(row: Row, asked: Vote) -> Decision
         }
         _ => Decision {
             entry: Some(Entry::Vote(asked)),
-            answer: Answer::Accepted(asked),
+            answer: Response::Accepted(asked),
         },
     }
 }
@@ -160,7 +160,7 @@ fn refused(asked: Ballot, standing: Ballot) -> Decision
 {
     Decision {
         entry: None,
-        answer: Answer::Refused { asked, standing },
+        answer: Response::Refused { asked, standing },
     }
 }
 

@@ -3,7 +3,7 @@ use records::Entry;
 
 /// What an acceptor answers to the site that asked.
 #[derive(Clone, Copy, Debug, PartialEq, Eq)]
-pub enum Answer {
+pub enum Response {
     /// It promises this ballot; and its vote, if it has one.
     Promised(Ballot, Option<Vote>),
     /// It has cast this vote.
@@ -16,5 +16,5 @@ pub enum Answer {
 #[derive(Clone, Copy, Debug, PartialEq, Eq)]
 pub struct Decision {
     pub entry: Option<Entry>,
-    pub answer: Answer,
+    pub answer: Response,
 }

@@ -13,4 +13,4 @@ mod decision;
 mod row;
 
 pub use acceptor::Acceptor;
-pub use decision::{Answer, Decision};
+pub use decision::{Decision, Response};

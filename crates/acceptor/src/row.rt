@@ -1,5 +1,5 @@
 ghost use Rattle.std.specs.Prelude.{◌≡◌, Some};
-ghost use Rattle.records.specs.Words.{higher};
+ghost use Rattle.records.specs.SlotStates.{higher};
 ghost use Rattle.acceptor.specs.inner.Noted.{noted};
 
 use fed_types::{Ballot, Vote};

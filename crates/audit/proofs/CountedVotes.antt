@@ -14,7 +14,7 @@ use Rattle.records.specs.declared.entry.Entry.TheVariants as entry
 use Rattle.records.specs.declared.record.Record.{Record}
 use Rattle.records.specs.Bounds.{HasEntry}
 use Rattle.dgram.specs.Heard.{same_vote}
-use Rattle.learner.specs.Ledgers.{voters_or_none}
+use Rattle.learner.specs.LearnerStates.{voters_or_none}
 use Rattle.learner.proofs.HeardVotes.{same_vote_decides}
 use Rattle.audit.specs.declared.votes.Cast.{Cast}
 use Rattle.audit.specs.Evidence.{SiteRecord, records_at}

@@ -13,7 +13,7 @@ use Rattle.records.specs.declared.entry.Entry.{Entry}
 use Rattle.records.specs.declared.entry.Entry.TheVariants as entry
 use Rattle.records.specs.declared.record.Record.{Record}
 use Rattle.records.specs.Bounds.{HasEntry}
-use Rattle.records.specs.Words.{entries, vote_in}
+use Rattle.records.specs.SlotStates.{entries, vote_in}
 use Rattle.records.proofs.Bounds.{entry_has, has_entry}
 use Rattle.dgram.specs.Heard.{same_vote}
 use Rattle.learner.proofs.HeardVotes.{same_vote_decides}

@@ -6,7 +6,7 @@ use Rattle.fed_types.specs.declared.bag_id.BagId.{BagId}
 use Rattle.fed_types.specs.declared.vote.Vote.{Vote}
 use Rattle.fed_types.specs.Bags.{same_bag}
 use Rattle.fed_types.specs.Laws.Bags.{same_bag_decides}
-use Rattle.records.specs.Words.{earlier}
+use Rattle.records.specs.SlotStates.{earlier}
 use Rattle.audit.specs.declared.row.Row.{Row}
 use Rattle.audit.specs.inner.Rows.{empty_row, named, named_after, named_again}
 use Rattle.audit.specs.inner.Rows.{chosen_in, IsRowOf}

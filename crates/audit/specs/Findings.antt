@@ -6,7 +6,7 @@ use Rattle.fed_types.specs.declared.vote.Vote.{Vote}
 use Rattle.fed_types.specs.Quorums.{QuorumSystem}
 use Rattle.fed_types.specs.Slots.{SlotName}
 use Rattle.records.specs.declared.record.Record.{Record}
-use Rattle.records.specs.Words.{entries, vote_in}
+use Rattle.records.specs.SlotStates.{entries, vote_in}
 use Rattle.dgram.specs.Heard.{same_vote}
 use Rattle.world_law.specs.Laws.{IsChosenBy}
 use Rattle.audit.specs.declared.finding.Finding.{Finding}

@@ -11,7 +11,7 @@ use crate::evidence::versions_of;
 use crate::finding_lines::push_versions;
 use crate::gathered::gather;
 use fed_types::Members;
-use outcomes::{Answer, ProgramFault, write_answer};
+use outcomes::{ProgramFault, ProgramOutput, write_output};
 use std::alloc::{AllocError, Global};
 use std::io::Write;
 
@@ -35,8 +35,8 @@ pub fn audit_on<F: CellFiles, W: Write>(
     ensures fault { IfErr result (λ fault. fault ≡ ProgramFault.Output) }
 {
     match answer_to(alloc, members, files, paths) {
-        Ok(answer) => write_answer(output, answer.status, answer.text.as_str()),
-        Err(AllocError) => write_answer(output, 1, "memory\n"),
+        Ok(answer) => write_output(output, answer.status, answer.text.as_str()),
+        Err(AllocError) => write_output(output, 1, "memory\n"),
     }
 }
 
@@ -46,7 +46,7 @@ fn answer_to<F: CellFiles>(
     members: &Members,
     files: &F,
     paths: &[&str],
-) -> Result<Answer, AllocError>
+) -> Result<ProgramOutput, AllocError>
     ensures { IfOk result (λ a. IsAudit members.now (F.bytes_at files.now)
         (map (λ path. path.now) paths.now)
         (record { status = a.status; text = string_bytes a.text })) }
@@ -57,7 +57,7 @@ fn answer_to<F: CellFiles>(
     push_versions(alloc, &mut text, &versions)?;
     push_counts(&mut text, &versions)?;
     let status = status_of(gathered.all_used, count_conflicts(&versions));
-    Ok(Answer { status, text })
+    Ok(ProgramOutput { status, text })
 }
 
 // The status where so many conflicts were found.

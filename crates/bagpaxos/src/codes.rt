@@ -1,7 +1,7 @@
 //! The help on what the program prints by a number or a word.
 
 use code_words::push_table;
-use outcomes::{ProgramFault, write_answer};
+use outcomes::{ProgramFault, write_output};
 use std::alloc::AllocError;
 use std::io;
 
@@ -18,7 +18,7 @@ pub fn print_codes(rt: &HostRuntime) -> Result<u8, ProgramFault> {
     let mut output = io::writer(rt);
     let mut text = String::new(rt.alloc());
     match push_table(&mut text) {
-        Ok(()) => write_answer(&mut output, 0, text.as_str()),
-        Err(AllocError) => write_answer(&mut output, 1, "memory\n"),
+        Ok(()) => write_output(&mut output, 0, text.as_str()),
+        Err(AllocError) => write_output(&mut output, 1, "memory\n"),
     }
 }

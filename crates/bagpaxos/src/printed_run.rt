@@ -3,7 +3,7 @@
 use crate::run_arguments::RunTask;
 use crate::run_on::run_on;
 use crate::schedule_fault::say_schedule_fault;
-use outcomes::{ProgramFault, ReadFault, read_all, write_all, write_answer};
+use outcomes::{ProgramFault, ReadFault, read_all, write_all, write_output};
 use run_picture::picture_of;
 use run_story::{Story, tell};
 use run_words::words_of;
@@ -32,7 +32,7 @@ fn run_source(rt: &HostRuntime, task: &RunTask<'_>) -> Result<u8, ProgramFault> 
         Some(path) => match File::open(rt, path) {
             Ok(mut file) => run_input(rt, task, &mut file),
             Err(error) if error.kind() == ErrorKind::OutOfMemory => {
-                write_answer(&mut io::writer(rt), 1, "memory\n")
+                write_output(&mut io::writer(rt), 1, "memory\n")
             }
             Err(_) => Err(ProgramFault::Input),
         },
@@ -51,7 +51,7 @@ fn run_input<R: Read>(
     match read_all(rt.alloc(), input) {
         Ok(bytes) => run_bytes(rt, task, bytes.as_slice()),
         Err(ReadFault::Input) => Err(ProgramFault::Input),
-        Err(ReadFault::Memory) => write_answer(&mut output, 1, "memory\n"),
+        Err(ReadFault::Memory) => write_output(&mut output, 1, "memory\n"),
     }
 }
 

@@ -6,7 +6,7 @@ ghost use Rattle.outcomes.specs.Outcomes.{Writes, WritesPrefix};
 ghost use Rattle.bagpaxos.specs.Runs.{outcome_of, AnswersTo};
 
 use lines::Options;
-use outcomes::{Answer, ProgramFault, ReadFault, read_all, write_answer};
+use outcomes::{ProgramFault, ProgramOutput, ReadFault, read_all, write_output};
 use schedule::{ParseFault, parse};
 use simulator::{RunFault, run, text};
 use std::alloc::{AllocError, Global};
@@ -33,17 +33,17 @@ pub fn run_on<R: Read, W: Write>(
     let bytes = match read_all(alloc, input) {
         Ok(bytes) => bytes,
         Err(ReadFault::Input) => return Err(ProgramFault::Input),
-        Err(ReadFault::Memory) => return write_answer(output, 1, "memory\n"),
+        Err(ReadFault::Memory) => return write_output(output, 1, "memory\n"),
     };
     match answer_to(alloc, bytes.as_slice(), options) {
-        Ok(answer) => write_answer(output, answer.status, answer.text.as_str()),
-        Err(AllocError) => write_answer(output, 1, "memory\n"),
+        Ok(answer) => write_output(output, answer.status, answer.text.as_str()),
+        Err(AllocError) => write_output(output, 1, "memory\n"),
     }
 }
 
 /// The status and the text for the bytes of a schedule.
 #[tactic(auto, unfolding(crate::specs::Runs::outcome_of))]
-fn answer_to(alloc: Global, bytes: &[u8], options: Options) -> Result<Answer, AllocError>
+fn answer_to(alloc: Global, bytes: &[u8], options: Options) -> Result<ProgramOutput, AllocError>
     ensures status { IfOk result
         (λ a. a.status ≡ (outcome_of options bytes.now).status) }
     ensures text { IfOk result
@@ -55,12 +55,12 @@ fn answer_to(alloc: Global, bytes: &[u8], options: Options) -> Result<Answer, Al
                 Ok(trace) => trace,
                 Err(RunFault::Memory) => return Err(AllocError),
             };
-            Ok(Answer {
+            Ok(ProgramOutput {
                 status: 0,
                 text: text(alloc, &trace, options)?,
             })
         }
-        Err(ParseFault::Line(line)) => Ok(Answer {
+        Err(ParseFault::Line(line)) => Ok(ProgramOutput {
             status: 1,
             text: format!(in alloc; "schedule line {line}\n")?,
         }),

@@ -3,7 +3,7 @@
 use crate::arguments::CatchUpTask;
 use crate::rounds::{Asked, catch_up_on};
 use known_bags::{KnownBag, SourceFault, push_source};
-use outcomes::{ProgramFault, write_answer};
+use outcomes::{ProgramFault, write_output};
 use site_commands::{Stop, members_at, port_of, socket, write_numbered, write_stop};
 use std::alloc::{AllocError, Global};
 use std::io;
@@ -58,10 +58,10 @@ fn write_source_fault<W: Write>(
     fault: SourceFault,
 ) -> Result<u8, ProgramFault> {
     match fault {
-        SourceFault::Unread => write_answer(output, 1, "open 4\n"),
+        SourceFault::Unread => write_output(output, 1, "open 4\n"),
         SourceFault::Damaged(offset) => write_numbered(output, damaged_line(alloc, offset)),
         SourceFault::Line(line) => write_numbered(output, ledger_line(alloc, line)),
-        SourceFault::Memory => write_answer(output, 1, "memory\n"),
+        SourceFault::Memory => write_output(output, 1, "memory\n"),
     }
 }
 

@@ -14,7 +14,7 @@ use crate::progress::{count_line, known_line, open_line};
 use dgram::QueryAnswer;
 use fed_types::{BagId, SiteNo};
 use known_bags::KnownBag;
-use outcomes::{ProgramFault, write_all, write_answer};
+use outcomes::{ProgramFault, write_all, write_output};
 use site_commands::{Request, ask_for_bag};
 use std::alloc::{AllocError, Global};
 use std::io::Write;
@@ -71,7 +71,7 @@ pub fn catch_up_on<P: Port, C: Clock, W: Write>(
 {
     match report_on(alloc, clock, port, asked, versions, seconds, output) {
         Ok(status) => Ok(status),
-        Err(AskFault::Memory) => write_answer(output, 1, "memory\n"),
+        Err(AskFault::Memory) => write_output(output, 1, "memory\n"),
         Err(AskFault::Output) => Err(ProgramFault::Output),
     }
 }

@@ -9,7 +9,7 @@ use Rattle.bag_tree.specs.declared.fault.TreeFault.TheVariants as tree_faults
 use Rattle.bag_tree.specs.Facts.{TreeFacts}
 use Rattle.bag_tree.specs.Fault as tree_numbers
 use Rattle.std.specs.String.{string_bytes}
-use Rattle.outcomes.specs.declared.answer.Answer.{Answer}
+use Rattle.outcomes.specs.declared.program_output.ProgramOutput.{ProgramOutput}
 use Rattle.folder_checks.specs.declared.verdict.Verdict.{Verdict}
 use Rattle.folder_checks.specs.declared.verdict.Verdict.TheVariants.{Unread}
 use Rattle.folder_checks.specs.Verdicts.{verdict_of, IsOrMemory}
@@ -23,7 +23,7 @@ known_is (Some place) = refl
 
 -- the answer for a tree that was read
 pub answered : (facts : TreeFacts) (verdict : Verdict) (lines : List ℕ)
-    (r : Result Answer AllocError) → IsOrMemory verdict (verdict_of (Ok facts))
+    (r : Result ProgramOutput AllocError) → IsOrMemory verdict (verdict_of (Ok facts))
     → ((place : Option (List ℕ)) → lines ≡ lines_after verdict (Ok facts) place)
     → IfOk r (λ a. a.status ≡ (outcome_with verdict lines).status)
     → IfOk r (λ a. string_bytes a.text ≡ (outcome_with verdict lines).text)
@@ -40,7 +40,7 @@ answered facts verdict lines (Ok a) is same s t = λ known. (
 
 -- the answer for a folder that wasn't read
 pub unread : (read : Result TreeFacts TreeFault) (known place : Option (List ℕ)) (fault : TreeFault)
-    (r : Result Answer AllocError) → tree_numbers.IsOrMemory (Err fault) read → IsPlace known place
+    (r : Result ProgramOutput AllocError) → tree_numbers.IsOrMemory (Err fault) read → IsPlace known place
     → IfOk r (λ a. a.status ≡ (outcome_with (Unread fault) (unread_line fault place)).status)
     → IfOk r
     (λ a. string_bytes a.text ≡ (outcome_with (Unread fault) (unread_line fault place)).text)
@@ -63,7 +63,7 @@ unread read known place fault (Ok a) is at s t =
 -- the same, where it is known what a read gives
 pub unread_known : (gives : Option (List ℕ → Result TreeFacts TreeFault))
     (known place : Option (List ℕ)) (path lines : List ℕ) (fault : TreeFault)
-    (r : Result Answer AllocError)
+    (r : Result ProgramOutput AllocError)
     → IfSome gives (λ gives. tree_numbers.IsOrMemory {T = TreeFacts} (Err fault) (gives path))
     → IsPlace known place → lines ≡ unread_line fault place
     → IfOk r (λ a. a.status ≡ (outcome_with (Unread fault) lines).status)
@@ -79,7 +79,7 @@ unread_known (Some gives) known place path lines fault (Ok a) is at same s t =
 
 -- the answer for a folder that was read, where it is known what a read gives
 pub read_known : (gives : Option (List ℕ → Result TreeFacts TreeFault)) (known : Option (List ℕ))
-    (path : List ℕ) (facts : TreeFacts) (r : Result Answer AllocError)
+    (path : List ℕ) (facts : TreeFacts) (r : Result ProgramOutput AllocError)
     → IfSome gives (λ gives. tree_numbers.IsOrMemory {T = TreeFacts} (Ok facts) (gives path))
     → IfOk r (λ a. (known : Option (List ℕ))
     → IsAnswer (Ok facts) known a.status (string_bytes a.text))

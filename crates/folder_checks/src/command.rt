@@ -5,7 +5,7 @@ use crate::arguments::CheckTask;
 use crate::progress::{Progress, Saying};
 use bag_folders::{DiskFolders, Folders};
 use bag_words::SpokenFolders;
-use outcomes::{ProgramFault, write_answer};
+use outcomes::{ProgramFault, write_output};
 use std::alloc::AllocError;
 use std::io;
 use std::io::{IsTerminal, Stderr};
@@ -22,7 +22,7 @@ pub fn check_folders(rt: &HostRuntime, task: &CheckTask<'_>) -> Result<u8, Progr
             folders.say();
             Ok(status)
         }
-        Err(AllocError) => write_answer(&mut output, 1, "memory\n"),
+        Err(AllocError) => write_output(&mut output, 1, "memory\n"),
     }
 }
 

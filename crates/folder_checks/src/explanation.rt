@@ -16,7 +16,7 @@ use bag_digest::Algorithms;
 use bag_explain::explain;
 use bag_folders::Folders;
 use bag_tree::{Facts, TreeFault};
-use outcomes::{Answer, ProgramFault, write_answer};
+use outcomes::{ProgramFault, ProgramOutput, write_output};
 use std::alloc::{AllocError, Global};
 use std::io::Write;
 use words::push_escaped;
@@ -40,8 +40,8 @@ pub fn explain_on<F: Folders, W: Write>(
     ensures fault { IfErr result (λ fault. fault ≡ ProgramFault.Output) }
 {
     match answer_on(alloc, folders, path) {
-        Ok(answer) => write_answer(output, answer.status, answer.text.as_str()),
-        Err(AllocError) => write_answer(output, 1, "memory\n"),
+        Ok(answer) => write_output(output, answer.status, answer.text.as_str()),
+        Err(AllocError) => write_output(output, 1, "memory\n"),
     }
 }
 
@@ -50,7 +50,7 @@ pub(crate) fn answer_on<F: Folders>(
     alloc: Global,
     folders: &mut F,
     path: &str,
-) -> Result<Answer, AllocError>
+) -> Result<ProgramOutput, AllocError>
     ensures ok { IfOk result (λ answer. IfSome (F.gives folders.old) (λ gives.
         IsAnswer (gives path.now) (F.fails_at folders.old) answer.status
         (string_bytes answer.text))) }
@@ -86,7 +86,7 @@ fn place_line(alloc: Global, fault: TreeFault, place: Option<&str>) -> Result<St
 }
 
 // The answer for a tree of these facts.
-fn answer_of(alloc: Global, facts: &Facts) -> Result<Answer, AllocError>
+fn answer_of(alloc: Global, facts: &Facts) -> Result<ProgramOutput, AllocError>
     ensures { IfOk result (λ answer. (known : Option (List ℕ))
         → IsAnswer (Ok facts.now) known answer.status (string_bytes answer.text)) }
 {
@@ -108,7 +108,7 @@ fn verdict_of(alloc: Global, facts: &Facts) -> Verdict
 }
 
 // A verdict's status, and its line with these after it.
-fn with_lines(alloc: Global, verdict: Verdict, lines: &str) -> Result<Answer, AllocError>
+fn with_lines(alloc: Global, verdict: Verdict, lines: &str) -> Result<ProgramOutput, AllocError>
     ensures status { IfOk result
         (λ answer. answer.status ≡ (outcome_with verdict lines.now).status) }
     ensures text { IfOk result
@@ -117,7 +117,7 @@ fn with_lines(alloc: Global, verdict: Verdict, lines: &str) -> Result<Answer, Al
     let answer = line_of(alloc, verdict)?;
     let mut text = answer.text;
     text.push_str(lines)?;
-    Ok(Answer {
+    Ok(ProgramOutput {
         status: answer.status,
         text,
     })

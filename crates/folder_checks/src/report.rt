@@ -6,7 +6,7 @@ ghost use Rattle.folder_checks.specs.Reports.{TellsFor};
 use crate::explanation::answer_on;
 use crate::verdict::{line_of, verdict_on};
 use bag_folders::Folders;
-use outcomes::Answer;
+use outcomes::ProgramOutput;
 use std::alloc::{AllocError, Global};
 
 /// How much is said of a folder.
@@ -24,7 +24,7 @@ pub(crate) fn answer_for<F: Folders>(
     folders: &mut F,
     path: &str,
     report: Report,
-) -> Result<Answer, AllocError>
+) -> Result<ProgramOutput, AllocError>
     ensures ok { IfOk result (λ answer. IfSome (F.gives folders.old) (λ gives.
         TellsFor report (gives path.now) (F.fails_at folders.old) (λ outcome.
         (answer.status ≡ outcome.status) × (string_bytes answer.text ≡ outcome.text)))) }

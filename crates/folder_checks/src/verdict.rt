@@ -9,7 +9,7 @@ use bag_check::{BagFault, check};
 use bag_folders::Folders;
 use bag_tree::TreeFault;
 use fed_types::BagId;
-use outcomes::{Answer, ProgramFault, write_answer};
+use outcomes::{ProgramFault, ProgramOutput, write_output};
 use std::alloc::{AllocError, Global};
 use std::io::Write;
 
@@ -44,8 +44,8 @@ pub fn check_on<F: Folders, W: Write>(
 {
     let verdict = verdict_on(alloc, folders, path);
     match line_of(alloc, verdict) {
-        Ok(answer) => write_answer(output, answer.status, answer.text.as_str()),
-        Err(AllocError) => write_answer(output, 1, "memory\n"),
+        Ok(answer) => write_output(output, answer.status, answer.text.as_str()),
+        Err(AllocError) => write_output(output, 1, "memory\n"),
     }
 }
 
@@ -66,28 +66,28 @@ pub(crate) fn verdict_on<F: Folders>(alloc: Global, folders: &mut F, path: &str)
 }
 
 /// A verdict's status and its line.
-pub(crate) fn line_of(alloc: Global, verdict: Verdict) -> Result<Answer, AllocError>
+pub(crate) fn line_of(alloc: Global, verdict: Verdict) -> Result<ProgramOutput, AllocError>
     ensures status { IfOk result (λ a. a.status ≡ (outcome_of_verdict verdict).status) }
     ensures text { IfOk result (λ a. string_bytes a.text ≡ (outcome_of_verdict verdict).text) }
 {
     match verdict {
         Verdict::Valid(bag) => {
             let digits = hex::encode(alloc, bag.0)?;
-            Ok(Answer {
+            Ok(ProgramOutput {
                 status: 0,
                 text: format!(in alloc; "valid {digits}\n")?,
             })
         }
         Verdict::Invalid(fault) => {
             let number = fault.number();
-            Ok(Answer {
+            Ok(ProgramOutput {
                 status: 1,
                 text: format!(in alloc; "invalid {number}\n")?,
             })
         }
         Verdict::Unread(fault) => {
             let number = fault.number();
-            Ok(Answer {
+            Ok(ProgramOutput {
                 status: 1,
                 text: format!(in alloc; "unread {number}\n")?,
             })

@@ -4,7 +4,7 @@ use Rattle.std.specs.Prelude.{filter_map, codes, Option, Result, Ok, Err}
 use Rattle.std.specs.Option.{option_map}
 use Rattle.std.specs.Str.{bytes_eq}
 use Rattle.records.specs.declared.record.Record.{Record}
-use Rattle.records.specs.Words as records
+use Rattle.records.specs.SlotStates as records
 use Rattle.ledger.specs.declared.contents.Contents.{Contents}
 use Rattle.ledger.specs.declared.ending.Ending.{Ending}
 use Rattle.ledger.specs.declared.ending.Ending.TheVariants.{Whole, Torn, Damaged}

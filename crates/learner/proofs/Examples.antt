@@ -6,7 +6,7 @@ use Rattle.fed_types.specs.Quorums.{QuorumSystem, quorums_of}
 use Rattle.fed_types.specs.Sites.{sites_to}
 use Rattle.fed_types.specs.Slots.{SlotName, same_slot}
 use Rattle.records.specs.declared.entry.Entry.TheVariants as entry
-use Rattle.records.specs.Words.{known_of}
+use Rattle.records.specs.SlotStates.{known_of}
 use Rattle.dgram.specs.declared.message.Message.{Message}
 use Rattle.dgram.specs.Heard.{bodies_of, voters_for}
 use Rattle.learner.specs.LearnedBags.{with_vote, chosen_by, learned_from}

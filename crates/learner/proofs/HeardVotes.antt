@@ -16,7 +16,7 @@ use Rattle.fed_types.specs.Quorums.{QuorumSystem, AreQuorums}
 use Rattle.fed_types.specs.Slots.{SlotName, same_slot}
 use Rattle.fed_types.specs.Voters.{with_voter}
 use Rattle.records.specs.declared.record.Record.{Record}
-use Rattle.records.specs.Words.{known_of}
+use Rattle.records.specs.SlotStates.{known_of}
 use Rattle.dgram.specs.declared.body.Body.TheVariants.{Accepted}
 use Rattle.dgram.specs.declared.message.Message.{Message}
 use Rattle.dgram.specs.Heard.{same_vote, bodies_of, voters_for}
@@ -26,7 +26,7 @@ use Rattle.learner.specs.declared.row.Row.{Row}
 use Rattle.learner.specs.inner.Counts.{KnowsSame, CountsSame, IsCounted, UnlessKnown}
 use Rattle.learner.specs.inner.Counts.{is_learned}
 use Rattle.learner.specs.LearnedBags.{with_vote, chosen_by, learned_from, unless_known}
-use Rattle.learner.specs.Ledgers.{Ledger, known_in, counted_in, Represents}
+use Rattle.learner.specs.LearnerStates.{LearnerState, known_in, counted_in, Represents}
 
 -- two votes are one exactly where the test says so
 same_parts : (a b : Vote) → a.ballot ≡ b.ballot → a.bag ≡ b.bag → a ≡ b
@@ -220,7 +220,7 @@ module _ (old : Rows Row) (records : List Record) (heard : List Message) (slot :
 
 -- what a learner learns, as a clause sees it
 pub learned_by : {Q : Type 0} (system : Q → QuorumSystem)
-    → ((members : Q) → AreQuorums (system members)) → {inside now : Ledger Q} → inside ≡ now
+    → ((members : Q) → AreQuorums (system members)) → {inside now : LearnerState Q} → inside ≡ now
     → (slot : SlotName) (from : ℕ) (vote : Vote) (records : List Record) (heard : List Message)
     → Represents now.rows records heard → (learned : Bool)
     → learned ≡ is_learned (system inside.members) (known_in (row_at inside.rows slot))
@@ -230,6 +230,6 @@ pub learned_by : {Q : Type 0} (system : Q → QuorumSystem)
 learned_by {Q} system laws {inside} {now} seen slot from vote records heard stands learned is =
     learned_as now.rows records heard slot from vote stands (system now.members)
     (laws now.members) learned
-    (subst (λ (l : Ledger Q). learned ≡ is_learned (system l.members)
+    (subst (λ (l : LearnerState Q). learned ≡ is_learned (system l.members)
     (known_in (row_at l.rows slot)) (with_voter (counted_in (row_at l.rows slot) vote) from))
     seen is)

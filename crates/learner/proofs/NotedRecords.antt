@@ -9,15 +9,15 @@ use Rattle.fed_types.specs.Slots.{SlotName, same_slot}
 use Rattle.records.specs.declared.entry.Entry.{Entry}
 use Rattle.records.specs.declared.entry.Entry.TheVariants as entry
 use Rattle.records.specs.declared.record.Record.{Record}
-use Rattle.records.specs.Words.{known_of, earlier, with_one, if_some, known_in as bag_in}
-use Rattle.records.proofs.Words.{known-push}
+use Rattle.records.specs.SlotStates.{known_of, earlier, with_one, if_some, known_in as bag_in}
+use Rattle.records.proofs.SlotStates.{known-push}
 use Rattle.dgram.specs.declared.message.Message.{Message}
 use Rattle.dgram.specs.Heard.{bodies_of, voters_for}
 use Rattle.slot_table.specs.Rows.{Rows, row_at, IsWith}
 use Rattle.learner.specs.declared.row.Row.{Row}
 use Rattle.learner.specs.declared.row.Row.TheVariants as rows
 use Rattle.learner.specs.inner.Counts.{first_known}
-use Rattle.learner.specs.Ledgers.{known_in, counted_in, Represents}
+use Rattle.learner.specs.LearnerStates.{known_in, counted_in, Represents}
 
 module _ (old : Rows Row) (records : List Record) (heard : List Message) (r : Record)
     (stands : Represents old records heard) where

@@ -11,7 +11,7 @@ use Rattle.dgram.specs.Heard.{same_vote}
 use Rattle.slot_table.specs.Rows.{Rows, row_at, row_or, row_of, IsWith}
 use Rattle.learner.specs.declared.row.Row.{Row}
 use Rattle.learner.specs.declared.row.Row.TheVariants as rows
-use Rattle.learner.specs.Ledgers.{known_in, counted_in}
+use Rattle.learner.specs.LearnerStates.{known_in, counted_in}
 use Rattle.learner.specs.inner.Counts.{KnowsSame, CountsSame, IsRowCounted, IsCounted, UnlessKnown}
 
 -- the row of a slot of which nothing was heard

@@ -13,14 +13,14 @@ ghost use Rattle.std.specs.Prelude.{
   IsSome,
 };
 ghost use Rattle.records.specs.declared.record.Record.{Record as declared_record};
-ghost use Rattle.records.specs.Words.{known_of, known_in as known_in_entry};
+ghost use Rattle.records.specs.SlotStates.{known_of, known_in as known_in_entry};
 ghost use Rattle.dgram.specs.declared.message.Message.{Message};
 ghost use Rattle.slot_table.specs.Rows.{row_at, HasRooms};
 ghost use Rattle.learner.specs.LearnedBags.{with_vote, learned_from, learned_of_known};
-ghost use Rattle.learner.specs.Ledgers.{Represents, known_in};
+ghost use Rattle.learner.specs.LearnerStates.{Represents, known_in};
 
 use crate::row::Row;
-use crate::table::{hear, reserve, settle};
+use crate::table::{add_vote, reserve, settle};
 use fed_types::{BagId, Ballot, Quorums, SiteNo, Slot, Vote};
 use records::{Entry, Record};
 use slot_table::SlotTable;
@@ -28,7 +28,7 @@ use std::alloc::{AllocError, Global};
 use std::marker::Model;
 
 /// A learner. It is made for no records, hears of votes, and takes note of each record that the
-/// site has committed. A clause sees a `Ledger`.
+/// site has committed. A clause sees a `LearnerState`.
 #[derive(Drop)]
 pub struct Learner<Q: Quorums + Drop> {
     alloc: Global,
@@ -37,16 +37,16 @@ pub struct Learner<Q: Quorums + Drop> {
 }
 
 impl<Q: Quorums + Drop> Model for Learner<Q> {
-    ghost use Rattle.learner.specs.Ledgers.{Ledger};
+    ghost use Rattle.learner.specs.LearnerStates.{LearnerState};
 
-    ghost Value = { Ledger Q };
+    ghost Value = { LearnerState Q };
 
     ghost view = { λ l. record { members = l.members; rows = l.table } };
 }
 
 impl<Q: Quorums + Drop> Learner<Q> {
     /// A learner without records that has heard nothing.
-    #[tactic(auto, unfolding(records::specs::Words::known_of, dgram::specs::Heard::voters_for, dgram::specs::Heard::bodies_of))]
+    #[tactic(auto, unfolding(records::specs::SlotStates::known_of, dgram::specs::Heard::voters_for, dgram::specs::Heard::bodies_of))]
     pub fn new(alloc: Global, members: Q) -> Learner<Q>
         ensures stands { Represents result.rows [] [] }
         ensures members { result.members ≡ members }
@@ -112,7 +112,7 @@ impl<Q: Quorums + Drop> Learner<Q> {
         ensures members { self.new.members ≡ self.old.members }
     {
         let vote = Vote { ballot, bag };
-        let learned = hear(
+        let learned = add_vote(
             self.alloc,
             &mut self.table,
             &self.members,

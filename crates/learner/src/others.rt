@@ -1,7 +1,7 @@
 ghost use Rattle.std.specs.Prelude.{◌≡◌, ◌∷◌, [], None, OnOk, OnErr, IfOk, box_value};
 ghost use Rattle.std.specs.Map.{lookup};
 ghost use Rattle.dgram.specs.Heard.{same_vote};
-ghost use Rattle.learner.specs.Ledgers.{voters_for_vote, IsCountedWith};
+ghost use Rattle.learner.specs.LearnerStates.{voters_for_vote, IsCountedWith};
 
 use fed_types::{Vote, Voters};
 use indexmap::IndexMap;

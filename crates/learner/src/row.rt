@@ -1,6 +1,6 @@
 ghost use Rattle.std.specs.Prelude.{◌≡◌, [], Some, None, false, IsTrue, OnOk, OnErr, IfOk};
 ghost use Rattle.fed_types.specs.Voters.{with_voter};
-ghost use Rattle.learner.specs.Ledgers.{known_in, counted_in};
+ghost use Rattle.learner.specs.LearnerStates.{known_in, counted_in};
 ghost use Rattle.learner.specs.inner.Counts.{IsRowCounted, UnlessKnown, first_known};
 ghost use Rattle.learner.specs.inner.Counts.{is_learned, unless_settled};
 ghost use Rattle.learner.specs.declared.row.Row.TheVariants as rows;
@@ -36,7 +36,7 @@ impl Row {
 
     /// Hears that a site cast a vote. Whether the vote's bag is learned by it: then nothing
     /// changes.
-    pub(crate) fn hear<Q: Quorums>(
+    pub(crate) fn add_vote<Q: Quorums>(
         &mut self,
         alloc: Global,
         members: &Q,

@@ -4,7 +4,7 @@ ghost use Rattle.std.specs.Prelude.{◌≡◌, Some, None, [], false, IsTrue, On
 ghost use Rattle.std.specs.Prelude.{IsSome};
 ghost use Rattle.fed_types.specs.Voters.{with_voter};
 ghost use Rattle.slot_table.specs.Rows.{row_at, IsWith, HasRooms};
-ghost use Rattle.learner.specs.Ledgers.{known_in, counted_in};
+ghost use Rattle.learner.specs.LearnerStates.{known_in, counted_in};
 ghost use Rattle.learner.specs.inner.Counts.{KnowsSame, CountsSame, IsCounted, UnlessKnown};
 ghost use Rattle.learner.specs.inner.Counts.{first_known, is_learned};
 ghost use Rattle.learner.specs.declared.row.Row.TheVariants as rows;
@@ -28,7 +28,7 @@ pub(crate) fn reserve(table: &mut SlotTable<Row>, slot: &Slot) -> Result<(), All
 
 /// Hears that a site cast a vote of the slot. Whether the vote's bag is learned by it: then nothing
 /// changes.
-pub(crate) fn hear<Q: Quorums>(
+pub(crate) fn add_vote<Q: Quorums>(
     alloc: Global,
     table: &mut SlotTable<Row>,
     members: &Q,
@@ -53,10 +53,10 @@ pub(crate) fn hear<Q: Quorums>(
     ensures rooms { HasRooms table.old table.new }
 {
     match table.get_mut(slot) {
-        Some(row) => row.hear(alloc, members, vote, from),
+        Some(row) => row.add_vote(alloc, members, vote, from),
         None => {
             let mut row = Row::Unheard;
-            let learned = row.hear(alloc, members, vote, from)?;
+            let learned = row.add_vote(alloc, members, vote, from)?;
             if !learned {
                 table.reserve(slot, row)?;
             }

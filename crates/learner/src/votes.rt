@@ -2,7 +2,7 @@ ghost use Rattle.std.specs.Prelude.{◌≡◌, ◌∷◌, [], None, OnOk, OnErr}
 ghost use Rattle.std.specs.Map.{lookup};
 ghost use Rattle.dgram.specs.Heard.{same_vote};
 ghost use Rattle.fed_types.specs.declared.vote.Vote.{Vote as declared_vote};
-ghost use Rattle.learner.specs.Ledgers.{voters_for_vote, IsCountedWith};
+ghost use Rattle.learner.specs.LearnerStates.{voters_for_vote, IsCountedWith};
 
 use crate::others::Others;
 use fed_types::{Vote, Voters};

@@ -9,8 +9,8 @@ use Rattle.indexmap.proofs.SetLemmas.{keys_insert_entry}
 use Rattle.fed_types.specs.Slots.{SlotName, same_slot}
 use Rattle.fed_types.specs.Laws.Slots.{same_slot_decides}
 use Rattle.records.specs.declared.record.Record.{Record}
-use Rattle.records.specs.Words.{deposit_of, known_of, vote_of}
-use Rattle.records.proofs.Words.{deposit-push, known-push, vote-push}
+use Rattle.records.specs.SlotStates.{deposit_of, known_of, vote_of}
+use Rattle.records.proofs.SlotStates.{deposit-push, known-push, vote-push}
 use Rattle.slot_table.specs.Rows.{Rows, row_at, row_or, row_of, IsWith}
 use Rattle.ledger.specs.declared.row.Row.{Row}
 use Rattle.ledger.specs.inner.Rows.{empty_row, noted, row_after, row_from, Represents}

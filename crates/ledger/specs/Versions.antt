@@ -6,7 +6,7 @@ use Rattle.fed_types.specs.declared.bag_id.BagId.{BagId}
 use Rattle.fed_types.specs.declared.vote.Vote.{Vote}
 use Rattle.fed_types.specs.Slots.{SlotName, same_slot}
 use Rattle.records.specs.declared.record.Record.{Record}
-use Rattle.records.specs.Words.{deposit_of, known_of, vote_of}
+use Rattle.records.specs.SlotStates.{deposit_of, known_of, vote_of}
 use Rattle.ledger.specs.declared.standing.Standing.{Standing}
 use Rattle.ledger.specs.declared.standing.Standing.TheVariants.{Known, Pending, Voted, Asked}
 

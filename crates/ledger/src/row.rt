@@ -1,5 +1,5 @@
 ghost use Rattle.std.specs.Prelude.{◌≡◌, Some};
-ghost use Rattle.records.specs.Words.{earlier, higher};
+ghost use Rattle.records.specs.SlotStates.{earlier, higher};
 ghost use Rattle.ledger.specs.Versions.{standing};
 ghost use Rattle.ledger.specs.inner.Rows.{noted};
 

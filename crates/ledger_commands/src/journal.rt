@@ -10,7 +10,7 @@ ghost use Rattle.ledger_commands.specs.inner.Journals.{IsAfterPiece, IsAfterEnd,
 
 use crate::status::status_of;
 use ledger::{JournalLines, LastLines, Lines};
-use outcomes::{MOST_READS, ProgramFault, write_answer};
+use outcomes::{MOST_READS, ProgramFault, write_output};
 use std::alloc::{AllocError, Global};
 use std::io::{ErrorKind, Read, Write};
 
@@ -66,12 +66,12 @@ fn write_piece<W: Write>(
         → IsAfterPiece (taken ++ piece.now) lines.new first (W.contents output.new) result }
 {
     match lines.take(alloc, piece) {
-        Ok(Lines::More(text)) => match write_answer(output, 0, text.as_str()) {
+        Ok(Lines::More(text)) => match write_output(output, 0, text.as_str()) {
             Ok(_) => Ok(None),
             Err(fault) => Err(fault),
         },
         Ok(Lines::Last(last)) => some_status(write_last(&last, output)),
-        Err(AllocError) => some_status(write_answer(output, 1, "memory\n")),
+        Err(AllocError) => some_status(write_output(output, 1, "memory\n")),
     }
 }
 
@@ -97,7 +97,7 @@ fn write_end<W: Write>(
 {
     match lines.end(alloc) {
         Ok(last) => write_last(&last, output),
-        Err(AllocError) => write_answer(output, 1, "memory\n"),
+        Err(AllocError) => write_output(output, 1, "memory\n"),
     }
 }
 
@@ -109,5 +109,5 @@ fn write_last<W: Write>(last: &LastLines, output: &mut W) -> Result<u8, ProgramF
         × ((n : ℕ) × Appends (W.contents output.old) (W.contents output.new)
         (take n (string_bytes last.now.text)))) }
 {
-    write_answer(output, status_of(last.ending), last.text.as_str())
+    write_output(output, status_of(last.ending), last.text.as_str())
 }

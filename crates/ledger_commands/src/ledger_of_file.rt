@@ -3,7 +3,7 @@
 use crate::cell_file::open_cell;
 use crate::ledger_arguments::LedgerTask;
 use crate::version_lines::ledger_on;
-use outcomes::{ProgramFault, write_answer};
+use outcomes::{ProgramFault, write_output};
 use std::io;
 use std::io::{ErrorKind, Write};
 
@@ -15,12 +15,12 @@ pub fn print_ledger(rt: &HostRuntime, task: &LedgerTask<'_>) -> Result<u8, Progr
     let mut output = io::writer(rt);
     match open_cell(rt, task.cell) {
         Ok(mut cell) => match ledger_on(rt.alloc(), &mut cell, &mut output, task.listing) {
-            Err(ProgramFault::Input) => write_answer(&mut output, 1, UNREAD),
+            Err(ProgramFault::Input) => write_output(&mut output, 1, UNREAD),
             answer => answer,
         },
         Err(error) if error.kind() == ErrorKind::OutOfMemory => {
-            write_answer(&mut output, 1, "memory\n")
+            write_output(&mut output, 1, "memory\n")
         }
-        Err(_) => write_answer(&mut output, 1, UNREAD),
+        Err(_) => write_output(&mut output, 1, UNREAD),
     }
 }

@@ -9,7 +9,7 @@ ghost use Rattle.ledger_commands.specs.Ledgers.{IsLedger};
 
 use crate::status::status_of;
 use ledger::{LastLines, LedgerLines, Listing};
-use outcomes::{MOST_READS, ProgramFault, ReadFault, write_answer};
+use outcomes::{MOST_READS, ProgramFault, ReadFault, write_output};
 use std::alloc::Global;
 use std::io::{ErrorKind, Read, Write};
 
@@ -37,9 +37,9 @@ pub fn ledger_on<R: Read, W: Write>(
         (WritesPrefix (W.contents output.old) (W.contents output.new))) }
 {
     match read_lines(alloc, cell, listing) {
-        Ok(last) => write_answer(output, status_of(last.ending), last.text.as_str()),
+        Ok(last) => write_output(output, status_of(last.ending), last.text.as_str()),
         Err(ReadFault::Input) => Err(ProgramFault::Input),
-        Err(ReadFault::Memory) => write_answer(output, 1, "memory\n"),
+        Err(ReadFault::Memory) => write_output(output, 1, "memory\n"),
     }
 }
 

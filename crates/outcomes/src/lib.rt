@@ -3,18 +3,18 @@
 //!
 //! ```
 //! match push_table(&mut text) {
-//!     Ok(()) => write_answer(&mut output, 0, text.as_str()),
-//!     Err(AllocError) => write_answer(&mut output, 1, "memory\n"),
+//!     Ok(()) => write_output(&mut output, 0, text.as_str()),
+//!     Err(AllocError) => write_output(&mut output, 1, "memory\n"),
 //! }
 //! ```
 #![tactic(auto)]
 
-mod answer;
 mod fault;
 mod input;
 mod output;
+mod program_output;
 
-pub use answer::{Answer, write_answer, write_bytes};
 pub use fault::ProgramFault;
 pub use input::{MOST_READS, ReadFault, read_all, read_within};
 pub use output::{WriteFault, write_all};
+pub use program_output::{ProgramOutput, write_bytes, write_output};

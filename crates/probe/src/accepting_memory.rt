@@ -2,7 +2,7 @@
 
 use crate::deciding_memory::{ballot, check, record};
 use crate::fault::Fault;
-use acceptor::{Acceptor, Answer, Decision};
+use acceptor::{Acceptor, Decision, Response};
 use fed_types::{Ballot, Slot};
 use records::{Entry, Record};
 use std::alloc::Global;
@@ -40,7 +40,7 @@ fn makes_room(acceptor: &mut Acceptor, slot: &Slot, ballot: Ballot) -> Result<bo
 fn promised(ballot: Ballot) -> Decision {
     Decision {
         entry: Some(Entry::Promise(ballot)),
-        answer: Answer::Promised(ballot, None),
+        answer: Response::Promised(ballot, None),
     }
 }
 
@@ -48,7 +48,7 @@ fn promised(ballot: Ballot) -> Decision {
 fn refused(ballot: Ballot) -> Decision {
     Decision {
         entry: None,
-        answer: Answer::Refused {
+        answer: Response::Refused {
             asked: ballot,
             standing: ballot,
         },

@@ -48,14 +48,14 @@ fn hear_all(
 ) -> Result<usize, Fault> {
     let mut learned = 0usize;
     for number in 1..=majority {
-        let heard = hear(learner, records, SiteNo::new(number)?, ballot)?;
+        let heard = add_vote(learner, records, SiteNo::new(number)?, ballot)?;
         learned = learned.wrapping_add(heard);
     }
     Ok(learned)
 }
 
 /// How many slots become known by this member's votes.
-fn hear(
+fn add_vote(
     learner: &mut Learner<Members>,
     records: &[Record],
     from: SiteNo,

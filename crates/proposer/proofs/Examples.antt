@@ -11,7 +11,7 @@ use Rattle.fed_types.specs.Sites.{sites_to}
 use Rattle.fed_types.specs.Slots.{SlotName, same_slot}
 use Rattle.records.specs.declared.entry.Entry.TheVariants as entry
 use Rattle.records.specs.declared.record.Record.{Record}
-use Rattle.records.specs.Words.{used_of}
+use Rattle.records.specs.SlotStates.{used_of}
 use Rattle.dgram.specs.declared.body.Body.TheVariants.{Promise, Refused}
 use Rattle.dgram.specs.declared.message.Message.{Message}
 use Rattle.dgram.specs.Heard.{bodies_of, floor_of, PromiseFrom, promises_for, promisers, priors}

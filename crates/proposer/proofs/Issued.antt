@@ -10,7 +10,7 @@ use Rattle.fed_types.specs.Laws.Slots.{same_slot_decides}
 use Rattle.records.specs.declared.entry.Entry.{Entry}
 use Rattle.records.specs.declared.entry.Entry.TheVariants as entry
 use Rattle.records.specs.declared.record.Record.{Record}
-use Rattle.records.specs.Words.{with_one, if_some, entry_of, round_in}
+use Rattle.records.specs.SlotStates.{with_one, if_some, entry_of, round_in}
 use Rattle.dgram.specs.declared.message.Message.{Message}
 use Rattle.dgram.specs.Heard.{bodies_of, refused_round, floor_of}
 use Rattle.slot_table.specs.Rows.{Rows, row_at, row_or, IsWith}
@@ -18,8 +18,8 @@ use Rattle.proposer.specs.declared.round.Promise.{Promise}
 use Rattle.proposer.specs.Rounds.{Round}
 use Rattle.proposer.specs.declared.row.Row.{Row}
 use Rattle.proposer.specs.Proposals.{Current}
-use Rattle.proposer.specs.Sessions.{Session, UnderWay, at_slot, hears, issues, waits}
-use Rattle.proposer.specs.Sessions.{promise_message, heard_if, of_round, issued_by, issued_if}
+use Rattle.proposer.specs.Sessions.{Session, UnderWay, at_slot, hears, with_current, waits}
+use Rattle.proposer.specs.Sessions.{promise_message, heard_if, of_round, current_by, with_current_if}
 use Rattle.proposer.specs.Sessions.{under_way_if}
 use Rattle.proposer.specs.Rows.{empty_row, BeginsFor, Counts, CountsFor, Knows, Represents, row_of}
 use Rattle.proposer.specs.Rows.{begun_in, current_in, waiting_as, waiting_in}
@@ -259,10 +259,10 @@ module _ (old new : Rows Row) (r : Record) (records : List Record) (session : Se
       → PutsAt old new r.slot row
       → row.used ≡ max (row_of old r.slot).used n → row.floor ≡ (row_of old r.slot).floor
       → row.begun ≡ None → row.current ≡ begun_in (row_of old r.slot) → under.begun r.slot ≡ Some b
-      → Represents new (records ++ r ∷ []) (issues session r.slot b)
+      → Represents new (records ++ r ∷ []) (with_current session r.slot b)
       (under_way_if under r.slot (Some b))
   made_current row n b is puts used floor begun current next =
-      stands_at old new r.slot row (records ++ r ∷ []) (issues session r.slot b)
+      stands_at old new r.slot row (records ++ r ∷ []) (with_current session r.slot b)
       (under_way_if under r.slot (Some b)) puts
       (subst (λ (c : Option Current). Knows r.slot (records ++ r ∷ []) session.heard c
       (at_slot r.slot None under.begun r.slot) (at_slot r.slot None under.begun_with r.slot)
@@ -341,7 +341,7 @@ module _ (old new : Rows Row) (r : Record) (records : List Record) (session : Se
         current = (row_of old r.slot).current;
       }))
       → Represents new (records ++ r ∷ [])
-      (issued_if session r.slot (cond t (under.begun r.slot) None))
+      (with_current_if session r.slot (cond t (under.begun r.slot) None))
       (under_way_if under r.slot (cond t (under.begun r.slot) None))
   round_stands n false is of puts =
       raised (record {
@@ -357,7 +357,7 @@ module _ (old new : Rows Row) (r : Record) (records : List Record) (session : Se
       go : (b : Option BallotNumber) (o : Option Round) → under.begun r.slot ≡ b
           → is_of_round n o ≡ true
           → BeginsFor (under.begun_with r.slot) b o
-          → Represents new (records ++ r ∷ []) (issued_if session r.slot b)
+          → Represents new (records ++ r ∷ []) (with_current_if session r.slot b)
           (under_way_if under r.slot b)
       go None None e f h = absurd (cc f)
       go None (Some round) e f h = absurd h
@@ -375,11 +375,11 @@ module _ (old new : Rows Row) (r : Record) (records : List Record) (session : Se
   pub entry_stands : (body : Entry) → r.body ≡ body
       → PutsAt old new r.slot (noted_row (row_of old r.slot) (Some body))
       → Represents new (records ++ r ∷ [])
-      (issued_if session r.slot (issued_by (under.begun r.slot) body))
-      (under_way_if under r.slot (issued_by (under.begun r.slot) body))
+      (with_current_if session r.slot (current_by (under.begun r.slot) body))
+      (under_way_if under r.slot (current_by (under.begun r.slot) body))
   entry_stands (entry.Round n) e puts =
       subst (λ (b : Option BallotNumber). Represents new (records ++ r ∷ [])
-      (issued_if session r.slot b) (under_way_if under r.slot b))
+      (with_current_if session r.slot b) (under_way_if under r.slot b))
       (sym (of_round_is (under.begun_with r.slot) (under.begun r.slot)
       (begun_in (row_of old r.slot)) n (stands r.slot).begun))
       (round_stands n (is_of_round n (begun_in (row_of old r.slot))) (ap round_in e) refl puts)
@@ -398,8 +398,8 @@ pub noted_stands : (old mid new : Rows Row) (r : Record)
     → IsWith mid new r.slot (noted_row (row_of mid r.slot) (Some r.body))
     → Represents old records session under
     → Represents new (records ++ r ∷ [])
-    (issued_if session r.slot (issued_by (under.begun r.slot) r.body))
-    (under_way_if under r.slot (issued_by (under.begun r.slot) r.body))
+    (with_current_if session r.slot (current_by (under.begun r.slot) r.body))
+    (under_way_if under r.slot (current_by (under.begun r.slot) r.body))
 noted_stands old mid new r records session under same put stands =
     entry_stands old new r records session under stands r.body refl
     (puts_at old mid new r.slot (noted_row (row_of old r.slot) (Some r.body)) same

@@ -6,7 +6,7 @@ use Rattle.fed_types.specs.Ballots.{BallotNumber}
 use Rattle.fed_types.specs.Lists.{is_in}
 use Rattle.fed_types.specs.Slots.{SlotName}
 use Rattle.records.specs.declared.record.Record.{Record}
-use Rattle.records.specs.Words.{with_one, if_some}
+use Rattle.records.specs.SlotStates.{with_one, if_some}
 use Rattle.dgram.specs.declared.message.Message.{Message}
 use Rattle.dgram.specs.Heard.{body_in, PromiseFrom, promise_in, promisers, refused_round}
 use Rattle.proposer.specs.Rounds.{Round}

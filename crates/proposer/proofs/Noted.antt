@@ -6,8 +6,8 @@ use Rattle.fed_types.specs.Ballots.{BallotNumber}
 use Rattle.fed_types.specs.Lists.{is_in}
 use Rattle.fed_types.specs.Slots.{SlotName}
 use Rattle.records.specs.declared.record.Record.{Record}
-use Rattle.records.specs.Words.{with_one, if_some, entry_of, round_in}
-use Rattle.records.proofs.Words.{used-push}
+use Rattle.records.specs.SlotStates.{with_one, if_some, entry_of, round_in}
+use Rattle.records.proofs.SlotStates.{used-push}
 use Rattle.dgram.specs.declared.message.Message.{Message}
 use Rattle.dgram.specs.Heard.{bodies_of, PromiseFrom, promises_for, promisers, priors}
 use Rattle.proposer.specs.Rounds.{Round}

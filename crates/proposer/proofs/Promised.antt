@@ -15,7 +15,7 @@ use Rattle.fed_types.specs.Laws.Ballots.{same_ballot_decides}
 use Rattle.fed_types.specs.Laws.Quorums.{same_quorum}
 use Rattle.fed_types.specs.Laws.Slots.{same_slot_decides}
 use Rattle.fed_types.specs.Laws.Voters.{is_in-with_voter}
-use Rattle.records.specs.Words.{higher, with_one, if_some}
+use Rattle.records.specs.SlotStates.{higher, with_one, if_some}
 use Rattle.dgram.specs.declared.message.Message.{Message}
 use Rattle.dgram.specs.Heard.{body_in, PromiseFrom, promise_in, promisers, priors}
 use Rattle.dgram.proofs.Heard.{priors-append}

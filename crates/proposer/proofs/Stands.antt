@@ -10,7 +10,7 @@ use Rattle.fed_types.specs.Quorums.{QuorumSystem, AreQuorums}
 use Rattle.fed_types.specs.Slots.{SlotName, same_slot}
 use Rattle.fed_types.specs.Laws.Slots.{same_slot_decides}
 use Rattle.records.specs.declared.record.Record.{Record}
-use Rattle.records.specs.Words.{with_one, if_some, used_of}
+use Rattle.records.specs.SlotStates.{with_one, if_some, used_of}
 use Rattle.dgram.specs.declared.body.Body.{Body}
 use Rattle.dgram.specs.declared.message.Message.{Message}
 use Rattle.dgram.specs.Heard.{body_in, bodies_of, promise_in, refused_round, floor_of}
@@ -24,7 +24,7 @@ use Rattle.proposer.specs.Sessions.{Session, UnderWay, new_session, nothing, at_
 use Rattle.proposer.specs.Sessions.{begins, waits, promise_message, refusal_message, heard_after}
 use Rattle.proposer.specs.Sessions.{waiting_after}
 use Rattle.proposer.specs.Rows.{empty_row, BeginsFor, Knows, Represents, row_of, begun_in}
-use Rattle.proposer.specs.Rows.{current_in, Proposing}
+use Rattle.proposer.specs.Rows.{current_in, ProposerState}
 use Rattle.proposer.specs.inner.Rounds.{after_promise}
 use Rattle.proposer.specs.inner.Rows.{OnlyAt, HeardPromise, HeardAt}
 use Rattle.proposer.specs.inner.Rows.{BeginsAt, with_begun, with_floor}
@@ -293,7 +293,7 @@ module _ (q : QuorumSystem) (laws : AreQuorums q) (slot : SlotName) (from : ℕ)
 
 -- what a proposer hears of a promise, as a clause sees it: what gets ready, and what it represents
 pub promise_heard : {Q : Type 0} (system : Q → QuorumSystem)
-    → ((members : Q) → AreQuorums (system members)) → {inside now : Proposing Q} → inside ≡ now
+    → ((members : Q) → AreQuorums (system members)) → {inside now : ProposerState Q} → inside ≡ now
     → (slot : SlotName) (from : ℕ) (ballot : BallotNumber) (prior : Option Vote) (new : Rows Row)
     (given : Option BagId) (records : List Record) (session : Session) (under : UnderWay)
     → HeardAt (system inside.members) ballot (record { site = from; prior = prior }) inside.rows
@@ -305,7 +305,7 @@ pub promise_heard : {Q : Type 0} (system : Q → QuorumSystem)
     (waiting_after given under (promise_message slot from ballot prior))
 promise_heard {Q} system laws {inside} {now} seen slot from ballot prior new given records session
     under at stands =
-    let here = subst (λ (p : Proposing Q). HeardAt (system p.members) ballot
+    let here = subst (λ (p : ProposerState Q). HeardAt (system p.members) ballot
     (record { site = from; prior = prior }) p.rows new slot given) seen at in (
       promise_ready (system now.members) (laws now.members) slot from ballot prior now.rows new
           given records session under here stands,

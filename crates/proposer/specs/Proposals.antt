@@ -10,7 +10,7 @@ use Rattle.fed_types.specs.Limits.{greatest_round}
 use Rattle.fed_types.specs.Quorums.{QuorumSystem}
 use Rattle.fed_types.specs.Slots.{SlotName}
 use Rattle.records.specs.declared.record.Record.{Record}
-use Rattle.records.specs.Words.{highest, used_of}
+use Rattle.records.specs.SlotStates.{highest, used_of}
 use Rattle.dgram.specs.declared.message.Message.{Message}
 use Rattle.dgram.specs.Heard.{bodies_of, floor_of, PromiseFrom, promises_for, promisers, priors}
 

@@ -6,7 +6,7 @@ use Rattle.fed_types.specs.Ballots.{BallotNumber}
 use Rattle.fed_types.specs.Lists.{is_in}
 use Rattle.fed_types.specs.Slots.{SlotName}
 use Rattle.records.specs.declared.record.Record.{Record}
-use Rattle.records.specs.Words.{used_of}
+use Rattle.records.specs.SlotStates.{used_of}
 use Rattle.dgram.specs.declared.body.Body.TheVariants.{Promise}
 use Rattle.dgram.specs.declared.message.Message.{Message}
 use Rattle.dgram.specs.Heard.{bodies_of, floor_of, promisers}
@@ -18,13 +18,13 @@ use Rattle.proposer.specs.Rounds.{Round, fresh, round_of}
 use Rattle.proposer.specs.Sessions.{Session, UnderWay}
 
 -- the membership, the own site, and the rows by slot
-pub record Proposing (M : Type 0) : Type 0 where
+pub record ProposerState (M : Type 0) : Type 0 where
   pub members : M
   pub site : ℕ
   pub rows : tables.Rows Row
 
 -- they are the same members and the same site's
-abbrev pub IsOfSameSite : {M : Type 0} → (old new : Proposing M) → Type 0
+abbrev pub IsOfSameSite : {M : Type 0} → (old new : ProposerState M) → Type 0
 IsOfSameSite old new = (new.members ≡ old.members) × (new.site ≡ old.site)
 
 -- of a slot without a row nothing was recorded or heard

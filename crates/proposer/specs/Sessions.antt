@@ -17,7 +17,7 @@ pub record Session : Type 0 where
   pub heard : List Message
   pub current : SlotName → Option Current
 
--- nothing was heard, and no ballot issued
+-- nothing was heard, and no ballot is current
 abbrev pub new_session : Session
 new_session = record { heard = []; current = λ slot. None }
 
@@ -39,8 +39,8 @@ abbrev pub at_slot :
 at_slot slot x others s = if same_slot slot s then x else others s
 
 -- this ballot is the slot's current one from now on: what was heard before doesn't count for it
-abbrev pub issues : Session → SlotName → BallotNumber → Session
-issues session slot ballot = record {
+abbrev pub with_current : Session → SlotName → BallotNumber → Session
+with_current session slot ballot = record {
   heard = session.heard;
   current = at_slot slot (Some (record { ballot = ballot; since = length session.heard }))
       session.current;
@@ -104,14 +104,14 @@ of_round None round = None
 of_round (Some ballot) round = if ballot.round == round then Some ballot else None
 
 -- a Round record of the ballot that was begun makes it current, and no other record does
-abbrev pub issued_by : Option BallotNumber → Entry → Option BallotNumber
-issued_by begun (entry.Round round) = of_round begun round
-issued_by begun _ = None
+abbrev pub current_by : Option BallotNumber → Entry → Option BallotNumber
+current_by begun (entry.Round round) = of_round begun round
+current_by begun _ = None
 
 -- the session after that
-abbrev pub issued_if : Session → SlotName → Option BallotNumber → Session
-issued_if session slot None = session
-issued_if session slot (Some ballot) = issues session slot ballot
+abbrev pub with_current_if : Session → SlotName → Option BallotNumber → Session
+with_current_if session slot None = session
+with_current_if session slot (Some ballot) = with_current session slot ballot
 
 -- and what is under way: of this slot nothing but the bag of the ballot that is current now
 abbrev pub under_way_if : UnderWay → SlotName → Option BallotNumber → UnderWay

@@ -8,7 +8,7 @@ ghost use Rattle.proposer.specs.Proposals.{next_ballot, ready, ballot_after};
 ghost use Rattle.proposer.specs.Sessions.{Session, UnderWay, new_session, nothing, begins};
 ghost use Rattle.proposer.specs.Sessions.{promise_message, heard_after, waiting_after};
 ghost use Rattle.proposer.specs.Sessions.{hears, refusal_message, heard_if, waits};
-ghost use Rattle.proposer.specs.Sessions.{issued_by, issued_if, under_way_if};
+ghost use Rattle.proposer.specs.Sessions.{current_by, with_current_if, under_way_if};
 ghost use Rattle.proposer.specs.Rounds.{round_of};
 ghost use Rattle.proposer.specs.Faults.{next_or_spent, IsOrMemory};
 ghost use Rattle.proposer.specs.Rows.{Represents, IsOfSameSite, row_of};
@@ -35,9 +35,9 @@ pub struct Proposer<Q: Quorums + Drop> {
 }
 
 impl<Q: Quorums + Drop> Model for Proposer<Q> {
-    ghost use Rattle.proposer.specs.Rows.{Proposing};
+    ghost use Rattle.proposer.specs.Rows.{ProposerState};
 
-    ghost Value = { Proposing Q };
+    ghost Value = { ProposerState Q };
 
     ghost view = { λ p. record { members = p.members; site = p.site; rows = p.table } };
 }
@@ -164,10 +164,10 @@ impl<Q: Quorums + Drop> Proposer<Q> {
             (records : List declared_record) (session : Session) (under : UnderWay)
             → Represents self.old.rows records session under
             → Represents self.new.rows (records ++ new.now ∷ [])
-            (issued_if session new.now.slot
-            (issued_by (under.begun new.now.slot) new.now.body))
+            (with_current_if session new.now.slot
+            (current_by (under.begun new.now.slot) new.now.body))
             (under_way_if under new.now.slot
-            (issued_by (under.begun new.now.slot) new.now.body))) }
+            (current_by (under.begun new.now.slot) new.now.body))) }
         ensures unchanged { OnErr result
             ((s : SlotName) → row_of self.new.rows s ≡ row_of self.old.rows s) }
         ensures succeeds { IsSome (row_at self.old.rows new.now.slot) → IsOk result }

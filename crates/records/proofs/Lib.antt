@@ -10,7 +10,7 @@ pub mod Found
 pub mod FoundParts
 pub mod Readings
 pub mod Mended
-pub mod Words
+pub mod SlotStates
 pub mod Lists
 pub mod Highest
 pub mod Bounds

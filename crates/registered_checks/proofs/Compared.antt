@@ -6,7 +6,7 @@ use Rattle.std.specs.String.{string_bytes}
 use Rattle.std.specs.Io.KnownBytes.{Appends}
 use Rattle.std.proofs.Math.Seq.{take-append-add}
 use Rattle.outcomes.proofs.KnownBytes.{Appends-trans}
-use Rattle.outcomes.specs.declared.answer.Answer.{Answer}
+use Rattle.outcomes.specs.declared.program_output.ProgramOutput.{ProgramOutput}
 use Rattle.outcomes.specs.Outcomes.{Outcome, Writes, WritesPrefix, no_memory}
 use Rattle.bag_tree.specs.declared.fault.TreeFault.{TreeFault}
 use Rattle.bag_tree.specs.Facts.{TreeFacts}
@@ -49,7 +49,7 @@ module _ (report : Report) (P Q : Outcome → Type 0) (so : (alone : Outcome) �
 
 -- the bags were compared
 compared_after : (held : List Held) (known : List KnownBag) (old mid new : Option (List ℕ))
-    (status : ℕ) (answer : Answer) → new ≡ mid → IsComparison held known status answer
+    (status : ℕ) (answer : ProgramOutput) → new ≡ mid → IsComparison held known status answer
     → (alone : Outcome) → Writes old mid status alone
     → ComparesFor held known (Ends old new answer.status (string_bytes answer.text)) alone
 compared_after held known old mid new status answer kept is alone wrote =
@@ -63,7 +63,7 @@ compared_after held known old mid new status answer kept is alone wrote =
 
 -- memory ran out
 not_compared_after : (held : List Held) (known : List KnownBag) (old mid new : Option (List ℕ))
-    (status : ℕ) (answer : Answer) → IsOrMemory None mid new answer
+    (status : ℕ) (answer : ProgramOutput) → IsOrMemory None mid new answer
     → (alone : Outcome) → Writes old mid status alone
     → ComparesFor held known (Ends old new answer.status (string_bytes answer.text)) alone
 not_compared_after held known old mid new status answer is alone wrote =
@@ -76,7 +76,7 @@ module _ (report : Report) (place : Option (List ℕ)) (paths : List (List ℕ))
     (old mid new : Option (List ℕ)) (status : ℕ) where
   -- a check ended, and its bags were compared, or memory ran out
   pub compared_on : (known : List KnownBag) (before after : Option Given)
-      (comparison : Option Answer) (answer : Answer) → after ≡ before
+      (comparison : Option ProgramOutput) (answer : ProgramOutput) → after ≡ before
       → IfSome before (λ gives. ReportsOn report gives place paths (Writes old mid status))
       → IfSome comparison (λ it. ForSome after (λ gives.
       IsComparison (held_of gives paths) known status it))

@@ -6,7 +6,7 @@ ghost use Rattle.std.specs.Io.KnownBytes.{Appends};
 use crate::list_checks::{check_list_on, write_fault};
 use folder_checks::{CheckTask, spoken_folders, watched_folders};
 use known_bags::source_bytes;
-use outcomes::{Answer, ProgramFault, write_all, write_answer};
+use outcomes::{ProgramFault, ProgramOutput, write_all, write_output};
 use std::io;
 use std::io::Write;
 
@@ -32,7 +32,7 @@ fn check_against<W: Write>(
     output: &mut W,
 ) -> Result<u8, ProgramFault> {
     let Ok(folders) = watched_folders(rt, task) else {
-        return write_answer(output, 1, "memory\n");
+        return write_output(output, 1, "memory\n");
     };
     let folders = spoken_folders(rt, task, folders);
     let paths = task.paths.as_slice();
@@ -42,7 +42,7 @@ fn check_against<W: Write>(
 }
 
 /// Says what is to be said. The status is the answer's, but 1 where not all of it can be written.
-pub fn say_on<E: Write>(answer: &Answer, errors: &mut E) -> u8
+pub fn say_on<E: Write>(answer: &ProgramOutput, errors: &mut E) -> u8
     ensures { ((result ≡ answer.now.status)
         × Appends (E.contents errors.old) (E.contents errors.new) (string_bytes answer.now.text))
         ⊎ ((result ≡ 1) × ((n : ℕ) × Appends (E.contents errors.old) (E.contents errors.new)

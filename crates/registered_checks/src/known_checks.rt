@@ -17,7 +17,7 @@ use crate::noted_folders::NotedFolders;
 use bag_folders::Folders;
 use folder_checks::{Report, check_all_on};
 use known_bags::KnownBag;
-use outcomes::{Answer, ProgramFault, write_answer};
+use outcomes::{ProgramFault, ProgramOutput, write_output};
 use std::alloc::{AllocError, Global};
 use std::io::Write;
 
@@ -26,7 +26,7 @@ use std::io::Write;
 pub struct Checked<F> {
     pub folders: F,
     /// The exit status, and what is to be said of the bags on standard error.
-    pub answer: Answer,
+    pub answer: ProgramOutput,
 }
 
 /// Checks the folders of these paths, writes what the check alone writes, and compares the bags
@@ -73,7 +73,7 @@ fn comparison_of<F: Folders>(
     paths: &[&str],
     known: &[KnownBag],
     status: u8,
-) -> Option<Answer>
+) -> Option<ProgramOutput>
     ensures { IfSome result (λ answer. ForSome (F.gives folders.now.folders) (λ gives.
         IsComparison (held_of gives (map (λ path. path.now) paths.now)) known.now status answer)) }
 {
@@ -84,11 +84,16 @@ fn comparison_of<F: Folders>(
 }
 
 // The comparison of these bags with those that are known.
-fn answer_of(alloc: Global, held: &[HeldBag], known: &[KnownBag], status: u8) -> Option<Answer>
+fn answer_of(
+    alloc: Global,
+    held: &[HeldBag],
+    known: &[KnownBag],
+    status: u8,
+) -> Option<ProgramOutput>
     ensures { IfSome result (IsComparison held.now known.now status) }
 {
     match comparison_text(alloc, held, known) {
-        Ok(text) => Some(Answer {
+        Ok(text) => Some(ProgramOutput {
             status: status_of(held, known, status),
             text,
         }),
@@ -106,9 +111,9 @@ fn status_of(held: &[HeldBag], known: &[KnownBag], status: u8) -> u8
 // The comparison; where there is none it is written that memory ran out.
 fn answer_or_memory<W: Write>(
     alloc: Global,
-    comparison: Option<Answer>,
+    comparison: Option<ProgramOutput>,
     output: &mut W,
-) -> Result<Answer, ProgramFault>
+) -> Result<ProgramOutput, ProgramFault>
     ensures ok { IfOk result
         (IsOrMemory comparison (W.contents output.old) (W.contents output.new)) }
     ensures err { OnErr result ((n : ℕ)
@@ -117,8 +122,8 @@ fn answer_or_memory<W: Write>(
 {
     match comparison {
         Some(answer) => Ok(answer),
-        None => Ok(Answer {
-            status: write_answer(output, 1, "memory\n")?,
+        None => Ok(ProgramOutput {
+            status: write_output(output, 1, "memory\n")?,
             text: String::new(alloc),
         }),
     }

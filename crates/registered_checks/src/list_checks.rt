@@ -13,7 +13,7 @@ use crate::known_checks::{Checked, check_known_on};
 use bag_folders::Folders;
 use folder_checks::Report;
 use known_bags::{SourceFault, push_known};
-use outcomes::{Answer, ProgramFault, write_answer};
+use outcomes::{ProgramFault, ProgramOutput, write_output};
 use std::alloc::{AllocError, Global};
 use std::io::Write;
 
@@ -53,7 +53,7 @@ pub fn check_list_on<F: Folders + Drop, W: Write>(
             let text = String::new(alloc);
             Ok(Checked {
                 folders,
-                answer: Answer { status, text },
+                answer: ProgramOutput { status, text },
             })
         }
     }
@@ -74,8 +74,8 @@ pub(crate) fn write_fault<W: Write>(
     ensures fault { IfErr result (λ fault. fault ≡ ProgramFault.Output) }
 {
     match fault {
-        SourceFault::Unread => write_answer(output, 1, "open 4\n"),
-        SourceFault::Memory => write_answer(output, 1, "memory\n"),
+        SourceFault::Unread => write_output(output, 1, "open 4\n"),
+        SourceFault::Memory => write_output(output, 1, "memory\n"),
         SourceFault::Damaged(offset) => {
             write_line(output, format!(in alloc; "damaged {offset}\n"))
         }
@@ -95,7 +95,7 @@ fn write_line<W: Write>(
     ensures fault { IfErr result (λ fault. fault ≡ ProgramFault.Output) }
 {
     match line {
-        Ok(line) => write_answer(output, 1, line.as_str()),
-        Err(AllocError) => write_answer(output, 1, "memory\n"),
+        Ok(line) => write_output(output, 1, line.as_str()),
+        Err(AllocError) => write_output(output, 1, "memory\n"),
     }
 }

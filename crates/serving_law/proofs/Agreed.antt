@@ -12,7 +12,7 @@ use Rattle.bag_check.specs.declared.fault.BagFault.{BagFault}
 use Rattle.bag_check.specs.Check.{check_of}
 use Rattle.records.specs.declared.record.Record.{Record}
 use Rattle.records.specs.Records.{IsRecord, AreRecords}
-use Rattle.records.specs.Words.{known_of, used_of, deposit_of}
+use Rattle.records.specs.SlotStates.{known_of, used_of, deposit_of}
 use Rattle.dgram.specs.declared.body.Body.TheVariants.{Prepare}
 use Rattle.dgram.specs.declared.message.Message.{Message}
 use Rattle.dgram.specs.Encoding.{datagram_of}

@@ -16,7 +16,7 @@ use Rattle.records.specs.declared.entry.Entry.{Entry}
 use Rattle.records.specs.declared.entry.Entry.TheVariants as entry
 use Rattle.records.specs.declared.record.Record.{Record}
 use Rattle.records.specs.Records.{AreRecords}
-use Rattle.records.specs.Words.{known_of, used_of, deposit_of, promised_of, vote_of}
+use Rattle.records.specs.SlotStates.{known_of, used_of, deposit_of, promised_of, vote_of}
 use Rattle.dgram.specs.declared.body.Body.{Body}
 use Rattle.dgram.specs.declared.body.Body.TheVariants.{Prepare, Promise, Accept, Accepted}
 use Rattle.dgram.specs.Encoding.{datagram_of}
@@ -25,7 +25,7 @@ use Rattle.dgram.specs.Heard.{bodies_of, floor_of, promises_for, promisers, prio
 use Rattle.dgram.specs.Heard.{same_vote}
 use Rattle.acceptor.specs.Decisions.{prepare_decision, accept_decision}
 use Rattle.learner.specs.LearnedBags.{chosen_by}
-use Rattle.learner.specs.Ledgers as ledgers
+use Rattle.learner.specs.LearnerStates as ledgers
 use Rattle.learner.specs.declared.row.Row.{Row as heard_row}
 use Rattle.learner.specs.declared.row.Row.TheVariants as rows
 use Rattle.proposer.specs.Proposals.{gathered, highest_prior, proposal}
@@ -110,8 +110,8 @@ module _ (bag : BagId) (request : Request 7 a bag) where
       take count (Accepted 1 v ∷ Accepted 1 v ∷ Accepted 2 v ∷ Accepted 1 v ∷ [])
 
   -- site 1, which has issued its ballot, and another, which has none
-  abbrev issuing : (records messages : ℕ) → List ℕ → heard_row → State
-  issuing records messages voters heard = record {
+  abbrev begins_ballot : (records messages : ℕ) → List ℕ → heard_row → State
+  begins_ballot records messages voters heard = record {
     es = records_1 records;
     bs = heard_1 messages;
     current = Some issued;
@@ -178,30 +178,30 @@ module _ (bag : BagId) (request : Request 7 a bag) where
 
   abbrev pub hearing : Turn → Hearing
   hearing Asked1 =
-      sends 1 (issuing 2 0 [] rows.Unheard) (Prepare ballot) (Some (entry.Promise ballot))
+      sends 1 (begins_ballot 2 0 [] rows.Unheard) (Prepare ballot) (Some (entry.Promise ballot))
       (own_rows [] rows.Unheard) (to_site 1 (Promise 1 ballot None) ∷ [])
       (is_promise_1 bag request, tt) (omega arith)
   hearing Asked2 =
       sends 2 (idle [] [] rows.Unheard) (Prepare ballot) (Some (entry.Promise ballot)) unheard
       (to_site 1 (Promise 2 ballot None) ∷ []) (is_promise_2 bag request, tt) (omega arith)
   hearing Promised1 =
-      sends 1 (issuing 3 1 [] rows.Unheard) (Promise 1 ballot None) None
+      sends 1 (begins_ballot 3 1 [] rows.Unheard) (Promise 1 ballot None) None
       (own_rows (1 ∷ []) rows.Unheard) [] tt (omega arith)
   hearing Promised2 =
       let is = is_accept bag request in
-      sends 1 (issuing 3 2 (1 ∷ []) rows.Unheard) (Promise 2 ballot None) None
+      sends 1 (begins_ballot 3 2 (1 ∷ []) rows.Unheard) (Promise 2 ballot None) None
       (own_rows (1 ∷ 2 ∷ []) rows.Unheard) (to_all (Accept v)) (is, (is, (is, tt))) (omega arith)
   hearing Votes1 =
       let is = is_accepted_1 bag request in
-      sends 1 (issuing 3 3 (1 ∷ 2 ∷ []) rows.Unheard) (Accept v) (Some (entry.Vote v))
+      sends 1 (begins_ballot 3 3 (1 ∷ 2 ∷ []) rows.Unheard) (Accept v) (Some (entry.Vote v))
       (own_rows (1 ∷ 2 ∷ []) rows.Unheard) (to_all (Accepted 1 v)) (is, (is, (is, tt)))
       (omega arith)
   hearing Votes2 =
       let is = is_accepted_2 bag request in
       sends 2 (idle (records_2 1) (heard_2 1) rows.Unheard) (Accept v) (Some (entry.Vote v))
       unheard (to_all (Accepted 2 v)) (is, (is, (is, tt))) (omega arith)
-  hearing Hears11 = counts 1 (issuing 4 4 (1 ∷ 2 ∷ []) rows.Unheard) (Accepted 1 v) one_vote
-  hearing Hears12 = learns 1 (issuing 4 5 (1 ∷ 2 ∷ []) one_vote) (Accepted 2 v)
+  hearing Hears11 = counts 1 (begins_ballot 4 4 (1 ∷ 2 ∷ []) rows.Unheard) (Accepted 1 v) one_vote
+  hearing Hears12 = learns 1 (begins_ballot 4 5 (1 ∷ 2 ∷ []) one_vote) (Accepted 2 v)
   hearing Hears21 =
       counts 2 (idle (records_2 2) (heard_2 2) rows.Unheard) (Accepted 1 v) one_vote
   hearing Hears22 = learns 2 (idle (records_2 2) (heard_2 3) one_vote) (Accepted 2 v)

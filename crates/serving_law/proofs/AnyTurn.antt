@@ -15,7 +15,7 @@ use Rattle.bag_tree.specs.declared.fault.TreeFault.{TreeFault}
 use Rattle.bag_tree.specs.Facts.{TreeFacts}
 use Rattle.bag_tree.specs.Fault.{IsOrMemory}
 use Rattle.records.specs.Records.{IsRecord}
-use Rattle.records.specs.Words.{deposit_of, known_of}
+use Rattle.records.specs.SlotStates.{deposit_of, known_of}
 use Rattle.records.proofs.Bounds.{deposit_among}
 use Rattle.dgram.specs.declared.message.Message.{Message}
 use Rattle.dgram.specs.Messages.{IsMessage}
@@ -23,7 +23,7 @@ use Rattle.proposer.specs.Proposals.{next_ballot}
 use Rattle.site.specs.declared.answer.Answer.{Answer}
 use Rattle.site.specs.declared.fault.SiteFault.{SiteFault}
 use Rattle.site.specs.declared.fault.SiteFault.TheVariants as faults
-use Rattle.site.specs.Calls.{Input, Proposes, Arrives, effect_of, on_propose, issuing_if}
+use Rattle.site.specs.Calls.{Input, Proposes, Arrives, effect_of, on_propose, begins_ballot_if}
 use Rattle.lines.specs.Notices.{Notice}
 use Rattle.world_law.specs.Laws.{WasSent}
 use Rattle.world_law.proofs.Arrivals.{arrival_deed}
@@ -119,7 +119,7 @@ module _ {C : Type 0} (device : C → Device) (members : Membership) (s : Scene 
           (Proposes slot) is_slot
 
       refused : (known : Option BagId) (next : Option BallotNumber)
-          → IsWellFormedEffect (issuing_if q slot known None next (w.sites n).session)
+          → IsWellFormedEffect (begins_ballot_if q slot known None next (w.sites n).session)
       refused (Some bag) next = refuses_is (w.sites n).session (formed.heard n) _
       refused None next = refuses_is (w.sites n).session (formed.heard n) _
 
@@ -128,7 +128,7 @@ module _ {C : Type 0} (device : C → Device) (members : Membership) (s : Scene 
           (effect_of q n (w.sites n).records (w.sites n).session (Proposes slot))
       go None e =
           subst (λ (o : Option BagId). IsWellFormedEffect
-          (issuing_if q slot (known_of slot (w.sites n).records) o
+          (begins_ballot_if q slot (known_of slot (w.sites n).records) o
           (next_ballot n slot (w.sites n).records (w.sites n).session.heard) (w.sites n).session))
           (sym e) (refused (known_of slot (w.sites n).records) _)
       go (Some bag) e =

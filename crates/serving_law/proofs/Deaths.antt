@@ -14,9 +14,9 @@ use Rattle.bag_check.specs.Check.{check_of}
 use Rattle.records.specs.declared.entry.Entry.TheVariants as entry
 use Rattle.records.specs.declared.record.Record.{Record}
 use Rattle.records.specs.Records.{IsRecord, AreRecords}
-use Rattle.records.specs.Words.{known_of, deposit_of, with_one, if_some}
-use Rattle.records.specs.Words.{known_in, earlier}
-use Rattle.records.proofs.Words.{known-push}
+use Rattle.records.specs.SlotStates.{known_of, deposit_of, with_one, if_some}
+use Rattle.records.specs.SlotStates.{known_in, earlier}
+use Rattle.records.proofs.SlotStates.{known-push}
 use Rattle.dgram.specs.Heard.{bodies_of, floor_of, voters_for}
 use Rattle.learner.specs.declared.row.Row.TheVariants as rows
 use Rattle.proposer.specs.Rows.{empty_row}

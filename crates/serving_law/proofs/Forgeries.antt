@@ -14,9 +14,9 @@ use Rattle.fed_types.specs.Quorums.{quorums_of}
 use Rattle.std.specs.List.{cons_option}
 use Rattle.records.specs.declared.entry.Entry.TheVariants as entry
 use Rattle.records.specs.declared.record.Record.{Record}
-use Rattle.records.specs.Words.{known_of, with_one, if_some}
-use Rattle.records.specs.Words.{known_in, earlier}
-use Rattle.records.proofs.Words.{known-push}
+use Rattle.records.specs.SlotStates.{known_of, with_one, if_some}
+use Rattle.records.specs.SlotStates.{known_in, earlier}
+use Rattle.records.proofs.SlotStates.{known-push}
 use Rattle.dgram.specs.declared.body.Body.TheVariants.{Known}
 use Rattle.dgram.specs.declared.message.Message.{Message}
 use Rattle.dgram.specs.Heard.{bodies_of, floor_of}

@@ -17,7 +17,7 @@ use Rattle.records.specs.declared.entry.Entry.TheVariants as entry
 use Rattle.records.specs.declared.record.Record.{Record}
 use Rattle.records.specs.Bounds.{HasEntry}
 use Rattle.records.specs.Records.{AreRecords}
-use Rattle.records.specs.Words.{deposit_of, known_of}
+use Rattle.records.specs.SlotStates.{deposit_of, known_of}
 use Rattle.records.proofs.Bounds.{known_among}
 use Rattle.dgram.specs.Messages.{IsDepositAnswer, IsQueryAnswer}
 use Rattle.site.specs.declared.answer.Reply.TheVariants as replies

@@ -6,10 +6,10 @@ use Rattle.fed_types.specs.declared.vote.Vote.{Vote}
 use Rattle.fed_types.specs.Lists.{is_in}
 use Rattle.fed_types.specs.Slots.{SlotName, same_slot}
 use Rattle.records.specs.declared.entry.Entry.{Entry}
-use Rattle.records.specs.Words.{known_of, used_of, deposit_of}
+use Rattle.records.specs.SlotStates.{known_of, used_of, deposit_of}
 use Rattle.dgram.specs.declared.body.Body.{Body}
 use Rattle.dgram.specs.Heard.{same_vote, bodies_of, floor_of, voters_for, promisers}
-use Rattle.learner.specs.Ledgers as ledgers
+use Rattle.learner.specs.LearnerStates as ledgers
 use Rattle.learner.specs.declared.row.Row.{Row as heard_row}
 use Rattle.learner.specs.declared.row.Row.TheVariants as rows
 use Rattle.learner.proofs.HeardVotes.{same_vote_decides}

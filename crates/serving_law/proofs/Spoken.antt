@@ -9,15 +9,15 @@ use Rattle.fed_types.specs.Slots.{SlotName}
 use Rattle.fed_types.specs.Laws.Lists.{has_map, has_none}
 use Rattle.bag_check.specs.declared.fault.BagFault.{BagFault}
 use Rattle.records.specs.declared.record.Record.{Record}
-use Rattle.records.specs.Words.{deposit_of, known_of}
+use Rattle.records.specs.SlotStates.{deposit_of, known_of}
 use Rattle.dgram.specs.declared.body.Body.{Body}
 use Rattle.dgram.specs.declared.body.Body.TheVariants.{Prepare, Promise, Accept, Accepted, Refused}
 use Rattle.dgram.specs.declared.body.Body.TheVariants.{Ask, Known, Deposit, Query, DepositReply}
 use Rattle.dgram.specs.declared.body.Body.TheVariants.{QueryReply}
 use Rattle.dgram.specs.declared.message.Message.{Message}
 use Rattle.dgram.specs.Encoding.{body_from}
-use Rattle.acceptor.specs.declared.decision.Answer.{Answer}
-use Rattle.acceptor.specs.declared.decision.Answer.TheVariants as answer
+use Rattle.acceptor.specs.declared.decision.Response.{Response}
+use Rattle.acceptor.specs.declared.decision.Response.TheVariants as answer
 use Rattle.acceptor.specs.declared.decision.Decision.{Decision}
 use Rattle.acceptor.specs.Decisions.{prepare_decision, accept_decision}
 use Rattle.proposer.specs.Proposals.{ready, next_ballot}
@@ -27,7 +27,7 @@ use Rattle.site.specs.declared.fault.SiteFault.{SiteFault}
 use Rattle.site.specs.Arrivals.{answer_body, addressees, decided, proposing, learning, telling}
 use Rattle.site.specs.Arrivals.{on_body, on_arrival, is_member}
 use Rattle.site.specs.Calls.{Input, Deposits, Proposes, Asks, Arrives, effect_of, registering}
-use Rattle.site.specs.Calls.{on_deposit, issuing_if, on_propose, on_ask}
+use Rattle.site.specs.Calls.{on_deposit, begins_ballot_if, on_propose, on_ask}
 use Rattle.site.specs.declared.answer.Line.TheVariants as lines
 use Rattle.site.specs.Effects.{Send, to_each, only_says}
 
@@ -54,7 +54,7 @@ each_speaks slot body is sites d h =
     (λ (k : ℕ). record { to = k; message = record { slot = slot; body = body } }) sites h in
     subst (λ (d : Send). IsSiteBody d.message.body) f.2 is
 
-answer_speaks : (n : ℕ) (a : Answer) → IsSiteBody (answer_body n a)
+answer_speaks : (n : ℕ) (a : Response) → IsSiteBody (answer_body n a)
 answer_speaks n (answer.Promised ballot vote) = tt
 answer_speaks n (answer.Accepted vote) = tt
 answer_speaks n (answer.Refused asked standing) = tt
@@ -129,7 +129,7 @@ module _ (q : QuorumSystem) (n : ℕ) (records : List Record) where
     deposit_speaks slot (Ok bag) = registering_speaks slot (deposit_of slot records) bag _
 
     issuing_speaks : (slot : SlotName) (known own : Option BagId) (next : Option BallotNumber)
-        → Speak (issuing_if q slot known own next session).sends
+        → Speak (begins_ballot_if q slot known own next session).sends
     issuing_speaks slot (Some bag) own next = none_speak
     issuing_speaks slot None None next = none_speak
     issuing_speaks slot None (Some bag) None = none_speak

@@ -11,11 +11,11 @@ use Rattle.fed_types.specs.Slots.{SlotName, same_slot}
 use Rattle.fed_types.specs.Laws.Slots.{same_slot_equivalence, same_slot_decides}
 use Rattle.records.specs.declared.entry.Entry.{Entry}
 use Rattle.records.specs.declared.record.Record.{Record}
-use Rattle.records.specs.Words.{entries, known_of, used_of, deposit_of, round_in}
+use Rattle.records.specs.SlotStates.{entries, known_of, used_of, deposit_of, round_in}
 use Rattle.dgram.specs.declared.body.Body.{Body}
 use Rattle.dgram.specs.declared.message.Message.{Message}
 use Rattle.dgram.specs.Heard.{bodies_of, floor_of, voters_for, body_in}
-use Rattle.learner.specs.Ledgers as ledgers
+use Rattle.learner.specs.LearnerStates as ledgers
 use Rattle.learner.specs.declared.row.Row.{Row as heard_row}
 use Rattle.proposer.specs.declared.row.Row.{Row as own_row}
 use Rattle.proposer.specs.Rows.{Knows, row_of, empty_row}

@@ -10,12 +10,12 @@ use Rattle.fed_types.specs.Slots.{SlotName}
 use Rattle.cell_device.specs.Devices.{Device}
 use Rattle.records.specs.declared.entry.Entry.{Entry}
 use Rattle.records.specs.declared.record.Record.{Record}
-use Rattle.records.specs.Words.{promised_of, vote_of}
+use Rattle.records.specs.SlotStates.{promised_of, vote_of}
 use Rattle.book.specs.Volumes.{Volume}
 use Rattle.acceptor.specs.Decisions.{prepare_decision, accept_decision, promises, votes}
 use Rattle.acceptor.specs.Decisions.{votes_again}
 use Rattle.acceptor.specs.Decisions.{refuses, on_prepare, is_vote, is_in_ballot, on_new_accept}
-use Rattle.proposer.specs.Sessions.{Session, UnderWay, issued_by}
+use Rattle.proposer.specs.Sessions.{Session, UnderWay, current_by}
 use Rattle.site.specs.declared.answer.Answer.{Answer}
 use Rattle.site.specs.declared.answer.Line.{Line}
 use Rattle.site.specs.declared.fault.SiteFault.{SiteFault}
@@ -120,10 +120,10 @@ module _ {C : Type 0} (device : C → Device) (old mid new : OpenSite C)
 
 -- ---- the session
 
--- an entry that issues no ballot
+-- an entry that begins no ballot
 abbrev pub IsNoRound : Option Entry → Type 0
 IsNoRound None = Unit {0}
-IsNoRound (Some e) = (begun : Option BallotNumber) → issued_by begun e ≡ None
+IsNoRound (Some e) = (begun : Option BallotNumber) → current_by begun e ≡ None
 
 -- its record changes neither the session nor what is under way
 pub noted_same : (slot : SlotName) (e : Option Entry) → IsNoRound e
@@ -134,11 +134,11 @@ noted_same slot None none session under = (refl, refl)
 noted_same slot (Some e) none session under =
     rw (none (under.begun slot)) (refl, refl)
 
--- what an acceptor decides issues none
-pub prepare_issues_none : (slot : SlotName) (records : List Record) (ballot : BallotNumber)
+-- what an acceptor decides begins none
+pub prepare_starts_none : (slot : SlotName) (records : List Record) (ballot : BallotNumber)
     → IsNoRound (prepare_decision slot records ballot).entry
 unfolding prepare_decision
-prepare_issues_none slot records ballot = go (promised_of slot records)
+prepare_starts_none slot records ballot = go (promised_of slot records)
   where
     by_test : (promised : BallotNumber) (t : Bool)
         → IsNoRound (cond t (promises ballot (vote_of slot records))
@@ -150,10 +150,10 @@ prepare_issues_none slot records ballot = go (promised_of slot records)
     go None = λ begun. refl
     go (Some promised) = by_test promised (below promised ballot)
 
-pub accept_issues_none : (slot : SlotName) (records : List Record) (vote : Vote)
+pub accept_starts_none : (slot : SlotName) (records : List Record) (vote : Vote)
     → IsNoRound (accept_decision slot records vote).entry
 unfolding accept_decision
-accept_issues_none slot records vote =
+accept_starts_none slot records vote =
     go (promised_of slot records) (is_vote vote (vote_of slot records))
   where
     by_test : (promised : BallotNumber) (t : Bool)

@@ -14,8 +14,8 @@ use Rattle.cell_device.specs.Devices.{Device}
 use Rattle.records.specs.declared.entry.Entry.TheVariants as entry
 use Rattle.records.specs.declared.owner.Owner.{Owner}
 use Rattle.records.specs.declared.record.Record.{Record}
-use Rattle.records.specs.Words.{deposit_of, known_of, with_one, earlier, known_in, if_some}
-use Rattle.records.proofs.Words.{known-push}
+use Rattle.records.specs.SlotStates.{deposit_of, known_of, with_one, earlier, known_in, if_some}
+use Rattle.records.proofs.SlotStates.{known-push}
 use Rattle.book.specs.Volumes.{Volume}
 use Rattle.dgram.specs.declared.body.Body.{Body}
 use Rattle.dgram.specs.declared.body.Body.TheVariants as bodies
@@ -45,8 +45,8 @@ use Rattle.site.specs.Effects.{Effect, record_of, to_each, only_says, quiet}
 use Rattle.site.specs.Sites.{OpenSite, Represents, IsInOrder}
 use Rattle.site.specs.inner.Concluded.{Stands, session_after, under_after, Concludes, HearsBody}
 use Rattle.site.specs.inner.Concluded.{Issues, one_datagram, all_datagrams}
-use Rattle.site.proofs.Conclusions.{concluded, IsNoRound, noted_same, prepare_issues_none}
-use Rattle.site.proofs.Conclusions.{accept_issues_none}
+use Rattle.site.proofs.Conclusions.{concluded, IsNoRound, noted_same, prepare_starts_none}
+use Rattle.site.proofs.Conclusions.{accept_starts_none}
 
 -- a message that is no promise, no refusal and no vote
 pub record IsOther (body : Body) : Type 0 where
@@ -126,7 +126,7 @@ module _ {C : Type 0} (device : C → Device) (old new : OpenSite C) (slot : Slo
       hears_as (bodies.Prepare ballot) asker ballot.site d
       (prepare_decision slot old.book.records ballot)
       (record { no_promise = λ b. refl; no_refusal = refl; no_vote = λ v. refl }) from is
-      (prepare_issues_none slot old.book.records ballot)
+      (prepare_starts_none slot old.book.records ballot)
 
   pub hears_accept : (vote : Vote) (asker : ℕ) (d : Decision) → asker ≡ vote.ballot.site
       → d ≡ accept_decision slot old.book.records vote → ConcludesAs asker d
@@ -136,7 +136,7 @@ module _ {C : Type 0} (device : C → Device) (old new : OpenSite C) (slot : Slo
       hears_as (bodies.Accept vote) asker vote.ballot.site d
       (accept_decision slot old.book.records vote)
       (record { no_promise = λ b. refl; no_refusal = refl; no_vote = λ v. refl }) from is
-      (accept_issues_none slot old.book.records vote)
+      (accept_starts_none slot old.book.records vote)
 
 -- ---- a site whose tables hear something, and whose book stays
 module _ {C : Type 0} (book : Volume C) (old new : Contents)

@@ -9,6 +9,6 @@ pub mod Registered
 pub mod Refused
 pub mod Reopened
 pub mod BegunBallots
-pub mod IssuedBallots
+pub mod StartedBallots
 pub mod Proposed
 pub mod Reports

@@ -4,7 +4,7 @@ use Rattle.fed_types.specs.declared.bag_id.BagId.{BagId}
 use Rattle.fed_types.specs.Quorums.{quorums_of}
 use Rattle.fed_types.specs.Slots.{SlotName}
 use Rattle.cell_device.specs.Devices.{Device}
-use Rattle.records.specs.Words.{known_of, deposit_of}
+use Rattle.records.specs.SlotStates.{known_of, deposit_of}
 use Rattle.proposer.specs.Proposals.{next_ballot}
 use Rattle.proposer.specs.Sessions.{Session}
 use Rattle.site.specs.declared.answer.Answer.{Answer}
@@ -12,7 +12,7 @@ use Rattle.site.specs.declared.answer.Line.{Line}
 use Rattle.site.specs.declared.fault.SiteFault.{SiteFault}
 use Rattle.site.specs.declared.fault.SiteFault.TheVariants as faults
 use Rattle.site.specs.Answered.{IsAnswered, IsRefused}
-use Rattle.site.specs.Calls.{Proposes, on_propose, issuing_if}
+use Rattle.site.specs.Calls.{Proposes, on_propose, begins_ballot_if}
 use Rattle.site.specs.Effects.{Effect}
 use Rattle.site.specs.Sites.{OpenSite, Represents, effect}
 
@@ -21,11 +21,11 @@ module _ {C : Type 0} (device : C → Device) (s : OpenSite C) (session : Sessio
   -- the definitions, by what is known and the deposit
   by_bags : (known own : Option BagId) → known ≡ known_of slot s.book.records
       → own ≡ deposit_of slot s.book.records
-      → issuing_if (quorums_of s.book.owner.members) slot known own
+      → begins_ballot_if (quorums_of s.book.owner.members) slot known own
       (next_ballot s.book.owner.site slot s.book.records session.heard) session
       ≡ effect s session (Proposes slot)
   unfolding on_propose
-  by_bags known own k o = λ i. issuing_if (quorums_of s.book.owner.members) slot (k i) (o i)
+  by_bags known own k o = λ i. begins_ballot_if (quorums_of s.book.owner.members) slot (k i) (o i)
       (next_ballot s.book.owner.site slot s.book.records session.heard) session
 
   -- a bag is known

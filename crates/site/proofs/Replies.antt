@@ -3,7 +3,7 @@ use Rattle.std.proofs.Common.{◌≡◌, List, Option}
 use Rattle.fed_types.specs.declared.bag_id.BagId.{BagId}
 use Rattle.fed_types.specs.Slots.{SlotName}
 use Rattle.records.specs.declared.record.Record.{Record}
-use Rattle.records.specs.Words.{known_of, deposit_of}
+use Rattle.records.specs.SlotStates.{known_of, deposit_of}
 use Rattle.site.specs.Calls.{reply_by, reply_of}
 
 pub reply_is : (slot : SlotName) (records : List Record) (known own : Option BagId)

@@ -15,8 +15,8 @@ use Rattle.fed_types.specs.Slots.{SlotName}
 use Rattle.bag_check.specs.declared.fault.BagFault.{BagFault}
 use Rattle.records.specs.declared.record.Record.{Record}
 use Rattle.records.specs.declared.entry.Entry.TheVariants as entry
-use Rattle.records.specs.Words.{known_of, deposit_of, known_in, said_in, if_some, with_one, earlier}
-use Rattle.records.proofs.Words.{known-push}
+use Rattle.records.specs.SlotStates.{known_of, deposit_of, known_in, said_in, if_some, with_one, earlier}
+use Rattle.records.proofs.SlotStates.{known-push}
 use Rattle.dgram.specs.declared.body.Body.{Body}
 use Rattle.dgram.specs.declared.body.Body.TheVariants as bodies
 use Rattle.dgram.specs.declared.message.Message.{Message}
@@ -36,7 +36,7 @@ use Rattle.site.specs.Sites.{OpenSite, effect}
 use Rattle.site.specs.Arrivals.{on_arrival, on_body, learning, proposing, telling, is_member}
 use Rattle.site.specs.Calls.{Input, Deposits, Proposes, Asks, Arrives, effect_of, on_deposit}
 use Rattle.site.specs.Calls.{on_propose, on_ask}
-use Rattle.site.specs.Calls.{registering, deposit_fault, other_than, issuing_if, reply_by, reply_of}
+use Rattle.site.specs.Calls.{registering, deposit_fault, other_than, begins_ballot_if, reply_by, reply_of}
 use Rattle.site.specs.declared.answer.Line.TheVariants as lines
 use Rattle.site.specs.Effects.{Effect, only_says}
 use Rattle.site.specs.Reported.{Answered, Kept, Lost, Turn, Called, Queried, Report}
@@ -110,19 +110,19 @@ module _ (q : QuorumSystem) (site : ℕ) (records : List Record) (session : Sess
       (deposit_fault (other_than bag (deposit_of slot records))
       (other_than bag (known_of slot records)))
 
-  issued : (slot : SlotName) (known own : Option BagId) (next : Option BallotNumber)
-      → IsKnown records (issuing_if q slot known own next session)
-  issued slot (Some known) own next =
-      says_nothing records (issuing_if q slot (Some known) own next session) refl
-  issued slot None None next = says_nothing records (issuing_if q slot None None next session) refl
-  issued slot None (Some own) None =
-      says_nothing records (issuing_if q slot None (Some own) None session) refl
-  issued slot None (Some own) (Some ballot) =
-      says_nothing records (issuing_if q slot None (Some own) (Some ballot) session) refl
+  started : (slot : SlotName) (known own : Option BagId) (next : Option BallotNumber)
+      → IsKnown records (begins_ballot_if q slot known own next session)
+  started slot (Some known) own next =
+      says_nothing records (begins_ballot_if q slot (Some known) own next session) refl
+  started slot None None next = says_nothing records (begins_ballot_if q slot None None next session) refl
+  started slot None (Some own) None =
+      says_nothing records (begins_ballot_if q slot None (Some own) None session) refl
+  started slot None (Some own) (Some ballot) =
+      says_nothing records (begins_ballot_if q slot None (Some own) (Some ballot) session) refl
 
   proposed : (slot : SlotName) → IsKnown records (on_propose q site records session slot)
   unfolding on_propose
-  proposed slot = issued slot (known_of slot records) (deposit_of slot records)
+  proposed slot = started slot (known_of slot records) (deposit_of slot records)
       (next_ballot site slot records session.heard)
 
   asked : (slot : SlotName) (member : ℕ) → IsKnown records (on_ask site session slot member)

@@ -9,7 +9,7 @@ use Rattle.cell_device.specs.Images.{IfKnown}
 use Rattle.cell_device.specs.States.{IsIn, state_of}
 use Rattle.cell_device.specs.Time.{LeavesOnly}
 use Rattle.records.specs.declared.record.Record.{Record}
-use Rattle.records.specs.Words.{known_of}
+use Rattle.records.specs.SlotStates.{known_of}
 use Rattle.book.specs.declared.fault.CommitFault.{CommitFault}
 use Rattle.book.specs.declared.fault.CommitFault.TheVariants as commits
 use Rattle.book.specs.Committed.{SaysWithOrWithout, IsUnchanged, CameOut, commit_outcome}

@@ -9,15 +9,15 @@ use Rattle.fed_types.specs.Quorums.{QuorumSystem}
 use Rattle.fed_types.specs.Slots.{SlotName}
 use Rattle.records.specs.declared.entry.Entry.TheVariants as entry
 use Rattle.records.specs.declared.record.Record.{Record}
-use Rattle.records.specs.Words.{deposit_of, known_of}
+use Rattle.records.specs.SlotStates.{deposit_of, known_of}
 use Rattle.dgram.specs.declared.body.Body.{Body}
 use Rattle.dgram.specs.declared.body.Body.TheVariants.{Prepare, Promise, Accept, Accepted, Refused}
 use Rattle.dgram.specs.declared.body.Body.TheVariants.{Ask, Known, Deposit, Query, DepositReply}
 use Rattle.dgram.specs.declared.body.Body.TheVariants.{QueryReply}
 use Rattle.dgram.specs.declared.message.Message.{Message}
 use Rattle.dgram.specs.Encoding.{body_from}
-use Rattle.acceptor.specs.declared.decision.Answer.{Answer}
-use Rattle.acceptor.specs.declared.decision.Answer.TheVariants as answer
+use Rattle.acceptor.specs.declared.decision.Response.{Response}
+use Rattle.acceptor.specs.declared.decision.Response.TheVariants as answer
 use Rattle.acceptor.specs.declared.decision.Decision.{Decision}
 use Rattle.acceptor.specs.Decisions.{prepare_decision, accept_decision}
 use Rattle.proposer.specs.Proposals.{ready}
@@ -27,13 +27,13 @@ use Rattle.site.specs.declared.answer.Line.TheVariants as lines
 use Rattle.site.specs.Effects.{Effect, commits_and_sends, commits_and_says, only_says, quiet}
 
 -- an acceptor's answer as a message of its site
-abbrev pub answer_body : ℕ → Answer → Body
+abbrev pub answer_body : ℕ → Response → Body
 answer_body site (answer.Promised ballot vote) = Promise site ballot vote
 answer_body site (answer.Accepted vote) = Accepted site vote
 answer_body site (answer.Refused asked standing) = Refused site asked standing
 
 -- a vote goes to all members, anything else to the site that asked
-abbrev pub addressees : QuorumSystem → (asker : ℕ) → Answer → List ℕ
+abbrev pub addressees : QuorumSystem → (asker : ℕ) → Response → List ℕ
 addressees q asker (answer.Promised ballot vote) = asker ∷ []
 addressees q asker (answer.Accepted vote) = q.members
 addressees q asker (answer.Refused asked standing) = asker ∷ []

@@ -11,11 +11,11 @@ use Rattle.bag_check.specs.declared.fault.BagFault.{BagFault}
 use Rattle.records.specs.declared.entry.Entry.{Entry}
 use Rattle.records.specs.declared.entry.Entry.TheVariants as entry
 use Rattle.records.specs.declared.record.Record.{Record}
-use Rattle.records.specs.Words.{deposit_of, known_of}
+use Rattle.records.specs.SlotStates.{deposit_of, known_of}
 use Rattle.dgram.specs.declared.body.Body.TheVariants.{Prepare, Ask}
 use Rattle.dgram.specs.declared.message.Message.{Message}
 use Rattle.proposer.specs.Proposals.{next_ballot}
-use Rattle.proposer.specs.Sessions.{Session, issues}
+use Rattle.proposer.specs.Sessions.{Session, with_current}
 use Rattle.site.specs.declared.answer.Line.TheVariants as lines
 use Rattle.site.specs.declared.answer.Reply.{Reply}
 use Rattle.site.specs.declared.answer.Reply.TheVariants as replies
@@ -61,24 +61,24 @@ on_deposit records session slot (Ok bag) =
 
 -- ---- a proposal
 
--- Phase 1 (a): a ballot is issued. Its round is recorded, and all members are asked to promise it.
-abbrev pub issuing : QuorumSystem → SlotName → BallotNumber → Session → Effect
-issuing q slot ballot session =
+-- Phase 1 (a): a ballot is begun. Its round is recorded, and all members are asked to promise it.
+abbrev pub begins_ballot : QuorumSystem → SlotName → BallotNumber → Session → Effect
+begins_ballot q slot ballot session =
     commits_and_sends slot (Some (entry.Round ballot.round)) (Prepare ballot) q.members
-    (issues session slot ballot)
+    (with_current session slot ballot)
 
 -- a site proposes where no bag is known, it has a deposit, and a ballot is left; the first of these
 -- that isn't so is why it refuses
-abbrev pub issuing_if :
+abbrev pub begins_ballot_if :
     QuorumSystem → SlotName → (known own : Option BagId) → Option BallotNumber → Session → Effect
-issuing_if q slot (Some known) own next session = refuses faults.AlreadyKnown session
-issuing_if q slot None None next session = refuses faults.NoDeposit session
-issuing_if q slot None (Some own) None session = refuses faults.RoundsSpent session
-issuing_if q slot None (Some own) (Some ballot) session = issuing q slot ballot session
+begins_ballot_if q slot (Some known) own next session = refuses faults.AlreadyKnown session
+begins_ballot_if q slot None None next session = refuses faults.NoDeposit session
+begins_ballot_if q slot None (Some own) None session = refuses faults.RoundsSpent session
+begins_ballot_if q slot None (Some own) (Some ballot) session = begins_ballot q slot ballot session
 
 unfoldable pub on_propose : QuorumSystem → (site : ℕ) → List Record → Session → SlotName → Effect
 on_propose q site records session slot =
-    issuing_if q slot (known_of slot records) (deposit_of slot records)
+    begins_ballot_if q slot (known_of slot records) (deposit_of slot records)
     (next_ballot site slot records session.heard) session
 
 -- ---- a question

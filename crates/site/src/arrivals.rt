@@ -21,7 +21,7 @@ ghost use Rattle.site.specs.inner.Concluded.{Concludes, HearsBody, Issues, all_d
 use crate::answer::{Answer, Line, Sealed};
 use crate::fault::SiteFault;
 use crate::member_site::{Site, dropped, quiet};
-use acceptor::{Answer as Verdict, Decision};
+use acceptor::{Decision, Response};
 use cell_device::Cell;
 use dgram::{Body, DgramFault, Message, decode};
 use fed_types::{BagId, Ballot, SiteNo, Slot, Vote};
@@ -48,7 +48,7 @@ impl<C: Cell> Site<C> {
             return Err(SiteFault::NeedsOpen);
         }
         match self.read(bytes)? {
-            Some(message) => self.take_in(message),
+            Some(message) => self.on_message(message),
             None => Ok(dropped(self.alloc)),
         }
     }
@@ -66,7 +66,7 @@ impl<C: Cell> Site<C> {
         ensures untouched { self.old.book.needs_opening ≡ true → self.new ≡ self.old }
     {
         if !self.book.needs_opening() {
-            return self.take_in(message);
+            return self.on_message(message);
         }
         Err(SiteFault::NeedsOpen)
     }
@@ -87,7 +87,7 @@ impl<C: Cell> Site<C> {
     }
 
     // What doesn't come from a member is dropped.
-    fn take_in(&mut self, message: Message) -> Result<Answer, SiteFault>
+    fn on_message(&mut self, message: Message) -> Result<Answer, SiteFault>
         requires { self.old.book.needs_opening ≡ false }
         ensures answer { (session : Session) → Represents self.old session
             → IsAnswered C.device self.old self.new session
@@ -96,7 +96,7 @@ impl<C: Cell> Site<C> {
         ensures fault { ¬ IsErrOf result SiteFault.NeedsOpen }
     {
         if self.is_from_member(&message) {
-            self.hear(message)
+            self.on_body(message)
         } else {
             Ok(dropped(self.alloc))
         }
@@ -113,23 +113,23 @@ impl<C: Cell> Site<C> {
     }
 
     // Hears a message of a member.
-    fn hear(&mut self, message: Message) -> Result<Answer, SiteFault>
+    fn on_body(&mut self, message: Message) -> Result<Answer, SiteFault>
         requires { self.old.book.needs_opening ≡ false }
         ensures { HearsBody C.device self.old self.new message.slot message.body result }
     {
         let Message { slot, body } = message;
         match body {
-            Body::Prepare { ballot } => self.prepare(slot, ballot),
-            Body::Accept { vote } => self.accept(slot, vote),
+            Body::Prepare { ballot } => self.on_prepare(slot, ballot),
+            Body::Accept { vote } => self.on_accept(slot, vote),
             Body::Promise {
                 from,
                 ballot,
                 prior,
-            } => self.promised(slot, from, ballot, prior),
-            Body::Accepted { from, vote } => self.accepted(slot, from, vote),
-            Body::Known { bag, .. } => self.told(slot, bag),
-            Body::Refused { standing, .. } => self.refused(slot, standing),
-            Body::Ask { from } => self.tell(slot, from),
+            } => self.on_promise(slot, from, ballot, prior),
+            Body::Accepted { from, vote } => self.on_accepted(slot, from, vote),
+            Body::Known { bag, .. } => self.on_known(slot, bag),
+            Body::Refused { standing, .. } => self.on_refused(slot, standing),
+            Body::Ask { from } => self.answer_ask(slot, from),
             Body::Deposit { .. }
             | Body::Query
             | Body::DepositReply { .. }
@@ -137,7 +137,7 @@ impl<C: Cell> Site<C> {
         }
     }
 
-    fn prepare(&mut self, slot: Slot, ballot: Ballot) -> Result<Answer, SiteFault>
+    fn on_prepare(&mut self, slot: Slot, ballot: Ballot) -> Result<Answer, SiteFault>
         requires { self.old.book.needs_opening ≡ false }
         ensures { HearsBody C.device self.old self.new slot (bodies.Prepare ballot) result }
     {
@@ -145,7 +145,7 @@ impl<C: Cell> Site<C> {
         self.decide(slot, ballot.site(), decision)
     }
 
-    fn accept(&mut self, slot: Slot, vote: Vote) -> Result<Answer, SiteFault>
+    fn on_accept(&mut self, slot: Slot, vote: Vote) -> Result<Answer, SiteFault>
         requires { self.old.book.needs_opening ≡ false }
         ensures { HearsBody C.device self.old self.new slot (bodies.Accept vote) result }
     {
@@ -181,7 +181,7 @@ impl<C: Cell> Site<C> {
         &self,
         message: &Message,
         asker: SiteNo,
-        answer: &Verdict,
+        answer: &Response,
     ) -> Result<Vec<Sealed>, AllocError>
         ensures { IfOk result (λ sends. map handed_out sends.items
             ≡ map (datagram self.now.book.owner.members.federation)
@@ -189,12 +189,12 @@ impl<C: Cell> Site<C> {
             (addressees (quorums_of self.now.book.owner.members) asker answer.now))) }
     {
         match *answer {
-            Verdict::Accepted(_) => self.send_to_all(message),
-            Verdict::Promised(..) | Verdict::Refused { .. } => self.send(message, asker),
+            Response::Accepted(_) => self.send_to_all(message),
+            Response::Promised(..) | Response::Refused { .. } => self.send(message, asker),
         }
     }
 
-    fn promised(
+    fn on_promise(
         &mut self,
         slot: Slot,
         from: SiteNo,
@@ -225,7 +225,7 @@ impl<C: Cell> Site<C> {
         Ok(Answer { line: None, sends })
     }
 
-    fn accepted(&mut self, slot: Slot, from: SiteNo, vote: Vote) -> Result<Answer, SiteFault>
+    fn on_accepted(&mut self, slot: Slot, from: SiteNo, vote: Vote) -> Result<Answer, SiteFault>
         requires { self.old.book.needs_opening ≡ false }
         ensures { HearsBody C.device self.old self.new slot (bodies.Accepted from vote) result }
     {
@@ -235,7 +235,7 @@ impl<C: Cell> Site<C> {
         }
     }
 
-    fn told(&mut self, slot: Slot, bag: BagId) -> Result<Answer, SiteFault>
+    fn on_known(&mut self, slot: Slot, bag: BagId) -> Result<Answer, SiteFault>
         requires { self.old.book.needs_opening ≡ false }
         ensures { (from : ℕ)
             → HearsBody C.device self.old self.new slot (bodies.Known from bag) result }
@@ -261,7 +261,7 @@ impl<C: Cell> Site<C> {
         self.conclude(new, Answer { line, sends })
     }
 
-    fn refused(&mut self, slot: Slot, standing: Ballot) -> Result<Answer, SiteFault>
+    fn on_refused(&mut self, slot: Slot, standing: Ballot) -> Result<Answer, SiteFault>
         ensures { (from : ℕ) (asked : BallotNumber) → HearsBody C.device self.old self.new slot
             (bodies.Refused from asked standing) result }
     {
@@ -270,7 +270,7 @@ impl<C: Cell> Site<C> {
     }
 
     // Sends the known bag to the site that asks for it.
-    fn tell(&self, slot: Slot, asker: SiteNo) -> Result<Answer, SiteFault>
+    fn answer_ask(&self, slot: Slot, asker: SiteNo) -> Result<Answer, SiteFault>
         ensures { HearsBody C.device self.now self.now slot (bodies.Ask asker) result }
     {
         match self.tables.known(&slot) {
@@ -286,17 +286,17 @@ impl<C: Cell> Site<C> {
 }
 
 // An acceptor's answer as a message of its site.
-fn body_of(from: SiteNo, answer: &Verdict) -> Body
+fn body_of(from: SiteNo, answer: &Response) -> Body
     ensures { result ≡ answer_body from answer.now }
 {
     match *answer {
-        Verdict::Promised(ballot, prior) => Body::Promise {
+        Response::Promised(ballot, prior) => Body::Promise {
             from,
             ballot,
             prior,
         },
-        Verdict::Accepted(vote) => Body::Accepted { from, vote },
-        Verdict::Refused { asked, standing } => Body::Refused {
+        Response::Accepted(vote) => Body::Accepted { from, vote },
+        Response::Refused { asked, standing } => Body::Refused {
             from,
             asked,
             standing,

@@ -1,7 +1,7 @@
 ghost use Rattle.std.specs.Prelude.{◌≡◌, ℕ, List, ◌++◌, Some};
 ghost use Rattle.fed_types.specs.Quorums.{QuorumSystem};
 ghost use Rattle.records.specs.declared.record.Record.{Record};
-ghost use Rattle.records.specs.Words.{known_of};
+ghost use Rattle.records.specs.SlotStates.{known_of};
 ghost use Rattle.site.specs.Reported.{Turn, Report, Agree, records_after, report_of, reports_of};
 
 /// A site never reports two bags for one slot, whatever arrives, and however often it is opened:

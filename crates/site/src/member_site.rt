@@ -7,7 +7,7 @@ ghost use Rattle.book.specs.Volumes.{HoldsText, RecoversTo};
 ghost use Rattle.cell_device.specs.Memory.{fuse_of, failures_of, fuse_after_set, IsSameMedium};
 ghost use Rattle.proposer.specs.Sessions.{Session, new_session};
 ghost use Rattle.site.specs.Answered.{IsAnswered, IsRefused};
-ghost use Rattle.records.specs.Words.{deposit_of, known_of};
+ghost use Rattle.records.specs.SlotStates.{deposit_of, known_of};
 ghost use Rattle.site.specs.Calls.{Deposits, Proposes, Asks, reply_of, other_than, deposit_fault};
 ghost use Rattle.site.specs.declared.answer.Line.TheVariants as lines;
 ghost use Rattle.site.specs.Datagrams.{handed_out};
@@ -174,7 +174,7 @@ impl<C: Cell> Site<C> {
         self.register(slot, bag)
     }
 
-    /// Proposes the slot's deposit: issues the next ballot, and asks all members to promise it.
+    /// Proposes the slot's deposit: begins the next ballot, and asks all members to promise it.
     /// Where that is refused, it takes no memory.
     pub fn propose(&mut self, slot: &Slot) -> Result<Answer, SiteFault>
         ensures answer { self.old.book.needs_opening ≡ false → (session : Session)
@@ -195,7 +195,7 @@ impl<C: Cell> Site<C> {
             return Err(SiteFault::AlreadyKnown);
         }
         match self.tables.deposit(slot) {
-            Some(own) => self.issue(slot, own),
+            Some(own) => self.start_ballot(slot, own),
             None => Err(SiteFault::NoDeposit),
         }
     }
@@ -223,8 +223,8 @@ impl<C: Cell> Site<C> {
         self.conclude(new, Answer { line, sends })
     }
 
-    // Issues the slot's next ballot, to propose this bag where no vote stands in the way.
-    fn issue(&mut self, slot: &Slot, own: BagId) -> Result<Answer, SiteFault>
+    // Begins the slot's next ballot, to propose this bag where no vote stands in the way.
+    fn start_ballot(&mut self, slot: &Slot, own: BagId) -> Result<Answer, SiteFault>
         requires opened { self.old.book.needs_opening ≡ false }
         requires deposit { deposit_of slot.now self.old.book.records ≡ Some own }
         ensures answer { (session : Session) → Represents self.old session

@@ -5,7 +5,7 @@ use Rattle.std.proofs.Common.{refl, sym, ap, subst, ◌∙◌, append_assoc, app
 use Rattle.std.specs.Prelude.{IfSome, IsErr}
 use Rattle.std.specs.Option.{option_or}
 use Rattle.std.specs.declared.alloc.AllocError.{AllocError}
-use Rattle.outcomes.specs.declared.answer.Answer.{Answer}
+use Rattle.outcomes.specs.declared.program_output.ProgramOutput.{ProgramOutput}
 use Rattle.outcomes.specs.declared.fault.ProgramFault.{ProgramFault}
 use Rattle.udp_site.specs.Traffic.{Move, Grows}
 use Rattle.udp_site.proofs.Growth.{Grows-trans, Grows-none}
@@ -155,20 +155,20 @@ module _ (q : Question) (path : Option (List ℕ)) (a : Option (List Move)) wher
 
 module _ (q : Question) (path : Option (List ℕ)) (a b : Option (List Move)) where
   -- nothing was asked
-  pub not_begun : (result : Result (Option Answer) AllocError) → IsErr result
+  pub not_begun : (result : Result (Option ProgramOutput) AllocError) → IsErr result
       → IsLastAnswer q path a a result
   not_begun (Ok given) err = absurd (cc err)
   not_begun (Err e) err = ([], [], [], Grows-none a, refl, inl refl)
 
   -- there was a reply, and no memory for its line
-  pub no_room : (last : Option Reply) (result : Result (Option Answer) AllocError) → IsErr result
+  pub no_room : (last : Option Reply) (result : Result (Option ProgramOutput) AllocError) → IsErr result
       → IsLastReply q path a b (Ok last) → IsLastAnswer q path a b result
   no_room last (Ok given) err is = absurd (cc err)
   no_room last (Err e) err (replies, m, grows, are, was) =
       (replies, m, [], subst (Grows a b) (sym (append-nil m)) grows, are, inl refl)
 
   pub told : (old new : Option (List ℕ)) (result : Result ℕ ProgramFault)
-      (answer : Result (Option Answer) AllocError) → IsLastAnswer q path a b answer
+      (answer : Result (Option ProgramOutput) AllocError) → IsLastAnswer q path a b answer
       → IsWritten old new result (outcome_to answer) → IsSentUntilKnown q path a b old new result
   told old new result (Ok answer) (replies, m, grows, are, is) written =
       inl (replies, m, grows, are, subst (IsWritten old new result) is written)

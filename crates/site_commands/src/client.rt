@@ -11,7 +11,7 @@ use crate::exchange::{PortUse, ask, datagram};
 use crate::reply::{Reply, Wanted, query_in, wanted_for};
 use crate::request::Request;
 use dgram::{FolderPath, QueryAnswer};
-use outcomes::{Answer, ProgramFault, write_answer};
+use outcomes::{ProgramFault, ProgramOutput, write_output};
 use std::alloc::{AllocError, Global};
 use std::io::Write;
 use udp_site::Port;
@@ -37,15 +37,15 @@ pub fn send_on<P: Port, W: Write>(
 /// Writes this answer, or that there is none or no memory for it.
 pub(crate) fn write_reply<W: Write>(
     output: &mut W,
-    answer: Result<Option<Answer>, AllocError>,
+    answer: Result<Option<ProgramOutput>, AllocError>,
 ) -> Result<u8, ProgramFault>
     ensures { IsWritten (W.contents output.old) (W.contents output.new) result
         (outcome_to answer) }
 {
     match answer {
-        Ok(Some(answer)) => write_answer(output, answer.status, answer.text.as_str()),
-        Ok(None) => write_answer(output, 1, "no answer\n"),
-        Err(AllocError) => write_answer(output, 1, "memory\n"),
+        Ok(Some(answer)) => write_output(output, answer.status, answer.text.as_str()),
+        Ok(None) => write_output(output, 1, "no answer\n"),
+        Err(AllocError) => write_output(output, 1, "memory\n"),
     }
 }
 
@@ -55,7 +55,7 @@ fn answer<P: Port>(
     port: &mut P,
     request: &Request<'_>,
     path: Option<FolderPath>,
-) -> Result<Option<Answer>, AllocError>
+) -> Result<Option<ProgramOutput>, AllocError>
     ensures { IsAnswered (question_of request.now) path
         (P.traffic port.old) (P.traffic port.new) result }
 {
@@ -94,7 +94,7 @@ pub(crate) fn answer_of(
     alloc: Global,
     request: &Request<'_>,
     reply: Reply,
-) -> Result<Answer, AllocError>
+) -> Result<ProgramOutput, AllocError>
     ensures { IfOk result
         (λ answer. outcome_in answer ≡ outcome_of (question_of request.now) (Some reply)) }
 {

@@ -8,7 +8,7 @@ ghost use Rattle.site_commands.specs.inner.Written.{outcome_in};
 use dgram::{DepositAnswer, QueryAnswer};
 use fed_types::{BagId, SiteNo, Slot};
 use lines::{Line, NamedBag, NamedReply, Options, push_line};
-use outcomes::Answer;
+use outcomes::ProgramOutput;
 use site::SiteFault;
 use std::alloc::{AllocError, Global};
 
@@ -18,7 +18,7 @@ pub(crate) fn deposit_text(
     to: SiteNo,
     slot: Slot,
     answer: DepositAnswer,
-) -> Result<Answer, AllocError>
+) -> Result<ProgramOutput, AllocError>
     ensures { IfOk result (λ given. outcome_in given ≡ deposit_outcome to slot answer) }
 {
     let site = to.number();
@@ -47,7 +47,7 @@ pub(crate) fn query_text(
     to: SiteNo,
     slot: Slot,
     answer: QueryAnswer,
-) -> Result<Answer, AllocError>
+) -> Result<ProgramOutput, AllocError>
     ensures { IfOk result (λ given. outcome_in given ≡ query_outcome to slot answer) }
 {
     let site = to.number();
@@ -63,7 +63,7 @@ pub(crate) fn query_text(
 }
 
 // A line, in which the bag has its identity.
-fn line_text(alloc: Global, line: &Line) -> Result<Answer, AllocError>
+fn line_text(alloc: Global, line: &Line) -> Result<ProgramOutput, AllocError>
     ensures { IfOk result (λ given. outcome_in given ≡ said line.now) }
 {
     let options = Options {
@@ -72,14 +72,14 @@ fn line_text(alloc: Global, line: &Line) -> Result<Answer, AllocError>
     };
     let mut text = String::new(alloc);
     push_line(alloc, &mut text, options, line)?;
-    Ok(Answer { status: 0, text })
+    Ok(ProgramOutput { status: 0, text })
 }
 
 // The site refuses, for the reason of this code.
-fn refused(alloc: Global, site: u8, code: u8) -> Result<Answer, AllocError>
+fn refused(alloc: Global, site: u8, code: u8) -> Result<ProgramOutput, AllocError>
     ensures { IfOk result (λ given. outcome_in given ≡ refused site code) }
 {
-    Ok(Answer {
+    Ok(ProgramOutput {
         status: 1,
         text: format!(in alloc; "refused {site} {code}\n")?,
     })

@@ -59,15 +59,15 @@ pub(crate) fn ask<P: Port>(
         Ok(()) => {}
         Err(_) => return Ok(None),
     }
-    let reply = hear(alloc, port, request, wanted)?;
+    let reply = receive_reply(alloc, port, request, wanted)?;
     match (reply, port_use) {
-        (None, PortUse::Used) => hear(alloc, port, request, wanted),
+        (None, PortUse::Used) => receive_reply(alloc, port, request, wanted),
         _ => Ok(reply),
     }
 }
 
 // The reply that is wanted, if it comes before a turn is idle.
-fn hear<P: Port>(
+fn receive_reply<P: Port>(
     alloc: Global,
     port: &mut P,
     request: &Request<'_>,

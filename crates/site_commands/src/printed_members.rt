@@ -6,7 +6,7 @@ use crate::member_words::sites_in;
 use crate::members_arguments::MembersTask;
 use crate::stop::{Stop, write_stop};
 use members_file::MemberSites;
-use outcomes::{ProgramFault, write_answer};
+use outcomes::{ProgramFault, write_output};
 use std::alloc::{AllocError, Global};
 use std::io;
 
@@ -14,7 +14,7 @@ use std::io;
 pub fn print_members(rt: &HostRuntime, task: &MembersTask<'_>) -> Result<u8, ProgramFault> {
     let mut output = io::writer(rt);
     match text_for(rt, task) {
-        Ok(text) => write_answer(&mut output, 0, text.as_str()),
+        Ok(text) => write_output(&mut output, 0, text.as_str()),
         Err(stop) => write_stop(rt.alloc(), &mut output, stop),
     }
 }

@@ -1,6 +1,6 @@
 //! Why the program doesn't begin what it was asked for.
 
-use outcomes::{ProgramFault, write_answer};
+use outcomes::{ProgramFault, write_output};
 use std::alloc::{AllocError, Global};
 use std::io::Write;
 
@@ -28,14 +28,14 @@ pub enum Stop {
 /// Writes why, as a line, and gives the status 1.
 pub fn write_stop<W: Write>(alloc: Global, output: &mut W, stop: Stop) -> Result<u8, ProgramFault> {
     match stop {
-        Stop::MembersUnread => write_answer(output, 1, "members unread\n"),
+        Stop::MembersUnread => write_output(output, 1, "members unread\n"),
         Stop::MembersLine(line) => write_numbered(output, members_line(alloc, line)),
-        Stop::OtherList => write_answer(output, 1, "members other list\n"),
-        Stop::NotAMember => write_answer(output, 1, "not a member\n"),
-        Stop::BagsUnread => write_answer(output, 1, "bags unread\n"),
-        Stop::CellUnopened => write_answer(output, 1, "open 4\n"),
-        Stop::Socket => write_answer(output, 1, "socket\n"),
-        Stop::Memory => write_answer(output, 1, "memory\n"),
+        Stop::OtherList => write_output(output, 1, "members other list\n"),
+        Stop::NotAMember => write_output(output, 1, "not a member\n"),
+        Stop::BagsUnread => write_output(output, 1, "bags unread\n"),
+        Stop::CellUnopened => write_output(output, 1, "open 4\n"),
+        Stop::Socket => write_output(output, 1, "socket\n"),
+        Stop::Memory => write_output(output, 1, "memory\n"),
     }
 }
 
@@ -45,8 +45,8 @@ pub fn write_numbered<W: Write>(
     line: Result<String, AllocError>,
 ) -> Result<u8, ProgramFault> {
     match line {
-        Ok(line) => write_answer(output, 1, line.as_str()),
-        Err(AllocError) => write_answer(output, 1, "memory\n"),
+        Ok(line) => write_output(output, 1, line.as_str()),
+        Err(AllocError) => write_output(output, 1, "memory\n"),
     }
 }
 

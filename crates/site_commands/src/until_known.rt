@@ -13,7 +13,7 @@ use crate::exchange::{PortUse, ask, datagram};
 use crate::reply::{Reply, Wanted};
 use crate::request::Request;
 use dgram::{DepositAnswer, FolderPath, QueryAnswer};
-use outcomes::{Answer, ProgramFault};
+use outcomes::{ProgramFault, ProgramOutput};
 use std::alloc::{AllocError, Global};
 use std::io::Write;
 use std::thread;
@@ -59,7 +59,7 @@ fn last_answer<P: Port, C: Clock>(
     request: &Request<'_>,
     path: Option<FolderPath>,
     seconds: u32,
-) -> Result<Option<Answer>, AllocError>
+) -> Result<Option<ProgramOutput>, AllocError>
     ensures { IsLastAnswer (question_of request.now) path
         (P.traffic port.old) (P.traffic port.new) result }
 {
@@ -82,13 +82,17 @@ fn wanted_until(path: &Option<FolderPath>) -> Wanted
 }
 
 // What a reply says, with the status 0 only where the bag is known.
-fn answer_to(alloc: Global, request: &Request<'_>, reply: Reply) -> Result<Answer, AllocError>
+fn answer_to(
+    alloc: Global,
+    request: &Request<'_>,
+    reply: Reply,
+) -> Result<ProgramOutput, AllocError>
     ensures { IfOk result
         (λ answer. outcome_in answer ≡ until_outcome (question_of request.now) (Some reply)) }
 {
-    let Answer { text, .. } = answer_of(alloc, request, reply)?;
+    let ProgramOutput { text, .. } = answer_of(alloc, request, reply)?;
     let status = if is_known(&reply) { 0 } else { 1 };
-    Ok(Answer { status, text })
+    Ok(ProgramOutput { status, text })
 }
 
 // The reply that says which bag is known or that a deposit is refused; or the last in this time.

@@ -7,8 +7,8 @@ use Rattle.fed_types.specs.Quorums.{QuorumSystem}
 use Rattle.fed_types.specs.Slots.{SlotName, same_slot}
 use Rattle.fed_types.specs.Laws.Slots.{same_slot_decides}
 use Rattle.records.specs.declared.record.Record.{Record}
-use Rattle.records.specs.Words.{deposit_in, deposit_of, earlier, entry_of, with_one, if_some}
-use Rattle.records.proofs.Words.{deposit-push}
+use Rattle.records.specs.SlotStates.{deposit_in, deposit_of, earlier, entry_of, with_one, if_some}
+use Rattle.records.proofs.SlotStates.{deposit-push}
 use Rattle.dgram.specs.declared.message.Message.{Message}
 use Rattle.dgram.specs.Heard.{PromiseFrom}
 use Rattle.proposer.specs.Proposals.{Current, ready}

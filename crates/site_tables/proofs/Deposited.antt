@@ -9,8 +9,8 @@ use Rattle.fed_types.specs.Slots.{SlotName, same_slot}
 use Rattle.records.specs.declared.entry.Entry.{Entry}
 use Rattle.records.specs.declared.entry.Entry.TheVariants as entry
 use Rattle.records.specs.declared.record.Record.{Record}
-use Rattle.records.specs.Words.{deposit_in, deposit_of, earlier, with_one, if_some}
-use Rattle.records.proofs.Words.{deposit-push}
+use Rattle.records.specs.SlotStates.{deposit_in, deposit_of, earlier, with_one, if_some}
+use Rattle.records.proofs.SlotStates.{deposit-push}
 use Rattle.slot_table.specs.Rows.{Rows, row_at}
 use Rattle.site_tables.specs.Contents.{unless_there, with_bag, with_deposit, deposits_of}
 

@@ -8,7 +8,7 @@ use Rattle.fed_types.specs.Ballots.{BallotNumber}
 use Rattle.fed_types.specs.Lists.{is_in}
 use Rattle.fed_types.specs.Slots.{SlotName, same_slot}
 use Rattle.records.specs.declared.record.Record.{Record}
-use Rattle.records.specs.Words.{known_of}
+use Rattle.records.specs.SlotStates.{known_of}
 use Rattle.dgram.specs.declared.body.Body.TheVariants.{Accepted}
 use Rattle.dgram.specs.declared.message.Message.{Message}
 use Rattle.dgram.specs.Heard.{bodies_of, promise_in, refused_round, voter_in, voters_for}
@@ -22,7 +22,7 @@ use Rattle.proposer.specs.Sessions.{Session, UnderWay, hears, promise_message, h
 use Rattle.proposer.specs.Sessions.{heard_if}
 use Rattle.proposer.proofs.Stands.{heard_stands}
 use Rattle.learner.specs.declared.row.Row.{Row as learner_row}
-use Rattle.learner.specs.Ledgers as learners
+use Rattle.learner.specs.LearnerStates as learners
 use Rattle.learner.proofs.HeardVotes.{heard_known}
 use Rattle.site_tables.specs.Contents.{Contents, Represents}
 

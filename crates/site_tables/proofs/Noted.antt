@@ -12,9 +12,9 @@ use Rattle.records.specs.declared.record.Record.{Record}
 use Rattle.dgram.specs.declared.message.Message.{Message}
 use Rattle.acceptor.specs.Rows as acceptors
 use Rattle.proposer.specs.Rows as proposers
-use Rattle.proposer.specs.Sessions.{Session, UnderWay, new_session, nothing, issued_by, issued_if}
+use Rattle.proposer.specs.Sessions.{Session, UnderWay, new_session, nothing, current_by, with_current_if}
 use Rattle.proposer.specs.Sessions.{under_way_if}
-use Rattle.learner.specs.Ledgers as learners
+use Rattle.learner.specs.LearnerStates as learners
 use Rattle.site_tables.specs.Contents.{Contents, HasRoom, IsOf, Represents, with_deposit}
 use Rattle.site_tables.proofs.Begun.{deposits_stay, begun_stays, current_stays}
 use Rattle.site_tables.proofs.Deposited.{deposits-push}
@@ -22,7 +22,7 @@ use Rattle.site_tables.proofs.Outcomes.{always}
 
 -- a ballot that becomes current changes nothing of what was heard
 heard_same : (session : Session) (slot : SlotName) (ballot : Option BallotNumber)
-    → session.heard ≡ (issued_if session slot ballot).heard
+    → session.heard ≡ (with_current_if session slot ballot).heard
 heard_same session slot None = refl
 heard_same session slot (Some ballot) = refl
 
@@ -38,8 +38,8 @@ ProposerNotes old new r =
     (records : List Record) (session : Session) (under : UnderWay)
     → proposers.Represents old.proposer.rows records session under
     → proposers.Represents new.proposer.rows (records ++ r ∷ [])
-    (issued_if session r.slot (issued_by (under.begun r.slot) r.body))
-    (under_way_if under r.slot (issued_by (under.begun r.slot) r.body))
+    (with_current_if session r.slot (current_by (under.begun r.slot) r.body))
+    (under_way_if under r.slot (current_by (under.begun r.slot) r.body))
 
 abbrev pub LearnerNotes : (old new : Contents) → Record → Type 0
 LearnerNotes old new r =
@@ -99,33 +99,33 @@ module _ (old new : Contents) (r : Record) (notes : Notes old new r) where
   pub noted_stands : (records : List Record) (session : Session) (under : UnderWay)
       → Represents old records session under
       → Represents new (records ++ r ∷ [])
-      (issued_if session r.slot (issued_by (under.begun r.slot) r.body))
-      (under_way_if under r.slot (issued_by (under.begun r.slot) r.body))
+      (with_current_if session r.slot (current_by (under.begun r.slot) r.body))
+      (under_way_if under r.slot (current_by (under.begun r.slot) r.body))
   noted_stands records session under stands = record {
     proposer = notes.proposer records session under stands.proposer;
-    begun = begun_stays under r.slot (issued_by (under.begun r.slot) r.body) (records ++ r ∷ [])
+    begun = begun_stays under r.slot (current_by (under.begun r.slot) r.body) (records ++ r ∷ [])
         (deposits_stay under.begun_with records r stands.begun);
-    current = current_stays under r.slot (issued_by (under.begun r.slot) r.body)
+    current = current_stays under r.slot (current_by (under.begun r.slot) r.body)
         (records ++ r ∷ []) (deposits_stay under.begun_with records r stands.begun)
         (deposits_stay under.current_with records r stands.current);
     learner = subst (learners.Represents new.learner.rows (records ++ r ∷ []))
-        (heard_same session r.slot (issued_by (under.begun r.slot) r.body))
+        (heard_same session r.slot (current_by (under.begun r.slot) r.body))
         (notes.learner records session.heard stands.learner);
   }
 
 -- where no ballot was begun none becomes current
-none_issued : (body : Entry) → issued_by None body ≡ None
-none_issued (entry.Deposit bag) = refl
-none_issued (entry.Round round) = refl
-none_issued (entry.Promise ballot) = refl
-none_issued (entry.Vote vote) = refl
-none_issued (entry.Known bag) = refl
+none_current : (body : Entry) → current_by None body ≡ None
+none_current (entry.Deposit bag) = refl
+none_current (entry.Round round) = refl
+none_current (entry.Promise ballot) = refl
+none_current (entry.Vote vote) = refl
+none_current (entry.Known bag) = refl
 
 -- so a record leaves a new session new
 pub stays_new : (t : Contents) (records : List Record) (r : Record)
-    → Represents t records (issued_if new_session r.slot (issued_by None r.body))
-    (under_way_if nothing r.slot (issued_by None r.body))
+    → Represents t records (with_current_if new_session r.slot (current_by None r.body))
+    (under_way_if nothing r.slot (current_by None r.body))
     → Represents t records new_session nothing
 stays_new t records r stands =
-    subst (λ (b : Option BallotNumber). Represents t records (issued_if new_session r.slot b)
-    (under_way_if nothing r.slot b)) (none_issued r.body) stands
+    subst (λ (b : Option BallotNumber). Represents t records (with_current_if new_session r.slot b)
+    (under_way_if nothing r.slot b)) (none_current r.body) stands

@@ -7,14 +7,14 @@ use Rattle.fed_types.specs.Sites.{Membership}
 use Rattle.fed_types.specs.Slots.{SlotName}
 use Rattle.records.specs.declared.owner.Owner.{Owner}
 use Rattle.records.specs.declared.record.Record.{Record}
-use Rattle.records.specs.Words.{deposit_in, deposit_of}
+use Rattle.records.specs.SlotStates.{deposit_in, deposit_of}
 use Rattle.dgram.specs.declared.message.Message.{Message}
 use Rattle.slot_table.specs.Rows.{Rows, row_at}
 use Rattle.acceptor.specs.declared.row.Row.{Row as acceptor_row}
 use Rattle.acceptor.specs.Rows as acceptors
 use Rattle.proposer.specs.Rows as proposers
 use Rattle.proposer.specs.Sessions.{Session, UnderWay}
-use Rattle.learner.specs.Ledgers as learners
+use Rattle.learner.specs.LearnerStates as learners
 
 -- the slots that have a deposit, with it, and room for how many more; and what the acceptor, the
 -- proposer and the learner know of each slot
@@ -22,8 +22,8 @@ pub record Contents : Type 0 where
   pub deposits : Rows BagId
   pub spare : ℕ
   pub acceptor : Rows acceptor_row
-  pub proposer : proposers.Proposing Membership
-  pub learner : learners.Ledger Membership
+  pub proposer : proposers.ProposerState Membership
+  pub learner : learners.LearnerState Membership
 
 -- the deposit of a slot that had none goes to the end
 abbrev pub unless_there : Rows BagId → SlotName → BagId → Option BagId → Rows BagId

@@ -5,14 +5,14 @@ ghost use Rattle.fed_types.specs.Ballots.{BallotNumber};
 ghost use Rattle.fed_types.specs.Quorums.{quorums_of};
 ghost use Rattle.records.specs.declared.owner.Owner.{Owner as declared_owner};
 ghost use Rattle.records.specs.declared.record.Record.{Record as declared_record};
-ghost use Rattle.records.specs.Words.{deposit_of, known_of};
+ghost use Rattle.records.specs.SlotStates.{deposit_of, known_of};
 ghost use Rattle.acceptor.specs.Decisions.{prepare_decision, accept_decision};
 ghost use Rattle.proposer.specs.Faults.{next_or_spent, IsOrMemory};
 ghost use Rattle.proposer.specs.Proposals.{next_ballot, ready};
 ghost use Rattle.proposer.specs.Sessions.{Session, UnderWay, new_session, nothing, begins};
 ghost use Rattle.proposer.specs.Sessions.{promise_message, heard_after, waiting_after};
 ghost use Rattle.proposer.specs.Sessions.{hears, refusal_message, heard_if, waits};
-ghost use Rattle.proposer.specs.Sessions.{issued_by, issued_if, under_way_if};
+ghost use Rattle.proposer.specs.Sessions.{current_by, with_current_if, under_way_if};
 ghost use Rattle.learner.specs.LearnedBags.{learned_from, learned_of_known};
 ghost use Rattle.dgram.specs.declared.body.Body.TheVariants.{Accepted};
 ghost use Rattle.site_tables.specs.Contents.{IsOf, Represents, RepresentsSame, HasRoom};
@@ -257,8 +257,8 @@ impl Tables {
         ensures stands { (records : List declared_record) (session : Session)
             (under : UnderWay) → Represents self.old records session under
             → Represents self.new (records ++ new ∷ [])
-            (issued_if session new.slot (issued_by (under.begun new.slot) new.body))
-            (under_way_if under new.slot (issued_by (under.begun new.slot) new.body)) }
+            (with_current_if session new.slot (current_by (under.begun new.slot) new.body))
+            (under_way_if under new.slot (current_by (under.begun new.slot) new.body)) }
     {
         let _ = self.acceptor.note(&new);
         let _ = self.proposer.note(&new);

@@ -11,7 +11,7 @@ use Rattle.dgram.specs.declared.body.Body.TheVariants as bodies
 use Rattle.dgram.specs.declared.message.Message.{Message}
 use Rattle.dgram.specs.Encoding.{body_from}
 use Rattle.records.specs.declared.record.Record.{Record}
-use Rattle.records.specs.Words.{deposit_of, known_of}
+use Rattle.records.specs.SlotStates.{deposit_of, known_of}
 use Rattle.proposer.specs.Proposals.{next_ballot, ready}
 use Rattle.proposer.specs.Sessions.{Session, hears}
 use Rattle.learner.specs.LearnedBags.{learned_from, learned_of_known}
@@ -19,7 +19,7 @@ use Rattle.site.specs.declared.answer.Line.{Line}
 use Rattle.site.specs.declared.fault.SiteFault.{SiteFault}
 use Rattle.site.specs.Arrivals.{on_arrival, on_body, proposing, learning, telling, is_member}
 use Rattle.site.specs.Calls.{Input, Deposits, Proposes, Asks, Arrives, effect_of, on_deposit}
-use Rattle.site.specs.Calls.{on_propose, on_ask, registering, deposit_fault, other_than, issuing_if}
+use Rattle.site.specs.Calls.{on_propose, on_ask, registering, deposit_fault, other_than, begins_ballot_if}
 use Rattle.site.specs.Effects.{Effect, refuses, only_says}
 use Rattle.site.specs.declared.answer.Line.TheVariants as lines
 
@@ -61,7 +61,7 @@ module _ (q : QuorumSystem) (site : ℕ) (records : List Record) (session : Sess
       (next_ballot site slot records session.heard)
     where
       go : (known own : Option BagId) (next : Option BallotNumber)
-          → RefusesOnly session (issuing_if q slot known own next session)
+          → RefusesOnly session (begins_ballot_if q slot known own next session)
       go (Some known) own next = refusal session _
       go None None next = refusal session _
       go None (Some own) None = refusal session _

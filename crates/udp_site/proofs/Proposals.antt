@@ -7,7 +7,7 @@ use Rattle.fed_types.specs.Ballots.{BallotNumber}
 use Rattle.fed_types.specs.Quorums.{QuorumSystem, quorums_of}
 use Rattle.fed_types.specs.Slots.{SlotName}
 use Rattle.cell_device.specs.Devices.{Device}
-use Rattle.records.specs.Words.{known_of, deposit_of}
+use Rattle.records.specs.SlotStates.{known_of, deposit_of}
 use Rattle.proposer.specs.Proposals.{next_ballot}
 use Rattle.proposer.specs.Sessions.{Session}
 use Rattle.site.specs.declared.answer.Answer.{Answer}
@@ -15,7 +15,7 @@ use Rattle.site.specs.declared.answer.Line.{Line}
 use Rattle.site.specs.declared.fault.SiteFault.{SiteFault}
 use Rattle.site.specs.declared.fault.SiteFault.TheVariants as faults
 use Rattle.site.specs.Answered.{IsAnswered, IsRefused}
-use Rattle.site.specs.Calls.{Proposes, Input, on_propose, issuing, issuing_if}
+use Rattle.site.specs.Calls.{Proposes, Input, on_propose, begins_ballot, begins_ballot_if}
 use Rattle.site.specs.Effects.{Effect}
 use Rattle.site.specs.Sites.{OpenSite, Represents, effect}
 use Rattle.site.proofs.Refused.{out_of_memory}
@@ -105,7 +105,7 @@ module _ {C : Type 0} (device : C → Device) (s : OpenSite C) (session : Sessio
   isnt_refused fault e = cc
 
   by_bags : (q : QuorumSystem) (slot : SlotName) (known own : Option BagId)
-      (next : Option BallotNumber) → CouldRefuse (issuing_if q slot known own next session)
+      (next : Option BallotNumber) → CouldRefuse (begins_ballot_if q slot known own next session)
   by_bags q slot (Some known) own next = (
     faults.AlreadyKnown,
     record { keeps = refl; gives = (refl, stands) },
@@ -120,7 +120,7 @@ module _ {C : Type 0} (device : C → Device) (s : OpenSite C) (session : Sessio
   )
   by_bags q slot None (Some own) (Some ballot) = (
     faults.Memory,
-    out_of_memory device s session (issuing q slot ballot session) stands,
+    out_of_memory device s session (begins_ballot q slot ballot session) stands,
     λ fault e. absurd (isnt_refused fault e),
   )
 

@@ -11,7 +11,7 @@ use Rattle.std.proofs.lemmas.Option.{slice_get_past, slice_get_cases}
 use Rattle.fed_types.specs.declared.bag_id.BagId.{BagId}
 use Rattle.fed_types.specs.Slots.{SlotName}
 use Rattle.records.specs.declared.record.Record.{Record}
-use Rattle.records.specs.Words.{known_of}
+use Rattle.records.specs.SlotStates.{known_of}
 use Rattle.site_tables.specs.Contents.{deposits_of, slot_at}
 use Rattle.udp_site.specs.Rounds.{waits_at, waits, next_waiting}
 use Rattle.udp_site.specs.inner.SlotRecords.{known_at, is_settled, AreSettled, IsFirst}

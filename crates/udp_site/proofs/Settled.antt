@@ -12,7 +12,7 @@ use Rattle.std.proofs.lemmas.List.Sums.{fold-append}
 use Rattle.fed_types.specs.declared.bag_id.BagId.{BagId}
 use Rattle.fed_types.specs.Slots.{SlotName}
 use Rattle.records.specs.declared.record.Record.{Record}
-use Rattle.records.specs.Words.{known_of, deposit_in}
+use Rattle.records.specs.SlotStates.{known_of, deposit_in}
 use Rattle.slot_table.specs.Rows.{Rows, row_at}
 use Rattle.site_tables.specs.Contents.{deposits_of, with_deposit, with_bag, unless_there}
 use Rattle.udp_site.specs.inner.SlotRecords.{says_known, known_at, is_settled, AreSettled}

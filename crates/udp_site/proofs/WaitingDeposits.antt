@@ -13,8 +13,8 @@ use Rattle.fed_types.specs.declared.bag_id.BagId.{BagId}
 use Rattle.fed_types.specs.Slots.{SlotName}
 use Rattle.records.specs.declared.entry.Entry.{Entry}
 use Rattle.records.specs.declared.record.Record.{Record}
-use Rattle.records.specs.Words.{entry_of, entries, first, if_some, known_in, known_of}
-use Rattle.records.specs.Words.{deposit_of, deposit_in}
+use Rattle.records.specs.SlotStates.{entry_of, entries, first, if_some, known_in, known_of}
+use Rattle.records.specs.SlotStates.{deposit_of, deposit_in}
 use Rattle.slot_table.specs.Rows.{Rows, row_at}
 use Rattle.site_tables.specs.Contents.{deposits_of, with_deposit, with_bag, unless_there}
 use Rattle.site.specs.Calls.{reply_of, reply_by}

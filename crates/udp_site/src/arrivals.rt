@@ -5,8 +5,8 @@ ghost use Rattle.udp_site.specs.inner.Servers.{Comes, Stays};
 
 use crate::fault::ServeFault;
 use crate::port::Port;
-use crate::posts::hand_answer;
 use crate::said_lines::{say_arrival, say_dropped};
+use crate::sends::send_answer;
 use crate::server::Server;
 use bag_folders::Folders;
 use cell_device::Cell;
@@ -14,20 +14,20 @@ use dgram::Message;
 
 impl<C: Cell, P: Port, F: Folders> Server<'_, '_, '_, '_, '_, C, P, F> {
     /// A site's message arrives.
-    pub(crate) fn hear(&mut self, message: Message) -> Result<(), ServeFault>
+    pub(crate) fn handle_message(&mut self, message: Message) -> Result<(), ServeFault>
         ensures comes { Comes P.traffic (λ s. hears C.device self.old.ports.now s message)
             self.old self.new result }
         ensures stays { Stays P.failures F.gives self.old self.new }
     {
         let number = self.site.number().number();
         let answer = self.site.arrive_message(message);
-        hand_answer(self.port, self.ports, &answer)?;
+        send_answer(self.port, self.ports, &answer)?;
         say_arrival(self.lines, number, answer)?;
         Ok(())
     }
 
     /// What came is no message for the site: no call is made.
-    pub(crate) fn drop_noise(&mut self) -> Result<(), ServeFault>
+    pub(crate) fn drop_datagram(&mut self) -> Result<(), ServeFault>
         ensures comes { Comes P.traffic drops self.old self.new result }
         ensures stays { Stays P.failures F.gives self.old self.new }
     {

@@ -7,9 +7,9 @@ ghost use Rattle.udp_site.specs.inner.Servers.{Comes, Stays};
 
 use crate::fault::ServeFault;
 use crate::port::Port;
-use crate::posts::reply;
 use crate::replies::{deposit_answer, tree_answer};
 use crate::said_lines::say_deposit;
+use crate::sends::reply;
 use crate::server::Server;
 use bag_folders::Folders;
 use bag_tree::{Facts, TreeFault};
@@ -20,7 +20,7 @@ use std::alloc::Global;
 
 impl<C: Cell, P: Port, F: Folders> Server<'_, '_, '_, '_, '_, C, P, F> {
     /// A client asks to deposit the folder of this path. It is read first.
-    pub(crate) fn take_folder(
+    pub(crate) fn handle_deposit(
         &mut self,
         client: u16,
         slot: Slot,
@@ -32,13 +32,13 @@ impl<C: Cell, P: Port, F: Folders> Server<'_, '_, '_, '_, '_, C, P, F> {
         ensures stays { Stays P.failures F.gives self.old self.new }
     {
         match self.folders.read(path.as_str()) {
-            Ok(facts) => self.take_tree(client, slot, &facts),
-            Err(fault) => self.leave_folder(client, slot, fault),
+            Ok(facts) => self.deposit_tree(client, slot, &facts),
+            Err(fault) => self.refuse_deposit(client, slot, fault),
         }
     }
 
     // A folder was read: its tree is deposited, and the client gets a reply.
-    fn take_tree(&mut self, client: u16, slot: Slot, facts: &Facts) -> Result<(), ServeFault>
+    fn deposit_tree(&mut self, client: u16, slot: Slot, facts: &Facts) -> Result<(), ServeFault>
         ensures comes { Comes P.traffic (λ s. takes_tree C.device s client slot (Ok facts.now))
             self.old self.new result }
         ensures stays { Stays P.failures F.gives self.old self.new }
@@ -47,13 +47,18 @@ impl<C: Cell, P: Port, F: Folders> Server<'_, '_, '_, '_, '_, C, P, F> {
         let federation = self.site.members().federation();
         let answer = self.site.deposit(&slot, facts);
         let said = deposit_answer(&answer);
-        let slot = tell(self.alloc, self.port, federation, from, client, slot, said)?;
+        let slot = reply_to_deposit(self.alloc, self.port, federation, from, client, slot, said)?;
         say_deposit(self.lines, from.number(), slot, answer)?;
         Ok(())
     }
 
     // A folder couldn't be read: the client gets a reply.
-    fn leave_folder(&mut self, client: u16, slot: Slot, fault: TreeFault) -> Result<(), ServeFault>
+    fn refuse_deposit(
+        &mut self,
+        client: u16,
+        slot: Slot,
+        fault: TreeFault,
+    ) -> Result<(), ServeFault>
         ensures comes { Comes P.traffic (λ s. takes_tree C.device s client slot (Err fault))
             self.old self.new result }
         ensures stays { Stays P.failures F.gives self.old self.new }
@@ -61,13 +66,13 @@ impl<C: Cell, P: Port, F: Folders> Server<'_, '_, '_, '_, '_, C, P, F> {
         let from = self.site.number();
         let federation = self.site.members().federation();
         let said = tree_answer(fault);
-        tell(self.alloc, self.port, federation, from, client, slot, said)?;
+        reply_to_deposit(self.alloc, self.port, federation, from, client, slot, said)?;
         Ok(())
     }
 }
 
 // Tells a client what became of its deposit, and gives back the slot.
-fn tell<P: Port>(
+fn reply_to_deposit<P: Port>(
     alloc: Global,
     port: &mut P,
     federation: u64,

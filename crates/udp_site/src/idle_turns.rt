@@ -2,7 +2,7 @@
 
 ghost use Rattle.std.specs.Prelude.{◌≡◌, ◌<◌, ◌≤◌, ℕ, true, is_some, IfSome};
 ghost use Rattle.std.specs.List.{list_any};
-ghost use Rattle.records.specs.Words.{known_of};
+ghost use Rattle.records.specs.SlotStates.{known_of};
 ghost use Rattle.udp_site.specs.Rounds.{waits, next_waiting};
 ghost use Rattle.udp_site.specs.Turns.{idles, proposing};
 ghost use Rattle.udp_site.specs.inner.Servers.{Comes, ComesOfTurn, Keeps, Stays};
@@ -10,8 +10,8 @@ ghost use Rattle.udp_site.specs.inner.SlotRecords.{says_known, is_settled, AreSe
 
 use crate::fault::ServeFault;
 use crate::port::Port;
-use crate::posts::hand_answer;
 use crate::said_lines::say_proposal;
+use crate::sends::send_answer;
 use crate::server::Server;
 use bag_folders::Folders;
 use cell_device::Cell;
@@ -63,7 +63,7 @@ impl<C: Cell, P: Port, F: Folders> Server<'_, '_, '_, '_, '_, C, P, F> {
     {
         let number = self.site.number().number();
         let answer = self.site.propose(slot);
-        hand_answer(self.port, self.ports, &answer)?;
+        send_answer(self.port, self.ports, &answer)?;
         say_proposal(self.lines, number, answer)?;
         Ok(())
     }

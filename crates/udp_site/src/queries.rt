@@ -9,9 +9,9 @@ ghost use Rattle.udp_site.specs.inner.Servers.{Comes, Stays};
 
 use crate::fault::ServeFault;
 use crate::port::Port;
-use crate::posts::{hand_all, reply};
 use crate::replies::query_answer;
 use crate::said_lines::{say_refused, say_reply};
+use crate::sends::{reply, send_all};
 use crate::server::Server;
 use bag_folders::Folders;
 use cell_device::Cell;
@@ -23,7 +23,7 @@ use site::{Reply, Site, SiteFault};
 impl<C: Cell, P: Port, F: Folders> Server<'_, '_, '_, '_, '_, C, P, F> {
     /// A client asks for the slot's bag. Where the site doesn't know it, it asks the other members
     /// after its reply.
-    pub(crate) fn take_query(&mut self, client: u16, slot: Slot) -> Result<(), ServeFault>
+    pub(crate) fn handle_query(&mut self, client: u16, slot: Slot) -> Result<(), ServeFault>
         ensures comes { Comes P.traffic (λ s. queries self.old.ports.now s client slot)
             self.old self.new result }
         ensures stays { Stays P.failures F.gives self.old self.new }
@@ -105,7 +105,7 @@ fn ask_other<C: Cell, P: Port>(
         return Ok(());
     }
     match site.ask(slot, member) {
-        Ok(answer) => hand_all(port, ports, answer.sends.as_slice()),
+        Ok(answer) => send_all(port, ports, answer.sends.as_slice()),
         Err(_) => {
             say_refused(lines, site.number().number(), SiteFault::Memory)?;
             Ok(())

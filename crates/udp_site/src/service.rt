@@ -91,7 +91,7 @@ impl<C: Cell, P: Port, F: Folders> Server<'_, '_, '_, '_, '_, C, P, F> {
         self.lines.clear();
         let turn = receive(self.port)?;
         // Only where memory runs out is a turn broken off.
-        match self.take_turn(&turn) {
+        match self.handle_turn(&turn) {
             Ok(()) => {}
             Err(_) => return Err(ServeFault::Memory),
         }

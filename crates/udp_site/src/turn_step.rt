@@ -16,7 +16,7 @@ use cell_device::Cell;
 impl<C: Cell, P: Port, F: Folders> Server<'_, '_, '_, '_, '_, C, P, F> {
     /// Does what a turn asks for: calls the site, hands out its datagrams and then replies, and
     /// adds the lines to write.
-    pub(crate) fn take_turn(&mut self, turn: &Turn) -> Result<(), ServeFault>
+    pub(crate) fn handle_turn(&mut self, turn: &Turn) -> Result<(), ServeFault>
         requires { self.old.progress.idle < 4294967295 }
         ensures turn { ComesOfTurn P.traffic
             (λ s. turn_of C.device self.old.ports.now (F.gives self.old.folders.now) s
@@ -25,22 +25,22 @@ impl<C: Cell, P: Port, F: Folders> Server<'_, '_, '_, '_, '_, C, P, F> {
     {
         match turn {
             Turn::Idle => self.idle(),
-            Turn::Got(from, bytes) => self.take_in(*from, bytes),
+            Turn::Got(from, bytes) => self.handle_datagram(*from, bytes),
         }
     }
 
     // A datagram came from this port.
-    fn take_in(&mut self, from: u16, bytes: &[u8]) -> Result<(), ServeFault>
+    fn handle_datagram(&mut self, from: u16, bytes: &[u8]) -> Result<(), ServeFault>
         ensures comes { Comes P.traffic
             (λ s. turn_of C.device self.old.ports.now (F.gives self.old.folders.now) s
             (From from bytes.now)) self.old self.new result }
         ensures stays { Stays P.failures F.gives self.old self.new }
     {
         match asked_by(self.alloc, self.site.members().federation(), bytes)? {
-            Asked::Hear(message) => self.hear(message),
-            Asked::Deposit(slot, path) => self.take_folder(from, slot, &path),
-            Asked::Query(slot) => self.take_query(from, slot),
-            Asked::Nothing => self.drop_noise(),
+            Asked::Hear(message) => self.handle_message(message),
+            Asked::Deposit(slot, path) => self.handle_deposit(from, slot, &path),
+            Asked::Query(slot) => self.handle_query(from, slot),
+            Asked::Nothing => self.drop_datagram(),
         }
     }
 }

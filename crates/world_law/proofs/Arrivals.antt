@@ -12,7 +12,7 @@ use Rattle.fed_types.specs.Laws.Ballots.{same_ballot_decides}
 use Rattle.fed_types.specs.Laws.Lists.{is_in_decides, has_cases, has_one, has_none}
 use Rattle.records.specs.declared.entry.Entry.TheVariants as entry
 use Rattle.records.specs.declared.record.Record.{Record}
-use Rattle.records.specs.Words.{deposit_of, known_of}
+use Rattle.records.specs.SlotStates.{deposit_of, known_of}
 use Rattle.records.proofs.Bounds.{deposit_among, known_among}
 use Rattle.dgram.specs.declared.body.Body.{Body}
 use Rattle.dgram.specs.declared.body.Body.TheVariants.{Prepare, Promise, Accept, Accepted, Refused}
@@ -22,8 +22,8 @@ use Rattle.dgram.specs.declared.message.Message.{Message}
 use Rattle.dgram.specs.Encoding.{body_from}
 use Rattle.dgram.specs.Heard.{bodies_of, PromiseFrom, promisers, voters_for}
 use Rattle.dgram.proofs.Heard.{has_message, has_accepted}
-use Rattle.acceptor.specs.declared.decision.Answer.{Answer}
-use Rattle.acceptor.specs.declared.decision.Answer.TheVariants as answer
+use Rattle.acceptor.specs.declared.decision.Response.{Response}
+use Rattle.acceptor.specs.declared.decision.Response.TheVariants as answer
 use Rattle.acceptor.specs.declared.decision.Decision.{Decision}
 use Rattle.acceptor.specs.Decisions.{prepare_decision, accept_decision}
 use Rattle.learner.specs.LearnedBags.{chosen_by}
@@ -125,7 +125,7 @@ module _ (q : QuorumSystem) (laws : AreQuorums q) (w : Network) (inv : Kept q w)
 
     -- ---- the acceptor
 
-    no_accept : (a : Answer) → NoAccept (answer_body n a)
+    no_accept : (a : Response) → NoAccept (answer_body n a)
     no_accept (answer.Promised b vote) = tt
     no_accept (answer.Accepted vote) = tt
     no_accept (answer.Refused asked standing) = tt

@@ -13,16 +13,16 @@ use Rattle.fed_types.specs.Laws.Slots.{same_slot_decides}
 use Rattle.bag_check.specs.declared.fault.BagFault.{BagFault}
 use Rattle.records.specs.declared.entry.Entry.TheVariants as entry
 use Rattle.records.specs.declared.record.Record.{Record}
-use Rattle.records.specs.Words.{used_of, deposit_of, known_of}
+use Rattle.records.specs.SlotStates.{used_of, deposit_of, known_of}
 use Rattle.records.proofs.Bounds.{used_bounds}
 use Rattle.dgram.specs.declared.body.Body.TheVariants.{Prepare, Accept, Ask}
 use Rattle.proposer.specs.Proposals.{Current, last_round, next_ballot}
-use Rattle.proposer.specs.Sessions.{Session, issues}
+use Rattle.proposer.specs.Sessions.{Session, with_current}
 use Rattle.site.specs.declared.answer.Line.TheVariants as lines
 use Rattle.site.specs.declared.fault.SiteFault.{SiteFault}
 use Rattle.site.specs.declared.fault.SiteFault.TheVariants as faults
-use Rattle.site.specs.Calls.{Input, Deposits, Proposes, Asks, registering, on_deposit, issuing}
-use Rattle.site.specs.Calls.{issuing_if, on_propose, on_ask}
+use Rattle.site.specs.Calls.{Input, Deposits, Proposes, Asks, registering, on_deposit, begins_ballot}
+use Rattle.site.specs.Calls.{begins_ballot_if, on_propose, on_ask}
 use Rattle.site.specs.Effects.{to_each, record_of, refuses}
 use Rattle.world_law.specs.Laws.{WasSent}
 use Rattle.world_law.specs.Networks.{Network}
@@ -75,7 +75,7 @@ module _ (q : QuorumSystem) (laws : AreQuorums q) (w : Network) (inv : Kept q w)
       new = record { ballot = b; since = length before.heard }
 
       abbrev after : Session
-      after = issues before slot b
+      after = with_current before slot b
 
       unsent : (bag : BagId) → ¬ WasSent w slot (Accept (vote_for b bag))
       unsent bag t =
@@ -117,7 +117,7 @@ module _ (q : QuorumSystem) (laws : AreQuorums q) (w : Network) (inv : Kept q w)
                 ];
               }
 
-      issuing_deed : Deed q w n (Proposes slot) (issuing q slot b before)
+      issuing_deed : Deed q w n (Proposes slot) (begins_ballot q slot b before)
       issuing_deed = record {
         slot = slot;
         body = Prepare b;
@@ -138,7 +138,7 @@ module _ (q : QuorumSystem) (laws : AreQuorums q) (w : Network) (inv : Kept q w)
     -- the next ballot, where there is one, is such a ballot
     issuing_if_deed : (known own : Option BagId)
         → Deed q w n (Proposes slot)
-        (issuing_if q slot known own (next_ballot n slot records before.heard) before)
+        (begins_ballot_if q slot known own (next_ballot n slot records before.heard) before)
     unfolding next_ballot
     issuing_if_deed (Some bag) own = refuses_deed (Proposes slot) faults.AlreadyKnown
     issuing_if_deed None None = refuses_deed (Proposes slot) faults.NoDeposit
@@ -150,7 +150,7 @@ module _ (q : QuorumSystem) (laws : AreQuorums q) (w : Network) (inv : Kept q w)
 
         go : (t : Bool)
             → Deed q w n (Proposes slot)
-            (issuing_if q slot None (Some bag)
+            (begins_ballot_if q slot None (Some bag)
             (cond t (Some (record { round = 1 + round; site = n })) None) before)
         go true = issuing_deed round (omega arith)
         go false = refuses_deed (Proposes slot) faults.RoundsSpent

@@ -12,7 +12,7 @@ use Rattle.fed_types.specs.Laws.Ballots.{same_ballot_decides}
 use Rattle.records.specs.declared.entry.Entry.TheVariants as entry
 use Rattle.records.specs.declared.record.Record.{Record}
 use Rattle.records.specs.Bounds.{AtLeast}
-use Rattle.records.specs.Words.{promised_of, vote_of}
+use Rattle.records.specs.SlotStates.{promised_of, vote_of}
 use Rattle.records.proofs.Bounds.{promised_bounds, vote_bounds, vote_among}
 use Rattle.dgram.specs.declared.body.Body.TheVariants.{Promise, Accept, Accepted, Refused}
 use Rattle.acceptor.specs.declared.decision.Decision.{Decision}

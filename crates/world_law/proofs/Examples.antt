@@ -12,7 +12,7 @@ use Rattle.fed_types.specs.Slots.{SlotName, same_slot}
 use Rattle.fields.specs.Checksums.{checksum, with_checksum}
 use Rattle.records.specs.declared.entry.Entry.TheVariants as entry
 use Rattle.records.specs.Layout.{encoded}
-use Rattle.records.specs.Words.{promised_of, vote_of, used_of, deposit_of, known_of}
+use Rattle.records.specs.SlotStates.{promised_of, vote_of, used_of, deposit_of, known_of}
 use Rattle.dgram.specs.declared.body.Body.TheVariants.{Prepare}
 use Rattle.dgram.specs.declared.message.Message.{Message}
 use Rattle.dgram.specs.Decoded.{message_of}
@@ -20,7 +20,7 @@ use Rattle.dgram.specs.Heard.{bodies_of, promises_for, promisers, priors, voters
 use Rattle.acceptor.specs.Decisions.{prepare_decision, accept_decision}
 use Rattle.learner.specs.LearnedBags.{chosen_by}
 use Rattle.proposer.specs.Proposals.{next_ballot, gathered, highest_prior, proposal}
-use Rattle.proposer.specs.Sessions.{Session, new_session, hears, issues, promise_message}
+use Rattle.proposer.specs.Sessions.{Session, new_session, hears, with_current, promise_message}
 use Rattle.proposer.specs.Sessions.{refusal_message}
 use Rattle.site.specs.declared.fault.SiteFault.TheVariants as faults
 use Rattle.site.specs.Arrivals.{on_body, on_arrival}
@@ -184,7 +184,7 @@ sends_of before more =
     (on_arrival three 1
     (record { slot = a; body = entry.Deposit (bag 1) }
     ∷ record { slot = a; body = entry.Round 1 } ∷ [])
-    (more (issues before a (ballot 1 1))) (Some (promise 1))).sends
+    (more (with_current before a (ballot 1 1))) (Some (promise 1))).sends
 
 -- ---- the examples
 pub record Examples : Type 0 where

@@ -11,7 +11,7 @@ use Rattle.fed_types.specs.Laws.Lists.{has_left, has_drop, has_map, map_has, fil
 use Rattle.fed_types.specs.Laws.Lists.{has_filter_map}
 use Rattle.fed_types.specs.Laws.Slots.{same_slot_decides}
 use Rattle.records.specs.Bounds.{AtLeast}
-use Rattle.records.specs.Words.{if_some}
+use Rattle.records.specs.SlotStates.{if_some}
 use Rattle.records.proofs.Highest.{highest_is}
 use Rattle.dgram.specs.declared.body.Body.TheVariants.{Promise}
 use Rattle.dgram.specs.declared.message.Message.{Message}

@@ -11,7 +11,7 @@ use Rattle.fed_types.specs.Slots.{SlotName}
 use Rattle.fed_types.specs.Values.{IsSlot, IsBallot, IsBag, IsVote}
 use Rattle.records.specs.declared.record.Record.{Record}
 use Rattle.records.specs.Records.{IsEntry, AreRecords}
-use Rattle.records.specs.Words.{promised_of, vote_of, deposit_of, known_of}
+use Rattle.records.specs.SlotStates.{promised_of, vote_of, deposit_of, known_of}
 use Rattle.dgram.specs.declared.body.Body.{Body}
 use Rattle.dgram.specs.declared.body.Body.TheVariants.{Prepare, Promise, Accept, Accepted, Refused}
 use Rattle.dgram.specs.declared.body.Body.TheVariants.{Ask, Known, Deposit, Query, DepositReply}
@@ -20,8 +20,8 @@ use Rattle.dgram.specs.declared.message.Message.{Message}
 use Rattle.dgram.specs.Encoding.{body_from}
 use Rattle.dgram.specs.Heard.{PromiseFrom, bodies_of, voters_for}
 use Rattle.dgram.specs.Messages.{IsBody, IsPrior, IsMessage}
-use Rattle.acceptor.specs.declared.decision.Answer.{Answer}
-use Rattle.acceptor.specs.declared.decision.Answer.TheVariants as answer
+use Rattle.acceptor.specs.declared.decision.Response.{Response}
+use Rattle.acceptor.specs.declared.decision.Response.TheVariants as answer
 use Rattle.acceptor.specs.declared.decision.Decision.{Decision}
 use Rattle.acceptor.specs.Decisions.{promises, votes, votes_again, refuses, on_prepare}
 use Rattle.acceptor.specs.Decisions.{is_in_ballot, is_vote, on_new_accept, prepare_decision}
@@ -110,7 +110,7 @@ module _ (q : QuorumSystem) (members : MembersAreSites q) (n : ℕ) (is_site : I
         on_vote false =
             on_promised (promised_of slot records) (promised_is slot records are_records)
 
-    addressed : (asker : ℕ) → IsSiteNumber asker → (a : Answer) → AreSites (addressees q asker a)
+    addressed : (asker : ℕ) → IsSiteNumber asker → (a : Response) → AreSites (addressees q asker a)
     addressed asker is_asker (answer.Promised b vote) = one_site asker is_asker
     addressed asker is_asker (answer.Accepted vote) = members
     addressed asker is_asker (answer.Refused asked standing) = one_site asker is_asker

@@ -16,14 +16,14 @@ use Rattle.bag_check.specs.declared.fault.BagFault.{BagFault}
 use Rattle.records.specs.declared.entry.Entry.TheVariants as entry
 use Rattle.records.specs.declared.record.Record.{Record}
 use Rattle.records.specs.Records.{AreRecords}
-use Rattle.records.specs.Words.{deposit_of, known_of}
+use Rattle.records.specs.SlotStates.{deposit_of, known_of}
 use Rattle.dgram.specs.declared.body.Body.TheVariants.{Prepare, Ask}
 use Rattle.dgram.specs.Messages.{IsMessage}
 use Rattle.proposer.specs.Proposals.{last_round, next_ballot}
 use Rattle.proposer.specs.Sessions.{Session}
 use Rattle.site.specs.declared.fault.SiteFault.{SiteFault}
 use Rattle.site.specs.Calls.{Input, Deposits, Proposes, Asks, Arrives, effect_of, registering}
-use Rattle.site.specs.Calls.{on_deposit, issuing_if, on_propose, on_ask}
+use Rattle.site.specs.Calls.{on_deposit, begins_ballot_if, on_propose, on_ask}
 use Rattle.site.specs.Effects.{refuses}
 use Rattle.world_law.specs.WellFormed.{MembersAreSites, AreMessages}
 use Rattle.world_law.proofs.WellFormedEffects.{IsWellFormedEffect, one_site, sends_are, says_is}
@@ -80,7 +80,7 @@ module _ (q : QuorumSystem) (members : MembersAreSites q) (n : ℕ) (is_site : I
 
   issuing_is : (slot : SlotName) → IsSlot slot → (known own : Option BagId)
       (next : Option BallotNumber) → IfSome next IsBallot
-      → IsWellFormedEffect (issuing_if q slot known own next old)
+      → IsWellFormedEffect (begins_ballot_if q slot known own next old)
   issuing_is slot is_slot (Some bag) own next h = refuses_is old are_heard _
   issuing_is slot is_slot None None next h = refuses_is old are_heard _
   issuing_is slot is_slot None (Some bag) None h = refuses_is old are_heard _

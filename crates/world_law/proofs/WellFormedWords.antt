@@ -15,7 +15,7 @@ use Rattle.records.specs.declared.entry.Entry.TheVariants as entry
 use Rattle.records.specs.declared.record.Record.{Record}
 use Rattle.records.specs.Bounds.{HasEntry}
 use Rattle.records.specs.Records.{IsEntry, IsRecord, AreRecords}
-use Rattle.records.specs.Words.{ballot_in, promised_of, vote_of, deposit_of, known_of}
+use Rattle.records.specs.SlotStates.{ballot_in, promised_of, vote_of, deposit_of, known_of}
 use Rattle.records.proofs.Bounds.{promised_among, vote_among, deposit_among, known_among}
 use Rattle.dgram.specs.declared.message.Message.{Message}
 use Rattle.dgram.specs.Heard.{PromiseFrom}

@@ -1,7 +1,7 @@
 -- What one more entry of its slot makes of a row.
 use Rattle.std.specs.Prelude.{Option}
 use Rattle.records.specs.declared.entry.Entry.{Entry}
-use Rattle.records.specs.Words.{higher, with_one, if_some, ballot_in, vote_in}
+use Rattle.records.specs.SlotStates.{higher, with_one, if_some, ballot_in, vote_in}
 use Rattle.acceptor.specs.declared.row.Row.{Row}
 
 -- the row after the entry, if there is one

@@ -4,7 +4,7 @@ use Rattle.std.specs.Map.{lookup}
 use Rattle.fed_types.specs.declared.vote.Vote.{Vote}
 use Rattle.fed_types.specs.Slots.{SlotName, same_slot}
 use Rattle.dgram.specs.Heard.{same_vote}
-use Rattle.learner.specs.Ledgers.{voters_or_none}
+use Rattle.learner.specs.LearnerStates.{voters_or_none}
 use Rattle.audit.specs.declared.votes.Cast.{Cast}
 
 abbrev pub Casts : Type 0

@@ -7,7 +7,7 @@ use Rattle.fed_types.specs.Slots.{SlotName, same_slot}
 use Rattle.dgram.specs.Heard.{same_vote}
 use Rattle.slot_table.specs.Rows.{Rows, row_at}
 use Rattle.learner.specs.declared.row.Row.{Row}
-use Rattle.learner.specs.Ledgers.{known_in, counted_in}
+use Rattle.learner.specs.LearnerStates.{known_in, counted_in}
 
 -- the known bags are the same
 abbrev pub KnowsSame : (old new : Rows Row) → Type 0

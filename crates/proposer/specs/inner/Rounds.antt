@@ -5,7 +5,7 @@ use Rattle.fed_types.specs.declared.vote.Vote.{Vote}
 use Rattle.fed_types.specs.Ballots.{BallotNumber, same_ballot}
 use Rattle.fed_types.specs.Quorums.{QuorumSystem}
 use Rattle.fed_types.specs.Voters.{with_voter}
-use Rattle.records.specs.Words.{higher, with_one}
+use Rattle.records.specs.SlotStates.{higher, with_one}
 use Rattle.proposer.specs.declared.round.Promise.{Promise}
 use Rattle.proposer.specs.Rounds.{Round}
 

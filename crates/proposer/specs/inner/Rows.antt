@@ -7,7 +7,7 @@ use Rattle.fed_types.specs.Ballots.{BallotNumber}
 use Rattle.fed_types.specs.Quorums.{QuorumSystem}
 use Rattle.fed_types.specs.Slots.{SlotName, same_slot}
 use Rattle.records.specs.declared.entry.Entry.{Entry}
-use Rattle.records.specs.Words.{if_some, round_in}
+use Rattle.records.specs.SlotStates.{if_some, round_in}
 use Rattle.slot_table.specs.Rows as tables
 use Rattle.proposer.specs.declared.round.Promise.{Promise}
 use Rattle.proposer.specs.declared.round.Plan.{Plan}

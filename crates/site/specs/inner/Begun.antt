@@ -7,7 +7,7 @@ use Rattle.fed_types.specs.Slots.{SlotName}
 use Rattle.records.specs.declared.entry.Entry.TheVariants as entry
 use Rattle.records.specs.declared.owner.Owner.{Owner}
 use Rattle.records.specs.declared.record.Record.{Record}
-use Rattle.records.specs.Words.{deposit_of}
+use Rattle.records.specs.SlotStates.{deposit_of}
 use Rattle.dgram.specs.declared.body.Body.TheVariants.{Prepare}
 use Rattle.proposer.specs.Proposals.{next_ballot}
 use Rattle.proposer.specs.Sessions.{Session, UnderWay, begins}

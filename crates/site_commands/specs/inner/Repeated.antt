@@ -3,7 +3,7 @@ use Rattle.std.specs.Prelude.{◌≡◌, ℕ, List, Option, Some, None, Result}
 use Rattle.std.specs.Prelude.{Ok, Err}
 use Rattle.std.specs.Option.{option_map}
 use Rattle.std.specs.declared.alloc.AllocError.{AllocError}
-use Rattle.outcomes.specs.declared.answer.Answer.{Answer}
+use Rattle.outcomes.specs.declared.program_output.ProgramOutput.{ProgramOutput}
 use Rattle.udp_site.specs.Traffic.{Move, Grows}
 use Rattle.site_commands.specs.declared.reply.Reply.{Reply}
 use Rattle.site_commands.specs.declared.until_known.Questions.{Questions}
@@ -29,7 +29,7 @@ IsLastReply q path before after (Err fault) = IsBrokenOff q path before after
 
 -- and this is what it says
 abbrev pub IsLastAnswer : Question → (path : Option (List ℕ))
-    → (before after : Option (List Move)) → Result (Option Answer) AllocError → Type 0
+    → (before after : Option (List Move)) → Result (Option ProgramOutput) AllocError → Type 0
 IsLastAnswer q path before after (Ok answer) =
     (replies : List (Option Reply)) × (moves : List Move) × Grows before after moves
     × AreReplies q path path replies moves

@@ -1,28 +1,28 @@
 -- The outcomes that are written.
 use Rattle.std.specs.Prelude.{◌≡◌, ℕ, List, string_bytes, Option, Some, None, Result, Ok, Err, IfOk}
 use Rattle.std.specs.declared.alloc.AllocError.{AllocError}
-use Rattle.outcomes.specs.declared.answer.Answer.{Answer}
+use Rattle.outcomes.specs.declared.program_output.ProgramOutput.{ProgramOutput}
 use Rattle.outcomes.specs.Outcomes.{Outcome, no_memory}
 use Rattle.udp_site.specs.Traffic.{Move, Grows}
 use Rattle.site_commands.specs.Replies.{Question, datagram_to, first_reply}
 use Rattle.site_commands.specs.Exchanges.{Asks}
 use Rattle.site_commands.specs.Answers.{outcome_of, no_answer, wanted_for}
 
-abbrev pub outcome_in : Answer → Outcome
+abbrev pub outcome_in : ProgramOutput → Outcome
 outcome_in answer = record { status = answer.status; text = string_bytes answer.text }
 
-abbrev pub outcome_if : Option Answer → Outcome
+abbrev pub outcome_if : Option ProgramOutput → Outcome
 outcome_if None = no_answer
 outcome_if (Some answer) = outcome_in answer
 
 -- of an answer, of none, or where there was no memory for it
-abbrev pub outcome_to : Result (Option Answer) AllocError → Outcome
+abbrev pub outcome_to : Result (Option ProgramOutput) AllocError → Outcome
 outcome_to (Ok answer) = outcome_if answer
 outcome_to (Err fault) = no_memory
 
 -- a site is sent a deposit or a query, and this is what the first reply to it says
 abbrev pub IsAnswered : Question → (path : Option (List ℕ)) → (before after : Option (List Move))
-    → Result (Option Answer) AllocError → Type 0
+    → Result (Option ProgramOutput) AllocError → Type 0
 IsAnswered q path before after result =
     (moves : List Move) × Grows before after moves × Asks (q.target, datagram_to q path) moves
     × IfOk result (λ answer. outcome_if answer

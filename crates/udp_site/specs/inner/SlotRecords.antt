@@ -3,7 +3,7 @@ use Rattle.std.specs.Prelude.{◌≡◌, ◌<◌, ◌≤◌, ℕ, Bool, true, fa
 use Rattle.std.specs.Prelude.{Option, Some, None}
 use Rattle.fed_types.specs.Slots.{SlotName}
 use Rattle.records.specs.declared.record.Record.{Record}
-use Rattle.records.specs.Words.{said_in, known_in, known_of}
+use Rattle.records.specs.SlotStates.{said_in, known_in, known_of}
 use Rattle.site_tables.specs.Contents.{deposits_of, slot_at}
 
 -- that a bag is known for it

@@ -13,27 +13,27 @@ pub returns-in-Ok-clause-ok : goal.returns-in-Ok-clause-ok
 returns-in-Ok-clause-ok g c =
     let a = c.in-Ok.answer in
     let outcome : Outcome = record { status = a.status; text = string_bytes a.text } in
-    let result = c.write_answer.result in
+    let result = c.write_output.result in
     let old = g.W.Write.contents c.args.output.now in
-    let new = g.W.Write.contents c.write_answer.new.output in
+    let new = g.W.Write.contents c.write_output.new.output in
     answered
     (IsAudit c.args.members.now (g.F.CellFiles.bytes_at c.args.files.now)
     (map (λ path. path.now) c.args.paths.now))
     outcome c.in-Ok.ensures result old new
     (subst (λ t. IfOk result (λ given. (given ≡ a.status) × Appends old new t))
-    c.as_str.ensures.value c.write_answer.ensures.ok)
+    c.as_str.ensures.value c.write_output.ensures.ok)
 
 pub returns-in-Ok-clause-output : goal.returns-in-Ok-clause-output
 returns-in-Ok-clause-output g c =
     let a = c.in-Ok.answer in
     let outcome : Outcome = record { status = a.status; text = string_bytes a.text } in
-    let result = c.write_answer.result in
+    let result = c.write_output.result in
     let old = g.W.Write.contents c.args.output.now in
-    let new = g.W.Write.contents c.write_answer.new.output in
+    let new = g.W.Write.contents c.write_output.new.output in
     stopped
     (IsAudit c.args.members.now (g.F.CellFiles.bytes_at c.args.files.now)
     (map (λ path. path.now) c.args.paths.now))
     outcome c.in-Ok.ensures result old new
     (subst (λ t. OnErr result ((result ≡ Err ProgramFaults.Output)
     × ((n : ℕ) × Appends old new (take n t))))
-    c.as_str.ensures.value c.write_answer.ensures.err)
+    c.as_str.ensures.value c.write_output.ensures.err)

@@ -9,10 +9,10 @@ returns-in-Err-Memory g c =
     memory_ran_out c.args.asked.now c.args.versions.now (g.P.Port.traffic c.args.port.now)
     (g.P.Port.traffic c.report_on.new.port) (g.W.Write.contents c.args.output.now)
     (g.W.Write.contents c.report_on.new.output)
-    (g.W.Write.contents c.write_answer.new.output)
-    c.write_answer.result
+    (g.W.Write.contents c.write_output.new.output)
+    c.write_output.result
     (subst (λ (fault : AskFault). AreReported c.args.asked.now c.args.versions.now
     (g.P.Port.traffic c.args.port.now) (g.P.Port.traffic c.report_on.new.port)
     (g.W.Write.contents c.args.output.now) (g.W.Write.contents c.report_on.new.output)
     (Err fault)) c.in-Err-Memory.field-0-is c.in-Err-Memory.ensures)
-    c.write_answer.ensures.ok c.write_answer.ensures.err
+    c.write_output.ensures.ok c.write_output.ensures.err

@@ -13,6 +13,6 @@ returns-in-Ok g c = λ taken text first given had.
 pub returns-in-Err : goal.returns-in-Err
 returns-in-Err g c = λ taken text first given had.
     let contents = g.W.Write.contents in
-    wrote_memory first (contents c.args.output.now) (contents c.write_answer.new.output) text had
-    taken (lines_so_far c.args.lines.now taken text given) c.write_answer.result
-    c.write_answer.ensures.ok c.write_answer.ensures.err
+    wrote_memory first (contents c.args.output.now) (contents c.write_output.new.output) text had
+    taken (lines_so_far c.args.lines.now taken text given) c.write_output.result
+    c.write_output.ensures.ok c.write_output.ensures.err

@@ -14,7 +14,7 @@ pub returns-in-Ok : goal.returns-in-Ok
 returns-in-Ok g c = λ taken text first given had.
     let contents = g.W.Write.contents in
     let old = contents c.args.output.now in
-    let new = contents c.write_answer.new.output in
+    let new = contents c.write_output.new.output in
     let more = string_bytes c.in-Ok-More.text in (
       text ++ more,
       subst (IsTaken c.take.new.self (taken ++ c.args.piece.now) text) c.in-Ok-More.field-0-is
@@ -27,16 +27,16 @@ pub returns-in-Ok-More : goal.returns-in-Ok-More
 returns-in-Ok-More g c = λ taken text first given had.
     let contents = g.W.Write.contents in
     let old = contents c.args.output.now in
-    let new = contents c.write_answer.new.output in
+    let new = contents c.write_output.new.output in
     let all = taken ++ c.args.piece.now in
     let more = string_bytes c.in-Ok-More.text in
-    let fault = c.in-Err-write_answer.fault in
+    let fault = c.in-Err-write_output.fault in
     wrote_part first old new text had all c.take.new.self more
     (subst (IsTaken c.take.new.self all text) c.in-Ok-More.field-0-is
     (c.in-Ok-More.ensures taken text given)) fault
     (subst (λ t. (◌≡◌ {A = Result ℕ ProgramFault} (Err fault) (Err Output))
     × ((n : ℕ) × Appends old new (take n t)))
-    c.as_str.ensures.value c.in-Err-write_answer.ensures.err)
+    c.as_str.ensures.value c.in-Err-write_output.ensures.err)
 
 pub returns-in-Ok-Last : goal.returns-in-Ok-Last
 returns-in-Ok-Last g c = λ taken text first given had.
@@ -56,11 +56,11 @@ pub returns : goal.returns
 returns g c = λ taken text first given had.
     let contents = g.W.Write.contents in
     let old = contents c.args.output.now in
-    let new = contents c.write_answer-in-Err.new.output in
+    let new = contents c.write_output-in-Err.new.output in
     let all = taken ++ c.args.piece.now in
     subst (IsAfterPiece all c.take.new.self first new) (sym c.some_status-in-Err.ensures)
-    (after_piece all c.take.new.self first new c.write_answer-in-Err.result
+    (after_piece all c.take.new.self first new c.write_output-in-Err.result
     (λ more. wrote_memory first old new text had (all ++ more)
     (lines_before c.args.lines.now taken text c.args.piece.now more given)
-    c.write_answer-in-Err.result c.write_answer-in-Err.ensures.ok
-    c.write_answer-in-Err.ensures.err))
+    c.write_output-in-Err.result c.write_output-in-Err.ensures.ok
+    c.write_output-in-Err.ensures.err))

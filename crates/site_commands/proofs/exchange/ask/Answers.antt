@@ -24,23 +24,23 @@ asked g c after =
 
 pub returns-in_default : goal.returns-in_default
 returns-in_default g c =
-    asked g (goal.at.returns-in_default g c).In-Ok (g.P.Port.traffic c.hear.new.port)
+    asked g (goal.at.returns-in_default g c).In-Ok (g.P.Port.traffic c.receive_reply.new.port)
     (Ok c.in_ok-reply.reply) c.in_ok-reply.ensures
 
 pub returns-in_err-reply : goal.returns-in_err-reply
 returns-in_err-reply g c =
     let heard = c.in_err-reply.ensures in
-    asked g (goal.at.returns-in_err-reply g c).In-Ok (g.P.Port.traffic c.hear.new.port)
+    asked g (goal.at.returns-in_err-reply g c).In-Ok (g.P.Port.traffic c.receive_reply.new.port)
     c.from_residual.result
     (heard.0, heard.1, heard.2, err_if_ok c.from_residual.result _ _ c.from_residual.ensures.1)
 
 pub returns-in-None-Used : goal.returns-in-None-Used
 returns-in-None-Used g c =
     let sent = g.P.Port.traffic c.send.new.self in
-    let idle = g.P.Port.traffic c.hear.new.port in
-    let after = g.P.Port.traffic c.hear-in-None-Used.new.port in
-    asked g (goal.at.returns-in-None-Used g c).In-Ok after c.hear-in-None-Used.result
+    let idle = g.P.Port.traffic c.receive_reply.new.port in
+    let after = g.P.Port.traffic c.receive_reply-in-None-Used.new.port in
+    asked g (goal.at.returns-in-None-Used g c).In-Ok after c.receive_reply-in-None-Used.result
     (hears_more (question_of c.args.request.now) c.args.wanted sent idle after
     (subst (λ (reply : Option Reply). Hears (question_of c.args.request.now) c.args.wanted sent
     idle (Ok reply)) c.in-None-Used.is-0 c.in_ok-reply.ensures)
-    c.hear-in-None-Used.result c.hear-in-None-Used.ensures)
+    c.receive_reply-in-None-Used.result c.receive_reply-in-None-Used.ensures)

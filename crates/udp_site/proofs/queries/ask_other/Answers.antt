@@ -37,11 +37,11 @@ returns-in-Ok-clause-comes g c old there serves =
     asks_by c.args.ports.now old c.args.slot.now c.args.member
     (is_other g (goal.at.returns-in-Ok-clause-comes g c).Else-eq old there)
     g.C.Cell.device c.args.site.now there serves c.requires c.in-Ok.answer c.in-Ok.ensures.answer
-    (g.P.Port.traffic c.args.port.now) (g.P.Port.traffic c.hand_all.new.port)
-    c.args.lines.now.items c.hand_all.result
+    (g.P.Port.traffic c.args.port.now) (g.P.Port.traffic c.send_all.new.port)
+    c.args.lines.now.items c.send_all.result
     (subst (λ (l : List Sealed). Hands (g.P.Port.traffic c.args.port.now)
-    (g.P.Port.traffic c.hand_all.new.port) (flat_map (sealed_posts c.args.ports.now) l)
-    c.hand_all.result) c.as_slice.ensures.value c.hand_all.ensures.hands)
+    (g.P.Port.traffic c.send_all.new.port) (flat_map (sealed_posts c.args.ports.now) l)
+    c.send_all.result) c.as_slice.ensures.value c.send_all.ensures.hands)
 
 pub returns-in_err-say_refused-in-Err-clause-comes :
     goal.returns-in_err-say_refused-in-Err-clause-comes

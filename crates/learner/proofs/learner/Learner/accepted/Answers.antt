@@ -1,7 +1,7 @@
 use Rattle.std.proofs.Common.{◌≡◌, true, false, sym, ap, subst, ◌∙◌}
 use Rattle.fed_types.specs.Voters.{with_voter}
 use Rattle.slot_table.specs.Rows.{row_at}
-use Rattle.learner.specs.Ledgers.{Ledger, Represents, known_in, counted_in}
+use Rattle.learner.specs.LearnerStates.{LearnerState, Represents, known_in, counted_in}
 use Rattle.learner.specs.inner.Counts.{is_learned}
 use Rattle.learner.proofs.HeardVotes.{heard_as, learned_by}
 use Rattle.learner.proofs.Rows.{err_of}
@@ -11,7 +11,7 @@ pub returns-in_err-learned-clause-no_memory : goal.returns-in_err-learned-clause
 returns-in_err-learned-clause-no_memory g c =
     err_of c.from_residual.result (λ records heard stands. (
       sym (stands.known c.args.slot.now)
-          ∙ sym (ap (λ (l : Ledger g.row.Q.Denot). known_in (row_at l.rows c.args.slot.now))
+          ∙ sym (ap (λ (l : LearnerState g.row.Q.Denot). known_in (row_at l.rows c.args.slot.now))
           c.self.view_is)
           ∙ c.in_err-learned.ensures.unknown,
       sym (learned_by g.Q.Quorums.quorum_system (λ m. record {
@@ -44,6 +44,6 @@ pub returns-clause-heard : goal.returns-clause-heard
 returns-clause-heard g c none records heard stands =
     heard_as c.self.inside.table records heard c.args.slot.now c.args.from
     (record { ballot = c.args.ballot; bag = c.args.bag })
-    (subst (λ (l : Ledger g.row.Q.Denot). Represents l.rows records heard) (sym c.self.view_is)
+    (subst (λ (l : LearnerState g.row.Q.Denot). Represents l.rows records heard) (sym c.self.view_is)
     stands)
-    c.hear.new.table c.hear.ensures.known (c.in_ok-learned.ensures.counted c.if-learned.false)
+    c.add_vote.new.table c.add_vote.ensures.known (c.in_ok-learned.ensures.counted c.if-learned.false)

@@ -1,5 +1,5 @@
 use Rattle.std.proofs.Common.{true, sym, subst}
-use Rattle.learner.specs.Ledgers.{Ledger, Represents}
+use Rattle.learner.specs.LearnerStates.{LearnerState, Represents}
 use Rattle.learner.proofs.HeardVotes.{same_stands}
 use Rattle.learner.proofs.NotedRecords.{noted_known, noted_other, says_none}
 use Rattle.learner.proofs.learner.Learner.note.Goals as goal
@@ -9,7 +9,7 @@ returns-in_ok-reserve-clause-noted g c records heard stands =
     noted_known c.reserve.new.table records heard c.args.new.now
     (same_stands c.self.inside.table c.reserve.new.table c.reserve.ensures.known
     c.reserve.ensures.counted records heard
-    (subst (λ (l : Ledger g.row.Q.Denot). Represents l.rows records heard)
+    (subst (λ (l : LearnerState g.row.Q.Denot). Represents l.rows records heard)
     (sym c.self.view_is) stands))
     c.settle.new.table c.in-Known.bag c.in-Known.is c.settle.ensures
 

@@ -1,5 +1,5 @@
 use Rattle.std.proofs.Common.{sym, subst}
-use Rattle.proposer.specs.Rows.{Proposing, Represents}
+use Rattle.proposer.specs.Rows.{ProposerState, Represents}
 use Rattle.proposer.proofs.Issued.{issued_stands}
 use Rattle.proposer.proofs.proposer.Proposer.issued.Goals as goal
 
@@ -7,5 +7,5 @@ pub returns-clause-heard : goal.returns-clause-heard
 returns-clause-heard g c records session under stands =
     issued_stands c.self.inside.table c.issue_in.new.table c.args.slot.now records session under
     c.issue_in.ensures.issued
-    (subst (λ (p : Proposing g.row.Q.Denot). Represents p.rows records session under)
+    (subst (λ (p : ProposerState g.row.Q.Denot). Represents p.rows records session under)
     (sym c.self.view_is) stands)

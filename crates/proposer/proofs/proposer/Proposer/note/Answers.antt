@@ -1,5 +1,5 @@
 use Rattle.std.proofs.Common.{◌∙◌, ap}
-use Rattle.proposer.specs.Rows.{Proposing, row_of}
+use Rattle.proposer.specs.Rows.{ProposerState, row_of}
 use Rattle.proposer.proofs.Issued.{noted_stands}
 use Rattle.proposer.proofs.proposer.Proposer.note.Goals as goal
 
@@ -7,6 +7,6 @@ pub returns-clause-noted : goal.returns-clause-noted
 returns-clause-noted g c records session under stands =
     noted_stands c.args.self.now.rows c.self.inside.table c.note_in.new.table c.args.new.now
     records session under
-    (λ s. ap (λ (p : Proposing g.row.Q.Denot). row_of p.rows s) c.self.view_is
+    (λ s. ap (λ (p : ProposerState g.row.Q.Denot). row_of p.rows s) c.self.view_is
     ∙ c.reserve.ensures.same s)
     c.note_in.ensures stands

@@ -1,5 +1,5 @@
 use Rattle.std.proofs.Common.{◌∙◌, ap}
-use Rattle.proposer.specs.Rows.{Proposing, row_of}
+use Rattle.proposer.specs.Rows.{ProposerState, row_of}
 use Rattle.proposer.proofs.Stands.{refused_stands}
 use Rattle.proposer.proofs.proposer.Proposer.refused.Goals as goal
 
@@ -7,6 +7,6 @@ pub returns-clause-heard : goal.returns-clause-heard
 returns-clause-heard g c from asked records session under stands =
     refused_stands c.args.self.now.rows c.self.inside.table c.refuse_in.new.table c.args.slot.now
     c.round.result from asked c.args.standing records session under
-    (λ s. ap (λ (p : Proposing g.row.Q.Denot). row_of p.rows s) c.self.view_is
+    (λ s. ap (λ (p : ProposerState g.row.Q.Denot). row_of p.rows s) c.self.view_is
     ∙ c.reserve.ensures.same s)
     c.refuse_in.ensures c.round.ensures.value stands

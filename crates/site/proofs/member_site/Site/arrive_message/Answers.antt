@@ -8,8 +8,8 @@ use Rattle.site.proofs.member_site.Site.arrive_message.Goals as goal
 pub returns-then-not-needs_opening-clause-reported :
     goal.returns-then-not-needs_opening-clause-reported
 returns-then-not-needs_opening-clause-reported g c opened =
-    reported_of g.C.Cell.device c.args.self.now c.take_in.new.self some.0
-    (Arrives (Some c.args.message)) c.take_in.result (c.take_in.ensures.answer some.0 some.1)
+    reported_of g.C.Cell.device c.args.self.now c.on_message.new.self some.0
+    (Arrives (Some c.args.message)) c.on_message.result (c.on_message.ensures.answer some.0 some.1)
   where
     some : (session : Session) × Represents c.args.self.now session
     some = subst (λ (s : OpenSite g.row.C.Denot). (session : Session) × Represents s session)

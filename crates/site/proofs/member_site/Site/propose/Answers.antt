@@ -1,5 +1,5 @@
 use Rattle.std.proofs.Common.{sym, ◌∙◌}
-use Rattle.records.specs.Words.{known_of, deposit_of}
+use Rattle.records.specs.SlotStates.{known_of, deposit_of}
 use Rattle.site.specs.Calls.{Proposes}
 use Rattle.site.specs.Sites.{effect}
 use Rattle.site.proofs.Proposed.{known_already, no_deposit, known_refused, no_deposit_refused}
@@ -15,15 +15,15 @@ returns-then-is_some-clause-answer g c opened session stands =
     (sym (some_of c.known.result (sym c.if-is_some.ensures)).1
     ∙ as_seen (known_of c.args.slot.now) c.self.view_is (c.known.ensures _ _ c.self.invariant.of))
 
-pub issue-requires-clause-deposit : goal.issue-requires-clause-deposit
-issue-requires-clause-deposit g c =
+pub start_ballot-requires-clause-deposit : goal.start_ballot-requires-clause-deposit
+start_ballot-requires-clause-deposit g c =
     sym (as_seen (deposit_of c.args.slot.now) c.self.view_is
     (c.deposit.ensures _ _ c.self.invariant.of))
     ∙ c.in-Some.is
 
 pub returns-in-Some-clause-answer : goal.returns-in-Some-clause-answer
 returns-in-Some-clause-answer g c opened session stands =
-    c.issue.ensures.answer session stands
+    c.start_ballot.ensures.answer session stands
     (sym (as_seen (known_of c.args.slot.now) c.self.view_is
     (c.known.ensures _ _ c.self.invariant.of))
     ∙ none_of c.known.result (sym c.if-is_some.ensures))
@@ -31,9 +31,9 @@ returns-in-Some-clause-answer g c opened session stands =
 pub returns-in-Some-clause-needs_open : goal.returns-in-Some-clause-needs_open
 returns-in-Some-clause-needs_open g c =
     never_needs g.C.Cell.device c.self.view_is c.self.invariant.session
-    (sym c.needs_opening.ensures ∙ c.if-needs_opening.false) c.issue.new.self
-    (λ session. effect c.args.self.now session (Proposes c.args.slot.now)) c.issue.result
-    (λ session stands. c.issue.ensures.answer session stands
+    (sym c.needs_opening.ensures ∙ c.if-needs_opening.false) c.start_ballot.new.self
+    (λ session. effect c.args.self.now session (Proposes c.args.slot.now)) c.start_ballot.result
+    (λ session stands. c.start_ballot.ensures.answer session stands
     (sym (as_seen (known_of c.args.slot.now) c.self.view_is
     (c.known.ensures _ _ c.self.invariant.of))
     ∙ none_of c.known.result (sym c.if-is_some.ensures)))
@@ -55,7 +55,7 @@ returns-then-is_some-clause-refused g c opened session stands =
 
 pub returns-in-Some-clause-refused : goal.returns-in-Some-clause-refused
 returns-in-Some-clause-refused g c opened session stands =
-    c.issue.ensures.refused session stands
+    c.start_ballot.ensures.refused session stands
     (sym (as_seen (known_of c.args.slot.now) c.self.view_is
     (c.known.ensures _ _ c.self.invariant.of))
     ∙ none_of c.known.result (sym c.if-is_some.ensures))

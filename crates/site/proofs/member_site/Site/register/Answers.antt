@@ -1,7 +1,7 @@
 use Rattle.std.proofs.Common.{map, Some, refl, sym, ap, subst, ◌∙◌}
 use Rattle.fed_types.specs.Slots.{SlotName}
 use Rattle.records.specs.declared.entry.Entry.TheVariants as entry
-use Rattle.records.specs.Words.{known_of, deposit_of}
+use Rattle.records.specs.SlotStates.{known_of, deposit_of}
 use Rattle.site.specs.declared.answer.Line.TheVariants as lines
 use Rattle.site.specs.Datagrams.{handed_out}
 use Rattle.site.specs.inner.Concluded.{Concludes}

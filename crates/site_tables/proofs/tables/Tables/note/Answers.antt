@@ -1,6 +1,6 @@
 use Rattle.std.proofs.Common.{sym, ap, ◌∙◌}
 use Rattle.records.specs.declared.entry.Entry.{Entry}
-use Rattle.records.specs.Words.{deposit_in}
+use Rattle.records.specs.SlotStates.{deposit_in}
 use Rattle.site_tables.specs.Contents.{Contents, with_bag}
 use Rattle.site_tables.proofs.Deposited.{says_no_deposit}
 use Rattle.site_tables.proofs.Noted.{all_note, noted_of, noted_stands}

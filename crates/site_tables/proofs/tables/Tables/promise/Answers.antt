@@ -1,7 +1,7 @@
 use Rattle.std.proofs.Common.{ap, ◌∙◌}
 use Rattle.fed_types.specs.Quorums.{quorums_of}
 use Rattle.fed_types.specs.Sites.{Membership}
-use Rattle.records.specs.Words.{deposit_of}
+use Rattle.records.specs.SlotStates.{deposit_of}
 use Rattle.proposer.specs.Proposals.{ready}
 use Rattle.proposer.specs.Rows.{current_in, row_of}
 use Rattle.proposer.specs.Sessions.{promise_message}

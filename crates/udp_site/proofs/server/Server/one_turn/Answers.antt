@@ -29,7 +29,7 @@ returns-in_err-turn-clause-turn g c old stands =
 pub returns-in-Err-clause-turn : goal.returns-in-Err-clause-turn
 returns-in-Err-clause-turn g c old stands =
     let was = c.args.self.now in
-    let left = c.take_turn.new.self in
+    let left = c.handle_turn.new.self in
     let rule = turn_of g.C.Cell.device was.ports.now (g.F.Folders.gives was.folders.now) in
     let before = outside (g.P.Port.traffic was.port.now)
     (g.W.Write.contents c.args.output.now) in
@@ -43,7 +43,7 @@ returns-in-Err-clause-turn g c old stands =
 pub returns-then-is_refused-clause-turn : goal.returns-then-is_refused-clause-turn
 returns-then-is_refused-clause-turn g c old stands =
     let was = c.args.self.now in
-    let left = c.take_turn.new.self in
+    let left = c.handle_turn.new.self in
     let rule = turn_of g.C.Cell.device was.ports.now (g.F.Folders.gives was.folders.now) in
     let before = outside (g.P.Port.traffic was.port.now)
     (g.W.Write.contents c.args.output.now) in
@@ -65,7 +65,7 @@ returns-then-is_refused-clause-turn g c old stands =
 pub returns-clause-turn : goal.returns-clause-turn
 returns-clause-turn g c old stands =
     let was = c.args.self.now in
-    let left = c.take_turn.new.self in
+    let left = c.handle_turn.new.self in
     let refused = sym c.if-is_refused.false ∙ c.is_refused.ensures
     ∙ ap (list_any line_of_the_cell) c.deref-2.ensures.value in
     went_on (turn_of g.C.Cell.device was.ports.now (g.F.Folders.gives was.folders.now))
@@ -83,7 +83,7 @@ returns-clause-turn g c old stands =
 pub returns-clause-settled : goal.returns-clause-settled
 returns-clause-settled g c =
     let was = c.args.self.now in
-    let left = c.take_turn.new.self in
+    let left = c.handle_turn.new.self in
     on_ok c.write_lines-written.result
     (λ old stands.
     settled_after g.C.Cell.device was.ports.now (g.F.Folders.gives was.folders.now) old

@@ -8,11 +8,11 @@ use Rattle.udp_site.proofs.Handed.{whole_part}
 use Rattle.udp_site.proofs.Proposals.{proposes_whole, proposes_part, proposes_failed}
 use Rattle.udp_site.proofs.Same.{same_number}
 use Rattle.udp_site.proofs.server.Server.propose.Given.{Over}
-use Rattle.udp_site.proofs.server.Server.propose.Goals.{After-hand_answer}
+use Rattle.udp_site.proofs.server.Server.propose.Goals.{After-send_answer}
 use Rattle.udp_site.proofs.server.Server.propose.Goals as goal
 
 -- the site was called
-call : (g : Over) (c : After-hand_answer g) (old : Serving g.row.C.Denot)
+call : (g : Over) (c : After-send_answer g) (old : Serving g.row.C.Denot)
     → old.site ≡ c.args.self.now.site.now → IsServing old
     → Call g.C.Cell.device old (Proposes c.args.slot.now) c.propose-answer.result
     c.args.self.now.site.now c.propose-answer.new.self
@@ -27,33 +27,33 @@ call g c old there serves = record {
 pub returns-clause-comes : goal.returns-clause-comes
 returns-clause-comes g c old there serves =
     let was = c.args.self.now in
-    proposes_whole (call g (goal.at.returns-clause-comes g c).After-hand_answer old there serves)
+    proposes_whole (call g (goal.at.returns-clause-comes g c).After-send_answer old there serves)
     c.propose-answer.ensures.refused was.ports.now
-    (g.P.Port.traffic was.port.now) (g.P.Port.traffic c.hand_answer.new.port)
-    was.lines.now.items c.say_proposal.new.lines.items c.in_ok-hand_answer.ensures.hands
+    (g.P.Port.traffic was.port.now) (g.P.Port.traffic c.send_answer.new.port)
+    was.lines.now.items c.say_proposal.new.lines.items c.in_ok-send_answer.ensures.hands
     (subst (λ (site : ℕ). Notes was.lines.now.items c.say_proposal.new.lines.items
     (proposal_notices site (Proposes c.args.slot.now) c.propose-answer.result))
     (same_number old was.site.now there c.number.result c.number-number.result
     c.number-number.ensures.value c.number.ensures) (c.in_ok-say_proposal.ensures c.args.slot.now))
 
-pub returns-in_err-hand_answer-clause-comes : goal.returns-in_err-hand_answer-clause-comes
-returns-in_err-hand_answer-clause-comes g c old there serves =
+pub returns-in_err-send_answer-clause-comes : goal.returns-in_err-send_answer-clause-comes
+returns-in_err-send_answer-clause-comes g c old there serves =
     let was = c.args.self.now in
-    let at = goal.at.returns-in_err-hand_answer-clause-comes g c in
-    proposes_failed (call g at.After-hand_answer old there serves)
+    let at = goal.at.returns-in_err-send_answer-clause-comes g c in
+    proposes_failed (call g at.After-send_answer old there serves)
     c.propose-answer.ensures.refused was.ports.now
-    (g.P.Port.traffic was.port.now) (g.P.Port.traffic c.hand_answer.new.port)
-    was.lines.now.items was.lines.now.items c.in_err-hand_answer.field-0.0
-    c.from_residual.result c.from_residual.ensures.1 c.in_err-hand_answer.ensures.hands
+    (g.P.Port.traffic was.port.now) (g.P.Port.traffic c.send_answer.new.port)
+    was.lines.now.items was.lines.now.items c.in_err-send_answer.field-0.0
+    c.from_residual.result c.from_residual.ensures.1 c.in_err-send_answer.ensures.hands
 
 pub returns-in_err-say_proposal-clause-comes : goal.returns-in_err-say_proposal-clause-comes
 returns-in_err-say_proposal-clause-comes g c old there serves =
     let was = c.args.self.now in
     let at = goal.at.returns-in_err-say_proposal-clause-comes g c in
-    proposes_part (call g at.After-hand_answer old there serves)
+    proposes_part (call g at.After-send_answer old there serves)
     c.propose-answer.ensures.refused was.ports.now
-    (g.P.Port.traffic was.port.now) (g.P.Port.traffic c.hand_answer.new.port)
+    (g.P.Port.traffic was.port.now) (g.P.Port.traffic c.send_answer.new.port)
     was.lines.now.items c.say_proposal.new.lines.items
-    (whole_part (g.P.Port.traffic was.port.now) (g.P.Port.traffic c.hand_answer.new.port)
-    (all_handed (posts_of was.ports.now c.propose-answer.result)) c.in_ok-hand_answer.ensures.hands)
+    (whole_part (g.P.Port.traffic was.port.now) (g.P.Port.traffic c.send_answer.new.port)
+    (all_handed (posts_of was.ports.now c.propose-answer.result)) c.in_ok-send_answer.ensures.hands)
     c.from_residual-in_err-say_proposal.result c.from_residual-in_err-say_proposal.ensures.1

@@ -1,0 +1,212 @@
+-- A ballot is started, or why it isn't.
+use Rattle.std.proofs.Common.{◌≡◌, inl, Bool, true, false, cond, map, Option, Some}
+use Rattle.std.proofs.Common.{None, Result, Ok, Err, refl, sym, ap, subst, ◌∙◌}
+use Rattle.std.specs.Prelude.{IsSome}
+use Rattle.std.proofs.lemmas.Bool.Decides.{Decides-eqb}
+use Rattle.fed_types.specs.declared.bag_id.BagId.{BagId}
+use Rattle.fed_types.specs.Ballots.{BallotNumber}
+use Rattle.fed_types.specs.Quorums.{quorums_of}
+use Rattle.fed_types.specs.Slots.{SlotName}
+use Rattle.cell_device.specs.Devices.{Device}
+use Rattle.records.specs.declared.entry.Entry.TheVariants as entry
+use Rattle.records.specs.declared.owner.Owner.{Owner}
+use Rattle.records.specs.declared.record.Record.{Record}
+use Rattle.records.specs.SlotStates.{known_of, deposit_of}
+use Rattle.proposer.specs.Proposals.{next_ballot}
+use Rattle.proposer.specs.Sessions.{Session, UnderWay, begins, current_by, with_current_if, of_round}
+use Rattle.proposer.proofs.Stands.{at_here}
+use Rattle.site.specs.declared.answer.Answer.{Answer}
+use Rattle.site.specs.declared.fault.SiteFault.{SiteFault}
+use Rattle.site.specs.declared.fault.SiteFault.TheVariants as faults
+use Rattle.site.specs.declared.answer.Line.{Line}
+use Rattle.site.specs.Answered.{Keeps, IsAnswered, IsRefused}
+use Rattle.site.specs.Calls.{Proposes, on_propose, begins_ballot_if}
+use Rattle.site.specs.Datagrams.{handed_out}
+use Rattle.site.specs.Effects.{Effect}
+use Rattle.site.specs.Sites.{OpenSite, Represents, IsInOrder, effect}
+use Rattle.site.specs.inner.Begun.{Begins, BeginsBallot}
+use Rattle.site.specs.inner.Concluded.{Stands, noted_under, Concludes}
+use Rattle.site.proofs.Conclusions.{concluded}
+
+-- a ballot that was begun is started by the record of its round
+current_is : (slot : SlotName) (ballot : BallotNumber) (own : BagId) (under : UnderWay)
+    → current_by ((begins under slot ballot own).begun slot) (entry.Round ballot.round)
+    ≡ Some ballot
+current_is slot ballot own under =
+    ap (λ (b : Option BallotNumber). of_round b ballot.round)
+    (at_here slot (Some ballot) under.begun)
+    ∙ ap (λ (t : Bool). cond t (Some ballot) None) ((Decides-eqb ballot.round ballot.round).1 refl)
+
+-- what was begun is one thing
+pub refused_as : (begun : Result (Record × Answer) SiteFault) (result : Result Answer SiteFault)
+    (is fault : SiteFault) → begun ≡ Err is → result ≡ Err is → begun ≡ Err fault
+    → result ≡ Err fault
+refused_as begun result is fault e r f = r ∙ ap (λ (x : SiteFault). Err x) (same (sym e ∙ f))
+  where
+    same : ◌≡◌ {A = Result (Record × Answer) SiteFault} (Err is) (Err fault) → is ≡ fault
+    same e = cc
+
+pub not_refused : (begun : Result (Record × Answer) SiteFault) (result : Result Answer SiteFault)
+    (x : Record × Answer) (fault : SiteFault) → begun ≡ Ok x → begun ≡ Err fault
+    → result ≡ Err fault
+not_refused begun result x fault e f = absurd (differ (sym e ∙ f))
+  where
+    differ : ◌≡◌ {A = Result (Record × Answer) SiteFault} (Ok x) (Err fault) → ⊥
+    differ e = cc
+
+module _ {C : Type 0} (device : C → Device) (old mid : OpenSite C) (slot : SlotName) (own : BagId)
+    (book : mid.book ≡ old.book) (begun : Result (Record × Answer) SiteFault) (owner : Owner)
+    (whose : owner ≡ old.book.owner)
+    (begins_so : BeginsBallot owner old.tables mid.tables slot own begun) (order : IsInOrder old)
+    (now : OpenSite C) (seen : old ≡ now) (deposited : deposit_of slot now.book.records ≡ Some own)
+  where
+    b : BeginsBallot old.book.owner old.tables mid.tables slot own begun
+    b = subst (λ (o : Owner). BeginsBallot o old.tables mid.tables slot own begun) whose begins_so
+
+    deposit : deposit_of slot old.book.records ≡ Some own
+    deposit = subst (λ (s : OpenSite C). deposit_of slot s.book.records ≡ Some own) (sym seen) deposited
+
+    -- the tables are in order with the old book's records, whatever comes
+    pub mid_order : IsInOrder mid
+    mid_order = rw book (record {
+      of = b.order old.book.records order.of;
+      session = (
+        order.session.0,
+        some begun (b.begun old.book.records order.session.0
+            order.session.1.0 order.of order.session.1.1 deposit),
+      );
+    })
+      where
+        some : (r : Result (Record × Answer) SiteFault)
+            → Begins old.book.owner mid.tables slot own old.book.records order.session.0
+            order.session.1.0 r
+            → Represents (record { book = old.book; tables = mid.tables }) order.session.0
+        some (Ok x) (ballot, next, of_ballot, stands) =
+            (begins order.session.1.0 slot ballot own, stands)
+        some (Err faults.RoundsSpent) (none, stands) = (order.session.1.0, stands)
+        some (Err faults.Memory) (left, after, stands) = (after, stands)
+        some (Err (faults.InvalidBag f)) x = absurd x
+        some (Err (faults.OtherDeposit other)) x = absurd x
+        some (Err (faults.OtherKnown other)) x = absurd x
+        some (Err faults.Device) x = absurd x
+        some (Err faults.NeedsOpen) x = absurd x
+        some (Err faults.NoDeposit) x = absurd x
+        some (Err faults.AlreadyKnown) x = absurd x
+
+    module _ (session : Session) (stands : Represents old session)
+        (known : known_of slot old.book.records ≡ None) where
+      propose_effect : (next : Option BallotNumber)
+          → next_ballot old.book.owner.site slot old.book.records session.heard ≡ next
+          → begins_ballot_if (quorums_of old.book.owner.members) slot None (Some own) next session
+          ≡ effect old session (Proposes slot)
+      unfolding on_propose
+      propose_effect next is = λ i. begins_ballot_if (quorums_of old.book.owner.members) slot
+          (sym known i) (sym deposit i) (sym is i) session
+
+      -- it wasn't begun, or memory ran out
+      pub not_started : (fault : SiteFault) → begun ≡ Err fault
+          → IsAnswered device old mid session (effect old session (Proposes slot)) (Err fault)
+      not_started fault is = go fault (subst (λ (r : Result (Record × Answer) SiteFault).
+          Begins old.book.owner mid.tables slot own old.book.records session stands.0 r) is
+          (b.begun old.book.records session stands.0 order.of stands.1 deposit))
+        where
+          keeps : (r : Option Record) → Keeps device r (Err faults.Memory) old.book mid.book
+          keeps None = book
+          keeps (Some r) = inl (refl, book)
+
+          go : (f : SiteFault) → Begins old.book.owner mid.tables slot own old.book.records session
+              stands.0 (Err f)
+              → IsAnswered device old mid session (effect old session (Proposes slot)) (Err f)
+          go faults.RoundsSpent (none, s) =
+              subst (λ (e : Effect). IsAnswered device old mid session e (Err faults.RoundsSpent))
+              (propose_effect None none)
+              (record { keeps = book; gives = (refl, rw book (stands.0, s)) })
+          go faults.Memory (left, after, s) = record {
+            keeps = keeps (effect old session (Proposes slot)).commits;
+            gives = rw book (after, s);
+          }
+          go (faults.InvalidBag f) x = absurd x
+          go (faults.OtherDeposit other) x = absurd x
+          go (faults.OtherKnown other) x = absurd x
+          go faults.Device x = absurd x
+          go faults.NeedsOpen x = absurd x
+          go faults.NoDeposit x = absurd x
+          go faults.AlreadyKnown x = absurd x
+
+      -- it was begun, and its record is committed
+      pub started : (new : OpenSite C) (x : Record × Answer) (result : Result Answer SiteFault)
+          → begun ≡ Ok x
+          → Concludes device mid new (Some x.0) x.1.line (map handed_out x.1.sends.items) result
+          → IsAnswered device old new session (effect old session (Proposes slot)) result
+      started new x result is c = go (subst (λ (r : Result (Record × Answer) SiteFault).
+          Begins old.book.owner mid.tables slot own old.book.records session stands.0 r) is
+          (b.begun old.book.records session stands.0 order.of stands.1 deposit))
+        where
+          go : Begins old.book.owner mid.tables slot own old.book.records session stands.0 (Ok x)
+              → IsAnswered device old new session (effect old session (Proposes slot)) result
+          go (ballot, next, of_ballot, s) =
+              subst (λ (e : Effect). IsAnswered device old new session e result)
+              (propose_effect (Some ballot) next)
+              (concluded device old mid new session (begins stands.0 slot ballot own)
+              (begins_ballot_if (quorums_of old.book.owner.members) slot None (Some own) (Some ballot)
+              session) None (map handed_out x.1.sends.items) result
+              (subst (λ (r : Record). Concludes device mid new (Some r) None
+              (map handed_out x.1.sends.items) result) of_ballot.record_is
+              (rw (← of_ballot.line) c))
+              book (rw book s) refl of_ballot.sends
+              (λ after. (
+                noted_under (begins stands.0 slot ballot own)
+                    (record { slot = slot; body = entry.Round ballot.round }),
+                subst (λ (o : Option BallotNumber). Stands new (with_current_if session slot o)
+                    (noted_under (begins stands.0 slot ballot own)
+                    (record { slot = slot; body = entry.Round ballot.round })))
+                    (current_is slot ballot own stands.0) after,
+              )))
+
+      -- that no round is left is answered
+      pub refused_or_started : (result : Result Answer SiteFault)
+          → ((fault : SiteFault) → begun ≡ Err fault → result ≡ Err fault)
+          → IsRefused (effect old session (Proposes slot)) result
+      refused_or_started result err = go begun refl
+          (b.begun old.book.records session stands.0 order.of stands.1 deposit)
+        where
+          with_current : (ballot : BallotNumber)
+              → next_ballot old.book.owner.site slot old.book.records session.heard ≡ Some ballot
+              → IsRefused (effect old session (Proposes slot)) result
+          with_current ballot next = subst (λ (e : Effect). IsRefused e result)
+              (propose_effect (Some ballot) next) (λ fault is. absurd (differ fault is))
+            where
+              differ : (fault : SiteFault)
+                  → ◌≡◌ {A = Result (Option Line) SiteFault} (Ok None) (Err fault) → ⊥
+              differ fault e = cc
+
+          left : (next : Option BallotNumber)
+              → next_ballot old.book.owner.site slot old.book.records session.heard ≡ next
+              → IsSome next → IsRefused (effect old session (Proposes slot)) result
+          left None is some = absurd (differ some)
+            where
+              differ : false ≡ true → ⊥
+              differ e = cc
+          left (Some ballot) is some = with_current ballot is
+
+          go : (r : Result (Record × Answer) SiteFault) → begun ≡ r
+              → Begins old.book.owner mid.tables slot own old.book.records session stands.0 r
+              → IsRefused (effect old session (Proposes slot)) result
+          go (Ok x) is (ballot, next, of_ballot, s) = with_current ballot next
+          go (Err faults.RoundsSpent) is (none, s) = subst (λ (e : Effect). IsRefused e result)
+              (propose_effect None none)
+              (λ fault says. err faults.RoundsSpent is
+              ∙ ap (λ (f : SiteFault). Err f) (same fault says))
+            where
+              same : (fault : SiteFault)
+                  → ◌≡◌ {A = Result (Option Line) SiteFault} (Err faults.RoundsSpent) (Err fault)
+                  → faults.RoundsSpent ≡ fault
+              same fault e = cc
+          go (Err faults.Memory) is (some, after, s) = left _ refl some
+          go (Err (faults.InvalidBag f)) is x = absurd x
+          go (Err (faults.OtherDeposit other)) is x = absurd x
+          go (Err (faults.OtherKnown other)) is x = absurd x
+          go (Err faults.Device) is x = absurd x
+          go (Err faults.NeedsOpen) is x = absurd x
+          go (Err faults.NoDeposit) is x = absurd x
+          go (Err faults.AlreadyKnown) is x = absurd x

@@ -1,0 +1,69 @@
+use Rattle.std.proofs.Common.{Result, refl, sym, subst}
+use Rattle.site.specs.declared.answer.Answer.{Answer}
+use Rattle.site.specs.Answered.{IsAnswered}
+use Rattle.site.specs.Calls.{Proposes}
+use Rattle.site.specs.Sites.{effect}
+use Rattle.site.proofs.Conclusions.{answer_err_of}
+use Rattle.site.proofs.StartedBallots.{mid_order, not_started, started, refused_or_started, refused_as}
+use Rattle.site.proofs.StartedBallots.{not_refused}
+use Rattle.site.proofs.member_site.Site.start_ballot.Goals as goal
+
+pub invariant_of-self : goal.invariant_of-self
+invariant_of-self g c =
+    mid_order g.C.Cell.device _
+    (record { book = c.self.inside.book; tables = c.begin_ballot.new.tables })
+    c.args.slot.now c.args.own refl c.begin_ballot.result c.owner-owner.result
+    c.owner-owner.ensures c.begin_ballot.ensures c.self.invariant c.args.self.now c.self.view_is
+    c.requires.deposit
+
+pub returns-in_err-new : goal.returns-in_err-new
+returns-in_err-new g c = rw (← c.self.view_is) (record {
+  answer = λ session stands known.
+      subst (λ (r : Result Answer _). IsAnswered g.C.Cell.device
+      (record { book = c.self.inside.book; tables = c.self.inside.tables })
+      (record { book = c.self.inside.book; tables = c.begin_ballot.new.tables }) session
+      (effect (record { book = c.self.inside.book; tables = c.self.inside.tables }) session
+      (Proposes c.args.slot.now)) r)
+      (sym (answer_err_of c.from_residual.result c.in_err-new.field-0.0 c.from_residual.ensures.1))
+      (not_started g.C.Cell.device _
+      (record { book = c.self.inside.book; tables = c.begin_ballot.new.tables })
+      c.args.slot.now c.args.own refl c.begin_ballot.result c.owner-owner.result
+      c.owner-owner.ensures c.begin_ballot.ensures c.self.invariant c.args.self.now c.self.view_is
+      c.requires.deposit session stands known c.in_err-new.field-0.0 c.in_err-new.was);
+  refused = λ session stands known.
+      refused_or_started g.C.Cell.device _
+      (record { book = c.self.inside.book; tables = c.begin_ballot.new.tables })
+      c.args.slot.now c.args.own refl c.begin_ballot.result c.owner-owner.result
+      c.owner-owner.ensures c.begin_ballot.ensures c.self.invariant c.args.self.now c.self.view_is
+      c.requires.deposit session stands known c.from_residual.result
+      (λ fault. refused_as c.begin_ballot.result c.from_residual.result c.in_err-new.field-0.0 fault
+      c.in_err-new.was
+      (answer_err_of c.from_residual.result c.in_err-new.field-0.0 c.from_residual.ensures.1));
+})
+
+pub invariant_of-self-2 : goal.invariant_of-self-2
+invariant_of-self-2 g c =
+    mid_order g.C.Cell.device _
+    (record { book = c.self.inside.book; tables = c.begin_ballot.new.tables })
+    c.args.slot.now c.args.own refl c.begin_ballot.result c.owner-owner.result
+    c.owner-owner.ensures c.begin_ballot.ensures c.self.invariant c.args.self.now c.self.view_is
+    c.requires.deposit
+
+pub returns : goal.returns
+returns g c = rw (← c.self.view_is) (record {
+  answer = λ session stands known.
+      started g.C.Cell.device _
+      (record { book = c.self.inside.book; tables = c.begin_ballot.new.tables })
+      c.args.slot.now c.args.own refl c.begin_ballot.result c.owner-owner.result
+      c.owner-owner.ensures c.begin_ballot.ensures c.self.invariant c.args.self.now c.self.view_is
+      c.requires.deposit session stands known c.conclude.new.self
+      (c.in_ok-new.new, c.in_ok-new.answer) c.conclude.result c.in_ok-new.was c.conclude.ensures;
+  refused = λ session stands known.
+      refused_or_started g.C.Cell.device _
+      (record { book = c.self.inside.book; tables = c.begin_ballot.new.tables })
+      c.args.slot.now c.args.own refl c.begin_ballot.result c.owner-owner.result
+      c.owner-owner.ensures c.begin_ballot.ensures c.self.invariant c.args.self.now c.self.view_is
+      c.requires.deposit session stands known c.conclude.result
+      (λ fault. not_refused c.begin_ballot.result c.conclude.result
+      (c.in_ok-new.new, c.in_ok-new.answer) fault c.in_ok-new.was);
+})
