@@ -1,6 +1,6 @@
 ghost use Rattle.std.specs.Prelude.{◌≡◌, ◌++◌, ◌∷◌, [], List, Some, OnOk, OnErr, IsOk, IsSome};
 ghost use Rattle.fed_types.specs.Slots.{SlotName};
-ghost use Rattle.records.specs.declared.record.Record.{Record as declared_record};
+ghost use Rattle.records.specs.Records.{Records};
 ghost use Rattle.slot_table.specs.Rows.{row_at, IsWith, HasRooms};
 ghost use Rattle.acceptor.specs.Decisions.{
   on_prepare,
@@ -54,7 +54,7 @@ impl Acceptor {
     /// nothing.
     #[tactic(auto, unfolding(crate::specs::Decisions::prepare_decision))]
     pub fn prepare(&self, slot: &Slot, ballot: Ballot) -> Decision
-        ensures { (records : List declared_record) → Represents self.now records
+        ensures { (records : Records) → Represents self.now records
             → result ≡ prepare_decision slot.now records ballot }
     {
         prepared(self.row(slot), ballot)
@@ -64,7 +64,7 @@ impl Acceptor {
     /// changes nothing.
     #[tactic(auto, unfolding(crate::specs::Decisions::accept_decision))]
     pub fn accept(&self, slot: &Slot, ballot: Ballot, bag: BagId) -> Decision
-        ensures { (records : List declared_record) → Represents self.now records
+        ensures { (records : Records) → Represents self.now records
             → result ≡ accept_decision slot.now records (record { ballot = ballot; bag = bag }) }
     {
         accepted(self.row(slot), Vote { ballot, bag })
@@ -83,7 +83,7 @@ impl Acceptor {
 
     /// Takes note of a record that was committed.
     pub fn note(&mut self, new: &Record) -> Result<(), AllocError>
-        ensures noted { OnOk result ((records : List declared_record)
+        ensures noted { OnOk result ((records : Records)
             → Represents self.old records → Represents self.new (records ++ new.now ∷ [])) }
         ensures unchanged { OnErr result ((s : SlotName) → row_of self.new s ≡ row_of self.old s) }
         ensures rooms { HasRooms self.old self.new }

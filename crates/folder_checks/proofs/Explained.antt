@@ -40,7 +40,8 @@ answered facts verdict lines (Ok a) is same s t = λ known. (
 
 -- the answer for a folder that wasn't read
 pub unread : (read : Result TreeFacts TreeFault) (known place : Option (List ℕ)) (fault : TreeFault)
-    (r : Result ProgramOutput AllocError) → tree_numbers.IsOrMemory (Err fault) read → IsPlace known place
+    (r : Result ProgramOutput AllocError) → tree_numbers.IsOrMemory (Err fault) read
+    → IsPlace known place
     → IfOk r (λ a. a.status ≡ (outcome_with (Unread fault) (unread_line fault place)).status)
     → IfOk r
     (λ a. string_bytes a.text ≡ (outcome_with (Unread fault) (unread_line fault place)).text)

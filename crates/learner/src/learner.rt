@@ -12,7 +12,7 @@ ghost use Rattle.std.specs.Prelude.{
   IsOk,
   IsSome,
 };
-ghost use Rattle.records.specs.declared.record.Record.{Record as declared_record};
+ghost use Rattle.records.specs.Records.{Records};
 ghost use Rattle.records.specs.SlotStates.{known_of, known_in as known_in_entry};
 ghost use Rattle.dgram.specs.declared.message.Message.{Message};
 ghost use Rattle.slot_table.specs.Rows.{row_at, HasRooms};
@@ -61,7 +61,7 @@ impl<Q: Quorums + Drop> Learner<Q> {
     /// The known bag of the slot, if a Known record of it was noted. It takes no memory.
     pub fn known(&self, slot: &Slot) -> Option<BagId>
         ensures row { result ≡ known_in (row_at self.now.rows slot.now) }
-        ensures known { (records : List declared_record) (heard : List Message)
+        ensures known { (records : Records) (heard : List Message)
             → Represents self.now.rows records heard → result ≡ known_of slot.now records }
     {
         match self.table.get(slot) {
@@ -72,7 +72,7 @@ impl<Q: Quorums + Drop> Learner<Q> {
 
     /// What is learned from a site that knows this bag. It takes no memory.
     pub fn told(&self, slot: &Slot, bag: BagId) -> Option<BagId>
-        ensures { (records : List declared_record) (heard : List Message)
+        ensures { (records : Records) (heard : List Message)
             → Represents self.now.rows records heard
             → result ≡ learned_of_known slot.now records bag }
     {
@@ -91,19 +91,19 @@ impl<Q: Quorums + Drop> Learner<Q> {
         ballot: Ballot,
         bag: BagId,
     ) -> Result<Option<BagId>, AllocError>
-        ensures learned { IfOk result (λ o. (records : List declared_record)
+        ensures learned { IfOk result (λ o. (records : Records)
             (heard : List Message) → Represents self.old.rows records heard
             → o ≡ learned_from (Q.quorum_system self.old.members) slot.now records heard from
             (record { ballot = ballot; bag = bag })) }
-        ensures heard { IfOk result (λ o. o ≡ None → (records : List declared_record)
+        ensures heard { IfOk result (λ o. o ≡ None → (records : Records)
             (heard : List Message) → Represents self.old.rows records heard
             → Represents self.new.rows records (with_vote heard slot.now from
             (record { ballot = ballot; bag = bag }))) }
         ensures unchanged { IfOk result (λ o. IsSome o → self.new ≡ self.old) }
-        ensures memory { OnErr result ((records : List declared_record) (heard : List Message)
+        ensures memory { OnErr result ((records : Records) (heard : List Message)
             → Represents self.old.rows records heard → Represents self.new.rows records heard) }
         // Memory can run out only where nothing is learned, and the vote still counts.
-        ensures no_memory { OnErr result ((records : List declared_record)
+        ensures no_memory { OnErr result ((records : Records)
             (heard : List Message) → Represents self.old.rows records heard
             → (known_of slot.now records ≡ None)
             × (learned_from (Q.quorum_system self.old.members) slot.now records heard from
@@ -129,7 +129,7 @@ impl<Q: Quorums + Drop> Learner<Q> {
     /// Makes room for the slot, so that `note` of its records takes no memory. It says nothing of
     /// the slot.
     pub fn reserve(&mut self, slot: &Slot) -> Result<(), AllocError>
-        ensures same { (records : List declared_record) (heard : List Message)
+        ensures same { (records : Records) (heard : List Message)
             → Represents self.old.rows records heard → Represents self.new.rows records heard }
         ensures rooms { HasRooms self.old.rows self.new.rows }
         ensures present { OnOk result (IsSome (row_at self.new.rows slot.now)) }
@@ -141,10 +141,10 @@ impl<Q: Quorums + Drop> Learner<Q> {
 
     /// Takes note of a record that was committed.
     pub fn note(&mut self, new: &Record) -> Result<(), AllocError>
-        ensures noted { OnOk result ((records : List declared_record) (heard : List Message)
+        ensures noted { OnOk result ((records : Records) (heard : List Message)
             → Represents self.old.rows records heard
             → Represents self.new.rows (records ++ new.now ∷ []) heard) }
-        ensures memory { OnErr result ((records : List declared_record) (heard : List Message)
+        ensures memory { OnErr result ((records : Records) (heard : List Message)
             → Represents self.old.rows records heard → Represents self.new.rows records heard) }
         // Memory is taken for a Known record alone, of a slot without room.
         ensures no_memory { OnErr result (IsSome (known_in_entry new.now.body)) }

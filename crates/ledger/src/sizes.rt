@@ -2,9 +2,8 @@
 
 ghost use Rattle.std.specs.Prelude.{◌≡◌, ◌≤◌, ◌++◌, List, ℕ, length};
 ghost use Rattle.records.specs.declared.layout.Layout.{Layout as declared_layout};
-ghost use Rattle.records.specs.declared.record.Record.{Record as declared_record};
 ghost use Rattle.records.specs.Layout.{all_encoded};
-ghost use Rattle.records.specs.Records.{AreRecords};
+ghost use Rattle.records.specs.Records.{AreRecords, Records};
 ghost use Rattle.ledger.specs.inner.Sizes.{IsSizeAt, Stops};
 
 use fields::CHECKSUM_BYTES;
@@ -28,7 +27,7 @@ fn size_at(bytes: &[u8]) -> Option<usize>
 /// How many of the bytes are records, of a layout of which they are known to be.
 pub(crate) fn pass_sizes(bytes: &[u8]) -> usize
     ensures in_range { result ≤ length bytes.now }
-    ensures passed { (l : declared_layout) (records : List declared_record) (rest : List ℕ)
+    ensures passed { (l : declared_layout) (records : Records) (rest : List ℕ)
         → AreRecords records → bytes.now ≡ all_encoded l records ++ rest → Stops rest
         → result ≡ length (all_encoded l records) }
 {

@@ -19,7 +19,7 @@ use Rattle.proposer.specs.Rounds.{Round}
 use Rattle.proposer.specs.declared.row.Row.{Row}
 use Rattle.proposer.specs.Proposals.{Current}
 use Rattle.proposer.specs.Sessions.{Session, UnderWay, at_slot, hears, with_current, waits}
-use Rattle.proposer.specs.Sessions.{promise_message, heard_if, of_round, current_by, with_current_if}
+use Rattle.proposer.specs.Sessions.{promise_message, heard_if, of_round, current_by, current_if}
 use Rattle.proposer.specs.Sessions.{under_way_if}
 use Rattle.proposer.specs.Rows.{empty_row, BeginsFor, Counts, CountsFor, Knows, Represents, row_of}
 use Rattle.proposer.specs.Rows.{begun_in, current_in, waiting_as, waiting_in}
@@ -341,7 +341,7 @@ module _ (old new : Rows Row) (r : Record) (records : List Record) (session : Se
         current = (row_of old r.slot).current;
       }))
       → Represents new (records ++ r ∷ [])
-      (with_current_if session r.slot (cond t (under.begun r.slot) None))
+      (current_if session r.slot (cond t (under.begun r.slot) None))
       (under_way_if under r.slot (cond t (under.begun r.slot) None))
   round_stands n false is of puts =
       raised (record {
@@ -357,7 +357,7 @@ module _ (old new : Rows Row) (r : Record) (records : List Record) (session : Se
       go : (b : Option BallotNumber) (o : Option Round) → under.begun r.slot ≡ b
           → is_of_round n o ≡ true
           → BeginsFor (under.begun_with r.slot) b o
-          → Represents new (records ++ r ∷ []) (with_current_if session r.slot b)
+          → Represents new (records ++ r ∷ []) (current_if session r.slot b)
           (under_way_if under r.slot b)
       go None None e f h = absurd (cc f)
       go None (Some round) e f h = absurd h
@@ -375,11 +375,11 @@ module _ (old new : Rows Row) (r : Record) (records : List Record) (session : Se
   pub entry_stands : (body : Entry) → r.body ≡ body
       → PutsAt old new r.slot (noted_row (row_of old r.slot) (Some body))
       → Represents new (records ++ r ∷ [])
-      (with_current_if session r.slot (current_by (under.begun r.slot) body))
+      (current_if session r.slot (current_by (under.begun r.slot) body))
       (under_way_if under r.slot (current_by (under.begun r.slot) body))
   entry_stands (entry.Round n) e puts =
       subst (λ (b : Option BallotNumber). Represents new (records ++ r ∷ [])
-      (with_current_if session r.slot b) (under_way_if under r.slot b))
+      (current_if session r.slot b) (under_way_if under r.slot b))
       (sym (of_round_is (under.begun_with r.slot) (under.begun r.slot)
       (begun_in (row_of old r.slot)) n (stands r.slot).begun))
       (round_stands n (is_of_round n (begun_in (row_of old r.slot))) (ap round_in e) refl puts)
@@ -398,7 +398,7 @@ pub noted_stands : (old mid new : Rows Row) (r : Record)
     → IsWith mid new r.slot (noted_row (row_of mid r.slot) (Some r.body))
     → Represents old records session under
     → Represents new (records ++ r ∷ [])
-    (with_current_if session r.slot (current_by (under.begun r.slot) r.body))
+    (current_if session r.slot (current_by (under.begun r.slot) r.body))
     (under_way_if under r.slot (current_by (under.begun r.slot) r.body))
 noted_stands old mid new r records session under same put stands =
     entry_stands old new r records session under stands r.body refl

@@ -109,9 +109,9 @@ current_by begun (entry.Round round) = of_round begun round
 current_by begun _ = None
 
 -- the session after that
-abbrev pub with_current_if : Session → SlotName → Option BallotNumber → Session
-with_current_if session slot None = session
-with_current_if session slot (Some ballot) = with_current session slot ballot
+abbrev pub current_if : Session → SlotName → Option BallotNumber → Session
+current_if session slot None = session
+current_if session slot (Some ballot) = with_current session slot ballot
 
 -- and what is under way: of this slot nothing but the bag of the ballot that is current now
 abbrev pub under_way_if : UnderWay → SlotName → Option BallotNumber → UnderWay

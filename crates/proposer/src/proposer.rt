@@ -2,13 +2,13 @@ ghost use Rattle.std.specs.Prelude.{◌≡◌, ℕ, max, ◌++◌, ◌∷◌, []
 ghost use Rattle.std.specs.Prelude.{OnOk, OnErr, IfOk, IsOk, IsSome};
 ghost use Rattle.fed_types.specs.Ballots.{BallotNumber};
 ghost use Rattle.fed_types.specs.Slots.{SlotName};
-ghost use Rattle.records.specs.declared.record.Record.{Record as declared_record};
+ghost use Rattle.records.specs.Records.{Records};
 ghost use Rattle.slot_table.specs.Rows.{row_at, IsWith, HasRooms};
 ghost use Rattle.proposer.specs.Proposals.{next_ballot, ready, ballot_after};
 ghost use Rattle.proposer.specs.Sessions.{Session, UnderWay, new_session, nothing, begins};
 ghost use Rattle.proposer.specs.Sessions.{promise_message, heard_after, waiting_after};
 ghost use Rattle.proposer.specs.Sessions.{hears, refusal_message, heard_if, waits};
-ghost use Rattle.proposer.specs.Sessions.{current_by, with_current_if, under_way_if};
+ghost use Rattle.proposer.specs.Sessions.{current_by, current_if, under_way_if};
 ghost use Rattle.proposer.specs.Rounds.{round_of};
 ghost use Rattle.proposer.specs.Faults.{next_or_spent, IsOrMemory};
 ghost use Rattle.proposer.specs.Rows.{Represents, IsOfSameSite, row_of};
@@ -73,15 +73,15 @@ impl<Q: Quorums + Drop> Proposer<Q> {
     /// where the greatest round was used or stood in the way; else `Memory` where an allocation
     /// fails.
     pub fn begin(&mut self, slot: &Slot, own: BagId) -> Result<Ballot, ProposeFault>
-        ensures answer { (records : List declared_record) (session : Session) (under : UnderWay)
+        ensures answer { (records : Records) (session : Session) (under : UnderWay)
             → Represents self.old.rows records session under → IsOrMemory result
             (next_or_spent (next_ballot self.old.site slot.now records session.heard)) }
-        ensures spent { (records : List declared_record) (session : Session) (under : UnderWay)
+        ensures spent { (records : Records) (session : Session) (under : UnderWay)
             → Represents self.old.rows records session under
             → next_ballot self.old.site slot.now records session.heard ≡ None
             → result ≡ Err ProposeFault.RoundsSpent }
         ensures begun { IfOk result (λ ballot.
-            (records : List declared_record) (session : Session) (under : UnderWay)
+            (records : Records) (session : Session) (under : UnderWay)
             → Represents self.old.rows records session under
             → Represents self.new.rows records session (begins under slot.now ballot own)) }
         ensures present { IfOk result (λ ballot. IsSome (row_at self.new.rows slot.now)) }
@@ -109,12 +109,12 @@ impl<Q: Quorums + Drop> Proposer<Q> {
         ballot: Ballot,
         prior: Option<Vote>,
     ) -> Option<BagId>
-        ensures ready { (records : List declared_record) (session : Session) (under : UnderWay)
+        ensures ready { (records : Records) (session : Session) (under : UnderWay)
             → Represents self.old.rows records session under
             → result ≡ ready (Q.quorum_system self.old.members) (under.current_with slot.now)
             slot.now (session.current slot.now) session.heard ballot
             (record { site = from; prior = prior }) }
-        ensures heard { (records : List declared_record) (session : Session) (under : UnderWay)
+        ensures heard { (records : Records) (session : Session) (under : UnderWay)
             → Represents self.old.rows records session under
             → Represents self.new.rows records
             (heard_after result session (promise_message slot.now from ballot prior))
@@ -129,7 +129,7 @@ impl<Q: Quorums + Drop> Proposer<Q> {
     /// The proposal that became ready is sent: the promise that waits counts from now on, if one
     /// waits. It takes no memory.
     pub fn issued(&mut self, slot: &Slot)
-        ensures heard { (records : List declared_record) (session : Session) (under : UnderWay)
+        ensures heard { (records : Records) (session : Session) (under : UnderWay)
             → Represents self.old.rows records session under
             → Represents self.new.rows records (heard_if session (under.waiting slot.now))
             (waits under slot.now None) }
@@ -142,7 +142,7 @@ impl<Q: Quorums + Drop> Proposer<Q> {
     /// Hears a refusal, which raises the slot's next round.
     pub fn refused(&mut self, slot: &Slot, standing: Ballot) -> Result<(), AllocError>
         ensures heard { OnOk result ((from : ℕ) (asked : BallotNumber)
-            (records : List declared_record) (session : Session) (under : UnderWay)
+            (records : Records) (session : Session) (under : UnderWay)
             → Represents self.old.rows records session under
             → Represents self.new.rows records
             (hears session (refusal_message slot.now from asked standing)) under) }
@@ -161,10 +161,10 @@ impl<Q: Quorums + Drop> Proposer<Q> {
     /// current, and no older promise counts any more.
     pub fn note(&mut self, new: &Record) -> Result<(), AllocError>
         ensures noted { OnOk result (
-            (records : List declared_record) (session : Session) (under : UnderWay)
+            (records : Records) (session : Session) (under : UnderWay)
             → Represents self.old.rows records session under
             → Represents self.new.rows (records ++ new.now ∷ [])
-            (with_current_if session new.now.slot
+            (current_if session new.now.slot
             (current_by (under.begun new.now.slot) new.now.body))
             (under_way_if under new.now.slot
             (current_by (under.begun new.now.slot) new.now.body))) }

@@ -1,7 +1,7 @@
 ghost use Rattle.std.specs.Prelude.{◌≡◌, ◌≤◌, ◌↔◌, ℕ, List, Result, length, IfOk, OnOk};
 ghost use Rattle.std.specs.Prelude.{IsTrue, All};
 ghost use Rattle.records.specs.declared.fault.JournalFault.{JournalFault as declared_fault};
-ghost use Rattle.records.specs.declared.record.Record.{Record as declared_record};
+ghost use Rattle.records.specs.Records.{Records};
 ghost use Rattle.records.specs.Answers.{IsReading, HasTextEnd, records_read};
 ghost use Rattle.records.specs.Faults.{IsOrMemory};
 ghost use Rattle.records.specs.Journals.{Says};
@@ -243,7 +243,7 @@ pub fn read_journal(alloc: Global, owner: Owner, bytes: &[u8]) -> Result<Journal
     // What is answered is what the bytes say.
     ensures said { IsReading owner bytes.now result }
     // What the bytes say is answered, unless memory runs out.
-    ensures only { (said : Result (List declared_record) declared_fault)
+    ensures only { (said : Result Records declared_fault)
         → Says owner bytes.now said → IsOrMemory (records_read result) said }
     ensures text { IfOk result (HasTextEnd owner bytes.now) }
 {

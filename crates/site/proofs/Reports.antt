@@ -15,7 +15,8 @@ use Rattle.fed_types.specs.Slots.{SlotName}
 use Rattle.bag_check.specs.declared.fault.BagFault.{BagFault}
 use Rattle.records.specs.declared.record.Record.{Record}
 use Rattle.records.specs.declared.entry.Entry.TheVariants as entry
-use Rattle.records.specs.SlotStates.{known_of, deposit_of, known_in, said_in, if_some, with_one, earlier}
+use Rattle.records.specs.SlotStates.{known_of, deposit_of, known_in, said_in, if_some, with_one}
+use Rattle.records.specs.SlotStates.{earlier}
 use Rattle.records.proofs.SlotStates.{known-push}
 use Rattle.dgram.specs.declared.body.Body.{Body}
 use Rattle.dgram.specs.declared.body.Body.TheVariants as bodies
@@ -36,7 +37,8 @@ use Rattle.site.specs.Sites.{OpenSite, effect}
 use Rattle.site.specs.Arrivals.{on_arrival, on_body, learning, proposing, telling, is_member}
 use Rattle.site.specs.Calls.{Input, Deposits, Proposes, Asks, Arrives, effect_of, on_deposit}
 use Rattle.site.specs.Calls.{on_propose, on_ask}
-use Rattle.site.specs.Calls.{registering, deposit_fault, other_than, begins_ballot_if, reply_by, reply_of}
+use Rattle.site.specs.Calls.{registering, deposit_fault, other_than, begins_ballot_if, reply_by}
+use Rattle.site.specs.Calls.{reply_of}
 use Rattle.site.specs.declared.answer.Line.TheVariants as lines
 use Rattle.site.specs.Effects.{Effect, only_says}
 use Rattle.site.specs.Reported.{Answered, Kept, Lost, Turn, Called, Queried, Report}
@@ -114,7 +116,8 @@ module _ (q : QuorumSystem) (site : ℕ) (records : List Record) (session : Sess
       → IsKnown records (begins_ballot_if q slot known own next session)
   started slot (Some known) own next =
       says_nothing records (begins_ballot_if q slot (Some known) own next session) refl
-  started slot None None next = says_nothing records (begins_ballot_if q slot None None next session) refl
+  started slot None None next =
+      says_nothing records (begins_ballot_if q slot None None next session) refl
   started slot None (Some own) None =
       says_nothing records (begins_ballot_if q slot None (Some own) None session) refl
   started slot None (Some own) (Some ballot) =

@@ -13,7 +13,7 @@ use Rattle.records.specs.declared.owner.Owner.{Owner}
 use Rattle.records.specs.declared.record.Record.{Record}
 use Rattle.records.specs.SlotStates.{known_of, deposit_of}
 use Rattle.proposer.specs.Proposals.{next_ballot}
-use Rattle.proposer.specs.Sessions.{Session, UnderWay, begins, current_by, with_current_if, of_round}
+use Rattle.proposer.specs.Sessions.{Session, UnderWay, begins, current_by, current_if, of_round}
 use Rattle.proposer.proofs.Stands.{at_here}
 use Rattle.site.specs.declared.answer.Answer.{Answer}
 use Rattle.site.specs.declared.fault.SiteFault.{SiteFault}
@@ -64,7 +64,8 @@ module _ {C : Type 0} (device : C → Device) (old mid : OpenSite C) (slot : Slo
     b = subst (λ (o : Owner). BeginsBallot o old.tables mid.tables slot own begun) whose begins_so
 
     deposit : deposit_of slot old.book.records ≡ Some own
-    deposit = subst (λ (s : OpenSite C). deposit_of slot s.book.records ≡ Some own) (sym seen) deposited
+    deposit = subst (λ (s : OpenSite C). deposit_of slot s.book.records ≡ Some own) (sym seen)
+        deposited
 
     -- the tables are in order with the old book's records, whatever comes
     pub mid_order : IsInOrder mid
@@ -148,7 +149,8 @@ module _ {C : Type 0} (device : C → Device) (old mid : OpenSite C) (slot : Slo
               subst (λ (e : Effect). IsAnswered device old new session e result)
               (propose_effect (Some ballot) next)
               (concluded device old mid new session (begins stands.0 slot ballot own)
-              (begins_ballot_if (quorums_of old.book.owner.members) slot None (Some own) (Some ballot)
+              (begins_ballot_if (quorums_of old.book.owner.members) slot None (Some own)
+              (Some ballot)
               session) None (map handed_out x.1.sends.items) result
               (subst (λ (r : Record). Concludes device mid new (Some r) None
               (map handed_out x.1.sends.items) result) of_ballot.record_is
@@ -157,7 +159,7 @@ module _ {C : Type 0} (device : C → Device) (old mid : OpenSite C) (slot : Slo
               (λ after. (
                 noted_under (begins stands.0 slot ballot own)
                     (record { slot = slot; body = entry.Round ballot.round }),
-                subst (λ (o : Option BallotNumber). Stands new (with_current_if session slot o)
+                subst (λ (o : Option BallotNumber). Stands new (current_if session slot o)
                     (noted_under (begins stands.0 slot ballot own)
                     (record { slot = slot; body = entry.Round ballot.round })))
                     (current_is slot ballot own stands.0) after,

@@ -161,7 +161,8 @@ module _ (q : Question) (path : Option (List ℕ)) (a b : Option (List Move)) wh
   not_begun (Err e) err = ([], [], [], Grows-none a, refl, inl refl)
 
   -- there was a reply, and no memory for its line
-  pub no_room : (last : Option Reply) (result : Result (Option ProgramOutput) AllocError) → IsErr result
+  pub no_room : (last : Option Reply) (result : Result (Option ProgramOutput) AllocError)
+      → IsErr result
       → IsLastReply q path a b (Ok last) → IsLastAnswer q path a b result
   no_room last (Ok given) err is = absurd (cc err)
   no_room last (Err e) err (replies, m, grows, are, was) =

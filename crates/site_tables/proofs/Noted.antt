@@ -12,7 +12,7 @@ use Rattle.records.specs.declared.record.Record.{Record}
 use Rattle.dgram.specs.declared.message.Message.{Message}
 use Rattle.acceptor.specs.Rows as acceptors
 use Rattle.proposer.specs.Rows as proposers
-use Rattle.proposer.specs.Sessions.{Session, UnderWay, new_session, nothing, current_by, with_current_if}
+use Rattle.proposer.specs.Sessions.{Session, UnderWay, new_session, nothing, current_by, current_if}
 use Rattle.proposer.specs.Sessions.{under_way_if}
 use Rattle.learner.specs.LearnerStates as learners
 use Rattle.site_tables.specs.Contents.{Contents, HasRoom, IsOf, Represents, with_deposit}
@@ -22,7 +22,7 @@ use Rattle.site_tables.proofs.Outcomes.{always}
 
 -- a ballot that becomes current changes nothing of what was heard
 heard_same : (session : Session) (slot : SlotName) (ballot : Option BallotNumber)
-    → session.heard ≡ (with_current_if session slot ballot).heard
+    → session.heard ≡ (current_if session slot ballot).heard
 heard_same session slot None = refl
 heard_same session slot (Some ballot) = refl
 
@@ -38,7 +38,7 @@ ProposerNotes old new r =
     (records : List Record) (session : Session) (under : UnderWay)
     → proposers.Represents old.proposer.rows records session under
     → proposers.Represents new.proposer.rows (records ++ r ∷ [])
-    (with_current_if session r.slot (current_by (under.begun r.slot) r.body))
+    (current_if session r.slot (current_by (under.begun r.slot) r.body))
     (under_way_if under r.slot (current_by (under.begun r.slot) r.body))
 
 abbrev pub LearnerNotes : (old new : Contents) → Record → Type 0
@@ -99,7 +99,7 @@ module _ (old new : Contents) (r : Record) (notes : Notes old new r) where
   pub noted_stands : (records : List Record) (session : Session) (under : UnderWay)
       → Represents old records session under
       → Represents new (records ++ r ∷ [])
-      (with_current_if session r.slot (current_by (under.begun r.slot) r.body))
+      (current_if session r.slot (current_by (under.begun r.slot) r.body))
       (under_way_if under r.slot (current_by (under.begun r.slot) r.body))
   noted_stands records session under stands = record {
     proposer = notes.proposer records session under stands.proposer;
@@ -123,9 +123,9 @@ none_current (entry.Known bag) = refl
 
 -- so a record leaves a new session new
 pub stays_new : (t : Contents) (records : List Record) (r : Record)
-    → Represents t records (with_current_if new_session r.slot (current_by None r.body))
+    → Represents t records (current_if new_session r.slot (current_by None r.body))
     (under_way_if nothing r.slot (current_by None r.body))
     → Represents t records new_session nothing
 stays_new t records r stands =
-    subst (λ (b : Option BallotNumber). Represents t records (with_current_if new_session r.slot b)
+    subst (λ (b : Option BallotNumber). Represents t records (current_if new_session r.slot b)
     (under_way_if nothing r.slot b)) (none_current r.body) stands

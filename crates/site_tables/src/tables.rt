@@ -4,7 +4,7 @@ ghost use Rattle.std.specs.Option.{option_copied};
 ghost use Rattle.fed_types.specs.Ballots.{BallotNumber};
 ghost use Rattle.fed_types.specs.Quorums.{quorums_of};
 ghost use Rattle.records.specs.declared.owner.Owner.{Owner as declared_owner};
-ghost use Rattle.records.specs.declared.record.Record.{Record as declared_record};
+ghost use Rattle.records.specs.Records.{Records};
 ghost use Rattle.records.specs.SlotStates.{deposit_of, known_of};
 ghost use Rattle.acceptor.specs.Decisions.{prepare_decision, accept_decision};
 ghost use Rattle.proposer.specs.Faults.{next_or_spent, IsOrMemory};
@@ -12,7 +12,7 @@ ghost use Rattle.proposer.specs.Proposals.{next_ballot, ready};
 ghost use Rattle.proposer.specs.Sessions.{Session, UnderWay, new_session, nothing, begins};
 ghost use Rattle.proposer.specs.Sessions.{promise_message, heard_after, waiting_after};
 ghost use Rattle.proposer.specs.Sessions.{hears, refusal_message, heard_if, waits};
-ghost use Rattle.proposer.specs.Sessions.{current_by, with_current_if, under_way_if};
+ghost use Rattle.proposer.specs.Sessions.{current_by, current_if, under_way_if};
 ghost use Rattle.learner.specs.LearnedBags.{learned_from, learned_of_known};
 ghost use Rattle.dgram.specs.declared.body.Body.TheVariants.{Accepted};
 ghost use Rattle.site_tables.specs.Contents.{IsOf, Represents, RepresentsSame, HasRoom};
@@ -79,7 +79,7 @@ impl Tables {
 
     /// The slot's deposit.
     pub fn deposit(&self, slot: &Slot) -> Option<BagId>
-        ensures { (owner : declared_owner) (records : List declared_record)
+        ensures { (owner : declared_owner) (records : Records)
             → IsOf self.now owner records → result ≡ deposit_of slot.now records }
     {
         self.deposits.of(slot)
@@ -88,7 +88,7 @@ impl Tables {
     /// The slot at this place, counted from 0, of those that have a deposit, in the order of their
     /// records.
     pub fn deposited(&self, place: usize) -> Option<&Slot>
-        ensures { (owner : declared_owner) (records : List declared_record)
+        ensures { (owner : declared_owner) (records : Records)
             → IsOf self.now owner records
             → option_copied result ≡ slot_at (deposits_of records) place }
     {
@@ -97,7 +97,7 @@ impl Tables {
 
     /// The slot's known bag.
     pub fn known(&self, slot: &Slot) -> Option<BagId>
-        ensures { (owner : declared_owner) (records : List declared_record)
+        ensures { (owner : declared_owner) (records : Records)
             → IsOf self.now owner records → result ≡ known_of slot.now records }
     {
         self.learner.known(slot)
@@ -105,7 +105,7 @@ impl Tables {
 
     /// What the acceptor decides when it is asked to promise a ballot.
     pub fn prepare(&self, slot: &Slot, ballot: Ballot) -> Decision
-        ensures { (owner : declared_owner) (records : List declared_record)
+        ensures { (owner : declared_owner) (records : Records)
             → IsOf self.now owner records
             → result ≡ prepare_decision slot.now records ballot }
     {
@@ -114,7 +114,7 @@ impl Tables {
 
     /// What the acceptor decides when it is asked to vote.
     pub fn accept(&self, slot: &Slot, vote: Vote) -> Decision
-        ensures { (owner : declared_owner) (records : List declared_record)
+        ensures { (owner : declared_owner) (records : Records)
             → IsOf self.now owner records → result ≡ accept_decision slot.now records vote }
     {
         self.acceptor.accept(slot, vote.ballot, vote.bag)
@@ -122,20 +122,20 @@ impl Tables {
 
     /// Begins the slot's next ballot, to propose this bag, the site's deposit.
     pub fn begin(&mut self, slot: &Slot, own: BagId) -> Result<Ballot, ProposeFault>
-        ensures answer { (owner : declared_owner) (records : List declared_record)
+        ensures answer { (owner : declared_owner) (records : Records)
             (session : Session) (under : UnderWay) → IsOf self.old owner records
             → Represents self.old records session under → IsOrMemory result
             (next_or_spent (next_ballot owner.site slot.now records session.heard)) }
-        ensures spent { (owner : declared_owner) (records : List declared_record)
+        ensures spent { (owner : declared_owner) (records : Records)
             (session : Session) (under : UnderWay) → IsOf self.old owner records
             → Represents self.old records session under
             → next_ballot owner.site slot.now records session.heard ≡ None
             → result ≡ Err ProposeFault.RoundsSpent }
-        ensures begun { IfOk result (λ ballot. (records : List declared_record)
+        ensures begun { IfOk result (λ ballot. (records : Records)
             (session : Session) (under : UnderWay) → Represents self.old records session under
             → deposit_of slot.now records ≡ Some own
             → Represents self.new records session (begins under slot.now ballot own)) }
-        ensures of { (owner : declared_owner) (records : List declared_record)
+        ensures of { (owner : declared_owner) (records : Records)
             → IsOf self.old owner records → IsOf self.new owner records }
         ensures same { OnErr result (RepresentsSame self.old self.new) }
     {
@@ -151,18 +151,18 @@ impl Tables {
         ballot: Ballot,
         prior: Option<Vote>,
     ) -> Option<BagId>
-        ensures ready { (owner : declared_owner) (records : List declared_record)
+        ensures ready { (owner : declared_owner) (records : Records)
             (session : Session) (under : UnderWay) → IsOf self.old owner records
             → Represents self.old records session under
             → result ≡ ready (quorums_of owner.members) (deposit_of slot.now records) slot.now
             (session.current slot.now) session.heard ballot
             (record { site = from; prior = prior }) }
-        ensures heard { (records : List declared_record) (session : Session) (under : UnderWay)
+        ensures heard { (records : Records) (session : Session) (under : UnderWay)
             → Represents self.old records session under
             → Represents self.new records
             (heard_after result session (promise_message slot.now from ballot prior))
             (waiting_after result under (promise_message slot.now from ballot prior)) }
-        ensures of { (owner : declared_owner) (records : List declared_record)
+        ensures of { (owner : declared_owner) (records : Records)
             → IsOf self.old owner records → IsOf self.new owner records }
     {
         self.proposer.promise(from, slot, ballot, prior)
@@ -170,11 +170,11 @@ impl Tables {
 
     /// The proposal that became ready is sent: the promise that waits is heard, if one waits.
     pub fn issued(&mut self, slot: &Slot)
-        ensures heard { (records : List declared_record) (session : Session) (under : UnderWay)
+        ensures heard { (records : Records) (session : Session) (under : UnderWay)
             → Represents self.old records session under
             → Represents self.new records (heard_if session (under.waiting slot.now))
             (waits under slot.now None) }
-        ensures of { (owner : declared_owner) (records : List declared_record)
+        ensures of { (owner : declared_owner) (records : Records)
             → IsOf self.old owner records → IsOf self.new owner records }
     {
         self.proposer.issued(slot);
@@ -183,11 +183,11 @@ impl Tables {
     /// Hears a refusal, which raises the slot's next round.
     pub fn refused(&mut self, slot: &Slot, standing: Ballot) -> Result<(), AllocError>
         ensures heard { OnOk result ((from : ℕ) (asked : BallotNumber)
-            (records : List declared_record) (session : Session) (under : UnderWay)
+            (records : Records) (session : Session) (under : UnderWay)
             → Represents self.old records session under
             → Represents self.new records
             (hears session (refusal_message slot.now from asked standing)) under) }
-        ensures of { (owner : declared_owner) (records : List declared_record)
+        ensures of { (owner : declared_owner) (records : Records)
             → IsOf self.old owner records → IsOf self.new owner records }
         ensures same { OnErr result (RepresentsSame self.old self.new) }
     {
@@ -202,21 +202,21 @@ impl Tables {
         vote: Vote,
     ) -> Result<Option<BagId>, AllocError>
         ensures learned { IfOk result (λ o. (owner : declared_owner)
-            (records : List declared_record) (session : Session) (under : UnderWay)
+            (records : Records) (session : Session) (under : UnderWay)
             → IsOf self.old owner records → Represents self.old records session under
             → o ≡ learned_from (quorums_of owner.members) slot.now records session.heard from
             vote) }
-        ensures heard { IfOk result (λ o. o ≡ None → (records : List declared_record)
+        ensures heard { IfOk result (λ o. o ≡ None → (records : Records)
             (session : Session) (under : UnderWay) → Represents self.old records session under
             → Represents self.new records
             (hears session (record { slot = slot.now; body = Accepted from vote })) under) }
         ensures unchanged { IfOk result (λ o. IsSome o → self.new ≡ self.old) }
-        ensures of { (owner : declared_owner) (records : List declared_record)
+        ensures of { (owner : declared_owner) (records : Records)
             → IsOf self.old owner records → IsOf self.new owner records }
         ensures same { OnErr result (RepresentsSame self.old self.new) }
         // Memory can run out only where nothing is learned, and the vote still counts.
         ensures no_memory { OnErr result ((owner : declared_owner)
-            (records : List declared_record) (session : Session) (under : UnderWay)
+            (records : Records) (session : Session) (under : UnderWay)
             → IsOf self.old owner records → Represents self.old records session under
             → (known_of slot.now records ≡ None)
             × (learned_from (quorums_of owner.members) slot.now records session.heard from vote
@@ -227,7 +227,7 @@ impl Tables {
 
     /// What is learned from a site that knows this bag.
     pub fn told(&self, slot: &Slot, bag: BagId) -> Option<BagId>
-        ensures { (owner : declared_owner) (records : List declared_record)
+        ensures { (owner : declared_owner) (records : Records)
             → IsOf self.now owner records
             → result ≡ learned_of_known slot.now records bag }
     {
@@ -252,12 +252,12 @@ impl Tables {
     /// Takes note of a record that was committed, for which there is room. It takes no memory.
     pub fn note(&mut self, new: Record)
         requires { HasRoom self.old new.slot }
-        ensures of { (owner : declared_owner) (records : List declared_record)
+        ensures of { (owner : declared_owner) (records : Records)
             → IsOf self.old owner records → IsOf self.new owner (records ++ new ∷ []) }
-        ensures stands { (records : List declared_record) (session : Session)
+        ensures stands { (records : Records) (session : Session)
             (under : UnderWay) → Represents self.old records session under
             → Represents self.new (records ++ new ∷ [])
-            (with_current_if session new.slot (current_by (under.begun new.slot) new.body))
+            (current_if session new.slot (current_by (under.begun new.slot) new.body))
             (under_way_if under new.slot (current_by (under.begun new.slot) new.body)) }
     {
         let _ = self.acceptor.note(&new);

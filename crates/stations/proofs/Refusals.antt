@@ -19,7 +19,8 @@ use Rattle.site.specs.declared.answer.Line.{Line}
 use Rattle.site.specs.declared.fault.SiteFault.{SiteFault}
 use Rattle.site.specs.Arrivals.{on_arrival, on_body, proposing, learning, telling, is_member}
 use Rattle.site.specs.Calls.{Input, Deposits, Proposes, Asks, Arrives, effect_of, on_deposit}
-use Rattle.site.specs.Calls.{on_propose, on_ask, registering, deposit_fault, other_than, begins_ballot_if}
+use Rattle.site.specs.Calls.{on_propose, on_ask, registering, deposit_fault, other_than}
+use Rattle.site.specs.Calls.{begins_ballot_if}
 use Rattle.site.specs.Effects.{Effect, refuses, only_says}
 use Rattle.site.specs.declared.answer.Line.TheVariants as lines
 

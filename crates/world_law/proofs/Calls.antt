@@ -21,7 +21,8 @@ use Rattle.proposer.specs.Sessions.{Session, with_current}
 use Rattle.site.specs.declared.answer.Line.TheVariants as lines
 use Rattle.site.specs.declared.fault.SiteFault.{SiteFault}
 use Rattle.site.specs.declared.fault.SiteFault.TheVariants as faults
-use Rattle.site.specs.Calls.{Input, Deposits, Proposes, Asks, registering, on_deposit, begins_ballot}
+use Rattle.site.specs.Calls.{Input, Deposits, Proposes, Asks, registering, on_deposit}
+use Rattle.site.specs.Calls.{begins_ballot}
 use Rattle.site.specs.Calls.{begins_ballot_if, on_propose, on_ask}
 use Rattle.site.specs.Effects.{to_each, record_of, refuses}
 use Rattle.world_law.specs.Laws.{WasSent}

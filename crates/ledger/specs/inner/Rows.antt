@@ -6,7 +6,8 @@ use Rattle.fed_types.specs.Slots.{SlotName}
 use Rattle.slot_table.specs.Rows.{Rows, row_of}
 use Rattle.records.specs.declared.entry.Entry.{Entry}
 use Rattle.records.specs.declared.record.Record.{Record}
-use Rattle.records.specs.SlotStates.{deposit_of, known_of, vote_of, earlier, higher, with_one, if_some}
+use Rattle.records.specs.SlotStates.{deposit_of, known_of, vote_of, earlier, higher, with_one}
+use Rattle.records.specs.SlotStates.{if_some}
 use Rattle.records.specs.SlotStates.{deposit_in, known_in, vote_in}
 use Rattle.ledger.specs.declared.listing.Listing.{Listing}
 use Rattle.ledger.specs.declared.row.Row.{Row}

@@ -15,7 +15,8 @@ IsComparison held known alone answer =
     × (string_bytes answer.text ≡ comparison_text held known)
 
 -- it is this one, and nothing is written; or there is none, and it is written that memory ran out
-abbrev pub IsOrMemory : Option ProgramOutput → Option (List ℕ) → Option (List ℕ) → ProgramOutput → Type 0
+abbrev pub IsOrMemory :
+    Option ProgramOutput → Option (List ℕ) → Option (List ℕ) → ProgramOutput → Type 0
 IsOrMemory (Some known) old new answer = (answer ≡ known) × (new ≡ old)
 IsOrMemory None old new answer =
     (answer.status ≡ no_memory.status) × (string_bytes answer.text ≡ [])

@@ -9,7 +9,7 @@ use Rattle.book.specs.declared.fault.CommitFault.{CommitFault}
 use Rattle.book.specs.declared.fault.CommitFault.TheVariants as commits
 use Rattle.fed_types.specs.Slots.{SlotName}
 use Rattle.dgram.specs.declared.body.Body.{Body}
-use Rattle.proposer.specs.Sessions.{Session, UnderWay, hears, current_by, with_current_if, under_way_if}
+use Rattle.proposer.specs.Sessions.{Session, UnderWay, hears, current_by, current_if, under_way_if}
 use Rattle.proposer.specs.Sessions.{heard_if, waits}
 use Rattle.site_tables.specs.Contents as tables
 use Rattle.fed_types.specs.Quorums.{quorums_of}
@@ -30,7 +30,7 @@ Stands s session under = tables.Represents s.tables s.book.records session under
 
 -- the session, and what is under way, once a record is noted
 abbrev pub noted_session : Session → UnderWay → Record → Session
-noted_session session under r = with_current_if session r.slot (current_by (under.begun r.slot) r.body)
+noted_session session under r = current_if session r.slot (current_by (under.begun r.slot) r.body)
 
 abbrev pub noted_under : UnderWay → Record → UnderWay
 noted_under under r = under_way_if under r.slot (current_by (under.begun r.slot) r.body)

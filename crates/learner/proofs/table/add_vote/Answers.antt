@@ -14,4 +14,5 @@ returns-in-Some-clause-counted g c =
     heard_put c.args.table.now (c.get_mut.follows.lender c.add_vote.new.self) c.args.slot.now
     c.in-Some.row.now c.add_vote.new.self
     ((c.get_mut.follows.holds c.add_vote.new.self).0 (ap is_some (sym c.in-Some.ensures.value)))
-    (sym c.in-Some.ensures.value) c.args.vote.now c.args.from c.add_vote.result c.add_vote.ensures.counted
+    (sym c.in-Some.ensures.value) c.args.vote.now c.args.from c.add_vote.result
+    c.add_vote.ensures.counted

@@ -44,6 +44,8 @@ pub returns-clause-heard : goal.returns-clause-heard
 returns-clause-heard g c none records heard stands =
     heard_as c.self.inside.table records heard c.args.slot.now c.args.from
     (record { ballot = c.args.ballot; bag = c.args.bag })
-    (subst (λ (l : LearnerState g.row.Q.Denot). Represents l.rows records heard) (sym c.self.view_is)
+    (subst (λ (l : LearnerState g.row.Q.Denot). Represents l.rows records heard)
+    (sym c.self.view_is)
     stands)
-    c.add_vote.new.table c.add_vote.ensures.known (c.in_ok-learned.ensures.counted c.if-learned.false)
+    c.add_vote.new.table c.add_vote.ensures.known
+    (c.in_ok-learned.ensures.counted c.if-learned.false)

@@ -16,7 +16,8 @@ returns-in-None-clause-answer g c =
 pub returns-in-Some-clause-reported : goal.returns-in-Some-clause-reported
 returns-in-Some-clause-reported g c opened =
     reported_of g.C.Cell.device c.args.self.now c.on_message.new.self some.0
-    (Arrives (Some c.in-Some.message)) c.on_message.result (c.on_message.ensures.answer some.0 some.1)
+    (Arrives (Some c.in-Some.message)) c.on_message.result
+    (c.on_message.ensures.answer some.0 some.1)
   where
     some : (session : Session) × Represents c.args.self.now session
     some = subst (λ (s : OpenSite g.row.C.Denot). (session : Session) × Represents s session)

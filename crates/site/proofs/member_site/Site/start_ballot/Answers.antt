@@ -4,7 +4,8 @@ use Rattle.site.specs.Answered.{IsAnswered}
 use Rattle.site.specs.Calls.{Proposes}
 use Rattle.site.specs.Sites.{effect}
 use Rattle.site.proofs.Conclusions.{answer_err_of}
-use Rattle.site.proofs.StartedBallots.{mid_order, not_started, started, refused_or_started, refused_as}
+use Rattle.site.proofs.StartedBallots.{mid_order, not_started, started, refused_or_started}
+use Rattle.site.proofs.StartedBallots.{refused_as}
 use Rattle.site.proofs.StartedBallots.{not_refused}
 use Rattle.site.proofs.member_site.Site.start_ballot.Goals as goal
 

@@ -85,7 +85,8 @@ returns-in_err-slot-clause-comes g c old there serves =
     (done_of old c.args.client c.args.slot input) before after was.lines.now.items
     was.lines.now.items c.in_err-slot.field-0.0 c.from_residual.result c.from_residual.ensures.1
     (subst (λ (posts : List Post). Hands {T = Unit {0}} before after posts
-    (Err c.in_err-slot.field-0.0)) (told g at.After-reply_to_deposit old there) c.in_err-slot.ensures.handed)
+    (Err c.in_err-slot.field-0.0)) (told g at.After-reply_to_deposit old there)
+    c.in_err-slot.ensures.handed)
 
 pub returns-in_err-say_deposit-clause-comes : goal.returns-in_err-say_deposit-clause-comes
 returns-in_err-say_deposit-clause-comes g c old there serves =

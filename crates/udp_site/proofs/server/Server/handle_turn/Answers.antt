@@ -40,7 +40,8 @@ returns-in-Got-clause-turn g c = record {
       let tried = was.progress.tried in
       rw c.handle_datagram.ensures.stays.progress
       (subst (λ (turn : Turn). ComesTo (at idle tried (rule (taken turn))) before after
-      was.lines.now.items left.lines.now.items left.site.now c.handle_datagram.result) (sym c.in-Got.is)
+      was.lines.now.items left.lines.now.items left.site.now c.handle_datagram.result)
+      (sym c.in-Got.is)
       (comes_too (rule from) (at idle tried (rule from))
       (λ done next is.
       let same = same_round g.C.Cell.device was.ports.now

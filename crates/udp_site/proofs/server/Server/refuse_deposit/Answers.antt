@@ -55,7 +55,8 @@ returns-in_err-reply_to_deposit-clause-comes g c old there serves =
     let fails = fails_for before after posts c.in_err-reply_to_deposit.field-0.0
     (subst (λ (posts : List Post). Hands {T = Unit {0}} before after posts
     (Err c.in_err-reply_to_deposit.field-0.0))
-    (told g (goal.at.returns-in_err-reply_to_deposit-clause-comes g c).After-reply_to_deposit old there)
+    (told g (goal.at.returns-in_err-reply_to_deposit-clause-comes g c).After-reply_to_deposit
+    old there)
     c.in_err-reply_to_deposit.ensures.handed) in
     broken_off (takes_tree g.C.Cell.device old c.args.client c.args.slot (Err c.args.fault)) before
     after was.lines.now.items was.lines.now.items was.site.now (record {
