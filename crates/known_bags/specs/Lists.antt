@@ -1,5 +1,5 @@
 -- The bags that a list of versions knows, as the command `ledger` prints it.
-use Rattle.std.specs.Prelude.{◌≡◌, ◌≤◌, ◌-◌, ℕ, Bool, true, false, ◌||◌, ◌&&◌, nat_le}
+use Rattle.std.specs.Prelude.{◌≡◌, ◌≤◌, ◌-◌, ℕ, Bool, true, false, ◌||◌}
 use Rattle.std.specs.Prelude.{if◌then◌else◌}
 use Rattle.std.specs.Prelude.{List, [], ◌∷◌, length, take, get_or, filter_map, codes}
 use Rattle.std.specs.Prelude.{Option, Some, None}
@@ -10,27 +10,15 @@ use Rattle.std.specs.Str.{bytes_eq}
 use Rattle.std.specs.Str.Lines.{lines}
 use Rattle.hex.specs.Hex.{decode_sized}
 use Rattle.fed_types.specs.declared.bag_id.BagId.{BagId}
-use Rattle.fed_types.specs.Limits.{bag_len, greatest_version, longest_object}
+use Rattle.fed_types.specs.Limits.{bag_len}
 use Rattle.fed_types.specs.Slots.{SlotName}
-use Rattle.words.specs.Words.{◌>>=◌, number_in, text_of, words_of}
+use Rattle.words.specs.Slots.{slot_of}
+use Rattle.words.specs.Words.{◌>>=◌, words_of}
 use Rattle.known_bags.specs.declared.known_bag.KnownBag.{KnownBag}
 
 -- a bag that is known for a version, before it is looked for anywhere
 abbrev pub known_for : SlotName → BagId → KnownBag
 known_for slot bag = record { slot = slot; bag = bag; is_found = false }
-
--- OBJ: a text that isn't empty, and not too long
-unfoldable pub object_of : List ℕ → Option (List ℕ)
-object_of word = do
-  name ← text_of word
-  if nat_le 1 (length name) && nat_le (length name) longest_object then Some name else None
-
--- OBJ V
-unfoldable pub slot_of : List ℕ → List ℕ → Option SlotName
-slot_of object version = do
-  o ← object_of object
-  v ← number_in 1 greatest_version version
-  Some (record { object = o; version = v })
 
 -- HEX: two digits for each byte of an identity
 unfoldable pub bag_of : List ℕ → Option BagId

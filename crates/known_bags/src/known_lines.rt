@@ -3,14 +3,14 @@
 ghost use Rattle.std.specs.Prelude.{◌≡◌, ◌++◌, map, IfOk};
 ghost use Rattle.std.specs.Option.{option_to_list};
 ghost use Rattle.known_bags.specs.declared.known_lines.ListFault.TheVariants.{Memory};
-ghost use Rattle.known_bags.specs.Lists.{known_in, slot_of, bag_of, is_passed_over, known_by};
+ghost use Rattle.known_bags.specs.Lists.{known_in, bag_of, is_passed_over, known_by};
 ghost use Rattle.known_bags.specs.Lists.{is_line};
 ghost use Rattle.known_bags.specs.inner.Lists.{IsListOf};
 
 use crate::known_bag::KnownBag;
-use fed_types::{BAG_BYTES, BagId, Slot};
+use fed_types::{BAG_BYTES, BagId};
 use std::alloc::{AllocError, Global};
-use words::{first_line, parse_number, parse_text, split_words};
+use words::{first_line, parse_slot, split_words};
 
 /// Why a list can't be read.
 #[derive(Clone, Copy, Debug)]
@@ -92,26 +92,13 @@ fn known_in(alloc: Global, words: &[&[u8]]) -> Result<Option<KnownBag>, AllocErr
     if *name != b"known".as_slice() {
         return Ok(None);
     }
-    let Some(slot) = slot_of(alloc, object, version)? else {
+    let Some(slot) = parse_slot(alloc, object, version)? else {
         return Ok(None);
     };
     match bag_of(digits) {
         Some(bag) => Ok(Some(KnownBag::new(slot, bag))),
         None => Ok(None),
     }
-}
-
-#[tactic(auto, unfolding(crate::specs::Lists::slot_of, crate::specs::Lists::object_of))]
-fn slot_of(alloc: Global, object: &[u8], version: &[u8]) -> Result<Option<Slot>, AllocError>
-    ensures { IfOk result (λ slot. slot ≡ slot_of object.now version.now) }
-{
-    let Some(name) = parse_text(alloc, object)? else {
-        return Ok(None);
-    };
-    let Some(version) = parse_number(1, u64::from(u32::MAX), version) else {
-        return Ok(None);
-    };
-    Ok(Slot::new(name, version as u32).ok())
 }
 
 #[tactic(auto, unfolding(crate::specs::Lists::bag_of))]

@@ -13,7 +13,8 @@ use Rattle.schedule.specs.declared.call.Call.TheVariants.{Deposit, Propose, Deli
 use Rattle.schedule.specs.declared.command.Command.{Command}
 use Rattle.schedule.specs.declared.command.Command.TheVariants as commands
 use Rattle.schedule.specs.declared.fate.Fate.{Fate}
-use Rattle.schedule.specs.Commands.{site_of, tree_of, amount_of, slot_of, call_command}
+use Rattle.words.specs.Slots.{slot_of}
+use Rattle.schedule.specs.Commands.{site_of, tree_of, amount_of, call_command}
 use Rattle.schedule.specs.Commands.{tree_command, folder_command, file_command, deposit_command}
 use Rattle.schedule.specs.Commands.{propose_command, deliver_command, ask_command, query_command}
 use Rattle.schedule.specs.Commands.{raw_command, pump_command, stop_command, start_command}

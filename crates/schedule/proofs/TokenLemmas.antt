@@ -16,7 +16,7 @@ use Rattle.percent_encoding.specs.Percent.{percent_decode}
 use Rattle.fed_types.specs.Limits.{longest_object}
 use Rattle.fed_types.specs.Slots.{IsObjectName}
 use Rattle.words.specs.Words.{text_of, bytes_of}
-use Rattle.schedule.specs.Commands.{object_of}
+use Rattle.words.specs.Slots.{object_of}
 use Rattle.words.proofs.StepLemmas.{bind_some}
 use Rattle.words.specs.Grammar.{Unescapes}
 use Rattle.schedule.specs.Tokens.{Token, Keyword, Number, Text, Object, Hex, IsTextFor, IsHexFor}

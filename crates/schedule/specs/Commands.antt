@@ -1,13 +1,11 @@
 -- The commands, each by its words: the function that reads a line. `Lines` has the grammar as a
 -- table, and `commands_law` says that the two are one.
 use Rattle.std.specs.Prelude.{ℕ, List, [], ◌∷◌, length, replicate, codes}
-use Rattle.std.specs.Prelude.{nat_le, ◌&&◌, ◌==◌, if◌then◌else◌, Option, Some, None}
+use Rattle.std.specs.Prelude.{◌==◌, if◌then◌else◌, Option, Some, None}
 use Rattle.std.specs.Option.{option_map}
 use Rattle.std.specs.Str.{bytes_eq}
 use Rattle.fed_types.specs.Limits.{greatest_federation, most_members, greatest_weight}
-use Rattle.fed_types.specs.Limits.{longest_object, greatest_version}
 use Rattle.fed_types.specs.Sites.{Membership, membership_of}
-use Rattle.fed_types.specs.Slots.{SlotName}
 use Rattle.schedule.specs.declared.call.Call.{Call}
 use Rattle.schedule.specs.declared.call.Call.TheVariants.{Deposit, Propose, Deliver, Ask}
 use Rattle.schedule.specs.declared.command.Command.{Command}
@@ -17,6 +15,7 @@ use Rattle.schedule.specs.declared.fate.DeviceCall.TheVariants.{Append, Sync}
 use Rattle.schedule.specs.declared.fate.Fate.{Fate}
 use Rattle.schedule.specs.declared.fate.Fate.TheVariants.{Whole, StopsIn, StopsAfter, FailsIn}
 use Rattle.schedule.specs.Limits.{greatest_site, greatest_tree, greatest_amount}
+use Rattle.words.specs.Slots.{slot_of}
 use Rattle.words.specs.Words.{◌>>=◌, number_in, text_of, bytes_of}
 
 -- S
@@ -30,19 +29,6 @@ tree_of word = number_in 1 greatest_tree word
 -- K, J, and the N of `pump`
 abbrev pub amount_of : List ℕ → Option ℕ
 amount_of word = number_in 0 greatest_amount word
-
--- OBJ: a text that isn't empty, and not too long
-unfoldable pub object_of : List ℕ → Option (List ℕ)
-object_of word = do
-  name ← text_of word
-  if nat_le 1 (length name) && nat_le (length name) longest_object then Some name else None
-
--- OBJ V
-unfoldable pub slot_of : List ℕ → List ℕ → Option SlotName
-slot_of object version = do
-  o ← object_of object
-  v ← number_in 1 greatest_version version
-  Some (record { object = o; version = v })
 
 -- W1 .. WN: the weight of each word, in order
 unfoldable pub weights_in : List (List ℕ) → Option (List ℕ)

@@ -5,8 +5,9 @@ ghost use Rattle.schedule.specs.Commands.{deliver_command, ask_command};
 use crate::call::Call;
 use crate::command::Command;
 use crate::parse_fate::parse_fate;
-use crate::value::{parse_amount, parse_site, parse_slot, parse_tree_no};
+use crate::value::{parse_amount, parse_site, parse_tree_no};
 use std::alloc::{AllocError, Global};
+use words::parse_slot;
 
 // The command of a call and of the fate that the words after the call's own name.
 #[tactic(auto, unfolding(crate::specs::Commands::call_command))]

@@ -2,12 +2,12 @@ ghost use Rattle.std.specs.Prelude.{◌≡◌, ◌≤◌, ◌<◌, length, strin
 ghost use Rattle.fed_types.specs.Limits.{greatest_weight};
 ghost use Rattle.fed_types.specs.Sites.{IsWeight};
 ghost use Rattle.words.specs.Words.{number_in, text_of, bytes_of};
-ghost use Rattle.schedule.specs.Commands.{site_of, tree_of, amount_of, slot_of};
+ghost use Rattle.schedule.specs.Commands.{site_of, tree_of, amount_of};
 
 use crate::file_path::FilePath;
 use crate::hex_bytes::HexBytes;
 use crate::tree_no::TreeNo;
-use fed_types::{GREATEST_WEIGHT, Slot};
+use fed_types::GREATEST_WEIGHT;
 use hex::FromHexError;
 use std::alloc::{AllocError, Global};
 use words::{parse_number, parse_text};
@@ -39,24 +39,6 @@ pub(crate) fn parse_amount(word: &[u8]) -> Option<u32>
     ensures { result ≡ amount_of word.now }
 {
     Some(parse_number(0, u64::from(u32::MAX), word)? as u32)
-}
-
-/// The slot of an object's name and a version.
-#[tactic(auto, unfolding(crate::specs::Commands::slot_of, crate::specs::Commands::object_of))]
-pub(crate) fn parse_slot(
-    alloc: Global,
-    object: &[u8],
-    version: &[u8],
-) -> Result<Option<Slot>, AllocError>
-    ensures { IfOk result (λ slot. slot ≡ slot_of object.now version.now) }
-{
-    let Some(name) = parse_text(alloc, object)? else {
-        return Ok(None);
-    };
-    let Some(version) = parse_number(1, u64::from(u32::MAX), version) else {
-        return Ok(None);
-    };
-    Ok(Slot::new(name, version as u32).ok())
 }
 
 /// The path of a file.

@@ -2,3 +2,4 @@ pub mod Words
 pub mod Escapes
 pub mod Grammar
 pub mod Pushes
+pub mod Slots

@@ -18,10 +18,12 @@ mod escape;
 mod law;
 mod line;
 mod number;
+mod slot;
 mod text;
 
 pub use escape::push_escaped;
 pub use law::{numbers_law, words_law};
 pub use line::{first_line, split_words};
 pub use number::parse_number;
+pub use slot::parse_slot;
 pub use text::parse_text;
