@@ -15,6 +15,10 @@ row_or_empty (Some row) = row
 abbrev pub row_of : Rows Row → SlotName → Row
 row_of table slot = row_or_empty (row_at table slot)
 
+-- the same is known of each slot
+abbrev pub KnowsSame : (old new : Rows Row) → Type 0
+KnowsSame old new = (s : SlotName) → row_of new s ≡ row_of old s
+
 -- the acceptor knows of each slot what these records say: its promise and its vote
 abbrev pub Represents : Rows Row → List Record → Type 0
 Represents table records =

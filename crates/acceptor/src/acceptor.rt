@@ -12,7 +12,7 @@ ghost use Rattle.acceptor.specs.Decisions.{
   prepare_decision,
   accept_decision,
 };
-ghost use Rattle.acceptor.specs.Rows.{Represents, row_of};
+ghost use Rattle.acceptor.specs.Rows.{Represents, KnowsSame, row_of};
 ghost use Rattle.acceptor.specs.inner.Noted.{noted};
 
 use crate::decision::{Decision, Response};
@@ -73,7 +73,7 @@ impl Acceptor {
     /// Makes room for the slot, so that `note` of its records takes no memory. It says nothing of
     /// the slot.
     pub fn reserve(&mut self, slot: &Slot) -> Result<(), AllocError>
-        ensures same { (s : SlotName) → row_of self.new s ≡ row_of self.old s }
+        ensures same { KnowsSame self.old self.new }
         ensures rooms { HasRooms self.old self.new }
         ensures present { OnOk result (IsSome (row_at self.new slot.now)) }
         ensures succeeds { IsSome (row_at self.old slot.now) → IsOk result }
@@ -85,7 +85,7 @@ impl Acceptor {
     pub fn note(&mut self, new: &Record) -> Result<(), AllocError>
         ensures noted { OnOk result ((records : Records)
             → Represents self.old records → Represents self.new (records ++ new.now ∷ [])) }
-        ensures unchanged { OnErr result ((s : SlotName) → row_of self.new s ≡ row_of self.old s) }
+        ensures unchanged { OnErr result (KnowsSame self.old self.new) }
         ensures rooms { HasRooms self.old self.new }
         ensures succeeds { IsSome (row_at self.old new.now.slot) → IsOk result }
     {

@@ -60,3 +60,9 @@ pub record Represents (table : Rows Row) (records : List Record) (heard : List M
         (slot : SlotName) → known_of slot records ≡ None → (vote : Vote) (n : ℕ)
         → is_in (counted_in (row_at table slot) vote) n
         ≡ is_in (voters_for vote (bodies_of slot heard)) n
+
+-- whatever records and messages the old rows represent, the new ones represent
+abbrev pub RepresentsSame : (old new : Rows Row) → Type 0
+RepresentsSame old new =
+    (records : List Record) (heard : List Message)
+    → Represents old records heard → Represents new records heard

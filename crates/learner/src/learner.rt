@@ -17,7 +17,7 @@ ghost use Rattle.records.specs.SlotStates.{known_of, known_in as known_in_entry}
 ghost use Rattle.dgram.specs.declared.message.Message.{Message};
 ghost use Rattle.slot_table.specs.Rows.{row_at, HasRooms};
 ghost use Rattle.learner.specs.LearnedBags.{with_vote, learned_from, learned_of_known};
-ghost use Rattle.learner.specs.LearnerStates.{Represents, known_in};
+ghost use Rattle.learner.specs.LearnerStates.{Represents, RepresentsSame, known_in};
 
 use crate::row::Row;
 use crate::table::{add_vote, reserve, settle};
@@ -100,8 +100,7 @@ impl<Q: Quorums + Drop> Learner<Q> {
             → Represents self.new.rows records (with_vote heard slot.now from
             (record { ballot = ballot; bag = bag }))) }
         ensures unchanged { IfOk result (λ o. IsSome o → self.new ≡ self.old) }
-        ensures memory { OnErr result ((records : Records) (heard : List Message)
-            → Represents self.old.rows records heard → Represents self.new.rows records heard) }
+        ensures memory { OnErr result (RepresentsSame self.old.rows self.new.rows) }
         // Memory can run out only where nothing is learned, and the vote still counts.
         ensures no_memory { OnErr result ((records : Records)
             (heard : List Message) → Represents self.old.rows records heard
@@ -129,8 +128,7 @@ impl<Q: Quorums + Drop> Learner<Q> {
     /// Makes room for the slot, so that `note` of its records takes no memory. It says nothing of
     /// the slot.
     pub fn reserve(&mut self, slot: &Slot) -> Result<(), AllocError>
-        ensures same { (records : Records) (heard : List Message)
-            → Represents self.old.rows records heard → Represents self.new.rows records heard }
+        ensures same { RepresentsSame self.old.rows self.new.rows }
         ensures rooms { HasRooms self.old.rows self.new.rows }
         ensures present { OnOk result (IsSome (row_at self.new.rows slot.now)) }
         ensures succeeds { IsSome (row_at self.old.rows slot.now) → IsOk result }
@@ -144,8 +142,7 @@ impl<Q: Quorums + Drop> Learner<Q> {
         ensures noted { OnOk result ((records : Records) (heard : List Message)
             → Represents self.old.rows records heard
             → Represents self.new.rows (records ++ new.now ∷ []) heard) }
-        ensures memory { OnErr result ((records : Records) (heard : List Message)
-            → Represents self.old.rows records heard → Represents self.new.rows records heard) }
+        ensures memory { OnErr result (RepresentsSame self.old.rows self.new.rows) }
         // Memory is taken for a Known record alone, of a slot without room.
         ensures no_memory { OnErr result (IsSome (known_in_entry new.now.body)) }
         ensures succeeds { IsSome (row_at self.old.rows new.now.slot) → IsOk result }

@@ -35,6 +35,10 @@ empty_row = record { used = 0; floor = 0; begun = None; current = None }
 abbrev pub row_of : tables.Rows Row → SlotName → Row
 row_of rows slot = tables.row_of empty_row rows slot
 
+-- the same is known of each slot
+abbrev pub KnowsSame : (old new : tables.Rows Row) → Type 0
+KnowsSame old new = (s : SlotName) → row_of new s ≡ row_of old s
+
 -- the rounds of a row
 abbrev pub begun_in : Row → Option Round
 begun_in row = option_map (λ plan. round_of (box_value plan)) row.begun

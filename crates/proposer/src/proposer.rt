@@ -6,12 +6,11 @@ ghost use Rattle.records.specs.Records.{Records};
 ghost use Rattle.slot_table.specs.Rows.{row_at, IsWith, HasRooms};
 ghost use Rattle.proposer.specs.Proposals.{next_ballot, ready, ballot_after};
 ghost use Rattle.proposer.specs.Sessions.{Session, UnderWay, new_session, nothing, begins};
-ghost use Rattle.proposer.specs.Sessions.{promise_message, heard_after, waiting_after};
-ghost use Rattle.proposer.specs.Sessions.{hears, refusal_message, heard_if, waits};
-ghost use Rattle.proposer.specs.Sessions.{current_by, current_if, under_way_if};
+ghost use Rattle.proposer.specs.Sessions.{promise_message};
+ghost use Rattle.proposer.specs.Steps.{HearsPromise, IssuesProposal, HearsRefusal, NotesRecord};
 ghost use Rattle.proposer.specs.Rounds.{round_of};
 ghost use Rattle.proposer.specs.Faults.{next_or_spent, IsOrMemory};
-ghost use Rattle.proposer.specs.Rows.{Represents, IsOfSameSite, row_of};
+ghost use Rattle.proposer.specs.Rows.{Represents, IsOfSameSite, KnowsSame, row_of};
 ghost use Rattle.proposer.specs.inner.Rows.{BeginsAt, HeardAt, IssuesAt};
 ghost use Rattle.proposer.specs.inner.Rows.{with_begun, with_floor, noted_row};
 
@@ -59,7 +58,7 @@ impl<Q: Quorums + Drop> Proposer<Q> {
     /// Makes room for the slot, so that `note` of its records takes no memory. It says nothing of
     /// the slot.
     pub fn reserve(&mut self, slot: &Slot) -> Result<(), AllocError>
-        ensures same { (s : SlotName) → row_of self.new.rows s ≡ row_of self.old.rows s }
+        ensures same { KnowsSame self.old.rows self.new.rows }
         ensures present { OnOk result (IsSome (row_at self.new.rows slot.now)) }
         ensures succeeds { IsSome (row_at self.old.rows slot.now) → IsOk result }
         ensures rooms { HasRooms self.old.rows self.new.rows }
@@ -85,8 +84,7 @@ impl<Q: Quorums + Drop> Proposer<Q> {
             → Represents self.old.rows records session under
             → Represents self.new.rows records session (begins under slot.now ballot own)) }
         ensures present { IfOk result (λ ballot. IsSome (row_at self.new.rows slot.now)) }
-        ensures unchanged { OnErr result
-            ((s : SlotName) → row_of self.new.rows s ≡ row_of self.old.rows s) }
+        ensures unchanged { OnErr result (KnowsSame self.old.rows self.new.rows) }
         ensures rooms { HasRooms self.old.rows self.new.rows }
         ensures whose { IsOfSameSite self.old self.new }
     {
@@ -114,11 +112,8 @@ impl<Q: Quorums + Drop> Proposer<Q> {
             → result ≡ ready (Q.quorum_system self.old.members) (under.current_with slot.now)
             slot.now (session.current slot.now) session.heard ballot
             (record { site = from; prior = prior }) }
-        ensures heard { (records : Records) (session : Session) (under : UnderWay)
-            → Represents self.old.rows records session under
-            → Represents self.new.rows records
-            (heard_after result session (promise_message slot.now from ballot prior))
-            (waiting_after result under (promise_message slot.now from ballot prior)) }
+        ensures heard { HearsPromise (Represents self.old.rows) (Represents self.new.rows)
+            (promise_message slot.now from ballot prior) result }
         ensures rooms { HasRooms self.old.rows self.new.rows }
         ensures whose { IsOfSameSite self.old self.new }
     {
@@ -129,10 +124,8 @@ impl<Q: Quorums + Drop> Proposer<Q> {
     /// The proposal that became ready is sent: the promise that waits counts from now on, if one
     /// waits. It takes no memory.
     pub fn issued(&mut self, slot: &Slot)
-        ensures heard { (records : Records) (session : Session) (under : UnderWay)
-            → Represents self.old.rows records session under
-            → Represents self.new.rows records (heard_if session (under.waiting slot.now))
-            (waits under slot.now None) }
+        ensures heard { IssuesProposal (Represents self.old.rows) (Represents self.new.rows)
+            slot.now }
         ensures rooms { HasRooms self.old.rows self.new.rows }
         ensures whose { IsOfSameSite self.old self.new }
     {
@@ -141,13 +134,9 @@ impl<Q: Quorums + Drop> Proposer<Q> {
 
     /// Hears a refusal, which raises the slot's next round.
     pub fn refused(&mut self, slot: &Slot, standing: Ballot) -> Result<(), AllocError>
-        ensures heard { OnOk result ((from : ℕ) (asked : BallotNumber)
-            (records : Records) (session : Session) (under : UnderWay)
-            → Represents self.old.rows records session under
-            → Represents self.new.rows records
-            (hears session (refusal_message slot.now from asked standing)) under) }
-        ensures unchanged { OnErr result
-            ((s : SlotName) → row_of self.new.rows s ≡ row_of self.old.rows s) }
+        ensures heard { OnOk result (HearsRefusal (Represents self.old.rows)
+            (Represents self.new.rows) slot.now standing) }
+        ensures unchanged { OnErr result (KnowsSame self.old.rows self.new.rows) }
         ensures succeeds { IsSome (row_at self.old.rows slot.now) → IsOk result }
         ensures rooms { HasRooms self.old.rows self.new.rows }
         ensures whose { IsOfSameSite self.old self.new }
@@ -160,16 +149,9 @@ impl<Q: Quorums + Drop> Proposer<Q> {
     /// Takes note of a record that was committed. The Round of a ballot that was begun makes it
     /// current, and no older promise counts any more.
     pub fn note(&mut self, new: &Record) -> Result<(), AllocError>
-        ensures noted { OnOk result (
-            (records : Records) (session : Session) (under : UnderWay)
-            → Represents self.old.rows records session under
-            → Represents self.new.rows (records ++ new.now ∷ [])
-            (current_if session new.now.slot
-            (current_by (under.begun new.now.slot) new.now.body))
-            (under_way_if under new.now.slot
-            (current_by (under.begun new.now.slot) new.now.body))) }
-        ensures unchanged { OnErr result
-            ((s : SlotName) → row_of self.new.rows s ≡ row_of self.old.rows s) }
+        ensures noted { OnOk result (NotesRecord (Represents self.old.rows)
+            (Represents self.new.rows) new.now) }
+        ensures unchanged { OnErr result (KnowsSame self.old.rows self.new.rows) }
         ensures succeeds { IsSome (row_at self.old.rows new.now.slot) → IsOk result }
         ensures rooms { HasRooms self.old.rows self.new.rows }
         ensures whose { IsOfSameSite self.old self.new }
@@ -195,8 +177,7 @@ impl<Q: Quorums + Drop> Proposer<Q> {
         ensures begun { OnOk result
             (BeginsAt (round_of plan) self.old.rows self.new.rows slot.now) }
         ensures present { OnOk result (IsSome (row_at self.new.rows slot.now)) }
-        ensures unchanged { OnErr result
-            ((s : SlotName) → row_of self.new.rows s ≡ row_of self.old.rows s) }
+        ensures unchanged { OnErr result (KnowsSame self.old.rows self.new.rows) }
         ensures rooms { HasRooms self.old.rows self.new.rows }
         ensures whose { IsOfSameSite self.old self.new }
     {

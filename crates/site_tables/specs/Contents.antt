@@ -76,8 +76,13 @@ pub record HasRoom (t : Contents) (slot : SlotName) : Type 0 where
   pub proposer : IsSome (row_at t.proposer.rows slot)
   pub learner : IsSome (row_at t.learner.rows slot)
 
+-- the new tables are those of whatever owner and records the old ones are of
+abbrev pub IsOfSame : (old new : Contents) → Type 0
+IsOfSame old new =
+    (owner : Owner) (records : List Record) → IsOf old owner records → IsOf new owner records
+
 -- whatever owner, records and messages the old contents represent, the new ones represent
 pub record RepresentsSame (old new : Contents) : Type 0 where
-  pub of : (owner : Owner) (records : List Record) → IsOf old owner records → IsOf new owner records
+  pub of : IsOfSame old new
   pub stands : (records : List Record) (session : Session) (under : UnderWay)
       → Represents old records session under → Represents new records session under

@@ -10,12 +10,11 @@ ghost use Rattle.acceptor.specs.Decisions.{prepare_decision, accept_decision};
 ghost use Rattle.proposer.specs.Faults.{next_or_spent, IsOrMemory};
 ghost use Rattle.proposer.specs.Proposals.{next_ballot, ready};
 ghost use Rattle.proposer.specs.Sessions.{Session, UnderWay, new_session, nothing, begins};
-ghost use Rattle.proposer.specs.Sessions.{promise_message, heard_after, waiting_after};
-ghost use Rattle.proposer.specs.Sessions.{hears, refusal_message, heard_if, waits};
-ghost use Rattle.proposer.specs.Sessions.{current_by, current_if, under_way_if};
+ghost use Rattle.proposer.specs.Sessions.{promise_message, hears};
+ghost use Rattle.proposer.specs.Steps.{HearsPromise, IssuesProposal, HearsRefusal, NotesRecord};
 ghost use Rattle.learner.specs.LearnedBags.{learned_from, learned_of_known};
 ghost use Rattle.dgram.specs.declared.body.Body.TheVariants.{Accepted};
-ghost use Rattle.site_tables.specs.Contents.{IsOf, Represents, RepresentsSame, HasRoom};
+ghost use Rattle.site_tables.specs.Contents.{IsOf, IsOfSame, Represents, RepresentsSame, HasRoom};
 ghost use Rattle.site_tables.specs.Contents.{deposits_of, slot_at};
 
 use crate::deposits::Deposits;
@@ -135,8 +134,7 @@ impl Tables {
             (session : Session) (under : UnderWay) → Represents self.old records session under
             → deposit_of slot.now records ≡ Some own
             → Represents self.new records session (begins under slot.now ballot own)) }
-        ensures of { (owner : declared_owner) (records : Records)
-            → IsOf self.old owner records → IsOf self.new owner records }
+        ensures of { IsOfSame self.old self.new }
         ensures same { OnErr result (RepresentsSame self.old self.new) }
     {
         self.proposer.begin(slot, own)
@@ -157,38 +155,26 @@ impl Tables {
             → result ≡ ready (quorums_of owner.members) (deposit_of slot.now records) slot.now
             (session.current slot.now) session.heard ballot
             (record { site = from; prior = prior }) }
-        ensures heard { (records : Records) (session : Session) (under : UnderWay)
-            → Represents self.old records session under
-            → Represents self.new records
-            (heard_after result session (promise_message slot.now from ballot prior))
-            (waiting_after result under (promise_message slot.now from ballot prior)) }
-        ensures of { (owner : declared_owner) (records : Records)
-            → IsOf self.old owner records → IsOf self.new owner records }
+        ensures heard { HearsPromise (Represents self.old) (Represents self.new)
+            (promise_message slot.now from ballot prior) result }
+        ensures of { IsOfSame self.old self.new }
     {
         self.proposer.promise(from, slot, ballot, prior)
     }
 
     /// The proposal that became ready is sent: the promise that waits is heard, if one waits.
     pub fn issued(&mut self, slot: &Slot)
-        ensures heard { (records : Records) (session : Session) (under : UnderWay)
-            → Represents self.old records session under
-            → Represents self.new records (heard_if session (under.waiting slot.now))
-            (waits under slot.now None) }
-        ensures of { (owner : declared_owner) (records : Records)
-            → IsOf self.old owner records → IsOf self.new owner records }
+        ensures heard { IssuesProposal (Represents self.old) (Represents self.new) slot.now }
+        ensures of { IsOfSame self.old self.new }
     {
         self.proposer.issued(slot);
     }
 
     /// Hears a refusal, which raises the slot's next round.
     pub fn refused(&mut self, slot: &Slot, standing: Ballot) -> Result<(), AllocError>
-        ensures heard { OnOk result ((from : ℕ) (asked : BallotNumber)
-            (records : Records) (session : Session) (under : UnderWay)
-            → Represents self.old records session under
-            → Represents self.new records
-            (hears session (refusal_message slot.now from asked standing)) under) }
-        ensures of { (owner : declared_owner) (records : Records)
-            → IsOf self.old owner records → IsOf self.new owner records }
+        ensures heard { OnOk result (HearsRefusal (Represents self.old)
+            (Represents self.new) slot.now standing) }
+        ensures of { IsOfSame self.old self.new }
         ensures same { OnErr result (RepresentsSame self.old self.new) }
     {
         self.proposer.refused(slot, standing)
@@ -211,8 +197,7 @@ impl Tables {
             → Represents self.new records
             (hears session (record { slot = slot.now; body = Accepted from vote })) under) }
         ensures unchanged { IfOk result (λ o. IsSome o → self.new ≡ self.old) }
-        ensures of { (owner : declared_owner) (records : Records)
-            → IsOf self.old owner records → IsOf self.new owner records }
+        ensures of { IsOfSame self.old self.new }
         ensures same { OnErr result (RepresentsSame self.old self.new) }
         // Memory can run out only where nothing is learned, and the vote still counts.
         ensures no_memory { OnErr result ((owner : declared_owner)
@@ -254,11 +239,7 @@ impl Tables {
         requires { HasRoom self.old new.slot }
         ensures of { (owner : declared_owner) (records : Records)
             → IsOf self.old owner records → IsOf self.new owner (records ++ new ∷ []) }
-        ensures stands { (records : Records) (session : Session)
-            (under : UnderWay) → Represents self.old records session under
-            → Represents self.new (records ++ new ∷ [])
-            (current_if session new.slot (current_by (under.begun new.slot) new.body))
-            (under_way_if under new.slot (current_by (under.begun new.slot) new.body)) }
+        ensures stands { NotesRecord (Represents self.old) (Represents self.new) new }
     {
         let _ = self.acceptor.note(&new);
         let _ = self.proposer.note(&new);
