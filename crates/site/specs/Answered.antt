@@ -2,19 +2,13 @@
 -- and its datagrams are handed out.
 use Rattle.std.specs.Prelude.{◌≡◌, ◌⊎◌, ⊤, true, false, List, [], ◌∷◌, ◌++◌, map}
 use Rattle.std.specs.Prelude.{Option, Some, None, IsSome, Result, Ok, Err, OnOk, IsErrOf}
-use Rattle.cell_device.specs.declared.fuse.FuseState.{FuseState}
-use Rattle.cell_device.specs.Calls.{HasCause}
 use Rattle.cell_device.specs.Devices.{Device}
-use Rattle.cell_device.specs.Images.{IfKnown}
-use Rattle.cell_device.specs.States.{IsIn, state_of}
-use Rattle.cell_device.specs.Time.{LeavesOnly}
 use Rattle.records.specs.declared.record.Record.{Record}
 use Rattle.records.specs.SlotStates.{known_of}
 use Rattle.book.specs.declared.fault.CommitFault.{CommitFault}
 use Rattle.book.specs.declared.fault.CommitFault.TheVariants as commits
-use Rattle.book.specs.Committed.{SaysWithOrWithout, IsUnchanged, CameOut, commit_outcome}
-use Rattle.book.specs.Committed.{after_commit}
-use Rattle.book.specs.Volumes.{Volume, LeavesText, RecoversTo}
+use Rattle.book.specs.Committed.{Commits}
+use Rattle.book.specs.Volumes.{Volume}
 use Rattle.proposer.specs.Sessions.{Session}
 use Rattle.site.specs.declared.answer.Answer.{Answer}
 use Rattle.site.specs.declared.answer.Line.{Line}
@@ -26,31 +20,6 @@ use Rattle.site.specs.Effects.{Effect}
 use Rattle.site.specs.Sites.{OpenSite, Represents}
 
 -- ---- the record
-
--- The book and its cell after the commit of a record that answered so: what the book promises.
--- After Ok every crash leaves the record, and the book has it; a crash at any moment leaves the
--- records from before, with the new one or without; Device comes where the device failed, and then
--- the book needs opening; where it is known which call fails, it is known what comes of it, and
--- nothing is called after that one.
-pub record Commits
-    {C : Type 0} (device : C → Device) (old : Volume C) (r : Record)
-    (result : Result (Unit {0}) CommitFault) (new : Volume C)
-    : Type 0 where
-  pub committed : OnOk result ((new.records ≡ old.records ++ r ∷ []) × (new.needs_opening ≡ false))
-  pub durable : OnOk result (LeavesText new.owner new.records (device new.cell).image)
-  pub recovers : OnOk result (RecoversTo new.owner new.records (device new.cell).image)
-  pub device_failed : IsErrOf result commits.Device
-      → (new.records ≡ old.records) × (new.needs_opening ≡ true)
-  pub memory : IsErrOf result commits.Memory → IsUnchanged device old new
-  pub any_moment : LeavesOnly (device old.cell) (device new.cell)
-      (λ c. IfKnown (device old.cell).image (λ i. SaysWithOrWithout old.owner old.records r c))
-  pub cause : HasCause commits.Device (device old.cell).failures (device new.cell).failures result
-  pub fuse : (f : FuseState) → (device old.cell).fuse ≡ Some f
-      → CameOut (commit_outcome f old.records r) old.owner result (device old.cell)
-      (device new.cell)
-  pub calls : (f : FuseState) → (device old.cell).fuse ≡ Some f
-      → IsIn (after_commit r result (state_of (device old.cell) f)) (device new.cell)
-  pub whose : new.owner ≡ old.owner
 
 -- What a call's answer says of the commit of its record. Any other fault comes before the device is
 -- called, so it counts as one of memory, after which the cell is unchanged.
