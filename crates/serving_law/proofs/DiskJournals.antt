@@ -18,8 +18,8 @@ use Rattle.records.proofs.OneReading.{one_saying}
 use Rattle.book.specs.Opened.{said_as_answer}
 use Rattle.book.specs.Volumes.{Volume, LeavesText, RecoversTo}
 use Rattle.book.proofs.AtRest.{keeps_same}
-use Rattle.site.specs.Answered.{Commits}
-use Rattle.site.specs.Opened.{Opens}
+use Rattle.book.specs.Committed.{Commits}
+use Rattle.book.specs.Opened.{Opens}
 use Rattle.serving_law.specs.Disks.{Disk, Blank, Holds, journal, bytes_at, bytes_on, device}
 use Rattle.serving_law.specs.Disks.{moment_of, left_on, AreLikeCells}
 

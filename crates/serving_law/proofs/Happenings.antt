@@ -35,7 +35,7 @@ use Rattle.dgram.specs.declared.message.Message.{Message}
 use Rattle.dgram.specs.Decoded.{message_of}
 use Rattle.dgram.proofs.MessageOf.{message_of-again}
 use Rattle.proposer.specs.Sessions.{new_session}
-use Rattle.site.specs.Opened.{Opens}
+use Rattle.book.specs.Opened.{Opens}
 use Rattle.site.specs.Sites.{OpenSite, Represents}
 use Rattle.lines.specs.Notices.{Notice, Registered}
 use Rattle.world_law.specs.Laws.{report_of, IsChosen}

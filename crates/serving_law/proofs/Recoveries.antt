@@ -15,7 +15,8 @@ use Rattle.book.specs.Volumes.{Volume, RecoversTo}
 use Rattle.site.specs.declared.answer.Answer.{Answer}
 use Rattle.site.specs.declared.fault.SiteFault.{SiteFault}
 use Rattle.site.specs.declared.fault.SiteFault.TheVariants as faults
-use Rattle.site.specs.Answered.{Commits, Keeps}
+use Rattle.book.specs.Committed.{Commits}
+use Rattle.site.specs.Answered.{Keeps}
 use Rattle.serving_law.specs.Rules.{MayRecoverTo}
 
 -- a cell recovers to the records from before, or to those with the call's

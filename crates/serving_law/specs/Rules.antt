@@ -9,7 +9,7 @@ use Rattle.records.specs.declared.owner.Owner.{Owner}
 use Rattle.records.specs.declared.record.Record.{Record}
 use Rattle.records.specs.Journals.{Says as JournalSays}
 use Rattle.dgram.specs.declared.message.Message.{Message}
-use Rattle.site.specs.Opened.{Opens}
+use Rattle.book.specs.Opened.{Opens}
 use Rattle.udp_site.specs.Traffic.{Post, Taken, Nothing, From}
 use Rattle.udp_site.specs.Requests.{Says, request_of}
 use Rattle.udp_site.specs.Turns.{Serving, turn_of}

@@ -12,7 +12,7 @@ use Rattle.site_tables.specs.Contents.{Contents, IsOf, RepresentsSame}
 use Rattle.site_tables.specs.Contents as tables
 use Rattle.site.specs.declared.fault.SiteFault.{SiteFault}
 use Rattle.site.specs.declared.fault.SiteFault.TheVariants as faults
-use Rattle.site.specs.Answered.{Commits}
+use Rattle.book.specs.Committed.{Commits}
 use Rattle.site.specs.Faults.{commit_fault}
 use Rattle.site.specs.Sites.{OpenSite, IsInOrder}
 use Rattle.site.specs.inner.Concluded.{Stands, noted_session, noted_under, IsCommitted}

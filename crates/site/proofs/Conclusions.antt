@@ -20,7 +20,8 @@ use Rattle.site.specs.declared.answer.Answer.{Answer}
 use Rattle.site.specs.declared.answer.Line.{Line}
 use Rattle.site.specs.declared.fault.SiteFault.{SiteFault}
 use Rattle.site.specs.declared.fault.SiteFault.TheVariants as faults
-use Rattle.site.specs.Answered.{Commits, Keeps, Gives, IsAnswered, commit_of}
+use Rattle.book.specs.Committed.{Commits}
+use Rattle.site.specs.Answered.{Keeps, Gives, IsAnswered, commit_of}
 use Rattle.site.specs.Datagrams.{datagram}
 use Rattle.site.specs.Effects.{Effect, record_of}
 use Rattle.site.specs.Sites.{OpenSite, Represents}

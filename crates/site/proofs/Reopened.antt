@@ -10,7 +10,7 @@ use Rattle.book.specs.declared.fault.OpenFault.{OpenFault}
 use Rattle.book.specs.declared.fault.OpenFault.TheVariants as faults
 use Rattle.book.specs.Opened.{LeavesAlike}
 use Rattle.book.specs.Volumes.{Volume, ReadSays, RecoversTo}
-use Rattle.site.specs.Opened.{Opens}
+use Rattle.book.specs.Opened.{Opens}
 
 -- the result of a `?`
 pub error_of : {T E : Type 0} (r : Result T E) (e : E) → IsErrAnd r (λ x. x ≡ e) → r ≡ Err e

@@ -1,7 +1,7 @@
 -- When a call answers as the definitions say: its record is committed first, and then what it says
 -- and its datagrams are handed out.
-use Rattle.std.specs.Prelude.{◌≡◌, ◌⊎◌, ⊤, true, false, List, [], ◌∷◌, ◌++◌, map}
-use Rattle.std.specs.Prelude.{Option, Some, None, IsSome, Result, Ok, Err, OnOk, IsErrOf}
+use Rattle.std.specs.Prelude.{◌≡◌, ◌⊎◌, ⊤, List, map}
+use Rattle.std.specs.Prelude.{Option, Some, None, IsSome, Result, Ok, Err, IsErrOf}
 use Rattle.cell_device.specs.Devices.{Device}
 use Rattle.records.specs.declared.record.Record.{Record}
 use Rattle.records.specs.SlotStates.{known_of}

@@ -11,7 +11,8 @@ ghost use Rattle.records.specs.SlotStates.{deposit_of, known_of};
 ghost use Rattle.site.specs.Calls.{Deposits, Proposes, Asks, reply_of, other_than, deposit_fault};
 ghost use Rattle.site.specs.declared.answer.Line.TheVariants as lines;
 ghost use Rattle.site.specs.Datagrams.{handed_out};
-ghost use Rattle.site.specs.Opened.{Opens, book_of};
+ghost use Rattle.book.specs.Opened.{Opens};
+ghost use Rattle.site.specs.Opened.{book_of};
 ghost use Rattle.site.specs.Sites.{Represents, effect};
 ghost use Rattle.site.specs.inner.Concluded.{Concludes, one_datagram, all_datagrams};
 

@@ -15,7 +15,7 @@ use Rattle.book.specs.declared.fault.OpenFault.TheVariants as faults
 use Rattle.book.specs.Faults.{IsOrDeviceOrMemory}
 use Rattle.book.specs.Volumes.{RecoversTo}
 use Rattle.proposer.specs.Sessions.{Session, new_session}
-use Rattle.site.specs.Opened.{Opens}
+use Rattle.book.specs.Opened.{Opens}
 use Rattle.site.specs.Sites as sites
 use Rattle.site.specs.Sites.{OpenSite}
 use Rattle.world_law.specs.Networks.{Mode, Up, Down, NeedsOpening, SiteState, goes_down}

@@ -18,7 +18,8 @@ use Rattle.site.specs.declared.answer.Answer.{Answer}
 use Rattle.site.specs.declared.answer.Line.{Line}
 use Rattle.site.specs.declared.fault.SiteFault.{SiteFault}
 use Rattle.site.specs.declared.fault.SiteFault.TheVariants as faults
-use Rattle.site.specs.Answered.{Commits, Keeps, IsAnswered}
+use Rattle.book.specs.Committed.{Commits}
+use Rattle.site.specs.Answered.{Keeps, IsAnswered}
 use Rattle.site.specs.Arrivals.{on_body}
 use Rattle.site.specs.Datagrams.{handed_out, datagram}
 use Rattle.site.specs.Effects.{to_each}

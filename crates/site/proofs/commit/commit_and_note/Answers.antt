@@ -34,18 +34,7 @@ returns-in_err-commit g c =
     c.from_residual-in_err-commit.ensures.1)
     (λ e. is_open (sym (c.in_err-commit.ensures.needs_open.0 (ap (λ (f : CommitFault). Err f) e))
     ∙ c.requires))
-    (record {
-      committed = c.in_err-commit.ensures.committed;
-      durable = c.in_err-commit.ensures.durable;
-      recovers = c.in_err-commit.ensures.recovers;
-      device_failed = c.in_err-commit.ensures.device;
-      memory = c.in_err-commit.ensures.memory;
-      any_moment = c.in_err-commit.ensures.any_moment c.requires;
-      cause = c.in_err-commit.ensures.cause;
-      fuse = c.in_err-commit.ensures.fuse;
-      calls = c.in_err-commit.ensures.calls;
-      whose = c.in_err-commit.ensures.whose;
-    }) c.reserve.ensures.same
+    (c.in_err-commit.ensures.commits c.requires) c.reserve.ensures.same
   where
     is_open : true ≡ false → ⊥
     is_open e = cc
@@ -54,18 +43,7 @@ pub returns : goal.returns
 returns g c =
     done g.C.Cell.device (record { book = c.args.book.now; tables = c.args.tables.now })
     (record { book = c.commit.new.self; tables = c.note.new.self }) c.args.new c.reserve.new.self
-    (record {
-      committed = c.in_ok-commit.ensures.committed;
-      durable = c.in_ok-commit.ensures.durable;
-      recovers = c.in_ok-commit.ensures.recovers;
-      device_failed = c.in_ok-commit.ensures.device;
-      memory = c.in_ok-commit.ensures.memory;
-      any_moment = c.in_ok-commit.ensures.any_moment c.requires;
-      cause = c.in_ok-commit.ensures.cause;
-      fuse = c.in_ok-commit.ensures.fuse;
-      calls = c.in_ok-commit.ensures.calls;
-      whose = c.in_ok-commit.ensures.whose;
-    }) c.reserve.ensures.same
+    (c.in_ok-commit.ensures.commits c.requires) c.reserve.ensures.same
     (λ of. subst (λ (r : Record). IsOf c.note.new.self c.args.book.now.owner
     (c.args.book.now.records ++ r ∷ [])) c.in_ok-noted.ensures
     (c.note.ensures.of c.args.book.now.owner c.args.book.now.records of))
