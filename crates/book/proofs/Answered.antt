@@ -121,7 +121,8 @@ module _ {C : Type 0} (device : C → devices.Device)
             opened = ap has_failed no_memory;
             bytes = memory (found_no_memory e no_memory);
           };
-          any_moment = written owner records r device only_now old held new bytes is_record same run;
+          any_moment = written owner records r device only_now old held new bytes is_record same
+          run;
           cause = record {
             later = cause.later;
             failed = λ failed. cause.failed (device_failed e failed);

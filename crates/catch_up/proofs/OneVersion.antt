@@ -11,7 +11,7 @@ use Rattle.known_bags.specs.declared.known_bag.KnownBag.{KnownBag}
 use Rattle.udp_site.specs.Traffic.{Move, Grows}
 use Rattle.catch_up.specs.declared.rounds.AskFault.{AskFault}
 use Rattle.catch_up.specs.declared.rounds.AskFault.TheVariants.{Memory, Output}
-use Rattle.catch_up.specs.declared.rounds.Asked.{Asked}
+use Rattle.catch_up.specs.declared.rounds.Target.{Target}
 use Rattle.catch_up.specs.Lines.{known_line}
 use Rattle.catch_up.specs.Rounds.{Answer, answer_line}
 use Rattle.catch_up.specs.inner.Progress.{AppendsPart, OnlyAsked, IsAskedFor, GoesOn, StopsIn}
@@ -19,11 +19,11 @@ use Rattle.catch_up.specs.inner.Progress.{IsAskedOnce}
 use Rattle.catch_up.proofs.Parts.{no_part, part_of_both}
 
 -- nothing was asked beyond the answers
-pub only_answers : (asked : Asked) (fault : AskFault) → OnlyAsked asked fault []
+pub only_answers : (asked : Target) (fault : AskFault) → OnlyAsked asked fault []
 only_answers asked Memory = (record { object = []; version = 0 }, tt)
 only_answers asked Output = refl
 
-module _ (asked : Asked) (v : KnownBag) (a b : Option (List Move)) where
+module _ (asked : Target) (v : KnownBag) (a b : Option (List Move)) where
   -- why it wasn't asked for to the end
   pub ends : (next : KnownBag) (o n : Option (List ℕ)) (result : Result ℕ AskFault)
       (fault : AskFault) → IsErrAnd result (λ e. e ≡ fault)

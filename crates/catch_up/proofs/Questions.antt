@@ -13,7 +13,7 @@ use Rattle.known_bags.specs.declared.known_bag.KnownBag.{KnownBag}
 use Rattle.udp_site.specs.Traffic.{Move, Grows}
 use Rattle.udp_site.proofs.Growth.{Grows-trans, Grows-none}
 use Rattle.catch_up.specs.declared.rounds.AskFault.{AskFault}
-use Rattle.catch_up.specs.declared.rounds.Asked.{Asked}
+use Rattle.catch_up.specs.declared.rounds.Target.{Target}
 use Rattle.catch_up.specs.Rounds.{Answer, AreAnswers, answer_line, answer_lines, is_same, same_in}
 use Rattle.catch_up.specs.Rounds.{left_by, left_of, AreRounds, AreWhole, round_lines, same_after}
 use Rattle.catch_up.specs.Rounds.{left_after, open_of}
@@ -23,7 +23,7 @@ use Rattle.catch_up.proofs.Parts.{then_part}
 
 -- ---- some versions, and others
 
-answers_then : (asked : Asked) (xs ys : List KnownBag) (us bs : List Answer) (m n : List Move)
+answers_then : (asked : Target) (xs ys : List KnownBag) (us bs : List Answer) (m n : List Move)
     → length us ≡ length xs → AreAnswers asked xs us m → AreAnswers asked ys bs n
     → AreAnswers asked (xs ++ ys) (us ++ bs) (m ++ n)
 answers_then asked [] ys [] bs m n count p q =
@@ -39,11 +39,11 @@ answers_then asked (v ∷ xs) ys (a ∷ us) bs m n count (first, rest, is, one, 
 )
 
 -- the others may not be asked for
-answers_within : (asked : Asked) (xs ys : List KnownBag) (us : List Answer) (m : List Move)
+answers_within : (asked : Target) (xs ys : List KnownBag) (us : List Answer) (m : List Move)
     → AreAnswers asked xs us m → AreAnswers asked (xs ++ ys) us m
 answers_within asked [] ys [] m p = none_asked asked ys m p
   where
-    none_asked : (asked : Asked) (ys : List KnownBag) (m : List Move) → m ≡ []
+    none_asked : (asked : Target) (ys : List KnownBag) (m : List Move) → m ≡ []
         → AreAnswers asked ys [] m
     none_asked asked [] m p = p
     none_asked asked (y ∷ ys) m p = p
@@ -61,7 +61,7 @@ lines_then (v ∷ xs) ys (a ∷ us) bs count =
     ap (λ (l : List ℕ). answer_line v a ++ l) (lines_then xs ys us bs (omega arith))
     ∙ sym (append_assoc (answer_line v a) (answer_lines xs us) (answer_lines ys bs))
 
-lines_within : (asked : Asked) (xs ys : List KnownBag) (us : List Answer) (m : List Move)
+lines_within : (asked : Target) (xs ys : List KnownBag) (us : List Answer) (m : List Move)
     → AreAnswers asked xs us m → answer_lines xs us ≡ answer_lines (xs ++ ys) us
 lines_within asked [] ys [] m p = no_lines ys
   where
@@ -119,7 +119,7 @@ open_at_most xs =
           (λ _. refl) xs,
     )
 
-module _ (asked : Asked) where
+module _ (asked : Target) where
   -- nobody is asked
   pub goes_on_none : (a : Option (List Move)) (o : Option (List ℕ)) → GoesOn asked [] a a o o []
   goes_on_none a o = ([], Grows-none a, refl, refl, Appends-nil o)
@@ -169,7 +169,7 @@ module _ (asked : Asked) where
 
 -- ---- one more round
 
-rounds_then : (asked : Asked) (vs : List KnownBag) (rounds : List (List Answer))
+rounds_then : (asked : Target) (vs : List KnownBag) (rounds : List (List Answer))
     (us : List Answer) (m n : List Move) → AreRounds asked vs rounds m
     → AreAnswers asked (left_after vs rounds) us n
     → AreRounds asked vs (rounds ++ us ∷ []) (m ++ n)
@@ -216,7 +216,7 @@ same_after_bound vs [] = omega arith
 same_after_bound vs (bs ∷ rounds) =
     omega (arith, same_bound vs bs, same_after_bound (left_of vs bs) rounds)
 
-module _ (asked : Asked) (vs : List KnownBag) where
+module _ (asked : Target) (vs : List KnownBag) where
   pub no_rounds : (a : Option (List Move)) (o : Option (List ℕ))
       → GoesOnRounds asked vs a a o o []
   no_rounds a o = ([], Grows-none a, refl, tt, Appends-nil o)
@@ -257,7 +257,7 @@ module _ (asked : Asked) (vs : List KnownBag) where
 -- ---- the rounds so far
 
 -- so many rounds
-abbrev pub RoundsSoFar : Asked → (old now : List KnownBag) → (before after : Option (List Move))
+abbrev pub RoundsSoFar : Target → (old now : List KnownBag) → (before after : Option (List Move))
     → (written next : Option (List ℕ)) → (same count : ℕ) → Type 0
 RoundsSoFar asked old now before after written next same count =
     (rounds : List (List Answer)) × (length rounds ≡ count)
@@ -265,7 +265,7 @@ RoundsSoFar asked old now before after written next same count =
     × (open_of now ≡ left_after (open_of old) rounds)
     × (same ≡ same_after (open_of old) rounds)
 
-module _ (asked : Asked) (old : List KnownBag) (a : Option (List Move)) (o : Option (List ℕ)) where
+module _ (asked : Target) (old : List KnownBag) (a : Option (List Move)) (o : Option (List ℕ)) where
   pub at_first_round : RoundsSoFar asked old old a a o o 0 0
   at_first_round = ([], refl, no_rounds asked (open_of old) a o, refl, refl)
 

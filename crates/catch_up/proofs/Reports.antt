@@ -16,7 +16,7 @@ use Rattle.udp_site.specs.Traffic.{Move, Grows}
 use Rattle.site_commands.specs.Answers.{IsWritten}
 use Rattle.catch_up.specs.declared.rounds.AskFault.{AskFault}
 use Rattle.catch_up.specs.declared.rounds.AskFault.TheVariants.{Memory, Output}
-use Rattle.catch_up.specs.declared.rounds.Asked.{Asked}
+use Rattle.catch_up.specs.declared.rounds.Target.{Target}
 use Rattle.catch_up.specs.Lines.{open_line, count_line}
 use Rattle.catch_up.specs.Rounds.{open_of, round_lines, same_after, left_after}
 use Rattle.catch_up.specs.Reports.{open_lines, status_of, report, cut_short, IsCaughtUp}
@@ -84,7 +84,7 @@ module _ (vs : List KnownBag) (place : ℕ) (d : KnownBag) (within : place < len
 
 -- ---- the report
 
-module _ (asked : Asked) (old : List KnownBag) (a b : Option (List Move)) (o : Option (List ℕ))
+module _ (asked : Target) (old : List KnownBag) (a b : Option (List Move)) (o : Option (List ℕ))
   where
     pub stops_in_rounds : (n : Option (List ℕ)) (result : Result ℕ AskFault) (fault : AskFault)
         → IsErrAnd result (λ e. e ≡ fault) → StopsInRounds asked (open_of old) a b o n fault
@@ -175,7 +175,7 @@ output_is fault is = cc
 
 -- ---- what the command ends with
 
-module _ (asked : Asked) (vs : List KnownBag) (a b : Option (List Move)) (o n : Option (List ℕ))
+module _ (asked : Target) (vs : List KnownBag) (a b : Option (List Move)) (o n : Option (List ℕ))
   where
     pub ended : (status : ℕ) → AreReported asked vs a b o n (Ok status)
         → IsCaughtUp asked vs a b o n (Ok status)

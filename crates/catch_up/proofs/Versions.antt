@@ -10,7 +10,7 @@ use Rattle.std.specs.Prelude.{IsErrAnd}
 use Rattle.known_bags.specs.declared.known_bag.KnownBag.{KnownBag}
 use Rattle.udp_site.specs.Traffic.{Move}
 use Rattle.catch_up.specs.declared.rounds.AskFault.{AskFault}
-use Rattle.catch_up.specs.declared.rounds.Asked.{Asked}
+use Rattle.catch_up.specs.declared.rounds.Target.{Target}
 use Rattle.catch_up.specs.Rounds.{Answer, open_of, same_in, left_of}
 use Rattle.catch_up.specs.inner.Progress.{GoesOn, StopsIn, IsAskedOnce, IsRound, version_after}
 use Rattle.catch_up.proofs.Questions.{goes_on_none, goes_on, stops_then, stops_within, left_then}
@@ -34,7 +34,7 @@ open_after v (Some bag) is = one_open (record v { is_found = true }) true refl
 
 -- ---- one version
 
-module _ (asked : Asked) (v : KnownBag) where
+module _ (asked : Target) (v : KnownBag) where
   -- it is known
   pub known_before : (a : Option (List Move)) (o : Option (List ℕ)) → v.is_found ≡ true
       → IsRound asked (v ∷ []) (v ∷ []) a a o o (Ok 0)
@@ -68,7 +68,7 @@ module _ (asked : Asked) (v : KnownBag) where
       (sym (one_open v false found)) stops
 
 -- why a round wasn't gone on with
-pub ends_round : (asked : Asked) (vs next : List KnownBag) (a b : Option (List Move))
+pub ends_round : (asked : Target) (vs next : List KnownBag) (a b : Option (List Move))
     (o n : Option (List ℕ)) (result : Result ℕ AskFault) (fault : AskFault)
     → IsErrAnd result (λ e. e ≡ fault) → StopsIn asked (open_of vs) a b o n fault
     → IsRound asked vs next a b o n result
@@ -79,7 +79,7 @@ ends_round asked vs next a b o n (Err e) fault is stops =
 -- ---- the first of a list
 
 -- what was done for those before a place
-abbrev pub SoFar : Asked → (old now : List KnownBag) → (place : ℕ)
+abbrev pub SoFar : Target → (old now : List KnownBag) → (place : ℕ)
     → (before after : Option (List Move)) → (written next : Option (List ℕ)) → (same : ℕ) → Type 0
 SoFar asked old now place before after written next same =
     (answers : List Answer)
@@ -105,7 +105,7 @@ none_open : [] ≡ open_of []
 unfolding open_of
 none_open = refl
 
-module _ (asked : Asked) (old : List KnownBag) (a : Option (List Move)) (o : Option (List ℕ)) where
+module _ (asked : Target) (old : List KnownBag) (a : Option (List Move)) (o : Option (List ℕ)) where
   pub at_first : SoFar asked old old 0 a a o o 0
   at_first = (
     [],

@@ -7,7 +7,7 @@ use Rattle.outcomes.specs.declared.fault.ProgramFault.{ProgramFault}
 use Rattle.outcomes.specs.Outcomes.{Outcome, no_memory}
 use Rattle.udp_site.specs.Traffic.{Move, Grows}
 use Rattle.site_commands.specs.Answers.{IsWritten}
-use Rattle.catch_up.specs.declared.rounds.Asked.{Asked}
+use Rattle.catch_up.specs.declared.rounds.Target.{Target}
 use Rattle.catch_up.specs.Lines.{open_line, count_line}
 use Rattle.catch_up.specs.Rounds.{Answer, open_of, AreRounds, AreWhole, round_lines, same_after}
 use Rattle.catch_up.specs.Rounds.{left_after, IsOneMore}
@@ -42,7 +42,7 @@ cut_short n outcome = record {
 
 -- The site is asked in one round or more, each of them whole, and the report of its answers is
 -- written; or the output fails, after a prefix of the report of the answers until then.
-abbrev pub IsReported : Asked → List KnownBag → (before after : Option (List Move))
+abbrev pub IsReported : Target → List KnownBag → (before after : Option (List Move))
     → (old new : Option (List ℕ)) → Result ℕ ProgramFault → Type 0
 IsReported asked versions before after old new result =
     (rounds : List (List Answer)) × (moves : List Move) × Grows before after moves
@@ -52,7 +52,7 @@ IsReported asked versions before after old new result =
 
 -- Memory runs out, while the site is asked for one more version or the next line is made: a prefix
 -- of the report of the answers until then is written, and the line `memory`.
-abbrev pub IsCutShort : Asked → List KnownBag → (before after : Option (List Move))
+abbrev pub IsCutShort : Target → List KnownBag → (before after : Option (List Move))
     → (old new : Option (List ℕ)) → Result ℕ ProgramFault → Type 0
 IsCutShort asked versions before after old new result =
     (rounds : List (List Answer)) × (moves : List Move) × (others : List Move)
@@ -60,7 +60,7 @@ IsCutShort asked versions before after old new result =
     × AreRounds asked (open_of versions) rounds moves × IsOneMore asked others
     × ((n : ℕ) × IsWritten old new result (cut_short n (report versions rounds)))
 
-abbrev pub IsCaughtUp : Asked → List KnownBag → (before after : Option (List Move))
+abbrev pub IsCaughtUp : Target → List KnownBag → (before after : Option (List Move))
     → (old new : Option (List ℕ)) → Result ℕ ProgramFault → Type 0
 IsCaughtUp asked versions before after old new result =
     IsReported asked versions before after old new result

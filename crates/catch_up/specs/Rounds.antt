@@ -13,12 +13,12 @@ use Rattle.site_commands.specs.declared.reply.Reply.TheVariants.{ToDeposit, ToQu
 use Rattle.site_commands.specs.declared.reply.Wanted.TheVariants as wanted
 use Rattle.site_commands.specs.Replies.{Question, datagram_to, first_reply}
 use Rattle.site_commands.specs.Exchanges.{Asks}
-use Rattle.catch_up.specs.declared.rounds.Asked.{Asked}
+use Rattle.catch_up.specs.declared.rounds.Target.{Target}
 use Rattle.catch_up.specs.Lines.{known_line}
 
 -- ---- one question
 
-abbrev pub question : Asked → SlotName → Question
+abbrev pub question : Target → SlotName → Question
 question asked slot = record {
   federation = asked.federation;
   to = asked.to;
@@ -41,13 +41,13 @@ bag_in (Some (ToDeposit answer)) = None
 bag_in (Some (ToQuery answer)) = bag_by answer
 
 -- the site is asked once for the slot's bag, and this is the bag in its first reply to that query
-abbrev pub IsAnswer : Asked → SlotName → Answer → List Move → Type 0
+abbrev pub IsAnswer : Target → SlotName → Answer → List Move → Type 0
 IsAnswer asked slot answer moves =
     Asks (asked.target, datagram_to (question asked slot) None) moves
     × (answer ≡ bag_in (first_reply (question asked slot) wanted.ToQuery moves))
 
 -- the site is asked once more at most, for some slot's bag
-abbrev pub IsOneMore : Asked → List Move → Type 0
+abbrev pub IsOneMore : Target → List Move → Type 0
 IsOneMore asked moves =
     (slot : SlotName) × Asks (asked.target, datagram_to (question asked slot) None) moves
 
@@ -58,7 +58,7 @@ unfoldable pub open_of : List KnownBag → List KnownBag
 open_of versions = filter (λ v. not v.is_found) versions
 
 -- it is asked for each of these once, in order, as far as there are answers
-abbrev pub AreAnswers : Asked → List KnownBag → List Answer → List Move → Type 0
+abbrev pub AreAnswers : Target → List KnownBag → List Answer → List Move → Type 0
 AreAnswers asked versions [] moves = moves ≡ []
 AreAnswers asked [] (answer ∷ answers) moves = ⊥
 AreAnswers asked (v ∷ versions) (answer ∷ answers) moves =
@@ -101,7 +101,7 @@ left_of (v ∷ versions) (answer ∷ answers) = left_by v answer (left_of versio
 -- ---- all rounds
 
 -- in each round it is asked for those that are left
-abbrev pub AreRounds : Asked → List KnownBag → List (List Answer) → List Move → Type 0
+abbrev pub AreRounds : Target → List KnownBag → List (List Answer) → List Move → Type 0
 AreRounds asked versions [] moves = moves ≡ []
 AreRounds asked versions (answers ∷ rounds) moves =
     (first : List Move) × (rest : List Move) × (moves ≡ first ++ rest)

@@ -1,7 +1,7 @@
 //! The command `catch-up`.
 
 use crate::arguments::CatchUpTask;
-use crate::rounds::{Asked, catch_up_on};
+use crate::rounds::{Target, catch_up_on};
 use known_bags::{KnownBag, SourceFault, push_source};
 use outcomes::{ProgramFault, write_output};
 use site_commands::{Stop, members_at, port_of, socket, write_numbered, write_stop};
@@ -26,10 +26,10 @@ pub fn catch_up_site(rt: &HostRuntime, task: &CatchUpTask<'_>) -> Result<u8, Pro
     }
 }
 
-fn asked_by(rt: &HostRuntime, task: &CatchUpTask<'_>) -> Result<Asked, Stop> {
+fn asked_by(rt: &HostRuntime, task: &CatchUpTask<'_>) -> Result<Target, Stop> {
     let members = members_at(rt, task.members)?;
     let target = port_of(&members, task.to)?;
-    Ok(Asked {
+    Ok(Target {
         federation: members.members().federation(),
         to: task.to,
         target,
@@ -39,7 +39,7 @@ fn asked_by(rt: &HostRuntime, task: &CatchUpTask<'_>) -> Result<Asked, Stop> {
 fn ask_all<W: Write>(
     rt: &HostRuntime,
     task: &CatchUpTask<'_>,
-    asked: Asked,
+    asked: Target,
     versions: &mut Vec<KnownBag>,
     output: &mut W,
 ) -> Result<u8, ProgramFault> {

@@ -12,4 +12,4 @@ mod rounds;
 
 pub use arguments::{CatchUpTask, catch_up_command, catch_up_task};
 pub use command::catch_up_site;
-pub use rounds::{Asked, catch_up_on};
+pub use rounds::{Target, catch_up_on};

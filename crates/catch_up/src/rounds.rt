@@ -29,7 +29,7 @@ const LONGEST_PAUSE: u64 = 1000;
 
 /// The site that is asked.
 #[derive(Clone, Copy)]
-pub struct Asked {
+pub struct Target {
     pub federation: u64,
     pub to: SiteNo,
     /// Its port.
@@ -61,7 +61,7 @@ pub fn catch_up_on<P: Port, C: Clock, W: Write>(
     alloc: Global,
     clock: &C,
     port: &mut P,
-    asked: &Asked,
+    asked: &Target,
     versions: &mut [KnownBag],
     seconds: u32,
     output: &mut W,
@@ -81,7 +81,7 @@ fn report_on<P: Port, C: Clock, W: Write>(
     alloc: Global,
     clock: &C,
     port: &mut P,
-    asked: &Asked,
+    asked: &Target,
     versions: &mut [KnownBag],
     seconds: u32,
     output: &mut W,
@@ -99,7 +99,7 @@ fn ask_rounds<P: Port, C: Clock, W: Write>(
     alloc: Global,
     clock: &C,
     port: &mut P,
-    asked: &Asked,
+    asked: &Target,
     versions: &mut [KnownBag],
     seconds: u32,
     output: &mut W,
@@ -135,7 +135,7 @@ fn is_over<C: Clock>(clock: &C, start: Option<Instant>, seconds: u32) -> bool {
 fn ask_round<P: Port, W: Write>(
     alloc: Global,
     port: &mut P,
-    asked: &Asked,
+    asked: &Target,
     versions: &mut [KnownBag],
     output: &mut W,
 ) -> Result<usize, AskFault>
@@ -153,7 +153,7 @@ fn ask_round<P: Port, W: Write>(
 fn ask_unless_known<P: Port, W: Write>(
     alloc: Global,
     port: &mut P,
-    asked: &Asked,
+    asked: &Target,
     version: &mut KnownBag,
     output: &mut W,
 ) -> Result<usize, AskFault>
@@ -171,7 +171,7 @@ fn ask_unless_known<P: Port, W: Write>(
 fn ask_version<P: Port, W: Write>(
     alloc: Global,
     port: &mut P,
-    asked: &Asked,
+    asked: &Target,
     version: &mut KnownBag,
     output: &mut W,
 ) -> Result<usize, AskFault>
@@ -197,7 +197,7 @@ fn one_if_same(bag: BagId, wanted: BagId) -> usize
 fn known_bag<P: Port>(
     alloc: Global,
     port: &mut P,
-    asked: &Asked,
+    asked: &Target,
     version: &KnownBag,
 ) -> Result<Option<BagId>, AllocError>
     ensures { IsAskedFor asked.now version.now.slot (P.traffic port.old) (P.traffic port.new)

@@ -14,18 +14,18 @@ use Rattle.cell_device.specs.Fuses.{fires, next_fuse, next_image}
 
 -- Ok: it is done. Memory: the image is as it was. Device: the image is as it was, or it is what a
 -- failure leaves of what was tried
-abbrev pub Outcome : {T : Type 0} → Result T CellFault
+abbrev pub CallOutcome : {T : Type 0} → Result T CellFault
     → (tried done : Image → Image) → Image → Option Image → Type 0
-Outcome (Ok x) tried done i new = new ≡ Some (done i)
-Outcome (Err Memory) tried done i new = new ≡ Some i
-Outcome (Err Device) tried done i new =
+CallOutcome (Ok x) tried done i new = new ≡ Some (done i)
+CallOutcome (Err Memory) tried done i new = new ≡ Some i
+CallOutcome (Err Device) tried done i new =
     (new ≡ Some i) ⊎ ((k : ℕ) × (new ≡ Some (after_failure k (tried i))))
 
 -- the same, where the bytes are known; where they aren't they don't become so
 abbrev pub Turns : {T : Type 0} → Result T CellFault
     → (tried done : Image → Image) → (old new : Option Image) → Type 0
 Turns result tried done None new = new ≡ None
-Turns result tried done (Some i) new = Outcome result tried done i new
+Turns result tried done (Some i) new = CallOutcome result tried done i new
 
 -- the image after a call, by the fuse, where it is known
 abbrev pub FollowsFuse : FuseState

@@ -34,7 +34,8 @@ use Rattle.stations.specs.Stations as stations
 use Rattle.lines.specs.declared.line.Line.{Line}
 use Rattle.lines.specs.declared.line.Line.TheVariants as printed
 use Rattle.lines.specs.declared.line.Reason.TheVariants as reasons
-use Rattle.world_law.specs.Networks.{Mode, Up, Down, NeedsOpening, SiteState, Happening, Outcome}
+use Rattle.world_law.specs.Networks.{Mode, Up, Down, NeedsOpening, SiteState, Happening}
+use Rattle.world_law.specs.Networks.{SiteOutcome}
 use Rattle.world_law.specs.Networks.{Stop, Start, happens, takes, happening, goes_down, opened}
 use Rattle.world_law.specs.Networks.{stops, starts, replies, Deposit, Ask, Query, Raw}
 use Rattle.world_law.specs.Trees.{tree_at}
@@ -43,8 +44,8 @@ use Rattle.world_law.specs.Worlds.{World, mode_of, quorums, after_event, event_a
 use Rattle.world_law.specs.Worlds.{on_start, skips, own_lines, on_raw, on_checked, on_deposit}
 use Rattle.lines.specs.Named.{named_reply}
 use Rattle.world_law.specs.Worlds.{with_line, with_seen, sent_lines, at_member}
-use Rattle.world_tables.specs.Numbers as numbers
-use Rattle.world_tables.specs.Numbers.{is_named}
+use Rattle.world_tables.specs.DatagramNumbers as numbers
+use Rattle.world_tables.specs.DatagramNumbers.{is_named}
 use Rattle.federation.specs.declared.federation.Federation.{Federation}
 use Rattle.federation.specs.Federations.{Represents, IsStation, AreStations, IsSound}
 use Rattle.federation.specs.Inputs.{after, after_input, place_in}
@@ -118,7 +119,7 @@ undergone f g w place input fate old new told front is up sound within at whose 
     at_place : IsStation w.members site old (w.network.sites site)
     at_place = station_at w.members f.stations.items w.network.sites place old is.stations within at
 
-    o : Outcome
+    o : SiteOutcome
     o = reached (quorums_of w.members) site (w.network.sites site) (mode_of w site)
         (input w.members.federation) fate
 
@@ -224,7 +225,7 @@ when_up w number site Down e = absurd (cc)
 
 -- the parts of a federation after one of its stations came to an outcome, of which a line is said
 -- and nothing is sent
-pub one_line : (f g : Federation) (w : World) (place : ℕ) (old new : Station) (o : Outcome)
+pub one_line : (f g : Federation) (w : World) (place : ℕ) (old new : Station) (o : SiteOutcome)
     (line : Line) → Represents f w → IsSound (quorums w) (happening w.network (place + 1) o).network
     → place < length f.stations.items → old ≡ get_or f.stations.items place old
     → owner_of new ≡ owner_of old
@@ -283,7 +284,7 @@ stopped f g w number place old new line is up within at whose closes line_is mem
     site : ℕ
     site = place + 1
 
-    o : Outcome
+    o : SiteOutcome
     o = goes_down site (w.network.sites site) None []
 
     at_place : IsStation w.members site old (w.network.sites site)
@@ -329,7 +330,7 @@ started f g w number place old new count line is down within at whose closes lin
     site : ℕ
     site = place + 1
 
-    o : Outcome
+    o : SiteOutcome
     o = opened site (w.network.sites site)
 
     at_place : IsStation w.members site old (w.network.sites site)

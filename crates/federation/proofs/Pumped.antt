@@ -4,7 +4,7 @@ use Rattle.std.proofs.Common.{sym, ap, subst, ◌∙◌}
 use Rattle.schedule.specs.declared.fate.Fate.TheVariants.{Whole}
 use Rattle.world_law.specs.Worlds.{World, next_unnamed, on_turn, on_deliver, pumped}
 use Rattle.world_law.proofs.Pumps.{idle_pump}
-use Rattle.world_tables.specs.Numbers as numbers
+use Rattle.world_tables.specs.DatagramNumbers as numbers
 use Rattle.federation.specs.declared.federation.Federation.{Federation}
 use Rattle.federation.specs.Federations.{Represents}
 use Rattle.federation.proofs.Sent.{are_sent_length}

@@ -3,7 +3,7 @@ use Rattle.std.proofs.Common.{ℕ, zero, suc, ◌+◌, ◌≡◌, List, [], ◌�
 use Rattle.std.proofs.Common.{Option, Some, None, refl, sym, ap, subst, ◌∙◌, arith, append_assoc}
 use Rattle.std.specs.Prelude.{slice_get}
 use Rattle.dgram.specs.Encoding.{datagram_of, body_from, from_byte}
-use Rattle.site.specs.declared.answer.Sealed.{Sealed}
+use Rattle.site.specs.declared.answer.Outgoing.{Outgoing}
 use Rattle.site.specs.Datagrams.{datagram, handed_out}
 use Rattle.site.specs.Effects.{Send}
 use Rattle.lines.specs.declared.line.Line.{Line}
@@ -192,8 +192,8 @@ map_more : {X Y : Type 0} (f : X → Y) (xs : List X) (x : X)
 map_more f [] x = refl
 map_more f (y ∷ xs) x = ap (λ ys. f y ∷ ys) (map_more f xs x)
 
-module _ (lines before after : List Line) (places sent new : List ℕ) (ys : List Sealed)
-    (s : Sealed)
+module _ (lines before after : List Line) (places sent new : List ℕ) (ys : List Outgoing)
+    (s : Outgoing)
     (so_far : before ≡ lines ++ lines_sent (length places + 1) (map handed_out ys))
     (sent_so_far : sent ≡ places ++ places_from (length lines) (length ys)) where
   pub line_more : after ≡ before ++ line_sent (length sent + 1) (handed_out s) ∷ []

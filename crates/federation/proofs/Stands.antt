@@ -11,9 +11,9 @@ use Rattle.stations.specs.Modes.{is_down}
 use Rattle.stations.specs.Stations.{reached}
 use Rattle.lines.specs.declared.line.Line.{Line}
 use Rattle.world_law.specs.Networks.{Mode, Up, Down, NeedsOpening, Network}
-use Rattle.world_law.specs.Networks.{Outcome, takes, reaches, happening}
+use Rattle.world_law.specs.Networks.{SiteOutcome, takes, reaches, happening}
 use Rattle.world_law.specs.Worlds.{World, quorums, own_lines, sent_lines}
-use Rattle.world_tables.specs.Numbers as numbers
+use Rattle.world_tables.specs.DatagramNumbers as numbers
 use Rattle.federation.specs.declared.federation.Federation.{Federation}
 use Rattle.federation.specs.Federations.{Represents, AreStations, IsSound}
 use Rattle.federation.specs.Inputs.{after}
@@ -66,7 +66,7 @@ taken q w site input fate member up =
     go Down e = absurd (cc)
 
 -- the parts of a federation after a call of the site at a place came to an outcome
-pub record Comes (f g : Federation) (w : World) (site : ℕ) (o : Outcome) : Type 0 where
+pub record Comes (f g : Federation) (w : World) (site : ℕ) (o : SiteOutcome) : Type 0 where
   pub own : List Line
   pub datagrams : List (ℕ × List ℕ)
   pub members : g.members ≡ f.members
@@ -85,7 +85,7 @@ pub length_map : {X Y : Type 0} (f : X → Y) (xs : List X) → length (map f xs
 length_map f [] = refl
 length_map f (x ∷ xs) = ap suc (length_map f xs)
 
-pub stands_after : (f g : Federation) (w : World) (site : ℕ) (o : Outcome) → Comes f g w site o
+pub stands_after : (f g : Federation) (w : World) (site : ℕ) (o : SiteOutcome) → Comes f g w site o
     → IsSound (quorums w) (happening w.network site o).network → Represents f w
     → Represents g (after w (happening w.network site o))
 stands_after f g w site o c sound is = record {

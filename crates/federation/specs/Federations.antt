@@ -10,7 +10,7 @@ use Rattle.world_law.specs.Networks.{Network, SiteState, new_site}
 use Rattle.world_law.specs.WellFormed.{MembersAreSites, IsWellFormed}
 use Rattle.world_law.specs.Worlds.{World, quorums}
 use Rattle.world_tables.specs.Firsts as firsts
-use Rattle.world_tables.specs.Numbers as numbers
+use Rattle.world_tables.specs.DatagramNumbers as numbers
 use Rattle.federation.specs.declared.federation.Federation.{Federation}
 use Rattle.federation.specs.Sent.{AreSent}
 

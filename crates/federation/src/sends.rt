@@ -2,11 +2,11 @@
 
 ghost use Rattle.std.specs.Prelude.{◌≡◌, ◌++◌, ◌+◌, ◌∷◌, [], length, map, OnOk, get_or};
 ghost use Rattle.site.specs.Datagrams.{handed_out};
-ghost use Rattle.world_tables.specs.Numbers.{RepresentsSame};
+ghost use Rattle.world_tables.specs.DatagramNumbers.{RepresentsSame};
 ghost use Rattle.federation.specs.Sent.{line_sent, lines_sent, places_from, SENDER_PLACE};
 
 use lines::{Line, SentBytes};
-use site::Sealed;
+use site::Outgoing;
 use std::alloc::AllocError;
 use world_tables::Datagrams;
 
@@ -18,7 +18,7 @@ const SENDER_PLACE: usize = 12;
 pub(crate) fn send_all(
     lines: &mut Vec<Line>,
     sent: &mut Datagrams<usize>,
-    sends: Vec<Sealed>,
+    sends: Vec<Outgoing>,
 ) -> Result<(), AllocError>
     ensures lines { OnOk result (lines.new.items ≡ lines.old.items
         ++ lines_sent (length sent.old.sent + 1) (map handed_out sends.items)) }
@@ -36,7 +36,7 @@ pub(crate) fn send_all(
 fn send(
     lines: &mut Vec<Line>,
     sent: &mut Datagrams<usize>,
-    sealed: Sealed,
+    sealed: Outgoing,
 ) -> Result<(), AllocError>
     ensures lines { OnOk result (lines.new.items ≡ lines.old.items
         ++ line_sent (length sent.old.sent + 1) (handed_out sealed) ∷ []) }
@@ -49,10 +49,10 @@ fn send(
 }
 
 // The line of a datagram.
-fn line_sent(number: usize, sealed: Sealed) -> Line
+fn line_sent(number: usize, sealed: Outgoing) -> Line
     ensures { result ≡ line_sent number (handed_out sealed) }
 {
-    let Sealed { to, bytes } = sealed;
+    let Outgoing { to, bytes } = sealed;
     Line::Sent {
         number,
         from: sender_byte(&bytes),

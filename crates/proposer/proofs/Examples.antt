@@ -68,7 +68,7 @@ abbrev a2 : SlotName
 a2 = record { object = 97 ∷ []; version = 2 }
 
 abbrev current : Current
-current = record { ballot = ballot 2 1; since = 1 }
+current = record { ballot = ballot 2 1; heard_before = 1 }
 
 -- what was heard before the ballot was issued doesn't count, nor what is for another ballot or for
 -- another slot

@@ -48,15 +48,15 @@ promises-push b bodies (Some body) =
 
 -- one message more adds the promise for the ballot that it is, if it is one
 pub gathered-push : (slot : SlotName) (c : Current) (heard : List Message) (m : Message)
-    → c.since ≤ length heard
+    → c.heard_before ≤ length heard
     → gathered slot c (heard ++ m ∷ [])
     ≡ gathered slot c heard ++ one_of (if_some (promise_in c.ballot) (body_in slot m))
 unfolding gathered
 gathered-push slot c heard m within =
     ap (λ (ms : List Message). promises_for c.ballot (bodies_of slot ms))
-    (drop-append-le c.since heard (m ∷ []) within)
-    ∙ ap (promises_for c.ballot) (bodies-push slot (drop c.since heard) m)
-    ∙ promises-push c.ballot (bodies_of slot (drop c.since heard)) (body_in slot m)
+    (drop-append-le c.heard_before heard (m ∷ []) within)
+    ∙ ap (promises_for c.ballot) (bodies-push slot (drop c.heard_before heard) m)
+    ∙ promises-push c.ballot (bodies_of slot (drop c.heard_before heard)) (body_in slot m)
 
 floor-push_one : (bodies : List Body) (o : Option Body)
     → floor_of (bodies ++ one_of o)

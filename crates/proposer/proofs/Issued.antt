@@ -18,9 +18,11 @@ use Rattle.proposer.specs.declared.round.Promise.{Promise}
 use Rattle.proposer.specs.Rounds.{Round}
 use Rattle.proposer.specs.declared.row.Row.{Row}
 use Rattle.proposer.specs.Proposals.{Current}
-use Rattle.proposer.specs.Sessions.{Session, UnderWay, at_slot, hears, with_current, waits}
-use Rattle.proposer.specs.Sessions.{promise_message, heard_if, of_round, current_by, current_if}
-use Rattle.proposer.specs.Sessions.{under_way_if}
+use Rattle.proposer.specs.Sessions.{Session, at_slot, hears, with_current}
+use Rattle.proposer.specs.UnderWay.{UnderWay, waits}
+use Rattle.proposer.specs.Sessions.{promise_message}
+use Rattle.proposer.specs.UnderWay.{heard_if, of_round, current_by, current_if}
+use Rattle.proposer.specs.UnderWay.{under_way_if}
 use Rattle.proposer.specs.Rows.{empty_row, BeginsFor, Counts, CountsFor, Knows, Represents, row_of}
 use Rattle.proposer.specs.Rows.{begun_in, current_in, waiting_as, waiting_in}
 use Rattle.proposer.specs.inner.Rounds.{issued, issued_with}
@@ -123,7 +125,7 @@ issued_stands old new slot records session under at stands =
     subst (λ (w : Option Message). Represents new records (heard_if session w)
     (waits under slot None)) h.waiting
     (by_round (current_in (row_of old slot)) (sym now.current)
-    (issued_current slot (under.current_with slot) session.heard (session.current slot)
+    (issued_current slot (under.current_bag slot) session.heard (session.current slot)
     (current_in (row_of old slot)) h.current))
   where
     now : IssuesWaiting (row_of old slot) (row_of new slot)
@@ -132,15 +134,15 @@ issued_stands old new slot records session under at stands =
     -- the row from which nothing waits
     row_knows : (heard : List Message)
         → floor_of (bodies_of slot heard) ≡ floor_of (bodies_of slot session.heard)
-        → CountsFor slot (under.current_with slot) heard (session.current slot)
+        → CountsFor slot (under.current_bag slot) heard (session.current slot)
         (current_in (row_of new slot))
         → Knows slot records heard (session.current slot) (under.begun slot)
-        (under.begun_with slot) (under.current_with slot)
+        (under.begun_bag slot) (under.current_bag slot)
         (at_slot slot None under.waiting slot) (row_of new slot)
     row_knows heard floor counts =
         let h = stands slot in
         subst (λ (w : Option Message). Knows slot records heard (session.current slot)
-        (under.begun slot) (under.begun_with slot) (under.current_with slot) w (row_of new slot))
+        (under.begun slot) (under.begun_bag slot) (under.current_bag slot) w (row_of new slot))
         (sym (at_here slot None under.waiting))
         (record {
           used = now.used ∙ h.used;
@@ -148,21 +150,21 @@ issued_stands old new slot records session under at stands =
           begun = rw now.begun h.begun;
           current = counts;
           waiting = ap (waiting_in slot) now.current
-              ∙ issued_none slot (under.current_with slot) heard (current_in (row_of old slot));
+              ∙ issued_none slot (under.current_bag slot) heard (current_in (row_of old slot));
         })
 
     other : (s : SlotName) → same_slot slot s ≡ false → (heard : List Message)
-        → Knows s records heard (session.current s) (under.begun s) (under.begun_with s)
-        (under.current_with s) (under.waiting s) (row_of old s)
-        → Knows s records heard (session.current s) (under.begun s) (under.begun_with s)
-        (under.current_with s) (at_slot slot None under.waiting s) (row_of old s)
+        → Knows s records heard (session.current s) (under.begun s) (under.begun_bag s)
+        (under.current_bag s) (under.waiting s) (row_of old s)
+        → Knows s records heard (session.current s) (under.begun s) (under.begun_bag s)
+        (under.current_bag s) (at_slot slot None under.waiting s) (row_of old s)
     other s e heard k =
         subst (λ (w : Option Message). Knows s records heard (session.current s) (under.begun s)
-        (under.begun_with s) (under.current_with s) w (row_of old s))
+        (under.begun_bag s) (under.current_bag s) w (row_of old s))
         (sym (at_other slot s None under.waiting e)) k
 
     with_message : (from : ℕ) (b : BallotNumber) (p : Promise)
-        → CountsFor slot (under.current_with slot)
+        → CountsFor slot (under.current_bag slot)
         (session.heard ++ promise_message slot p.site b p.prior ∷ []) (session.current slot)
         (current_in (row_of new slot))
         → Represents new records (hears session (promise_message slot p.site b p.prior))
@@ -179,11 +181,11 @@ issued_stands old new slot records session under at stands =
         counts)
         (λ s e. other s e (session.heard ++ m ∷ [])
         (other_knows s records session.heard (session.current s) (under.begun s)
-        (under.begun_with s)
-        (under.current_with s) (under.waiting s) m (row_of old s) (says_nothing slot s m.body e)
+        (under.begun_bag s)
+        (under.current_bag s) (under.waiting s) m (row_of old s) (says_nothing slot s m.body e)
         (stands s)))
 
-    without : CountsFor slot (under.current_with slot) session.heard (session.current slot)
+    without : CountsFor slot (under.current_bag slot) session.heard (session.current slot)
         (current_in (row_of new slot))
         → Represents new records session (waits under slot None)
     without counts =
@@ -192,8 +194,8 @@ issued_stands old new slot records session under at stands =
         (λ s e. other s e session.heard (stands s))
 
     by_waiting : (b : BallotNumber) (w : Option Promise)
-        → CountsFor slot (under.current_with slot)
-        (heard_with slot (under.current_with slot) session.heard (waiting_as slot b w))
+        → CountsFor slot (under.current_bag slot)
+        (heard_with slot (under.current_bag slot) session.heard (waiting_as slot b w))
         (session.current slot) (current_in (row_of new slot))
         → Represents new records (heard_if session (waiting_as slot b w)) (waits under slot None)
     by_waiting b None counts = without counts
@@ -201,17 +203,17 @@ issued_stands old new slot records session under at stands =
 
     by_round : (o : Option Round) → option_map issued (current_in (row_of old slot)) ≡ current_in
         (row_of new slot)
-        → CountsFor slot (under.current_with slot)
-        (heard_with slot (under.current_with slot) session.heard (waiting_in slot o))
+        → CountsFor slot (under.current_bag slot)
+        (heard_with slot (under.current_bag slot) session.heard (waiting_in slot o))
         (session.current slot) (option_map issued (current_in (row_of old slot)))
         → Represents new records (heard_if session (waiting_in slot o)) (waits under slot None)
     by_round None e counts =
-        without (subst (CountsFor slot (under.current_with slot) session.heard
+        without (subst (CountsFor slot (under.current_bag slot) session.heard
         (session.current slot)) e counts)
     by_round (Some round) e counts =
         by_waiting round.ballot round.waiting
-        (subst (CountsFor slot (under.current_with slot)
-        (heard_with slot (under.current_with slot) session.heard
+        (subst (CountsFor slot (under.current_bag slot)
+        (heard_with slot (under.current_bag slot) session.heard
         (waiting_as slot round.ballot round.waiting)) (session.current slot)) e counts)
 
 -- ---- a record noted
@@ -229,10 +231,10 @@ module _ (old new : Rows Row) (r : Record) (records : List Record) (session : Se
   -- of another slot the record says nothing
   others_stay : (s : SlotName) → same_slot r.slot s ≡ false
       → Knows s (records ++ r ∷ []) session.heard (session.current s) (under.begun s)
-      (under.begun_with s) (under.current_with s) (under.waiting s) (row_of old s)
+      (under.begun_bag s) (under.current_bag s) (under.waiting s) (row_of old s)
   others_stay s e =
       raised_knows s records r session.heard (session.current s) (under.begun s)
-      (under.begun_with s) (under.current_with s) (under.waiting s) (row_of old s) (row_of old s)
+      (under.begun_bag s) (under.current_bag s) (under.waiting s) (row_of old s) (row_of old s)
       (ap (λ (t : Bool). with_one max (row_of old s).used
       (if_some round_in (cond t (Some r.body) None))) (sym e))
       refl refl refl (stands s)
@@ -249,7 +251,7 @@ module _ (old new : Rows Row) (r : Record) (records : List Record) (session : Se
   raised row n is puts used floor begun current =
       stands_at old new r.slot row (records ++ r ∷ []) session under puts
       (raised_knows r.slot records r session.heard (session.current r.slot) (under.begun r.slot)
-      (under.begun_with r.slot) (under.current_with r.slot) (under.waiting r.slot)
+      (under.begun_bag r.slot) (under.current_bag r.slot) (under.waiting r.slot)
       (row_of old r.slot) row
       (used ∙ ap (with_one max (row_of old r.slot).used) (sym (says n is))) floor begun current
       (stands r.slot))
@@ -265,61 +267,61 @@ module _ (old new : Rows Row) (r : Record) (records : List Record) (session : Se
       stands_at old new r.slot row (records ++ r ∷ []) (with_current session r.slot b)
       (under_way_if under r.slot (Some b)) puts
       (subst (λ (c : Option Current). Knows r.slot (records ++ r ∷ []) session.heard c
-      (at_slot r.slot None under.begun r.slot) (at_slot r.slot None under.begun_with r.slot)
-      (at_slot r.slot (under.begun_with r.slot) under.current_with r.slot)
+      (at_slot r.slot None under.begun r.slot) (at_slot r.slot None under.begun_bag r.slot)
+      (at_slot r.slot (under.begun_bag r.slot) under.current_bag r.slot)
       (at_slot r.slot None under.waiting r.slot) row)
       (sym (at_here r.slot (Some now) session.current))
       (subst (λ (x : Option BallotNumber). Knows r.slot (records ++ r ∷ []) session.heard (Some now)
-      x (at_slot r.slot None under.begun_with r.slot)
-      (at_slot r.slot (under.begun_with r.slot) under.current_with r.slot)
+      x (at_slot r.slot None under.begun_bag r.slot)
+      (at_slot r.slot (under.begun_bag r.slot) under.current_bag r.slot)
       (at_slot r.slot None under.waiting r.slot) row)
       (sym (at_here r.slot None under.begun))
       (subst (λ (bag : Option BagId). Knows r.slot (records ++ r ∷ []) session.heard (Some now) None
-      bag (at_slot r.slot (under.begun_with r.slot) under.current_with r.slot)
+      bag (at_slot r.slot (under.begun_bag r.slot) under.current_bag r.slot)
       (at_slot r.slot None under.waiting r.slot) row)
-      (sym (at_here r.slot None under.begun_with))
+      (sym (at_here r.slot None under.begun_bag))
       (subst (λ (own : Option BagId). Knows r.slot (records ++ r ∷ []) session.heard (Some now) None
       None own (at_slot r.slot None under.waiting r.slot) row)
-      (sym (at_here r.slot (under.begun_with r.slot) under.current_with))
+      (sym (at_here r.slot (under.begun_bag r.slot) under.current_bag))
       (subst (λ (w : Option Message). Knows r.slot (records ++ r ∷ []) session.heard (Some now) None
-      None (under.begun_with r.slot) w row)
+      None (under.begun_bag r.slot) w row)
       (sym (at_here r.slot None under.waiting))
       (issued_knows r.slot records r session.heard (session.current r.slot) b
-      (under.begun_with r.slot) (under.current_with r.slot) (under.waiting r.slot)
+      (under.begun_bag r.slot) (under.current_bag r.slot) (under.waiting r.slot)
       (row_of old r.slot) row
       (used ∙ ap (with_one max (row_of old r.slot).used) (sym (says (Some n) is))) floor begun
       current
       (subst (λ (x : Option BallotNumber). Knows r.slot records session.heard
-      (session.current r.slot) x (under.begun_with r.slot) (under.current_with r.slot)
+      (session.current r.slot) x (under.begun_bag r.slot) (under.current_bag r.slot)
       (under.waiting r.slot) (row_of old r.slot)) next
       (stands r.slot))))))))
       (λ s e.
       subst (λ (c : Option Current). Knows s (records ++ r ∷ []) session.heard c
-      (at_slot r.slot None under.begun s) (at_slot r.slot None under.begun_with s)
-      (at_slot r.slot (under.begun_with r.slot) under.current_with s)
+      (at_slot r.slot None under.begun s) (at_slot r.slot None under.begun_bag s)
+      (at_slot r.slot (under.begun_bag r.slot) under.current_bag s)
       (at_slot r.slot None under.waiting s) (row_of old s))
       (sym (at_other r.slot s (Some now) session.current e))
       (subst (λ (x : Option BallotNumber). Knows s (records ++ r ∷ []) session.heard
-      (session.current s) x (at_slot r.slot None under.begun_with s)
-      (at_slot r.slot (under.begun_with r.slot) under.current_with s)
+      (session.current s) x (at_slot r.slot None under.begun_bag s)
+      (at_slot r.slot (under.begun_bag r.slot) under.current_bag s)
       (at_slot r.slot None under.waiting s) (row_of old s))
       (sym (at_other r.slot s None under.begun e))
       (subst (λ (bag : Option BagId). Knows s (records ++ r ∷ []) session.heard
       (session.current s) (under.begun s) bag
-      (at_slot r.slot (under.begun_with r.slot) under.current_with s)
+      (at_slot r.slot (under.begun_bag r.slot) under.current_bag s)
       (at_slot r.slot None under.waiting s) (row_of old s))
-      (sym (at_other r.slot s None under.begun_with e))
+      (sym (at_other r.slot s None under.begun_bag e))
       (subst (λ (own : Option BagId). Knows s (records ++ r ∷ []) session.heard
-      (session.current s) (under.begun s) (under.begun_with s) own
+      (session.current s) (under.begun s) (under.begun_bag s) own
       (at_slot r.slot None under.waiting s) (row_of old s))
-      (sym (at_other r.slot s (under.begun_with r.slot) under.current_with e))
+      (sym (at_other r.slot s (under.begun_bag r.slot) under.current_bag e))
       (subst (λ (w : Option Message). Knows s (records ++ r ∷ []) session.heard (session.current s)
-      (under.begun s) (under.begun_with s) (under.current_with s) w (row_of old s))
+      (under.begun s) (under.begun_bag s) (under.current_bag s) w (row_of old s))
       (sym (at_other r.slot s None under.waiting e))
       (others_stay s e))))))
     where
       now : Current
-      now = record { ballot = b; since = length session.heard }
+      now = record { ballot = b; heard_before = length session.heard }
 
   -- a Round, by whether it is of the ballot that was begun
   round_stands : (n : ℕ) (t : Bool) → round_in r.body ≡ Some n
@@ -356,7 +358,7 @@ module _ (old new : Rows Row) (r : Record) (records : List Record) (session : Se
     where
       go : (b : Option BallotNumber) (o : Option Round) → under.begun r.slot ≡ b
           → is_of_round n o ≡ true
-          → BeginsFor (under.begun_with r.slot) b o
+          → BeginsFor (under.begun_bag r.slot) b o
           → Represents new (records ++ r ∷ []) (current_if session r.slot b)
           (under_way_if under r.slot b)
       go None None e f h = absurd (cc f)
@@ -380,7 +382,7 @@ module _ (old new : Rows Row) (r : Record) (records : List Record) (session : Se
   entry_stands (entry.Round n) e puts =
       subst (λ (b : Option BallotNumber). Represents new (records ++ r ∷ [])
       (current_if session r.slot b) (under_way_if under r.slot b))
-      (sym (of_round_is (under.begun_with r.slot) (under.begun r.slot)
+      (sym (of_round_is (under.begun_bag r.slot) (under.begun r.slot)
       (begun_in (row_of old r.slot)) n (stands r.slot).begun))
       (round_stands n (is_of_round n (begun_in (row_of old r.slot))) (ap round_in e) refl puts)
   entry_stands (entry.Deposit v) e puts = raised (row_of old r.slot) None (ap round_in e) puts refl

@@ -35,7 +35,7 @@ raised_knows slot records r heard c b bag own w row next used floor begun curren
 
 -- nothing was heard since now
 nothing_gathered : (slot : SlotName) (b : BallotNumber) (heard : List Message)
-    → gathered slot (record { ballot = b; since = length heard }) heard ≡ []
+    → gathered slot (record { ballot = b; heard_before = length heard }) heard ≡ []
 unfolding gathered promises_for bodies_of
 nothing_gathered slot b heard = rw (drop_all heard)
   where
@@ -45,7 +45,7 @@ nothing_gathered slot b heard = rw (drop_all heard)
 
 fresh_counts : (slot : SlotName) (own : Option BagId) (b : BallotNumber) (heard : List Message)
     (round : Round) → Begins own b round
-    → Counts slot own heard (record { ballot = b; since = length heard }) round
+    → Counts slot own heard (record { ballot = b; heard_before = length heard }) round
 unfolding highest_prior priors promisers
 fresh_counts slot own b heard round h = record {
   ballot = ap (λ (x : Round). x.ballot) h.is;
@@ -64,7 +64,8 @@ pub issued_knows : (slot : SlotName) (records : List Record) (r : Record) (heard
     (row next : Row) → next.used ≡ with_one max row.used (if_some round_in (entry_of slot r))
     → next.floor ≡ row.floor → next.begun ≡ None → next.current ≡ begun_in row
     → Knows slot records heard c (Some b) bag own w row
-    → Knows slot (records ++ r ∷ []) heard (Some (record { ballot = b; since = length heard })) None
+    → Knows slot (records ++ r ∷ []) heard
+    (Some (record { ballot = b; heard_before = length heard })) None
     None bag None next
 issued_knows slot records r heard c b bag own w row next used floor begun current h = record {
   used = used
@@ -77,7 +78,7 @@ issued_knows slot records r heard c b bag own w row next used floor begun curren
 }
   where
     is_current : (o : Option Round) → BeginsFor bag (Some b) o
-        → CountsFor slot bag heard (Some (record { ballot = b; since = length heard })) o
+        → CountsFor slot bag heard (Some (record { ballot = b; heard_before = length heard })) o
     is_current None k = absurd k
     is_current (Some round) k =
         fresh_counts slot bag b heard round k

@@ -20,9 +20,11 @@ use Rattle.proposer.specs.declared.round.Plan.{Plan}
 use Rattle.proposer.specs.Rounds.{Round, fresh, round_of}
 use Rattle.proposer.specs.declared.row.Row.{Row}
 use Rattle.proposer.specs.Proposals.{Current, ballot_after, next_ballot, ready}
-use Rattle.proposer.specs.Sessions.{Session, UnderWay, new_session, nothing, at_slot, hears}
-use Rattle.proposer.specs.Sessions.{begins, waits, promise_message, refusal_message, heard_after}
-use Rattle.proposer.specs.Sessions.{waiting_after}
+use Rattle.proposer.specs.Sessions.{Session, new_session, at_slot, hears}
+use Rattle.proposer.specs.UnderWay.{UnderWay, nothing}
+use Rattle.proposer.specs.Sessions.{promise_message, refusal_message}
+use Rattle.proposer.specs.UnderWay.{begins, waits, heard_after}
+use Rattle.proposer.specs.UnderWay.{waiting_after}
 use Rattle.proposer.specs.Rows.{empty_row, BeginsFor, Knows, Represents, row_of, begun_in}
 use Rattle.proposer.specs.Rows.{current_in, ProposerState}
 use Rattle.proposer.specs.inner.Rounds.{after_promise}
@@ -91,12 +93,12 @@ begun_stands old new slot ballot own records session under at stands =
     let now = at.1 in
     stands_at old new slot (row_of new slot) records session (begins under slot ballot own) at.0
     (subst (λ (b : Option BallotNumber). Knows slot records session.heard (session.current slot) b
-    (at_slot slot (Some own) under.begun_with slot) (under.current_with slot)
+    (at_slot slot (Some own) under.begun_bag slot) (under.current_bag slot)
     (under.waiting slot) (row_of new slot))
     (sym (at_here slot (Some ballot) under.begun))
     (subst (λ (bag : Option BagId). Knows slot records session.heard (session.current slot)
-    (Some ballot) bag (under.current_with slot) (under.waiting slot) (row_of new slot))
-    (sym (at_here slot (Some own) under.begun_with))
+    (Some ballot) bag (under.current_bag slot) (under.waiting slot) (row_of new slot))
+    (sym (at_here slot (Some own) under.begun_bag))
     (record {
       used = now.used ∙ h.used;
       floor = now.floor ∙ h.floor;
@@ -106,12 +108,12 @@ begun_stands old new slot ballot own records session under at stands =
       waiting = rw now.current h.waiting;
     })))
     (λ s e. subst (λ (b : Option BallotNumber). Knows s records session.heard (session.current s) b
-    (at_slot slot (Some own) under.begun_with s) (under.current_with s) (under.waiting s)
+    (at_slot slot (Some own) under.begun_bag s) (under.current_bag s) (under.waiting s)
     (row_of old s))
     (sym (at_other slot s (Some ballot) under.begun e))
     (subst (λ (bag : Option BagId). Knows s records session.heard (session.current s)
-    (under.begun s) bag (under.current_with s) (under.waiting s) (row_of old s))
-    (sym (at_other slot s (Some own) under.begun_with e)) (stands s)))
+    (under.begun s) bag (under.current_bag s) (under.waiting s) (row_of old s))
+    (sym (at_other slot s (Some own) under.begun_bag e)) (stands s)))
 
 -- the row that was put in is there
 pub put_present : (old new : Rows Row) (slot : SlotName) (row : Row) → IsWith old new slot row
@@ -126,8 +128,8 @@ pub heard_stands : (rows : Rows Row) (m : Message)
     → ((b : BallotNumber) → promise_in b m.body ≡ None) → Represents rows records session under
     → Represents rows records (hears session m) under
 heard_stands rows m records session under refuses promises stands s =
-    heard_knows s records session.heard (session.current s) (under.begun s) (under.begun_with s)
-    (under.current_with s) (under.waiting s) m (row_of rows s) (row_of rows s) refl refl refl
+    heard_knows s records session.heard (session.current s) (under.begun s) (under.begun_bag s)
+    (under.current_bag s) (under.waiting s) m (row_of rows s) (row_of rows s) refl refl refl
     (floor_same (same_slot m.slot s)) (no_promise (session.current s) (same_slot m.slot s) refl)
     (stands s)
   where
@@ -155,7 +157,7 @@ refused_stands old mid new slot n from asked standing records session under same
     stands_at old new slot (with_floor (row_of mid slot) n) records (hears session m) under
     (puts_at old mid new slot (with_floor (row_of mid slot) n) same put)
     (heard_knows slot records session.heard (session.current slot) (under.begun slot)
-    (under.begun_with slot) (under.current_with slot) (under.waiting slot) m (row_of old slot)
+    (under.begun_bag slot) (under.current_bag slot) (under.waiting slot) m (row_of old slot)
     (with_floor (row_of mid slot) n)
     (ap (λ (r : Row). r.used) (same slot)) (ap (λ (r : Row). r.begun) (same slot))
     (ap (λ (r : Row). r.current) (same slot))
@@ -165,7 +167,7 @@ refused_stands old mid new slot n from asked standing records session under same
     (no_promise (session.current slot))
     (stands slot))
     (λ s e. other_knows s records session.heard (session.current s) (under.begun s)
-    (under.begun_with s) (under.current_with s) (under.waiting s) m (row_of old s)
+    (under.begun_bag s) (under.current_bag s) (under.waiting s) m (row_of old s)
     (says_nothing slot s m.body e) (stands s))
   where
     m : Message
@@ -218,11 +220,11 @@ module _ (q : QuorumSystem) (laws : AreQuorums q) (slot : SlotName) (from : ℕ)
     (at : HeardAt q ballot (record { site = from; prior = prior }) old new slot given)
     (stands : Represents old records session under) where
   pub promise_ready :
-      given ≡ ready q (under.current_with slot) slot (session.current slot) session.heard ballot
+      given ≡ ready q (under.current_bag slot) slot (session.current slot) session.heard ballot
       (record { site = from; prior = prior })
   promise_ready =
       (at.1).bag
-      ∙ gives_ready slot from ballot prior (under.current_with slot) session.heard q laws
+      ∙ gives_ready slot from ballot prior (under.current_bag slot) session.heard q laws
       (session.current slot) (current_in (row_of old slot)) (stands slot).current
 
   pub promise_stands :
@@ -233,18 +235,18 @@ module _ (q : QuorumSystem) (laws : AreQuorums q) (slot : SlotName) (from : ℕ)
       m : Message
       m = promise_message slot from ballot prior
 
-      after : After slot from ballot prior (under.current_with slot) session.heard
+      after : After slot from ballot prior (under.current_bag slot) session.heard
           (session.current slot) (under.waiting slot) (current_in (row_of new slot)) given
       after =
           let h = stands slot in
-          subst (λ (o : Option Round). After slot from ballot prior (under.current_with slot)
+          subst (λ (o : Option Round). After slot from ballot prior (under.current_bag slot)
           session.heard (session.current slot) (under.waiting slot) o given)
           (sym (at.1).current)
-          (subst (After slot from ballot prior (under.current_with slot) session.heard
+          (subst (After slot from ballot prior (under.current_bag slot) session.heard
           (session.current slot) (under.waiting slot)
           (after_promise q ballot (record { site = from; prior = prior })
           (current_in (row_of old slot)))) (sym (at.1).bag)
-          (after_is slot from ballot prior (under.current_with slot) session.heard q
+          (after_is slot from ballot prior (under.current_bag slot) session.heard q
           (session.current slot) (under.waiting slot) (current_in (row_of old slot)) h.current
           h.waiting))
 
@@ -257,7 +259,7 @@ module _ (q : QuorumSystem) (laws : AreQuorums q) (slot : SlotName) (from : ℕ)
           ((same_slot_decides slot slot).1 refl)
 
       go : (o : Option BagId)
-          → After slot from ballot prior (under.current_with slot) session.heard
+          → After slot from ballot prior (under.current_bag slot) session.heard
           (session.current slot) (under.waiting slot) (current_in (row_of new slot)) o
           → Represents new records (heard_after o session (promise_message slot from ballot prior))
           (waiting_after o under (promise_message slot from ballot prior))
@@ -272,13 +274,13 @@ module _ (q : QuorumSystem) (laws : AreQuorums q) (slot : SlotName) (from : ℕ)
             waiting = k.1;
           })
           (λ s e. other_knows s records session.heard (session.current s) (under.begun s)
-          (under.begun_with s) (under.current_with s) (under.waiting s) m (row_of old s)
+          (under.begun_bag s) (under.current_bag s) (under.waiting s) m (row_of old s)
           (says_nothing slot s m.body e) (stands s))
       go (Some bag) k =
           let h = stands slot in
           stands_at old new slot (row_of new slot) records session (waits under slot (Some m)) at.0
           (subst (λ (w : Option Message). Knows slot records session.heard (session.current slot)
-          (under.begun slot) (under.begun_with slot) (under.current_with slot) w (row_of new slot))
+          (under.begun slot) (under.begun_bag slot) (under.current_bag slot) w (row_of new slot))
           (sym (at_here slot (Some m) under.waiting))
           (record {
             used = (at.1).used ∙ h.used;
@@ -288,7 +290,7 @@ module _ (q : QuorumSystem) (laws : AreQuorums q) (slot : SlotName) (from : ℕ)
             waiting = k.1;
           }))
           (λ s e. subst (λ (w : Option Message). Knows s records session.heard (session.current s)
-          (under.begun s) (under.begun_with s) (under.current_with s) w (row_of old s))
+          (under.begun s) (under.begun_bag s) (under.current_bag s) w (row_of old s))
           (sym (at_other slot s (Some m) under.waiting e)) (stands s))
 
 -- what a proposer hears of a promise, as a clause sees it: what gets ready, and what it represents
@@ -299,7 +301,7 @@ pub promise_heard : {Q : Type 0} (system : Q → QuorumSystem)
     → HeardAt (system inside.members) ballot (record { site = from; prior = prior }) inside.rows
     new slot given
     → Represents now.rows records session under
-    → (given ≡ ready (system now.members) (under.current_with slot) slot (session.current slot)
+    → (given ≡ ready (system now.members) (under.current_bag slot) slot (session.current slot)
     session.heard ballot (record { site = from; prior = prior }))
     × Represents new records (heard_after given session (promise_message slot from ballot prior))
     (waiting_after given under (promise_message slot from ballot prior))

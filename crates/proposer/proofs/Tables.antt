@@ -6,7 +6,8 @@ use Rattle.fed_types.specs.Laws.Slots.{same_slot_decides}
 use Rattle.records.specs.declared.record.Record.{Record}
 use Rattle.slot_table.specs.Rows.{Rows, row_at, row_or, IsWith, HasRooms}
 use Rattle.proposer.specs.declared.row.Row.{Row}
-use Rattle.proposer.specs.Sessions.{Session, UnderWay}
+use Rattle.proposer.specs.Sessions.{Session}
+use Rattle.proposer.specs.UnderWay.{UnderWay}
 use Rattle.proposer.specs.Rows.{Knows, Represents, row_of, empty_row}
 use Rattle.proposer.specs.inner.Rows.{OnlyAt}
 
@@ -42,22 +43,22 @@ only_at old new slot row puts s =
 pub stands_at : (old new : Rows Row) (slot : SlotName) (row : Row)
     (records : List Record) (session : Session) (under : UnderWay) → PutsAt old new slot row
     → Knows slot records session.heard (session.current slot) (under.begun slot)
-    (under.begun_with slot) (under.current_with slot) (under.waiting slot) row
+    (under.begun_bag slot) (under.current_bag slot) (under.waiting slot) row
     → ((s : SlotName) → same_slot slot s ≡ false
-    → Knows s records session.heard (session.current s) (under.begun s) (under.begun_with s)
-    (under.current_with s) (under.waiting s) (row_of old s))
+    → Knows s records session.heard (session.current s) (under.begun s) (under.begun_bag s)
+    (under.current_bag s) (under.waiting s) (row_of old s))
     → Represents new records session under
 stands_at old new slot row records session under puts at others s =
-    subst (Knows s records session.heard (session.current s) (under.begun s) (under.begun_with s)
-    (under.current_with s) (under.waiting s))
+    subst (Knows s records session.heard (session.current s) (under.begun s) (under.begun_bag s)
+    (under.current_bag s) (under.waiting s))
     (sym (puts s)) (go (same_slot slot s) refl)
   where
     go : (t : Bool) → same_slot slot s ≡ t
-        → Knows s records session.heard (session.current s) (under.begun s) (under.begun_with s)
-        (under.current_with s) (under.waiting s) (cond t row (row_of old s))
+        → Knows s records session.heard (session.current s) (under.begun s) (under.begun_bag s)
+        (under.current_bag s) (under.waiting s) (cond t row (row_of old s))
     go true e =
         subst (λ (k : SlotName). Knows k records session.heard (session.current k) (under.begun k)
-        (under.begun_with k) (under.current_with k) (under.waiting k) row)
+        (under.begun_bag k) (under.current_bag k) (under.waiting k) row)
         ((same_slot_decides slot s).0 e) at
     go false e = others s e
 
@@ -66,8 +67,8 @@ pub same_stands : (old new : Rows Row) → ((s : SlotName) → row_of new s ≡ 
     → (records : List Record) (session : Session) (under : UnderWay)
     → Represents old records session under → Represents new records session under
 same_stands old new same records session under stands s =
-    subst (Knows s records session.heard (session.current s) (under.begun s) (under.begun_with s)
-    (under.current_with s) (under.waiting s))
+    subst (Knows s records session.heard (session.current s) (under.begun s) (under.begun_bag s)
+    (under.current_bag s) (under.waiting s))
     (sym (same s)) (stands s)
 
 -- a slot that had a row has one after a row is put in

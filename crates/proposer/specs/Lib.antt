@@ -1,9 +1,11 @@
 -- Read dgram's Heard first (what messages say that were heard). Then: Proposals (when a ballot is
 -- ready, and what it proposes), Sessions (what a site has heard and begun since it was opened),
--- Steps (what a call makes of both), Rounds and Rows (what is kept of a ballot, and of a slot), Faults. inner/ is for private
+-- UnderWay (what a call has begun, where memory may run out), Steps (what a call makes of both),
+-- Rounds and Rows (what is kept of a ballot, and of a slot), Faults. inner/ is for private
 -- contracts.
 pub mod Proposals
 pub mod Sessions
+pub mod UnderWay
 pub mod Steps
 pub mod Rounds
 pub mod Rows

@@ -30,12 +30,12 @@ next_ballot site slot records heard = ballot_after site (last_round slot records
 -- the ballot that the site has issued last, and how many messages it had heard then
 pub record Current : Type 0 where
   pub ballot : BallotNumber
-  pub since : ℕ
+  pub heard_before : ℕ
 
 -- The responses to its prepare request: the promises for the ballot, since it was issued.
 unfoldable pub gathered : SlotName → Current → List Message → List PromiseFrom
 gathered slot current heard =
-    promises_for current.ballot (bodies_of slot (drop current.since heard))
+    promises_for current.ballot (bodies_of slot (drop current.heard_before heard))
 
 -- 'The highest-numbered proposal among the responses': of the votes that the promises name that of
 -- the greatest ballot, of equal ones the first.

@@ -15,7 +15,8 @@ use Rattle.proposer.specs.declared.round.Promise.{Promise as Waiting}
 use Rattle.proposer.specs.declared.row.Row.{Row}
 use Rattle.proposer.specs.Proposals.{Current, gathered, highest_prior}
 use Rattle.proposer.specs.Rounds.{Round, fresh, round_of}
-use Rattle.proposer.specs.Sessions.{Session, UnderWay}
+use Rattle.proposer.specs.Sessions.{Session}
+use Rattle.proposer.specs.UnderWay.{UnderWay}
 
 -- the membership, the own site, and the rows by slot
 pub record ProposerState (M : Type 0) : Type 0 where
@@ -66,7 +67,7 @@ pub record Counts
   pub voters : (n : ℕ) → is_in round.voters n ≡ is_in (promisers (gathered slot c heard)) n
   pub best : round.best ≡ highest_prior (gathered slot c heard)
   pub own : bag ≡ Some round.own
-  pub within : c.since ≤ length heard
+  pub within : c.heard_before ≤ length heard
 
 abbrev pub CountsFor :
     SlotName → Option BagId → List Message → Option Current → Option Round → Type 0
@@ -101,4 +102,4 @@ abbrev pub Represents : tables.Rows Row → List Record → Session → UnderWay
 Represents rows records session under =
     (slot : SlotName)
     → Knows slot records session.heard (session.current slot) (under.begun slot)
-    (under.begun_with slot) (under.current_with slot) (under.waiting slot) (row_of rows slot)
+    (under.begun_bag slot) (under.current_bag slot) (under.waiting slot) (row_of rows slot)

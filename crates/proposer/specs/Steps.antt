@@ -7,9 +7,10 @@ use Rattle.fed_types.specs.Slots.{SlotName}
 use Rattle.records.specs.declared.record.Record.{Record}
 use Rattle.records.specs.Records.{Records}
 use Rattle.dgram.specs.declared.message.Message.{Message}
-use Rattle.proposer.specs.Sessions.{Session, UnderWay, hears, refusal_message, heard_if, waits}
-use Rattle.proposer.specs.Sessions.{heard_after, waiting_after, current_by, current_if}
-use Rattle.proposer.specs.Sessions.{under_way_if}
+use Rattle.proposer.specs.Sessions.{Session, hears, refusal_message}
+use Rattle.proposer.specs.UnderWay.{UnderWay, heard_if, waits}
+use Rattle.proposer.specs.UnderWay.{heard_after, waiting_after, current_by, current_if}
+use Rattle.proposer.specs.UnderWay.{under_way_if}
 
 abbrev pub Meaning : Type 1
 Meaning = Records → Session → UnderWay → Type 0

@@ -5,7 +5,8 @@ ghost use Rattle.fed_types.specs.Slots.{SlotName};
 ghost use Rattle.records.specs.Records.{Records};
 ghost use Rattle.slot_table.specs.Rows.{row_at, IsWith, HasRooms};
 ghost use Rattle.proposer.specs.Proposals.{next_ballot, ready, ballot_after};
-ghost use Rattle.proposer.specs.Sessions.{Session, UnderWay, new_session, nothing, begins};
+ghost use Rattle.proposer.specs.Sessions.{Session, new_session};
+ghost use Rattle.proposer.specs.UnderWay.{UnderWay, nothing, begins};
 ghost use Rattle.proposer.specs.Sessions.{promise_message};
 ghost use Rattle.proposer.specs.Steps.{HearsPromise, IssuesProposal, HearsRefusal, NotesRecord};
 ghost use Rattle.proposer.specs.Rounds.{round_of};
@@ -109,7 +110,7 @@ impl<Q: Quorums + Drop> Proposer<Q> {
     ) -> Option<BagId>
         ensures ready { (records : Records) (session : Session) (under : UnderWay)
             → Represents self.old.rows records session under
-            → result ≡ ready (Q.quorum_system self.old.members) (under.current_with slot.now)
+            → result ≡ ready (Q.quorum_system self.old.members) (under.current_bag slot.now)
             slot.now (session.current slot.now) session.heard ballot
             (record { site = from; prior = prior }) }
         ensures heard { HearsPromise (Represents self.old.rows) (Represents self.new.rows)

@@ -53,7 +53,7 @@ use Rattle.records.specs.declared.owner.Owner.{Owner}
 use Rattle.serving_law.proofs.Agreement.{m, r, to_all}
 use Rattle.serving_law.proofs.Sites.{session_of, issued}
 use Rattle.serving_law.proofs.Sites.{stands_idle, stands_issued}
-use Rattle.serving_law.proofs.Tables.{Rows, records_of, tables, begun_with}
+use Rattle.serving_law.proofs.Tables.{Rows, records_of, tables, begun_bag}
 use Rattle.records.specs.Records.{IsRecord}
 use Rattle.serving_law.specs.Federations.{Serves}
 use Rattle.serving_law.specs.ExamplesAgreed.{PrintsKnown}
@@ -101,7 +101,7 @@ module _ (bag : BagId) (request : Request 7 a bag) where
       ∙ on_deposit_is
 
   deposited_stands : Represents (tables a three 1 none_heard) (records_of a (deposited bag ∷ []))
-      (session_of [] None) (begun_with a None)
+      (session_of [] None) (begun_bag a None)
   unfolding known_of used_of voters_for bodies_of floor_of is_in same_slot
   deposited_stands =
       stands_idle 1 (deposited bag ∷ []) [] rows.Unheard refl (λ none u k. refl) refl refl
@@ -144,7 +144,7 @@ module _ (bag : BagId) (request : Request 7 a bag) where
           called three three_are 1 [] tt (tables a three 1 none_heard) (tables a three 1 none_heard)
               (session_of [] None) 0 0 (calls.Deposits a (check_of request.facts)) registering
               (Some (lines.Registered bag)) registers refl (is_d bag request) tt (omega arith)
-              (begun_with a None) deposited_stands,
+              (begun_bag a None) deposited_stands,
           refl,
         ),
       )
@@ -165,7 +165,7 @@ module _ (bag : BagId) (request : Request 7 a bag) where
 
   prepared_stands : Represents (tables a three 1 none_promised)
       (records_of a (deposited bag ∷ proposed bag ∷ [])) (session_of [] (Some issued))
-      (begun_with a (Some bag))
+      (begun_bag a (Some bag))
   unfolding known_of used_of deposit_of voters_for bodies_of floor_of is_in same_slot gathered
       promises_for promisers priors highest_prior
   prepared_stands =
@@ -207,7 +207,7 @@ module _ (bag : BagId) (request : Request 7 a bag) where
     called three three_are 1 (r (deposited bag) ∷ []) (is_d bag request, tt) (tables a three 1 none_heard)
         (tables a three 1 none_promised) (session_of [] None) 1 1 (calls.Proposes a)
         preparing None proposes_it refl (is_r bag request) three_prepares (omega arith)
-        (begun_with a (Some bag)) prepared_stands,
+        (begun_bag a (Some bag)) prepared_stands,
     λ opened fault e.
         absurd (not_refused fault (sym (ap (λ (f : Effect). f.says) proposes_it) ∙ e)),
     refl,

@@ -29,7 +29,7 @@ use Rattle.learner.specs.LearnerStates as ledgers
 use Rattle.learner.specs.declared.row.Row.{Row as heard_row}
 use Rattle.learner.specs.declared.row.Row.TheVariants as rows
 use Rattle.proposer.specs.Proposals.{gathered, highest_prior, proposal}
-use Rattle.proposer.specs.Sessions.{UnderWay}
+use Rattle.proposer.specs.UnderWay.{UnderWay}
 use Rattle.site.specs.declared.answer.Line.TheVariants as lines
 use Rattle.site.specs.Arrivals.{on_body, on_arrival}
 use Rattle.site.specs.Effects.{Send, to_each}
@@ -47,7 +47,7 @@ use Rattle.serving_law.proofs.Answers.{AreMessages, seals}
 use Rattle.serving_law.proofs.Sites.{issued, no_ballot, promised_by, voted_by, counted}
 use Rattle.serving_law.proofs.Sites.{stands_idle, stands_issued}
 use Rattle.serving_law.proofs.DiskCalls.{IsKept}
-use Rattle.serving_law.proofs.Tables.{Rows, records_of, begun_with}
+use Rattle.serving_law.proofs.Tables.{Rows, records_of, begun_bag}
 
 -- Sites 1 and 2 are asked to promise; site 1 hears both promises, and then proposes; both are asked
 -- to vote; and each site hears of the vote of site 1, and then of that of site 2.
@@ -215,8 +215,8 @@ module _ (bag : BagId) (request : Request 7 a bag) where
 
   -- site 1 proposes the bag, and no other site does
   abbrev pub under : ℕ → UnderWay
-  under (suc zero) = begun_with a (Some bag)
-  under n = begun_with a None
+  under (suc zero) = begun_bag a (Some bag)
+  under n = begun_bag a None
 
   -- ---- what comes of each message by the rules
 

@@ -14,7 +14,7 @@ use Rattle.dgram.specs.declared.message.Message.{Message}
 use Rattle.dgram.specs.Encoding.{datagram_of}
 use Rattle.dgram.specs.Messages.{IsMessage}
 use Rattle.proposer.specs.Proposals.{Current}
-use Rattle.proposer.specs.Sessions.{UnderWay}
+use Rattle.proposer.specs.UnderWay.{UnderWay}
 use Rattle.site.specs.declared.answer.Answer.{Answer}
 use Rattle.site.specs.declared.answer.Line.{Line}
 use Rattle.site.specs.Calls as calls

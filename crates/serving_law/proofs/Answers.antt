@@ -8,7 +8,7 @@ use Rattle.dgram.specs.Messages.{IsMessage}
 use Rattle.dgram.proofs.Lengths.{no_longer}
 use Rattle.site.specs.declared.answer.Answer.{Answer}
 use Rattle.site.specs.declared.answer.Line.{Line}
-use Rattle.site.specs.declared.answer.Sealed.{Sealed}
+use Rattle.site.specs.declared.answer.Outgoing.{Outgoing}
 use Rattle.site.specs.Datagrams.{handed_out, datagram}
 use Rattle.site.specs.Effects.{Send}
 
@@ -17,7 +17,7 @@ pub short : (federation : ℕ) (m : Message) → IsMessage m
 short federation m is = omega (arith, no_longer federation m is)
 
 -- a message for a site
-abbrev pub seal : (federation to : ℕ) (m : Message) → IsMessage m → Sealed
+abbrev pub seal : (federation to : ℕ) (m : Message) → IsMessage m → Outgoing
 seal federation to m is = record {
   to = to;
   bytes = record {
@@ -34,7 +34,7 @@ seal federation to m is = record {
 abbrev pub AreMessages : List Send → Type 0
 AreMessages sends = AllByRecursion (λ (s : Send). IsMessage s.message) sends
 
-abbrev pub seals : (federation : ℕ) (sends : List Send) → AreMessages sends → List Sealed
+abbrev pub seals : (federation : ℕ) (sends : List Send) → AreMessages sends → List Outgoing
 seals federation [] are = []
 seals federation (s ∷ sends) are =
     seal federation s.to s.message are.0 ∷ seals federation sends are.1
@@ -46,7 +46,7 @@ seals_are federation (s ∷ sends) are =
     ap (λ (rest : List (ℕ × List ℕ)). datagram federation s ∷ rest)
     (seals_are federation sends are.1)
 
-abbrev pub answer_of : Option Line → (sends : List Sealed) → length sends < 2 ^ 63 → Answer
+abbrev pub answer_of : Option Line → (sends : List Outgoing) → length sends < 2 ^ 63 → Answer
 answer_of line sends few = record {
   line = line;
   sends = record {

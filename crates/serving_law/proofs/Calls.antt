@@ -38,7 +38,7 @@ use Rattle.world_law.proofs.Grows.{grows_itself}
 use Rattle.world_law.proofs.Step.{moved, kept_moved, Next, Sound, nothing_recalled, reports_nothing}
 use Rattle.world_law.proofs.Deeds.{nothing_sent}
 use Rattle.world_law.proofs.WellFormedEffects.{IsWellFormedEffect}
-use Rattle.udp_site.specs.Turns.{Serving, IsCalled, posts_of, sealed_posts, notices_of}
+use Rattle.udp_site.specs.Turns.{Serving, IsCalled, posts_of, outgoing_posts, notices_of}
 use Rattle.serving_law.specs.Federations.{Member, Serves}
 use Rattle.serving_law.specs.Federations as federations
 use Rattle.serving_law.specs.Rules.{owner_of}
@@ -226,7 +226,7 @@ module _ {C : Type 0} (device : C → Device) (members : Membership) (s : Scene 
           → (ports : List ℕ) (port : ℕ) (bytes : List ℕ)
           → Has (port, bytes) (posts_of ports (Ok answer)) → IsSent device members called bytes
       ok_posts answer given ports port bytes h =
-          let at = has_flat_map (sealed_posts ports) (port, bytes) answer.sends.items h in
+          let at = has_flat_map (outgoing_posts ports) (port, bytes) answer.sends.items h in
           let to = has_map (λ (p : ℕ). (p, at.0.bytes.items)) _ at.2 in
           let among = subst (λ ps. Has (handed_out at.0) ps) given
           (map_has handed_out at.1) in

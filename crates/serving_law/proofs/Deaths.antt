@@ -41,7 +41,7 @@ use Rattle.serving_law.proofs.Answers.{answer_of}
 use Rattle.serving_law.proofs.DiskJournals.{holds, says}
 use Rattle.serving_law.proofs.Replies.{checked_is}
 use Rattle.serving_law.proofs.Requests.{deposit_is_slot}
-use Rattle.serving_law.proofs.Tables.{records_of, tables, begun_with, stands, used_by_none}
+use Rattle.serving_law.proofs.Tables.{records_of, tables, begun_bag, stands, used_by_none}
 use Rattle.serving_law.proofs.NewSites.{may_start}
 
 module _ (members : Membership) (is_membership : IsMembership members) (slot : SlotName)
@@ -65,7 +65,7 @@ module _ (members : Membership) (is_membership : IsMembership members) (slot : S
       go false = refl
 
   it_stands : Represents its_tables (records_of slot (entry.Deposit bag ∷ [])) new_session
-      (begun_with slot None)
+      (begun_bag slot None)
   unfolding floor_of bodies_of voters_for
   it_stands =
       stands slot members 1 (entry.Deposit bag ∷ []) [] new_session refl (λ s f. refl) None
@@ -153,7 +153,7 @@ module _ (members : Membership) (is_membership : IsMembership members) (slot : S
             called members is_membership 1 [] tt its_tables its_tables new_session 0 0
                 (calls.Deposits slot (check_of request.facts)) registering
                 (Some (lines.Registered bag)) effect_is refl is_record tt (omega arith)
-                (begun_with slot None) it_stands,
+                (begun_bag slot None) it_stands,
             refl,
           ),
         )

@@ -40,7 +40,7 @@ use Rattle.serving_law.specs.Reports.{step_of}
 use Rattle.serving_law.proofs.DiskCalls.{owner, serving, called, hears, heard_step, no_folders}
 use Rattle.serving_law.proofs.Answers.{answer_of}
 use Rattle.serving_law.proofs.DiskJournals.{holds}
-use Rattle.serving_law.proofs.Tables.{records_of, tables, begun_with, stands, used_by_none}
+use Rattle.serving_law.proofs.Tables.{records_of, tables, begun_bag, stands, used_by_none}
 use Rattle.serving_law.proofs.NewSites.{may_start}
 
 module _ (members : Membership) (is_membership : IsMembership members) (two : 2 ≤ count_of members)
@@ -79,7 +79,7 @@ module _ (members : Membership) (is_membership : IsMembership members) (two : 2 
   after_tables = tables slot members 1 (record { own = empty_row; heard = rows.Known bag })
 
   it_stands : Represents after_tables (records_of slot (entry.Known bag ∷ [])) heard
-      (begun_with slot None)
+      (begun_bag slot None)
   it_stands =
       stands slot members 1 (entry.Known bag ∷ []) (Known 2 bag ∷ []) heard refl (λ s f. refl) None
       (record { own = empty_row; heard = rows.Known bag })
@@ -135,7 +135,7 @@ module _ (members : Membership) (is_membership : IsMembership members) (two : 2 
       hears members is_membership 1 [] [] before_tables new_session 0 0 new m is_message refl answer
       (called members is_membership 1 [] tt before_tables after_tables new_session 0 0
       (calls.Arrives (Some m)) learning (Some (lines.Known slot bag)) effect_is refl
-      (is_slot, is_bag) tt (omega arith) (begun_with slot None) it_stands)
+      (is_slot, is_bag) tt (omega arith) (begun_bag slot None) it_stands)
 
   one : Has 1 (members_of members)
   one = sites_to_has (count_of members) 1 (omega arith) is_membership.1.0.0

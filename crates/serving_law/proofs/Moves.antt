@@ -8,7 +8,7 @@ use Rattle.records.specs.Records.{IsRecord, AreRecords}
 use Rattle.proposer.specs.Sessions.{Session}
 use Rattle.site.specs.Effects.{Send}
 use Rattle.lines.specs.Notices.{Notice}
-use Rattle.world_law.specs.Networks.{Mode, SiteState, Network, Outcome}
+use Rattle.world_law.specs.Networks.{Mode, SiteState, Network, SiteOutcome}
 use Rattle.world_law.specs.WellFormed.{AreMessages, IsSend, IsWellFormed}
 use Rattle.world_law.proofs.Step.{moved, site_cases}
 use Rattle.world_law.proofs.WellFormedWords.{all_with}
@@ -22,7 +22,7 @@ module _ (w : Network) (n : ℕ) (kept : Option Record) (session : Session) (mod
     mode = mode;
   }
 
-  abbrev out : Outcome
+  abbrev out : SiteOutcome
   out = record { site = now; sends = sends; notice = notice }
 
   abbrev x : Network

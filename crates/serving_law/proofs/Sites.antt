@@ -18,7 +18,7 @@ use Rattle.proposer.specs.Proposals.{Current, gathered, highest_prior}
 use Rattle.proposer.specs.Sessions.{Session, at_slot}
 use Rattle.site_tables.specs.Contents.{Represents}
 use Rattle.serving_law.specs.ExamplesAgreed.{three, a, ballot, vote}
-use Rattle.serving_law.proofs.Tables.{records_of, heard_of, tables, begun_with, stands}
+use Rattle.serving_law.proofs.Tables.{records_of, heard_of, tables, begun_bag, stands}
 
 -- ---- what it has heard, and which ballot is current
 
@@ -31,7 +31,7 @@ session_of bs c = record { heard = heard_of a bs; current = current_of c }
 
 -- its first ballot, which was issued before anything was heard
 abbrev pub issued : Current
-issued = record { ballot = ballot; since = 0 }
+issued = record { ballot = ballot; heard_before = 0 }
 
 elsewhere : (c : Option Current) (s : SlotName) → same_slot a s ≡ false → current_of c s ≡ None
 elsewhere None s f = refl
@@ -90,7 +90,7 @@ module _ (n : ℕ) (es : List Entry) (bs : List Body) (heard : heard_row)
   -- where it has no ballot
   pub stands_idle : 0 ≡ used_of a (records_of a es)
       → Represents (tables a three n (record { own = no_ballot; heard = heard }))
-      (records_of a es) (session_of bs None) (begun_with a None)
+      (records_of a es) (session_of bs None) (begun_bag a None)
   stands_idle used =
       stands a three n es bs (session_of bs None) refl (elsewhere None) None
       (record { own = no_ballot; heard = heard })
@@ -103,7 +103,7 @@ module _ (n : ℕ) (es : List Entry) (bs : List Body) (heard : heard_row)
       → voters ≡ promisers (gathered a issued (heard_of a bs))
       → None ≡ highest_prior (gathered a issued (heard_of a bs))
       → Represents (tables a three n (record { own = promised_by bag voters; heard = heard }))
-      (records_of a es) (session_of bs (Some issued)) (begun_with a (Some bag))
+      (records_of a es) (session_of bs (Some issued)) (begun_bag a (Some bag))
   unfolding same_slot
   stands_issued bag voters used deposit promised best =
       stands a three n es bs (session_of bs (Some issued)) refl (elsewhere (Some issued)) (Some bag)

@@ -19,16 +19,17 @@ use Rattle.learner.specs.LearnerStates as ledgers
 use Rattle.learner.specs.declared.row.Row.{Row as heard_row}
 use Rattle.proposer.specs.declared.row.Row.{Row as own_row}
 use Rattle.proposer.specs.Rows.{Knows, row_of, empty_row}
-use Rattle.proposer.specs.Sessions.{Session, UnderWay, at_slot}
+use Rattle.proposer.specs.Sessions.{Session, at_slot}
+use Rattle.proposer.specs.UnderWay.{UnderWay}
 use Rattle.slot_table.specs.Rows.{row_at, row_or}
 use Rattle.site_tables.specs.Contents.{Contents, Represents}
 
 -- no ballot is begun, and no promise waits; the current one was begun with this bag
-abbrev pub begun_with : SlotName → Option BagId → UnderWay
-begun_with slot own = record {
+abbrev pub begun_bag : SlotName → Option BagId → UnderWay
+begun_bag slot own = record {
   begun = λ s. None;
-  begun_with = λ s. None;
-  current_with = λ s. at_slot slot own (λ t. None) s;
+  begun_bag = λ s. None;
+  current_bag = λ s. at_slot slot own (λ t. None) s;
   waiting = λ s. None;
 }
 
@@ -184,7 +185,7 @@ module _ (slot : SlotName) where
         ((same_slot_decides slot s).0 e) (is_own bag is)
     deposits_at s bag false e is = absurd (cc is)
 
-    pub stands : Represents (tables members site rows) (records_of es) session (begun_with slot own)
+    pub stands : Represents (tables members site rows) (records_of es) session (begun_bag slot own)
     stands = record {
       proposer = λ s. proposer_at s (same_slot slot s) refl;
       begun = λ s bag e. absurd (cc e);

@@ -12,7 +12,8 @@ use Rattle.proposer.specs.declared.fault.ProposeFault.{ProposeFault}
 use Rattle.proposer.specs.declared.fault.ProposeFault.TheVariants as proposals
 use Rattle.proposer.specs.Faults.{next_or_spent, IsOrMemory}
 use Rattle.proposer.specs.Proposals.{next_ballot}
-use Rattle.proposer.specs.Sessions.{Session, UnderWay, begins}
+use Rattle.proposer.specs.Sessions.{Session}
+use Rattle.proposer.specs.UnderWay.{UnderWay, begins}
 use Rattle.site_tables.specs.Contents.{Contents, IsOf, Represents, RepresentsSame}
 use Rattle.site.specs.declared.answer.Answer.{Answer}
 use Rattle.site.specs.declared.fault.SiteFault.{SiteFault}

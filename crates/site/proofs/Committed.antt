@@ -7,7 +7,8 @@ use Rattle.records.specs.declared.record.Record.{Record}
 use Rattle.book.specs.declared.fault.CommitFault.{CommitFault}
 use Rattle.book.specs.declared.fault.CommitFault.TheVariants as commits
 use Rattle.book.specs.Volumes.{Volume}
-use Rattle.proposer.specs.Sessions.{Session, UnderWay}
+use Rattle.proposer.specs.Sessions.{Session}
+use Rattle.proposer.specs.UnderWay.{UnderWay}
 use Rattle.site_tables.specs.Contents.{Contents, IsOf, RepresentsSame}
 use Rattle.site_tables.specs.Contents as tables
 use Rattle.site.specs.declared.fault.SiteFault.{SiteFault}

@@ -15,7 +15,8 @@ use Rattle.book.specs.Volumes.{Volume}
 use Rattle.acceptor.specs.Decisions.{prepare_decision, accept_decision, promises, votes}
 use Rattle.acceptor.specs.Decisions.{votes_again}
 use Rattle.acceptor.specs.Decisions.{refuses, on_prepare, is_vote, is_in_ballot, on_new_accept}
-use Rattle.proposer.specs.Sessions.{Session, UnderWay, current_by}
+use Rattle.proposer.specs.Sessions.{Session}
+use Rattle.proposer.specs.UnderWay.{UnderWay, current_by}
 use Rattle.site.specs.declared.answer.Answer.{Answer}
 use Rattle.site.specs.declared.answer.Line.{Line}
 use Rattle.site.specs.declared.fault.SiteFault.{SiteFault}

@@ -26,7 +26,8 @@ use Rattle.acceptor.specs.declared.decision.Decision.{Decision}
 use Rattle.acceptor.specs.Decisions.{prepare_decision, accept_decision}
 use Rattle.proposer.proofs.Stands.{at_here}
 use Rattle.proposer.specs.Proposals.{ready}
-use Rattle.proposer.specs.Sessions.{Session, UnderWay, hears, heard_if, waits, promise_message}
+use Rattle.proposer.specs.Sessions.{Session, hears, promise_message}
+use Rattle.proposer.specs.UnderWay.{UnderWay, heard_if, waits}
 use Rattle.proposer.specs.Sessions.{refusal_message}
 use Rattle.learner.specs.LearnedBags.{learned_from, learned_of_known}
 use Rattle.site_tables.specs.Contents.{Contents, IsOf, RepresentsSame}

@@ -5,7 +5,7 @@ use Rattle.std.proofs.lemmas.List.{map-append}
 use Rattle.fed_types.specs.Sites.{sites_to}
 use Rattle.dgram.specs.declared.message.Message.{Message}
 use Rattle.dgram.specs.Encoding.{datagram_of}
-use Rattle.site.specs.declared.answer.Sealed.{Sealed}
+use Rattle.site.specs.declared.answer.Outgoing.{Outgoing}
 use Rattle.site.specs.Datagrams.{handed_out, datagram}
 use Rattle.site.specs.Effects.{to_each}
 
@@ -26,7 +26,7 @@ sent_to_more federation m sites to =
     ap (map (datagram federation)) (map-append _ sites (to ∷ []))
     ∙ map-append (datagram federation) (to_each m.slot m.body sites) _
 
-pub sealed_next : (federation f : ℕ) (m : Message) (n to : ℕ) (old : List Sealed) (s : Sealed)
+pub sealed_next : (federation f : ℕ) (m : Message) (n to : ℕ) (old : List Outgoing) (s : Outgoing)
     → f ≡ federation → to ≡ n → 1 ≤ n
     → map handed_out old ≡ sent federation m (sites_to (n - 1))
     → handed_out s ≡ (to, datagram_of f m)

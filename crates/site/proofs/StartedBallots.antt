@@ -13,7 +13,8 @@ use Rattle.records.specs.declared.owner.Owner.{Owner}
 use Rattle.records.specs.declared.record.Record.{Record}
 use Rattle.records.specs.SlotStates.{known_of, deposit_of}
 use Rattle.proposer.specs.Proposals.{next_ballot}
-use Rattle.proposer.specs.Sessions.{Session, UnderWay, begins, current_by, current_if, of_round}
+use Rattle.proposer.specs.Sessions.{Session}
+use Rattle.proposer.specs.UnderWay.{UnderWay, begins, current_by, current_if, of_round}
 use Rattle.proposer.proofs.Stands.{at_here}
 use Rattle.site.specs.declared.answer.Answer.{Answer}
 use Rattle.site.specs.declared.fault.SiteFault.{SiteFault}

@@ -1,7 +1,8 @@
 -- A site that is open, as a clause sees it, and what it represents.
 use Rattle.fed_types.specs.Quorums.{quorums_of}
 use Rattle.book.specs.Volumes.{Volume}
-use Rattle.proposer.specs.Sessions.{Session, UnderWay}
+use Rattle.proposer.specs.Sessions.{Session}
+use Rattle.proposer.specs.UnderWay.{UnderWay}
 use Rattle.site_tables.specs.Contents.{Contents, IsOf}
 use Rattle.site_tables.specs.Contents as tables
 use Rattle.site.specs.Effects.{Effect}

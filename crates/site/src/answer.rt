@@ -2,7 +2,7 @@ use fed_types::{BagId, SiteNo, Slot};
 
 /// A datagram, and the member that it goes to.
 #[derive(Debug, Drop)]
-pub struct Sealed {
+pub struct Outgoing {
     pub to: SiteNo,
     pub bytes: Vec<u8>,
 }
@@ -23,7 +23,7 @@ pub enum Line {
 #[derive(Debug, Drop)]
 pub struct Answer {
     pub line: Option<Line>,
-    pub sends: Vec<Sealed>,
+    pub sends: Vec<Outgoing>,
 }
 
 /// What a site replies to a query.

@@ -18,7 +18,7 @@ ghost use Rattle.site.specs.Sites.{Represents, effect};
 ghost use Rattle.site.specs.declared.answer.Line.TheVariants as lines;
 ghost use Rattle.site.specs.inner.Concluded.{Concludes, HearsBody, Issues, all_datagrams};
 
-use crate::answer::{Answer, Line, Sealed};
+use crate::answer::{Answer, Line, Outgoing};
 use crate::fault::SiteFault;
 use crate::member_site::{Site, dropped, quiet};
 use acceptor::{Decision, Response};
@@ -167,22 +167,22 @@ impl<C: Cell> Site<C> {
             slot,
             body: body_of(self.number(), &answer),
         };
-        let sends = self.send_answer(&message, asker, &answer)?;
+        let sends = self.send_response(&message, asker, &answer)?;
         let Message { slot, .. } = message;
         let line = None;
         match entry {
-            Some(body) => self.conclude(Record { slot, body }, Answer { line, sends }),
+            Some(body) => self.commit_and_answer(Record { slot, body }, Answer { line, sends }),
             None => Ok(Answer { line, sends }),
         }
     }
 
     // A vote is sent to all members, anything else to the site that asked.
-    fn send_answer(
+    fn send_response(
         &self,
         message: &Message,
         asker: SiteNo,
         answer: &Response,
-    ) -> Result<Vec<Sealed>, AllocError>
+    ) -> Result<Vec<Outgoing>, AllocError>
         ensures { IfOk result (λ sends. map handed_out sends.items
             ≡ map (datagram self.now.book.owner.members.federation)
             (to_each message.now.slot message.now.body
@@ -258,7 +258,7 @@ impl<C: Cell> Site<C> {
             slot,
             body: Entry::Known(bag),
         };
-        self.conclude(new, Answer { line, sends })
+        self.commit_and_answer(new, Answer { line, sends })
     }
 
     fn on_refused(&mut self, slot: Slot, standing: Ballot) -> Result<Answer, SiteFault>

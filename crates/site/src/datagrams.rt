@@ -6,7 +6,7 @@ ghost use Rattle.dgram.specs.Encoding.{datagram_of};
 ghost use Rattle.site.specs.Datagrams.{handed_out, datagram};
 ghost use Rattle.site.specs.Effects.{to_each};
 
-use crate::answer::Sealed;
+use crate::answer::Outgoing;
 use dgram::{LONGEST_DATAGRAM, Message, encode};
 use fed_types::{Members, SiteNo};
 use std::alloc::{AllocError, Global};
@@ -18,13 +18,13 @@ pub(crate) fn to_one(
     federation: u64,
     message: &Message,
     to: SiteNo,
-) -> Result<Vec<Sealed>, AllocError>
+) -> Result<Vec<Outgoing>, AllocError>
     ensures { IfOk result (λ sends. map handed_out sends.items
         ≡ map (datagram federation) (to_each message.now.slot message.now.body (to ∷ []))) }
 {
     let bytes = encoded(alloc, federation, message)?;
     let mut sends = Vec::with_capacity(alloc, 1)?;
-    sends.push(Sealed { to, bytes })?;
+    sends.push(Outgoing { to, bytes })?;
     Ok(sends)
 }
 
@@ -33,7 +33,7 @@ pub(crate) fn to_all(
     alloc: Global,
     members: Members,
     message: &Message,
-) -> Result<Vec<Sealed>, AllocError>
+) -> Result<Vec<Outgoing>, AllocError>
     ensures { IfOk result (λ sends. map handed_out sends.items
         ≡ map (datagram members.federation)
         (to_each message.now.slot message.now.body (members_of members))) }
@@ -68,9 +68,9 @@ fn encoded(alloc: Global, federation: u64, message: &Message) -> Result<Vec<u8>,
 }
 
 // A copy of a datagram, for a site.
-fn addressed(alloc: Global, bytes: &[u8], to: SiteNo) -> Result<Sealed, AllocError>
+fn addressed(alloc: Global, bytes: &[u8], to: SiteNo) -> Result<Outgoing, AllocError>
     ensures { IfOk result (λ sealed. handed_out sealed ≡ (to, bytes.now)) }
 {
     let bytes = bytes.to_vec(alloc)?;
-    Ok(Sealed { to, bytes })
+    Ok(Outgoing { to, bytes })
 }

@@ -19,7 +19,7 @@ mod fault;
 mod law;
 mod member_site;
 
-pub use answer::{Answer, Line, Reply, Sealed};
+pub use answer::{Answer, Line, Outgoing, Reply};
 pub use fault::SiteFault;
 pub use law::a_site_reports_one_bag;
 pub use member_site::Site;

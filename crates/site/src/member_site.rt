@@ -16,7 +16,7 @@ ghost use Rattle.site.specs.Opened.{book_of};
 ghost use Rattle.site.specs.Sites.{Represents, effect};
 ghost use Rattle.site.specs.inner.Concluded.{Concludes, one_datagram, all_datagrams};
 
-use crate::answer::{Answer, Line, Reply, Sealed};
+use crate::answer::{Answer, Line, Outgoing, Reply};
 use crate::begun_ballot::begin_ballot;
 use crate::commit::commit_and_note;
 use crate::datagrams::{to_all, to_one};
@@ -221,7 +221,7 @@ impl<C: Cell> Site<C> {
             slot: slot.copy(self.alloc)?,
             body: Entry::Deposit(bag),
         };
-        self.conclude(new, Answer { line, sends })
+        self.commit_and_answer(new, Answer { line, sends })
     }
 
     // Begins the slot's next ballot, to propose this bag where no vote stands in the way.
@@ -238,11 +238,15 @@ impl<C: Cell> Site<C> {
     {
         let owner = self.book.owner();
         let (new, answer) = begin_ballot(self.alloc, &owner, &mut self.tables, slot, own)?;
-        self.conclude(new, answer)
+        self.commit_and_answer(new, answer)
     }
 
     /// Commits a record and takes note of it; then the answer is handed out.
-    pub(crate) fn conclude(&mut self, new: Record, answer: Answer) -> Result<Answer, SiteFault>
+    pub(crate) fn commit_and_answer(
+        &mut self,
+        new: Record,
+        answer: Answer,
+    ) -> Result<Answer, SiteFault>
         requires { self.old.book.needs_opening ≡ false }
         ensures { Concludes C.device self.old self.new (Some new) answer.line
             (map handed_out answer.sends.items) result }
@@ -252,7 +256,7 @@ impl<C: Cell> Site<C> {
     }
 
     /// The message as a datagram for one site.
-    pub(crate) fn send(&self, message: &Message, to: SiteNo) -> Result<Vec<Sealed>, AllocError>
+    pub(crate) fn send(&self, message: &Message, to: SiteNo) -> Result<Vec<Outgoing>, AllocError>
         ensures { IfOk result (λ sends. map handed_out sends.items
             ≡ one_datagram self.now message.now.slot message.now.body to) }
     {
@@ -260,7 +264,7 @@ impl<C: Cell> Site<C> {
     }
 
     /// The message as a datagram for each member, in ascending order.
-    pub(crate) fn send_to_all(&self, message: &Message) -> Result<Vec<Sealed>, AllocError>
+    pub(crate) fn send_to_all(&self, message: &Message) -> Result<Vec<Outgoing>, AllocError>
         ensures { IfOk result (λ sends. map handed_out sends.items
             ≡ all_datagrams self.now message.now.slot message.now.body) }
     {

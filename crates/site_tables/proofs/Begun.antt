@@ -14,7 +14,8 @@ use Rattle.dgram.specs.Heard.{PromiseFrom}
 use Rattle.proposer.specs.Proposals.{Current, ready}
 use Rattle.proposer.specs.Rounds.{Round}
 use Rattle.proposer.specs.Rows.{CountsFor}
-use Rattle.proposer.specs.Sessions.{UnderWay, at_slot, under_way_if, waiting_after}
+use Rattle.proposer.specs.Sessions.{at_slot}
+use Rattle.proposer.specs.UnderWay.{UnderWay, under_way_if, waiting_after}
 use Rattle.site_tables.specs.Contents.{AreDeposits}
 
 -- a deposit stays
@@ -53,31 +54,31 @@ at_deposits bags slot o records are is s bag e = go (same_slot slot s) refl e
 
 -- a ballot becomes current, or none does
 pub begun_stays : (under : UnderWay) (slot : SlotName) (b : Option BallotNumber)
-    (records : List Record) → AreDeposits under.begun_with records
-    → AreDeposits (under_way_if under slot b).begun_with records
+    (records : List Record) → AreDeposits under.begun_bag records
+    → AreDeposits (under_way_if under slot b).begun_bag records
 begun_stays under slot None records begun = begun
 begun_stays under slot (Some b) records begun =
-    at_deposits under.begun_with slot None records begun (λ bag e. absurd (cc e))
+    at_deposits under.begun_bag slot None records begun (λ bag e. absurd (cc e))
 
 pub current_stays : (under : UnderWay) (slot : SlotName) (b : Option BallotNumber)
-    (records : List Record) → AreDeposits under.begun_with records
-    → AreDeposits under.current_with records
-    → AreDeposits (under_way_if under slot b).current_with records
+    (records : List Record) → AreDeposits under.begun_bag records
+    → AreDeposits under.current_bag records
+    → AreDeposits (under_way_if under slot b).current_bag records
 current_stays under slot None records begun current = current
 current_stays under slot (Some b) records begun current =
-    at_deposits under.current_with slot (under.begun_with slot) records current
+    at_deposits under.current_bag slot (under.begun_bag slot) records current
     (λ bag e. begun slot bag e)
 
 -- a promise waits, or none does
 pub begun_waits : (under : UnderWay) (given : Option BagId) (m : Message) (records : List Record)
-    → AreDeposits under.begun_with records
-    → AreDeposits (waiting_after given under m).begun_with records
+    → AreDeposits under.begun_bag records
+    → AreDeposits (waiting_after given under m).begun_bag records
 begun_waits under None m records begun = begun
 begun_waits under (Some bag) m records begun = begun
 
 pub current_waits : (under : UnderWay) (given : Option BagId) (m : Message) (records : List Record)
-    → AreDeposits under.current_with records
-    → AreDeposits (waiting_after given under m).current_with records
+    → AreDeposits under.current_bag records
+    → AreDeposits (waiting_after given under m).current_bag records
 current_waits under None m records current = current
 current_waits under (Some bag) m records current = current
 

@@ -18,8 +18,9 @@ use Rattle.proposer.specs.declared.round.Promise.{Promise as Waiting}
 use Rattle.proposer.specs.Rounds.{Round}
 use Rattle.proposer.specs.declared.row.Row.{Row as proposer_row}
 use Rattle.proposer.specs.Rows as proposers
-use Rattle.proposer.specs.Sessions.{Session, UnderWay, hears, promise_message, heard_after}
-use Rattle.proposer.specs.Sessions.{heard_if}
+use Rattle.proposer.specs.Sessions.{Session, hears, promise_message}
+use Rattle.proposer.specs.UnderWay.{UnderWay, heard_after}
+use Rattle.proposer.specs.UnderWay.{heard_if}
 use Rattle.proposer.proofs.Stands.{heard_stands}
 use Rattle.learner.specs.declared.row.Row.{Row as learner_row}
 use Rattle.learner.specs.LearnerStates as learners

@@ -12,8 +12,9 @@ use Rattle.records.specs.declared.record.Record.{Record}
 use Rattle.dgram.specs.declared.message.Message.{Message}
 use Rattle.acceptor.specs.Rows as acceptors
 use Rattle.proposer.specs.Rows as proposers
-use Rattle.proposer.specs.Sessions.{Session, UnderWay, new_session, nothing, current_by, current_if}
-use Rattle.proposer.specs.Sessions.{under_way_if}
+use Rattle.proposer.specs.Sessions.{Session, new_session}
+use Rattle.proposer.specs.UnderWay.{UnderWay, nothing, current_by, current_if}
+use Rattle.proposer.specs.UnderWay.{under_way_if}
 use Rattle.learner.specs.LearnerStates as learners
 use Rattle.site_tables.specs.Contents.{Contents, HasRoom, IsOf, Represents, with_deposit}
 use Rattle.site_tables.proofs.Begun.{deposits_stay, begun_stays, current_stays}
@@ -104,10 +105,10 @@ module _ (old new : Contents) (r : Record) (notes : Notes old new r) where
   noted_stands records session under stands = record {
     proposer = notes.proposer records session under stands.proposer;
     begun = begun_stays under r.slot (current_by (under.begun r.slot) r.body) (records ++ r ∷ [])
-        (deposits_stay under.begun_with records r stands.begun);
+        (deposits_stay under.begun_bag records r stands.begun);
     current = current_stays under r.slot (current_by (under.begun r.slot) r.body)
-        (records ++ r ∷ []) (deposits_stay under.begun_with records r stands.begun)
-        (deposits_stay under.current_with records r stands.current);
+        (records ++ r ∷ []) (deposits_stay under.begun_bag records r stands.begun)
+        (deposits_stay under.current_bag records r stands.current);
     learner = subst (learners.Represents new.learner.rows (records ++ r ∷ []))
         (heard_same session r.slot (current_by (under.begun r.slot) r.body))
         (notes.learner records session.heard stands.learner);

@@ -13,7 +13,8 @@ use Rattle.slot_table.specs.Rows.{Rows, row_at}
 use Rattle.acceptor.specs.declared.row.Row.{Row as acceptor_row}
 use Rattle.acceptor.specs.Rows as acceptors
 use Rattle.proposer.specs.Rows as proposers
-use Rattle.proposer.specs.Sessions.{Session, UnderWay}
+use Rattle.proposer.specs.Sessions.{Session}
+use Rattle.proposer.specs.UnderWay.{UnderWay}
 use Rattle.learner.specs.LearnerStates as learners
 
 -- the slots that have a deposit, with it, and room for how many more; and what the acceptor, the
@@ -65,8 +66,8 @@ pub record Represents
     (t : Contents) (records : List Record) (session : Session) (under : UnderWay)
     : Type 0 where
   pub proposer : proposers.Represents t.proposer.rows records session under
-  pub begun : AreDeposits under.begun_with records
-  pub current : AreDeposits under.current_with records
+  pub begun : AreDeposits under.begun_bag records
+  pub current : AreDeposits under.current_bag records
   pub learner : learners.Represents t.learner.rows records session.heard
 
 -- there is room for a record of this slot

@@ -9,8 +9,8 @@ ghost use Rattle.records.specs.SlotStates.{deposit_of, known_of};
 ghost use Rattle.acceptor.specs.Decisions.{prepare_decision, accept_decision};
 ghost use Rattle.proposer.specs.Faults.{next_or_spent, IsOrMemory};
 ghost use Rattle.proposer.specs.Proposals.{next_ballot, ready};
-ghost use Rattle.proposer.specs.Sessions.{Session, UnderWay, new_session, nothing, begins};
-ghost use Rattle.proposer.specs.Sessions.{promise_message, hears};
+ghost use Rattle.proposer.specs.Sessions.{Session, new_session, promise_message, hears};
+ghost use Rattle.proposer.specs.UnderWay.{UnderWay, nothing, begins};
 ghost use Rattle.proposer.specs.Steps.{HearsPromise, IssuesProposal, HearsRefusal, NotesRecord};
 ghost use Rattle.learner.specs.LearnedBags.{learned_from, learned_of_known};
 ghost use Rattle.dgram.specs.declared.body.Body.TheVariants.{Accepted};
@@ -216,10 +216,7 @@ impl Tables {
             → IsOf self.now owner records
             → result ≡ learned_of_known slot.now records bag }
     {
-        match self.known(slot) {
-            None => Some(bag),
-            Some(_) => None,
-        }
+        self.learner.told(slot, bag)
     }
 
     /// Makes room for a record of this slot.

@@ -1,7 +1,7 @@
 //! What a site answers, in words, a line for each thing.
 
 use fed_types::{BagId, Slot};
-use site::{Answer, Line, Reply, Sealed, SiteFault};
+use site::{Answer, Line, Outgoing, Reply, SiteFault};
 use std::alloc::{AllocError, Global};
 
 /// Appends what a call answers: the line, if any, and then each datagram, with its number among all
@@ -43,7 +43,7 @@ fn push_known(
 fn push_sends(
     alloc: Global,
     text: &mut String,
-    sends: &[Sealed],
+    sends: &[Outgoing],
     sent: usize,
 ) -> Result<(), AllocError> {
     for (place, datagram) in sends.iter().enumerate() {
@@ -57,7 +57,7 @@ fn push_sent(
     alloc: Global,
     text: &mut String,
     number: usize,
-    datagram: &Sealed,
+    datagram: &Outgoing,
 ) -> Result<(), AllocError> {
     let to = datagram.to.number();
     write!(text, "{number} to {to} ")?;

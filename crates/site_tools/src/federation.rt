@@ -7,7 +7,7 @@ use crate::tree::tree;
 use crate::words::{bytes_of, fuse_of, members_of, place_of_number, site_of, slot_of};
 use bag_tree::Facts;
 use fed_types::{Members, SiteNo, Slot};
-use site::{Answer, Reply, Sealed, SiteFault};
+use site::{Answer, Outgoing, Reply, SiteFault};
 use std::alloc::Global;
 
 /// The sites of a federation, and the trees that were made. Each command has its words in a slice.
@@ -129,14 +129,14 @@ impl Federation {
     }
 
     /// A datagram that was sent arrives at the site that it was sent to.
-    pub(crate) fn deliver(&mut self, words: &[&str], sent: &[Sealed]) -> Result<Answer, Failure> {
+    pub(crate) fn deliver(&mut self, words: &[&str], sent: &[Outgoing]) -> Result<Answer, Failure> {
         match words {
             [number] => self.deliver_one(sent.get(place_of_number(number)?)),
             _ => Err(Failure::Faulty(ToolFault::Line)),
         }
     }
 
-    fn deliver_one(&mut self, datagram: Option<&Sealed>) -> Result<Answer, Failure> {
+    fn deliver_one(&mut self, datagram: Option<&Outgoing>) -> Result<Answer, Failure> {
         match datagram {
             Some(datagram) => {
                 let call = Call::Arrive(datagram.bytes.as_slice());

@@ -4,7 +4,7 @@ use crate::answer_text::{
 use crate::call::Failure;
 use crate::fault::ToolFault;
 use book::OpenFault;
-use site::{Answer, Reply, Sealed, SiteFault};
+use site::{Answer, Outgoing, Reply, SiteFault};
 use std::alloc::{AllocError, Global};
 
 /// What a script has printed, and the datagrams that were sent in its federation.
@@ -12,7 +12,7 @@ use std::alloc::{AllocError, Global};
 pub(crate) struct Output {
     alloc: Global,
     text: String,
-    sent: Vec<Sealed>,
+    sent: Vec<Outgoing>,
 }
 
 impl Output {
@@ -32,7 +32,7 @@ impl Output {
     }
 
     /// The datagrams that were sent.
-    pub(crate) fn sent(&self) -> &[Sealed] {
+    pub(crate) fn sent(&self) -> &[Outgoing] {
         self.sent.as_slice()
     }
 

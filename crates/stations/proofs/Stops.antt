@@ -13,13 +13,13 @@ use Rattle.proposer.specs.Sessions.{Session, new_session}
 use Rattle.schedule.specs.declared.fate.DeviceCall.{DeviceCall}
 use Rattle.schedule.specs.declared.fate.Fate.{Fate}
 use Rattle.schedule.specs.declared.fate.Fate.TheVariants as fates
-use Rattle.site.specs.declared.answer.Sealed.{Sealed}
+use Rattle.site.specs.declared.answer.Outgoing.{Outgoing}
 use Rattle.site.specs.declared.fault.SiteFault.TheVariants as faults
 use Rattle.site.specs.Calls.{Input, effect_of}
 use Rattle.site.specs.Datagrams.{handed_out, datagram}
 use Rattle.site.specs.Effects.{Effect, refuses}
 use Rattle.site.specs.Sites.{OpenSite}
-use Rattle.world_law.specs.Networks.{Mode, Up, Down, NeedsOpening, SiteState, Outcome}
+use Rattle.world_law.specs.Networks.{Mode, Up, Down, NeedsOpening, SiteState, SiteOutcome}
 use Rattle.world_law.specs.Networks.{outcome, goes_down}
 use Rattle.stations.specs.declared.place.Place.{Place}
 use Rattle.stations.specs.declared.place.Place.TheVariants.{Running}
@@ -36,7 +36,7 @@ module _ (owner : Owner) (input : Input) (first : ℕ) (old : OpenSite MemoryCel
     (said : after.said ≡ Some said.GoesDown)
     (sends : after.sends.items ≡ take first told.sends.items) where
   -- of an outcome: the site is down, with the same records, and the first of the sends went out
-  stops : (o : Outcome) (s : SiteState) (kept : Option Record)
+  stops : (o : SiteOutcome) (s : SiteState) (kept : Option Record)
       → s.records ++ option_to_list kept ≡ o.site.records
       → ComesTo owner input before told o
       → ComesTo owner input place after
@@ -44,7 +44,7 @@ module _ (owner : Owner) (input : Input) (first : ℕ) (old : OpenSite MemoryCel
   stops o s kept same comes = record {
     stands = subst (λ (rs : List Record). Represents owner place (state rs new_session Down))
         (append-nil o.site.records ∙ sym same) (closes o.site comes.stands);
-    sends = ap (λ (xs : List Sealed). map handed_out xs) sends
+    sends = ap (λ (xs : List Outgoing). map handed_out xs) sends
         ∙ sym (take-map handed_out first told.sends.items)
         ∙ ap (λ (xs : List (ℕ × List ℕ)). take first xs) comes.sends
         ∙ take-map (datagram owner.members.federation) first o.sends;

@@ -21,7 +21,7 @@ use Rattle.site.specs.Effects.{Effect, refuses}
 use Rattle.site.specs.Sites as sites
 use Rattle.site.specs.Sites.{OpenSite}
 use Rattle.lines.specs.Notices.{Notice}
-use Rattle.world_law.specs.Networks.{Mode, Up, Down, NeedsOpening, SiteState, Outcome}
+use Rattle.world_law.specs.Networks.{Mode, Up, Down, NeedsOpening, SiteState, SiteOutcome}
 use Rattle.lines.specs.Notices.{Refused, GoesDown, line_notice}
 use Rattle.world_law.specs.Networks.{outcome}
 use Rattle.stations.specs.declared.place.Place.{Place}
@@ -82,12 +82,12 @@ notice_said site input (Some (said.Refuses fault)) = Some (Refused site fault)
 notice_said site input (Some said.GoesDown) = Some (GoesDown site)
 
 -- an effect under a fate
-abbrev pub under_fate : (site : ℕ) → SiteState → Input → Effect → Fate → Outcome
+abbrev pub under_fate : (site : ℕ) → SiteState → Input → Effect → Fate → SiteOutcome
 under_fate site s input e fate = outcome site s input e e.commits fate
 
 -- What comes of an input under a fate: one that is up does what it says; one that needs opening
 -- refuses; of one that is down nothing comes.
-abbrev pub reached : QuorumSystem → (site : ℕ) → SiteState → Mode → Input → Fate → Outcome
+abbrev pub reached : QuorumSystem → (site : ℕ) → SiteState → Mode → Input → Fate → SiteOutcome
 reached q site s Up input fate =
     under_fate site s input (effect_of q site s.records s.session input) fate
 reached q site s NeedsOpening input fate =
@@ -95,7 +95,7 @@ reached q site s NeedsOpening input fate =
 reached q site s Down input fate = record { site = s; sends = []; notice = None }
 
 -- the place and what is told are those of an outcome
-pub record ComesTo (owner : Owner) (input : Input) (new : Place) (told : Told) (o : Outcome)
+pub record ComesTo (owner : Owner) (input : Input) (new : Place) (told : Told) (o : SiteOutcome)
     : Type 0 where
   pub stands : Represents owner new o.site
   pub sends : map handed_out told.sends.items

@@ -1,7 +1,7 @@
 ghost use Rattle.std.specs.Prelude.{◌≡◌, [], None, IfOk};
 ghost use Rattle.stations.specs.Told.{Tells, line_said};
 
-use site::{Answer, Line, Sealed, SiteFault};
+use site::{Answer, Line, Outgoing, SiteFault};
 use std::alloc::{AllocError, Global};
 
 /// What is said of an event at a site.
@@ -20,7 +20,7 @@ pub enum Said {
 #[derive(Debug, Drop)]
 pub struct Told {
     pub said: Option<Said>,
-    pub sends: Vec<Sealed>,
+    pub sends: Vec<Outgoing>,
 }
 
 /// What a site answers, as it is told.

@@ -14,7 +14,7 @@ use Rattle.dgram.specs.Encoding.{datagram_of}
 use Rattle.cell_device.specs.Devices.{Device}
 use Rattle.proposer.specs.Sessions.{Session}
 use Rattle.site.specs.declared.answer.Answer.{Answer}
-use Rattle.site.specs.declared.answer.Sealed.{Sealed}
+use Rattle.site.specs.declared.answer.Outgoing.{Outgoing}
 use Rattle.site.specs.declared.fault.SiteFault.TheVariants as sites
 use Rattle.site.specs.Answered.{IsAnswered}
 use Rattle.site.specs.Calls as calls
@@ -29,7 +29,7 @@ use Rattle.udp_site.specs.declared.fault.ServeFault.{ServeFault}
 use Rattle.udp_site.specs.declared.fault.ServeFault.TheVariants as faults
 use Rattle.udp_site.specs.Traffic.{Post, Move, all_handed}
 use Rattle.udp_site.specs.Turns.{Serving, Done, IsServing, Asks, members, number, posts_to}
-use Rattle.udp_site.specs.Turns.{sealed_posts}
+use Rattle.udp_site.specs.Turns.{outgoing_posts}
 use Rattle.udp_site.specs.inner.Others.{others_of}
 use Rattle.udp_site.specs.inner.Outcomes.{AsksFor, Hands, Notes}
 use Rattle.udp_site.proofs.Handed.{grows_by_no_posts, grows_by_posts, part_of_posts}
@@ -54,12 +54,12 @@ notes_both l1 l2 l3 one two p q =
     ∙ ap (λ (l : List Line). l1 ++ l) (sym (map-append (line_of []) one two))))
 
 -- the posts of an answer, by what is handed out
-posts_by : (ports : List ℕ) (items : List Sealed)
-    → flat_map (sealed_posts ports) items
+posts_by : (ports : List ℕ) (items : List Outgoing)
+    → flat_map (outgoing_posts ports) items
     ≡ flat_map (λ (out : ℕ × List ℕ). posts_to ports out.0 out.1) (map handed_out items)
 posts_by ports [] = refl
 posts_by ports (x ∷ items) =
-    ap (λ (l : List Post). sealed_posts ports x ++ l) (posts_by ports items)
+    ap (λ (l : List Post). outgoing_posts ports x ++ l) (posts_by ports items)
 
 module _ {C : Type 0} (ports : List ℕ) (s : Serving C) (slot : SlotName) where
   asks_both : (xs ys : List ℕ) (one two : Done) → Asks ports s slot xs one
@@ -189,7 +189,10 @@ module _ {C : Type 0} (ports : List ℕ) (s : Serving C) (slot : SlotName) where
       one_datagram = answered.gives.1
 
       abbrev asked_one : Done
-      asked_one = record { posts = flat_map (sealed_posts ports) answer.sends.items; notices = [] }
+      asked_one = record {
+        posts = flat_map (outgoing_posts ports) answer.sends.items;
+        notices = [];
+      }
 
       asks_one : Asks ports s slot (member ∷ []) asked_one
       asks_one = (
@@ -203,7 +206,7 @@ module _ {C : Type 0} (ports : List ℕ) (s : Serving C) (slot : SlotName) where
       -- in part, where memory ran out
       asks_member : (a b : Option (List Move)) (lines : List Line)
           → (r : Result (Unit {0}) ServeFault)
-          → Hands a b (flat_map (sealed_posts ports) answer.sends.items) r
+          → Hands a b (flat_map (outgoing_posts ports) answer.sends.items) r
           → AsksFor ports s slot (member ∷ []) a b lines lines r
       asks_member a b lines (Ok whole) handed =
           (asked_one, asks_one, handed, sym (append-nil lines))
@@ -215,7 +218,7 @@ module _ {C : Type 0} (ports : List ℕ) (s : Serving C) (slot : SlotName) where
 
       pub asks_by : (a b : Option (List Move)) (lines : List Line)
           → (r : Result (Unit {0}) ServeFault)
-          → Hands a b (flat_map (sealed_posts ports) answer.sends.items) r
+          → Hands a b (flat_map (outgoing_posts ports) answer.sends.items) r
           → AsksFor ports s slot (others_of s (member ∷ [])) a b lines lines r
       asks_by a b lines r handed = is_asked a b lines lines r (asks_member a b lines r handed)
 

@@ -24,7 +24,7 @@ use Rattle.site.specs.declared.answer.Answer.{Answer}
 use Rattle.site.specs.declared.answer.Line.{Line}
 use Rattle.site.specs.declared.answer.Reply.{Reply}
 use Rattle.site.specs.declared.answer.Reply.TheVariants as replies
-use Rattle.site.specs.declared.answer.Sealed.{Sealed}
+use Rattle.site.specs.declared.answer.Outgoing.{Outgoing}
 use Rattle.site.specs.declared.fault.SiteFault.{SiteFault}
 use Rattle.site.specs.declared.fault.SiteFault.TheVariants as faults
 use Rattle.site.specs.Answered.{IsAnswered, IsRefused}
@@ -70,12 +70,12 @@ abbrev pub posts_to : (ports : List ℕ) → (site : ℕ) → List ℕ → List 
 posts_to ports site bytes =
     map (λ port. (port, bytes)) (option_to_list (slice_get ports (site - 1)))
 
-abbrev pub sealed_posts : (ports : List ℕ) → Sealed → List Post
-sealed_posts ports sealed = posts_to ports sealed.to sealed.bytes.items
+abbrev pub outgoing_posts : (ports : List ℕ) → Outgoing → List Post
+outgoing_posts ports sealed = posts_to ports sealed.to sealed.bytes.items
 
 -- the datagrams of an answer, in order; a refusal has none
 abbrev pub posts_of : (ports : List ℕ) → Result Answer SiteFault → List Post
-posts_of ports (Ok answer) = flat_map (sealed_posts ports) answer.sends.items
+posts_of ports (Ok answer) = flat_map (outgoing_posts ports) answer.sends.items
 posts_of ports (Err fault) = []
 
 -- what the site tells a client

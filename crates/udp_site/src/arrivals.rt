@@ -5,7 +5,7 @@ ghost use Rattle.udp_site.specs.inner.Servers.{Comes, Stays};
 
 use crate::fault::ServeFault;
 use crate::port::Port;
-use crate::said_lines::{say_arrival, say_dropped};
+use crate::said_lines::{push_arrival, push_dropped};
 use crate::sends::send_answer;
 use crate::server::Server;
 use bag_folders::Folders;
@@ -22,7 +22,7 @@ impl<C: Cell, P: Port, F: Folders> Server<'_, '_, '_, '_, '_, C, P, F> {
         let number = self.site.number().number();
         let answer = self.site.arrive_message(message);
         send_answer(self.port, self.ports, &answer)?;
-        say_arrival(self.lines, number, answer)?;
+        push_arrival(self.lines, number, answer)?;
         Ok(())
     }
 
@@ -31,7 +31,7 @@ impl<C: Cell, P: Port, F: Folders> Server<'_, '_, '_, '_, '_, C, P, F> {
         ensures comes { Comes P.traffic drops self.old self.new result }
         ensures stays { Stays P.failures F.gives self.old self.new }
     {
-        say_dropped(self.lines, self.site.number().number())?;
+        push_dropped(self.lines, self.site.number().number())?;
         Ok(())
     }
 }

@@ -8,7 +8,7 @@ ghost use Rattle.udp_site.specs.inner.Servers.{Comes, Stays};
 use crate::fault::ServeFault;
 use crate::port::Port;
 use crate::replies::{deposit_answer, tree_answer};
-use crate::said_lines::say_deposit;
+use crate::said_lines::push_deposit;
 use crate::sends::reply;
 use crate::server::Server;
 use bag_folders::Folders;
@@ -48,7 +48,7 @@ impl<C: Cell, P: Port, F: Folders> Server<'_, '_, '_, '_, '_, C, P, F> {
         let answer = self.site.deposit(&slot, facts);
         let said = deposit_answer(&answer);
         let slot = reply_to_deposit(self.alloc, self.port, federation, from, client, slot, said)?;
-        say_deposit(self.lines, from.number(), slot, answer)?;
+        push_deposit(self.lines, from.number(), slot, answer)?;
         Ok(())
     }
 

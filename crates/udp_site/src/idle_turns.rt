@@ -10,7 +10,7 @@ ghost use Rattle.udp_site.specs.inner.SlotRecords.{says_known, is_settled, AreSe
 
 use crate::fault::ServeFault;
 use crate::port::Port;
-use crate::said_lines::say_proposal;
+use crate::said_lines::push_proposal;
 use crate::sends::send_answer;
 use crate::server::Server;
 use bag_folders::Folders;
@@ -64,7 +64,7 @@ impl<C: Cell, P: Port, F: Folders> Server<'_, '_, '_, '_, '_, C, P, F> {
         let number = self.site.number().number();
         let answer = self.site.propose(slot);
         send_answer(self.port, self.ports, &answer)?;
-        say_proposal(self.lines, number, answer)?;
+        push_proposal(self.lines, number, answer)?;
         Ok(())
     }
 }

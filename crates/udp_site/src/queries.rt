@@ -10,7 +10,7 @@ ghost use Rattle.udp_site.specs.inner.Servers.{Comes, Stays};
 use crate::fault::ServeFault;
 use crate::port::Port;
 use crate::replies::query_answer;
-use crate::said_lines::{say_refused, say_reply};
+use crate::said_lines::{push_refused, push_reply};
 use crate::sends::{reply, send_all};
 use crate::server::Server;
 use bag_folders::Folders;
@@ -34,7 +34,7 @@ impl<C: Cell, P: Port, F: Folders> Server<'_, '_, '_, '_, '_, C, P, F> {
         let answer = query_answer(known);
         let body = Body::QueryReply { from, answer };
         let slot = reply(self.alloc, self.port, federation, client, slot, body)?;
-        say_reply(self.alloc, self.lines, from.number(), &slot, known)?;
+        push_reply(self.alloc, self.lines, from.number(), &slot, known)?;
         ask_unless_known(self.site, self.port, self.ports, self.lines, &slot, known)
     }
 }
@@ -107,7 +107,7 @@ fn ask_other<C: Cell, P: Port>(
     match site.ask(slot, member) {
         Ok(answer) => send_all(port, ports, answer.sends.as_slice()),
         Err(_) => {
-            say_refused(lines, site.number().number(), SiteFault::Memory)?;
+            push_refused(lines, site.number().number(), SiteFault::Memory)?;
             Ok(())
         }
     }

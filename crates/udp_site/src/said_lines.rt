@@ -18,7 +18,7 @@ use site::{Answer, Line as SiteLine, Reply, SiteFault};
 use std::alloc::{AllocError, Global};
 
 /// Says what a site says of what arrived.
-pub(crate) fn say_arrival(
+pub(crate) fn push_arrival(
     lines: &mut Vec<Line>,
     site: u8,
     answer: Result<Answer, SiteFault>,
@@ -27,13 +27,13 @@ pub(crate) fn say_arrival(
         → Notes lines.old.items lines.new.items (notices_of site (Arrives (Some m)) answer)) }
 {
     match answer {
-        Ok(Answer { line, .. }) => say_line(lines, site, line),
-        Err(fault) => say_refused(lines, site, fault),
+        Ok(Answer { line, .. }) => push_line(lines, site, line),
+        Err(fault) => push_refused(lines, site, fault),
     }
 }
 
 /// Says what a site says of a deposit for the slot.
-pub(crate) fn say_deposit(
+pub(crate) fn push_deposit(
     lines: &mut Vec<Line>,
     site: u8,
     slot: Slot,
@@ -44,7 +44,7 @@ pub(crate) fn say_deposit(
 {
     match answer {
         Ok(Answer { line, .. }) => match line {
-            Some(SiteLine::Registered(bag)) => say(
+            Some(SiteLine::Registered(bag)) => push(
                 lines,
                 Line::Registered {
                     site,
@@ -52,7 +52,7 @@ pub(crate) fn say_deposit(
                     bag: named(bag),
                 },
             ),
-            Some(SiteLine::Known(slot, bag)) => say(
+            Some(SiteLine::Known(slot, bag)) => push(
                 lines,
                 Line::Known {
                     site,
@@ -60,15 +60,15 @@ pub(crate) fn say_deposit(
                     bag: named(bag),
                 },
             ),
-            Some(SiteLine::Dropped) => say_dropped(lines, site),
+            Some(SiteLine::Dropped) => push_dropped(lines, site),
             None => Ok(()),
         },
-        Err(fault) => say_refused(lines, site, fault),
+        Err(fault) => push_refused(lines, site, fault),
     }
 }
 
 /// Says what an idle site says of its proposal: a refusal, but not that no round is left.
-pub(crate) fn say_proposal(
+pub(crate) fn push_proposal(
     lines: &mut Vec<Line>,
     site: u8,
     answer: Result<Answer, SiteFault>,
@@ -77,14 +77,14 @@ pub(crate) fn say_proposal(
         → Notes lines.old.items lines.new.items (proposal_notices site (Proposes slot) answer)) }
 {
     match answer {
-        Ok(Answer { line, .. }) => say_line(lines, site, line),
+        Ok(Answer { line, .. }) => push_line(lines, site, line),
         Err(SiteFault::RoundsSpent) => Ok(()),
-        Err(fault) => say_refused(lines, site, fault),
+        Err(fault) => push_refused(lines, site, fault),
     }
 }
 
 // Says a line, if there is one, of a call that deposits nothing.
-fn say_line(lines: &mut Vec<Line>, site: u8, line: Option<SiteLine>) -> Result<(), AllocError>
+fn push_line(lines: &mut Vec<Line>, site: u8, line: Option<SiteLine>) -> Result<(), AllocError>
     ensures arrives { OnOk result ((m : messages.Message) → Notes lines.old.items lines.new.items
         (option_to_list (notice_of site (Arrives (Some m)) (Ok line)))) }
     ensures proposes { OnOk result ((slot : slots.SlotName) → Notes lines.old.items
@@ -93,15 +93,15 @@ fn say_line(lines: &mut Vec<Line>, site: u8, line: Option<SiteLine>) -> Result<(
     match line {
         Some(SiteLine::Known(slot, bag)) => {
             let bag = named(bag);
-            say(lines, Line::Known { site, slot, bag })
+            push(lines, Line::Known { site, slot, bag })
         }
-        Some(SiteLine::Dropped) => say_dropped(lines, site),
+        Some(SiteLine::Dropped) => push_dropped(lines, site),
         Some(SiteLine::Registered(_)) | None => Ok(()),
     }
 }
 
 /// Says what a site replies to a query.
-pub(crate) fn say_reply(
+pub(crate) fn push_reply(
     alloc: Global,
     lines: &mut Vec<Line>,
     site: u8,
@@ -113,7 +113,7 @@ pub(crate) fn say_reply(
 {
     let slot = slot.copy(alloc)?;
     match reply {
-        Ok(reply) => say(
+        Ok(reply) => push(
             lines,
             Line::Replied {
                 site,
@@ -121,29 +121,29 @@ pub(crate) fn say_reply(
                 reply: named_reply(reply),
             },
         ),
-        Err(fault) => say_refused(lines, site, fault),
+        Err(fault) => push_refused(lines, site, fault),
     }
 }
 
 /// Says that the site refuses.
-pub(crate) fn say_refused(
+pub(crate) fn push_refused(
     lines: &mut Vec<Line>,
     site: u8,
     fault: SiteFault,
 ) -> Result<(), AllocError>
     ensures { OnOk result (Notes lines.old.items lines.new.items (Refused site fault ∷ [])) }
 {
-    say(lines, Line::Refused { site, fault })
+    push(lines, Line::Refused { site, fault })
 }
 
 /// Says that the site dropped what arrived.
-pub(crate) fn say_dropped(lines: &mut Vec<Line>, site: u8) -> Result<(), AllocError>
+pub(crate) fn push_dropped(lines: &mut Vec<Line>, site: u8) -> Result<(), AllocError>
     ensures { OnOk result (Notes lines.old.items lines.new.items (Dropped site ∷ [])) }
 {
-    say(lines, Line::Dropped { site })
+    push(lines, Line::Dropped { site })
 }
 
-fn say(lines: &mut Vec<Line>, line: Line) -> Result<(), AllocError>
+fn push(lines: &mut Vec<Line>, line: Line) -> Result<(), AllocError>
     ensures { OnOk result (lines.new.items ≡ lines.old.items ++ line ∷ []) }
 {
     lines.push(line)?;

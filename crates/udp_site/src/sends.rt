@@ -3,14 +3,14 @@
 ghost use Rattle.std.specs.Prelude.{◌≡◌, ◌≤◌, ◌∷◌, [], IfOk};
 ghost use Rattle.std.specs.List.{flat_map};
 ghost use Rattle.udp_site.specs.inner.Outcomes.{Hands};
-ghost use Rattle.udp_site.specs.Turns.{posts_to, posts_of, sealed_posts, replies_to};
+ghost use Rattle.udp_site.specs.Turns.{posts_to, posts_of, outgoing_posts, replies_to};
 
 use crate::fault::ServeFault;
 use crate::port::Port;
 use crate::port_fault::PortFault;
 use dgram::{Body, LONGEST_DATAGRAM, Message, encode};
 use fed_types::{SiteNo, Slot};
-use site::{Answer, Sealed, SiteFault};
+use site::{Answer, Outgoing, SiteFault};
 use std::alloc::Global;
 
 /// Hands out the datagrams of an answer, in order. A refusal has none.
@@ -33,10 +33,10 @@ pub(crate) fn send_answer<P: Port>(
 pub(crate) fn send_all<P: Port>(
     port: &mut P,
     ports: &[u16],
-    sends: &[Sealed],
+    sends: &[Outgoing],
 ) -> Result<(), ServeFault>
     ensures hands { Hands (P.traffic port.old) (P.traffic port.new)
-        (flat_map (sealed_posts ports.now) sends.now) result }
+        (flat_map (outgoing_posts ports.now) sends.now) result }
     ensures later { P.failures port.old ≤ P.failures port.new }
 {
     for sealed in sends {

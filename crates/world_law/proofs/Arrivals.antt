@@ -37,7 +37,7 @@ use Rattle.site.specs.Arrivals.{answer_body, addressees, decided, proposing, lea
 use Rattle.site.specs.Arrivals.{on_body, is_member, on_arrival}
 use Rattle.site.specs.Calls.{Input, Arrives}
 use Rattle.site.specs.Effects.{Send, to_each, only_says, quiet}
-use Rattle.world_law.specs.Laws.{OnRecord, WasSent, IsChosen, Follows, Report, report_of}
+use Rattle.world_law.specs.Laws.{OnRecord, WasSent, IsChosen, SatisfiesP2c, Report, report_of}
 use Rattle.lines.specs.Notices.{Notice, Learned, notice_of}
 use Rattle.world_law.specs.Networks.{Network}
 use Rattle.world_law.proofs.Heard.{gathered_heard, gathered_promise, highest_prior_is, prior_of}
@@ -229,12 +229,12 @@ module _ (q : QuorumSystem) (laws : AreQuorums q) (w : Network) (inv : Kept q w)
         }
 
     follows_own : (o : Option Vote) (bag : BagId)
-        → bag_of o (deposit_of slot records) ≡ Some bag → Follows w n slot o bag
+        → bag_of o (deposit_of slot records) ≡ Some bag → SatisfiesP2c w n slot o bag
     follows_own None bag e = deposit_among slot records bag e
     follows_own (Some u) bag e = some_same e
 
     follows_extends : (x : Network) (o : Option Vote) (bag : BagId) → Extends w x n None
-        → Follows w n slot o bag → Follows x n slot o bag
+        → SatisfiesP2c w n slot o bag → SatisfiesP2c x n slot o bag
     follows_extends x None bag g f = g.keeps n slot _ f
     follows_extends x (Some u) bag g f = f
 
@@ -265,7 +265,7 @@ module _ (q : QuorumSystem) (laws : AreQuorums q) (w : Network) (inv : Kept q w)
 
       proposed_deed : q.is_quorum (promisers ps) ≡ true
           → q.is_quorum (promisers (gathered slot c old.heard)) ≡ false
-          → Follows w n slot (highest_prior ps) bag
+          → SatisfiesP2c w n slot (highest_prior ps) bag
           → Deed q w n input (proposing q slot c.ballot (Some bag) now)
       proposed_deed quorum unready follows = record {
         slot = slot;
@@ -304,7 +304,7 @@ module _ (q : QuorumSystem) (laws : AreQuorums q) (w : Network) (inv : Kept q w)
               prior = highest_prior ps;
               highest = prior_of ps (highest_prior ps) (highest_prior_is ps);
               follows =
-                  subst (λ (j : ℕ). Follows x j slot (highest_prior ps) bag) (sym cur.own)
+                  subst (λ (j : ℕ). SatisfiesP2c x j slot (highest_prior ps) bag) (sym cur.own)
                   (follows_extends x (highest_prior ps) bag g follows);
             };
           }

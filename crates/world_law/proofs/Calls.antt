@@ -73,7 +73,7 @@ module _ (q : QuorumSystem) (laws : AreQuorums q) (w : Network) (inv : Kept q w)
       b = record { round = 1 + round; site = n }
 
       abbrev new : Current
-      new = record { ballot = b; since = length before.heard }
+      new = record { ballot = b; heard_before = length before.heard }
 
       abbrev after : Session
       after = with_current before slot b

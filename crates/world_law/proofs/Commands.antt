@@ -21,7 +21,7 @@ use Rattle.schedule.specs.declared.fate.Fate.TheVariants.{Whole}
 use Rattle.lines.specs.declared.line.Line.TheVariants as lines
 use Rattle.lines.specs.declared.line.Reason.{Reason}
 use Rattle.lines.specs.declared.line.Reason.TheVariants as reasons
-use Rattle.world_law.specs.Headline.{Hands}
+use Rattle.world_law.specs.Headline.{IsValidDeposit}
 use Rattle.world_law.specs.Networks.{Mode, Up, Down, NeedsOpening, Event, Deposit, Propose, Ask}
 use Rattle.world_law.specs.Networks.{Query, Deliver, Raw, Stop, Start, datagram_at}
 use Rattle.lines.specs.Named.{SeenBag}
@@ -35,7 +35,7 @@ use Rattle.world_law.specs.Worlds.{on_turn, pumped, on_start, after_command}
 abbrev pub Comes : World → Option Command → Event → Type 0
 Comes w line e =
     (site : ℕ) (slot : SlotName) (bag : BagId) (fate : Fate)
-    → e ≡ Deposit site slot (Ok bag) fate → Hands w line site slot bag
+    → e ≡ Deposit site slot (Ok bag) fate → IsValidDeposit w line site slot bag
 
 module _ (w : World) (number : ℕ) (P : World → Type 0) where
   -- P holds where numbers are named and trees change; where a command is skipped; after an event

@@ -17,7 +17,7 @@ use Rattle.proposer.specs.Proposals.{Current, gathered}
 use Rattle.proposer.specs.Sessions.{Session}
 use Rattle.site.specs.Effects.{Send}
 use Rattle.world_law.specs.Laws.{OnRecord, WasSent, IsChosenBy, IsChosen, IsPrior, IsBacked}
-use Rattle.world_law.specs.Laws.{Follows}
+use Rattle.world_law.specs.Laws.{SatisfiesP2c}
 use Rattle.world_law.specs.Networks.{Network}
 use Rattle.world_law.proofs.Kept.{vote_for, Promises, Proposes, Says, Means, Remembers}
 
@@ -54,7 +54,7 @@ module _ {w x : Network} (g : Grows w x) where
   chosen_grows c = record { ballot = c.ballot; chosen = chosen_by_grows c.chosen }
 
   follows_grows : (n : ℕ) (slot : SlotName) (o : Option Vote) (bag : BagId)
-      → Follows w n slot o bag → Follows x n slot o bag
+      → SatisfiesP2c w n slot o bag → SatisfiesP2c x n slot o bag
   follows_grows n slot None bag f = g.kept n slot (entry.Deposit bag) f
   follows_grows n slot (Some prior) bag f = f
 

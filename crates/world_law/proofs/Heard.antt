@@ -29,13 +29,13 @@ pub gathered_heard : (slot : SlotName) (c : Current) (heard : List Message) (p :
     → Has (promise_message slot p.site c.ballot p.prior) heard
 unfolding gathered
 gathered_heard slot c heard p h =
-    has_drop c.since heard
-    (has_message slot (drop c.since heard) (Promise p.site c.ballot p.prior)
-    (has_promise c.ballot (bodies_of slot (drop c.since heard)) p h))
+    has_drop c.heard_before heard
+    (has_message slot (drop c.heard_before heard) (Promise p.site c.ballot p.prior)
+    (has_promise c.ballot (bodies_of slot (drop c.heard_before heard)) p h))
 
 -- who was gathered stays so, whatever is heard besides
 pub gathered_stays : (slot : SlotName) (c : Current) (heard : List Message) (m : Message)
-    → c.since ≤ length heard → (n : ℕ) → Has n (promisers (gathered slot c heard))
+    → c.heard_before ≤ length heard → (n : ℕ) → Has n (promisers (gathered slot c heard))
     → Has n (promisers (gathered slot c (heard ++ m ∷ [])))
 unfolding promisers
 gathered_stays slot c heard m within n h =
@@ -49,7 +49,7 @@ gathered_stays slot c heard m within n h =
 -- one promise more for the current ballot
 pub gathered_promise : (slot : SlotName) (c : Current) (heard : List Message) (from : ℕ)
     (prior : Option Vote)
-    → c.since ≤ length heard
+    → c.heard_before ≤ length heard
     → gathered slot c (heard ++ promise_message slot from c.ballot prior ∷ [])
     ≡ gathered slot c heard ++ record { site = from; prior = prior } ∷ []
 gathered_promise slot c heard from prior within =

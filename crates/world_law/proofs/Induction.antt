@@ -13,7 +13,7 @@ use Rattle.records.specs.declared.entry.Entry.TheVariants as entry
 use Rattle.dgram.specs.declared.body.Body.TheVariants.{Promise, Accept}
 use Rattle.dgram.specs.Heard.{PromiseFrom, promisers}
 use Rattle.world_law.specs.Laws.{OnRecord, WasSent, IsChosenBy, IsChosen, IsHighestBelow, IsPrior}
-use Rattle.world_law.specs.Laws.{IsBacked, Follows}
+use Rattle.world_law.specs.Laws.{IsBacked, SatisfiesP2c}
 use Rattle.world_law.specs.Networks.{Network}
 use Rattle.world_law.proofs.Order.{at_most_trans, at_most_cases, ballot_induction}
 use Rattle.world_law.proofs.Heard.{IsBest, best_of}
@@ -135,7 +135,7 @@ carried_step q w slot vote laws inv chosen c before lower u asked =
         ]
 
     from_top : Top w slot vote.ballot c backed.prior
-        → Follows w c.site slot backed.prior u → u ≡ vote.bag
+        → SatisfiesP2c w c.site slot backed.prior u → u ≡ vote.bag
     from_top t f =
         let e : t.top.bag ≡ u = rw t.is at f in
         sym e ∙ at_vote t.top t.named t.later
@@ -185,7 +185,7 @@ module _ (q : QuorumSystem) (laws : AreQuorums q) (w : Network) (inv : Kept q w)
       backed : IsBacked q w slot (vote_for b bag)
       backed = (accept_says inv a).backed
 
-      go : (o : Option Vote) → backed.prior ≡ o → Follows w b.site slot o bag
+      go : (o : Option Vote) → backed.prior ≡ o → SatisfiesP2c w b.site slot o bag
           → P slot bag
       go None e f = deposits b.site slot bag f
       go (Some u) e f =

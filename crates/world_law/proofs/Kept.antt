@@ -58,7 +58,7 @@ pub record IsCurrent
     : Type 0 where
   pub own : c.ballot.site ≡ n
   pub issued : OnRecord w n slot (entry.Round c.ballot.round)
-  pub within : c.since ≤ length heard
+  pub within : c.heard_before ≤ length heard
   pub spent : (bag : BagId) → WasSent w slot (Accept (vote_for c.ballot bag))
       → IsQuorum q (promisers (gathered slot c heard))
 

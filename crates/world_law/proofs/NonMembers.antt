@@ -11,7 +11,7 @@ use Rattle.schedule.specs.declared.fate.Fate.{Fate}
 use Rattle.schedule.specs.declared.fate.Fate.TheVariants.{Whole}
 use Rattle.world_law.specs.Networks.{Mode, Up, Down, NeedsOpening, SiteState, Network}
 use Rattle.world_law.specs.Networks.{Event, Deposit, Propose, Query, Deliver, Raw, Stop, Start}
-use Rattle.world_law.specs.Networks.{Outcome, Happening, happening, nothing, if_member, reaches}
+use Rattle.world_law.specs.Networks.{SiteOutcome, Happening, happening, nothing, if_member, reaches}
 use Rattle.world_law.specs.Networks.{undergoes, outcome, goes_down, opened}
 use Rattle.world_law.specs.Networks.{takes, replies, datagram_at, arrives, stops, starts, happens}
 use Rattle.world_law.specs.Networks as networks
@@ -23,7 +23,7 @@ module _ (q : QuorumSystem) (w : Network) (n : ℕ) (stranger : is_in q.members 
   Stays h = h.network.sites n ≡ w.sites n
 
   module _ (m : ℕ) where
-    other_stays : n ≢ m → (o : Outcome) → Stays (happening w m o)
+    other_stays : n ≢ m → (o : SiteOutcome) → Stays (happening w m o)
     other_stays other o =
         site_cases (λ s. s ≡ w.sites n) w m n o (λ e. absurd (other e)) (λ e. refl)
 

@@ -26,7 +26,7 @@ use Rattle.world_law.specs.Laws.{IsChosen, Report, report_of}
 use Rattle.world_law.specs.Networks.{Mode, Up, Down, NeedsOpening, Network, new_site, new_network}
 use Rattle.world_law.specs.Networks.{Event, Deposit, Propose, Query, Deliver, Raw, Stop, Start}
 use Rattle.lines.specs.Notices.{Notice, Replied, Refused, GoesDown, ComesUp, notice_of}
-use Rattle.world_law.specs.Networks.{Outcome, Happening, happening, outcome, nothing, if_member}
+use Rattle.world_law.specs.Networks.{SiteOutcome, Happening, happening, outcome, nothing, if_member}
 use Rattle.world_law.specs.Networks.{undergoes, reaches, takes, says, datagram_at, arrives, stops}
 use Rattle.world_law.specs.Networks.{opened, starts, happens, run}
 use Rattle.world_law.specs.Networks as networks

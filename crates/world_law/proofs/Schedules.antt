@@ -17,7 +17,7 @@ use Rattle.schedule.specs.declared.command.Command.{Command}
 use Rattle.lines.specs.declared.line.Line.{Line}
 use Rattle.lines.specs.declared.line.Line.TheVariants as lines
 use Rattle.lines.specs.declared.line.Reason.{Reason}
-use Rattle.world_law.specs.Headline.{reported, Hands, DepositedBy}
+use Rattle.world_law.specs.Headline.{reported, IsValidDeposit, DepositedBy}
 use Rattle.world_law.specs.Laws.{OnRecord, IsChosen, Report, report_of, site_of}
 use Rattle.world_law.specs.Networks.{Network, new_network, new_site, Event, Deposit, Propose, Ask}
 use Rattle.lines.specs.Notices.{Notice, Registered, Learned}
@@ -125,7 +125,7 @@ pub record Then (w : World) (line : Option Command) (x : World) : Type 0 where
       → IsEarly w.network r
   pub new : (k : ℕ) (slot : SlotName) (bag : BagId)
       → OnRecord x.network k slot (entry.Deposit bag)
-      → OnRecord w.network k slot (entry.Deposit bag) ⊎ Hands w line k slot bag
+      → OnRecord w.network k slot (entry.Deposit bag) ⊎ IsValidDeposit w line k slot bag
 
 module _ (w : World) (h : Holds w) where
   -- a report that was chosen before
@@ -217,7 +217,8 @@ abbrev IsIdle : World → World → Type 0
 IsIdle w x = Then w None x
 
 -- nothing is handed by no line
-hands_nothing : {w : World} {k : ℕ} {slot : SlotName} {bag : BagId} → ¬ Hands w None k slot bag
+hands_nothing : {w : World} {k : ℕ} {slot : SlotName} {bag : BagId}
+    → ¬ IsValidDeposit w None k slot bag
 hands_nothing hands = let e = hands.is in cc
 
 -- its deposits are old

@@ -25,14 +25,14 @@ use Rattle.proposer.specs.Sessions.{Session, new_session}
 use Rattle.site.specs.Effects.{Send}
 use Rattle.world_law.specs.Laws.{OnRecord, WasSent, IsChosen, Report, report_of}
 use Rattle.lines.specs.Notices.{Notice}
-use Rattle.world_law.specs.Networks.{Mode, SiteState, Network, Outcome, Happening}
+use Rattle.world_law.specs.Networks.{Mode, SiteState, Network, SiteOutcome, Happening}
 use Rattle.world_law.specs.Networks.{happening}
 use Rattle.world_law.proofs.Kept.{vote_for, Promises, Proposes, Says, Means, Remembers, Kept}
 use Rattle.world_law.proofs.Grows.{Grows, says_grows, means_grows, remembers_grows}
 
 -- site n adds this record, if there is one, has this session and mode, and sends these
 abbrev pub outcome :
-    Network → (n : ℕ) → Option Record → Session → Mode → List Send → Option Notice → Outcome
+    Network → (n : ℕ) → Option Record → Session → Mode → List Send → Option Notice → SiteOutcome
 outcome w n kept session mode sends notice = record {
   site = record {
     records = (w.sites n).records ++ option_to_list kept;
@@ -170,7 +170,7 @@ nothing_recalled = record {
 
 -- ---- the site that moved, and the others
 
-pub site_cases : (P : SiteState → Type 0) (w : Network) (n k : ℕ) (o : Outcome)
+pub site_cases : (P : SiteState → Type 0) (w : Network) (n k : ℕ) (o : SiteOutcome)
     → (k ≡ n → P o.site) → (k ≢ n → P (w.sites k)) → P ((happening w n o).network.sites k)
 site_cases P w n k o same other = go (k == n) refl
   where
@@ -198,7 +198,7 @@ module _ (q : QuorumSystem) (w : Network) (n : ℕ) (kept : Option Record) (sess
   abbrev x : Network
   x = (moved w n kept session mode sends notice).network
 
-  abbrev out : Outcome
+  abbrev out : SiteOutcome
   out = outcome w n kept session mode sends notice
 
   -- a record of x is old, or the new one

@@ -21,7 +21,7 @@ use Rattle.schedule.specs.declared.fate.Fate.TheVariants.{Whole, StopsIn, StopsA
 use Rattle.world_law.specs.Networks.{Mode, Up, Down, NeedsOpening, SiteState, Network, new_site}
 use Rattle.world_law.specs.Networks.{new_network, Event, Deposit, Propose, Query, Deliver, Raw}
 use Rattle.lines.specs.Notices.{Notice, GoesDown}
-use Rattle.world_law.specs.Networks.{Stop, Start, Outcome, Happening}
+use Rattle.world_law.specs.Networks.{Stop, Start, SiteOutcome, Happening}
 use Rattle.world_law.specs.Networks.{happening, outcome}
 use Rattle.world_law.specs.Networks.{nothing, if_member, undergoes, reaches, takes, replies}
 use Rattle.world_law.specs.Networks.{datagram_at, arrives, stops, starts, opened, happens, run}
@@ -44,13 +44,13 @@ members_are_sites m h n has =
 -- ---- an outcome at a site
 
 -- what a site is then, and what it sent, is well-formed
-record IsWellFormedOutcome (o : Outcome) : Type 0 where
+record IsWellFormedOutcome (o : SiteOutcome) : Type 0 where
   records : AreRecords o.site.records
   heard : AreMessages o.site.session.heard
   sends : (d : Send) → Has d o.sends → IsSend d
 
 module _ (w : Network) (inv : IsWellFormed w) (n : ℕ) where
-  happening_is : (o : Outcome) → IsWellFormedOutcome o → IsWellFormed (happening w n o).network
+  happening_is : (o : SiteOutcome) → IsWellFormedOutcome o → IsWellFormed (happening w n o).network
   happening_is o is = record {
     sent = λ d h. elim (has_cases w.sent o.sends h) [
       | inl old ↦ inv.sent d old

@@ -47,7 +47,7 @@ LinesAgree all =
 
 -- A line of a schedule is a `deposit` at this site for the slot, and isn't skipped; and its tree,
 -- as it is then, is a valid bag of this identity.
-pub record Hands
+pub record IsValidDeposit
     (w : World) (line : Option Command) (site : ℕ) (slot : SlotName) (bag : BagId)
     : Type 0 where
   pub tree : ℕ
@@ -67,7 +67,7 @@ pub record DepositedBy
     (w : World) (number : ℕ) (line : Option Command) (slot : SlotName) (bag : BagId)
     : Type 0 where
   pub site : ℕ
-  pub hands : Hands w line site slot bag
+  pub hands : IsValidDeposit w line site slot bag
   pub on_record : OnRecord (after_line w number line).network site slot (entry.Deposit bag)
 
 -- ---- the lines of a schedule

@@ -69,9 +69,9 @@ IsPrior w n slot b (Some vote) = IsHighestBelow w n slot b vote
 -- ---- what backs a proposal
 
 -- P2c: the bag of the highest prior vote; where none was named, a deposit of the proposer
-abbrev pub Follows : Network → (proposer : ℕ) → SlotName → Option Vote → BagId → Type 0
-Follows w proposer slot None bag = OnRecord w proposer slot (entry.Deposit bag)
-Follows w proposer slot (Some prior) bag = prior.bag ≡ bag
+abbrev pub SatisfiesP2c : Network → (proposer : ℕ) → SlotName → Option Vote → BagId → Type 0
+SatisfiesP2c w proposer slot None bag = OnRecord w proposer slot (entry.Deposit bag)
+SatisfiesP2c w proposer slot (Some prior) bag = prior.bag ≡ bag
 
 -- one of these promises names the vote
 pub record IsNamed (promises : List PromiseFrom) (vote : Vote) : Type 0 where
@@ -99,7 +99,7 @@ pub record IsBacked (q : QuorumSystem) (w : Network) (slot : SlotName) (vote : V
       → WasSent w slot (Promise p.site vote.ballot p.prior)
   pub prior : Option Vote
   pub highest : IsHighestPrior promises prior
-  pub follows : Follows w vote.ballot.site slot prior vote.bag
+  pub follows : SatisfiesP2c w vote.ballot.site slot prior vote.bag
 
 -- ---- reports
 
@@ -142,8 +142,8 @@ VotesAreOnRecord w =
 
 -- priors stay: a promise names its site's highest vote below its ballot. Since this is so after
 -- any events, it stays so, whatever the site votes for later.
-abbrev pub PriorsStay : Network → Type 0
-PriorsStay w =
+abbrev pub PromisesNameHighestVotes : Network → Type 0
+PromisesNameHighestVotes w =
     (n : ℕ) (slot : SlotName) (b : BallotNumber) (prior : Option Vote)
     → WasSent w slot (Promise n b prior) → IsPrior w n slot b prior
 

@@ -66,7 +66,7 @@ pub data Event : Type 0 where
   Start : (site : ℕ) → Event
 
 -- what an event brings about at a site: what the site is then, what it sent, and what is said
-pub record Outcome : Type 0 where
+pub record SiteOutcome : Type 0 where
   pub site : SiteState
   pub sends : List Send
   pub notice : Option Notice
@@ -80,7 +80,7 @@ pub record Happening : Type 0 where
 -- ---- a call, under a fate
 
 -- the call is done, and the site goes on
-abbrev pub goes_on : (site : ℕ) → SiteState → Input → Effect → Outcome
+abbrev pub goes_on : (site : ℕ) → SiteState → Input → Effect → SiteOutcome
 goes_on site s input e = record {
   site = record {
     records = s.records ++ option_to_list e.commits;
@@ -92,7 +92,7 @@ goes_on site s input e = record {
 }
 
 -- the site is down, with this record more, if there is one, after it has sent these messages
-abbrev pub goes_down : (site : ℕ) → SiteState → Option Record → List Send → Outcome
+abbrev pub goes_down : (site : ℕ) → SiteState → Option Record → List Send → SiteOutcome
 goes_down site s kept sends = record {
   site = record {
     records = s.records ++ option_to_list kept;
@@ -104,7 +104,7 @@ goes_down site s kept sends = record {
 }
 
 -- the site's device has failed, and keeps this record more, if there is one; nothing was sent
-abbrev pub fails : (site : ℕ) → SiteState → Option Record → Outcome
+abbrev pub fails : (site : ℕ) → SiteState → Option Record → SiteOutcome
 fails site s kept = record {
   site = record {
     records = s.records ++ option_to_list kept;
@@ -120,7 +120,7 @@ fails site s kept = record {
 -- sent. Where there is no record there is no device call: a stop there is one before any datagram
 -- is sent, and a failure changes nothing.
 unfoldable pub outcome :
-    (site : ℕ) → SiteState → Input → Effect → (commits : Option Record) → Fate → Outcome
+    (site : ℕ) → SiteState → Input → Effect → (commits : Option Record) → Fate → SiteOutcome
 outcome site s input e commits Whole = goes_on site s input e
 outcome site s input e None (StopsIn device k) = goes_down site s None []
 outcome site s input e (Some r) (StopsIn device k) = goes_down site s (kept_record k r) []
@@ -135,7 +135,7 @@ abbrev pub nothing : Network → Happening
 nothing w = record { network = w; sends = []; notice = None }
 
 -- an outcome at a site; the other sites are as they were
-abbrev pub happening : Network → (site : ℕ) → Outcome → Happening
+abbrev pub happening : Network → (site : ℕ) → SiteOutcome → Happening
 happening w site o = record {
   network = record {
     sites = λ n. if n == site then o.site else w.sites n;
@@ -194,7 +194,7 @@ stops w site Down = nothing w
 stops w site mode = happening w site (goes_down site (w.sites site) None [])
 
 -- it is up, with the records that it has
-abbrev pub opened : (site : ℕ) → SiteState → Outcome
+abbrev pub opened : (site : ℕ) → SiteState → SiteOutcome
 opened site s = record {
   site = record { records = s.records; session = new_session; mode = Up };
   sends = [];

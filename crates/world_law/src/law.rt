@@ -1,7 +1,8 @@
 ghost use Rattle.std.specs.Prelude.{List};
 ghost use Rattle.fed_types.specs.Quorums.{QuorumSystem, AreQuorums};
 ghost use Rattle.world_law.specs.Laws.{OneBagABallot, VotesWereAskedFor, VotesAreOnRecord};
-ghost use Rattle.world_law.specs.Laws.{PriorsStay, ProposalsAreBacked, KnownWasChosen, ChosenStays};
+ghost use Rattle.world_law.specs.Laws.{PromisesNameHighestVotes, ProposalsAreBacked};
+ghost use Rattle.world_law.specs.Laws.{KnownWasChosen, ChosenStays};
 ghost use Rattle.world_law.specs.Laws.{OneBagASlot, ReportWasChosen, SendersAreNamed};
 ghost use Rattle.world_law.specs.Laws.{ReportsAgree, notices_of};
 ghost use Rattle.schedule.specs.Plans.{Plan};
@@ -32,7 +33,7 @@ pub fn votes_were_asked_for()
 /// A promise names its site's highest vote below its ballot, whatever the site has voted for since.
 pub fn priors_stay()
     ensures { (q : QuorumSystem) (events : List Event) → AreQuorums q
-        → PriorsStay (run q new_network events) }
+        → PromisesNameHighestVotes (run q new_network events) }
 {}
 
 /// Each proposal is backed by the promises of a quorum.

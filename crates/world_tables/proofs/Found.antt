@@ -8,7 +8,7 @@ use Rattle.std.specs.Option.{option_or}
 use Rattle.std.proofs.lemmas.List.Folds.{find-append}
 use Rattle.std.proofs.lemmas.Bool.Decides.{eqb_tells}
 use Rattle.fed_types.specs.Lists.{is_in}
-use Rattle.world_tables.specs.Numbers.{Sending, Represents, IsLast, next_unnamed}
+use Rattle.world_tables.specs.DatagramNumbers.{Sending, Represents, IsLast, next_unnamed}
 use Rattle.world_law.specs.Worlds.{numbers_to}
 
 -- every number up to this one passes

@@ -10,7 +10,7 @@ use Rattle.std.proofs.lemmas.List.{get_or-set_other}
 use Rattle.std.proofs.lemmas.Bool.Decides.{eqb_tells, nat_tests}
 use Rattle.fed_types.specs.Lists.{is_in}
 use Rattle.fed_types.specs.Laws.Lists.{is_in-append}
-use Rattle.world_tables.specs.Numbers.{is_marked, is_named, AreNamed}
+use Rattle.world_tables.specs.DatagramNumbers.{is_marked, is_named, AreNamed}
 
 -- a mark that isn't set names nothing
 marked_push : (marks : List Bool) (k : ℕ) → is_marked (marks ++ false ∷ []) k ≡ is_marked marks k

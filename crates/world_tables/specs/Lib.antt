@@ -1,3 +1,3 @@
 pub mod Changes
 pub mod Firsts
-pub mod Numbers
+pub mod DatagramNumbers

@@ -1,7 +1,8 @@
 ghost use Rattle.std.specs.Prelude.{◌≡◌, ◌++◌, ◌∷◌, [], ℕ, List, length, OnOk, OnErr};
 ghost use Rattle.std.specs.Option.{option_copied};
-ghost use Rattle.world_tables.specs.Numbers.{numbered, next_unnamed, Represents, RepresentsSame};
-ghost use Rattle.world_tables.specs.Numbers.{is_marked, is_named, AreNamed, IsLast};
+ghost use Rattle.world_tables.specs.DatagramNumbers.{numbered, next_unnamed};
+ghost use Rattle.world_tables.specs.DatagramNumbers.{Represents, RepresentsSame};
+ghost use Rattle.world_tables.specs.DatagramNumbers.{is_marked, is_named, AreNamed, IsLast};
 
 use indexmap::IndexSet;
 use std::alloc::{AllocError, Global};
@@ -20,7 +21,7 @@ pub struct Datagrams<T: Drop> {
 }
 
 impl<T: Drop> Model for Datagrams<T> {
-    ghost use Rattle.world_tables.specs.Numbers.{Sending, AreNamed};
+    ghost use Rattle.world_tables.specs.DatagramNumbers.{Sending, AreNamed};
 
     ghost Value = { Sending T };
 
@@ -118,7 +119,7 @@ fn last_named(marks: &[bool], others: &IndexSet<usize>, from: usize, count: usiz
     count
 }
 
-#[tactic(auto, unfolding(crate::specs::Numbers::is_named))]
+#[tactic(auto, unfolding(crate::specs::DatagramNumbers::is_named))]
 fn was_named(marks: &[bool], others: &IndexSet<usize>, number: usize) -> bool
     ensures { result ≡ is_named marks.now others.now.keys number }
 {

@@ -12,7 +12,7 @@ use Rattle.site_commands.specs.Replies.{datagram_to, first_reply}
 use Rattle.site_commands.specs.Exchanges.{Asks}
 use Rattle.catch_up.specs.declared.rounds.AskFault.{AskFault}
 use Rattle.catch_up.specs.declared.rounds.AskFault.TheVariants.{Memory, Output}
-use Rattle.catch_up.specs.declared.rounds.Asked.{Asked}
+use Rattle.catch_up.specs.declared.rounds.Target.{Target}
 use Rattle.catch_up.specs.Rounds.{Answer, question, bag_in, IsOneMore, open_of, AreAnswers}
 use Rattle.catch_up.specs.Rounds.{answer_lines, is_same, same_in, left_of, AreRounds}
 use Rattle.catch_up.specs.Rounds.{AreWhole, round_lines, same_after, left_after}
@@ -23,12 +23,12 @@ abbrev pub AppendsPart : Option (List ℕ) → Option (List ℕ) → List ℕ �
 AppendsPart old new bytes = (n : ℕ) × Appends old new (take n bytes)
 
 -- the moves after those of the answers: none, unless memory ran out
-abbrev pub OnlyAsked : Asked → AskFault → List Move → Type 0
+abbrev pub OnlyAsked : Target → AskFault → List Move → Type 0
 OnlyAsked asked Memory others = IsOneMore asked others
 OnlyAsked asked Output others = others ≡ []
 
 -- a site is asked once for a slot's bag
-abbrev pub IsAskedFor : Asked → SlotName → (before after : Option (List Move))
+abbrev pub IsAskedFor : Target → SlotName → (before after : Option (List Move))
     → Result Answer AllocError → Type 0
 IsAskedFor asked slot before after result =
     (moves : List Move) × Grows before after moves
@@ -39,14 +39,14 @@ IsAskedFor asked slot before after result =
 -- ---- one round
 
 -- all of the versions are asked for
-abbrev pub GoesOn : Asked → List KnownBag → (before after : Option (List Move))
+abbrev pub GoesOn : Target → List KnownBag → (before after : Option (List Move))
     → (old new : Option (List ℕ)) → List Answer → Type 0
 GoesOn asked versions before after old new answers =
     (moves : List Move) × Grows before after moves × AreAnswers asked versions answers moves
     × (length answers ≡ length versions) × Appends old new (answer_lines versions answers)
 
 -- some first ones are
-abbrev pub StopsIn : Asked → List KnownBag → (before after : Option (List Move))
+abbrev pub StopsIn : Target → List KnownBag → (before after : Option (List Move))
     → (old new : Option (List ℕ)) → AskFault → Type 0
 StopsIn asked versions before after old new fault =
     (answers : List Answer) × (moves : List Move) × (others : List Move)
@@ -59,7 +59,7 @@ version_after v None = v
 version_after v (Some bag) = record v { is_found = true }
 
 -- one version is asked for, and this many known as its source knows it
-abbrev pub IsAskedOnce : Asked → (v next : KnownBag) → (before after : Option (List Move))
+abbrev pub IsAskedOnce : Target → (v next : KnownBag) → (before after : Option (List Move))
     → (old new : Option (List ℕ)) → Result ℕ AskFault → Type 0
 IsAskedOnce asked v next before after old new (Ok same) =
     (answer : Answer) × GoesOn asked (v ∷ []) before after old new (answer ∷ [])
@@ -68,7 +68,7 @@ IsAskedOnce asked v next before after old new (Err fault) =
     StopsIn asked (v ∷ []) before after old new fault
 
 -- a round: the versions that aren't known yet are asked for
-abbrev pub IsRound : Asked → (versions next : List KnownBag)
+abbrev pub IsRound : Target → (versions next : List KnownBag)
     → (before after : Option (List Move)) → (old new : Option (List ℕ)) → Result ℕ AskFault
     → Type 0
 IsRound asked versions next before after old new (Ok same) =
@@ -80,13 +80,13 @@ IsRound asked versions next before after old new (Err fault) =
 
 -- ---- all rounds
 
-abbrev pub GoesOnRounds : Asked → List KnownBag → (before after : Option (List Move))
+abbrev pub GoesOnRounds : Target → List KnownBag → (before after : Option (List Move))
     → (old new : Option (List ℕ)) → List (List Answer) → Type 0
 GoesOnRounds asked versions before after old new rounds =
     (moves : List Move) × Grows before after moves × AreRounds asked versions rounds moves
     × AreWhole versions rounds × Appends old new (round_lines versions rounds)
 
-abbrev pub StopsInRounds : Asked → List KnownBag → (before after : Option (List Move))
+abbrev pub StopsInRounds : Target → List KnownBag → (before after : Option (List Move))
     → (old new : Option (List ℕ)) → AskFault → Type 0
 StopsInRounds asked versions before after old new fault =
     (rounds : List (List Answer)) × (moves : List Move) × (others : List Move)
@@ -94,7 +94,7 @@ StopsInRounds asked versions before after old new fault =
     × OnlyAsked asked fault others × AppendsPart old new (round_lines versions rounds)
 
 -- rounds until no version is left, or time is over
-abbrev pub AreAsked : Asked → (versions next : List KnownBag)
+abbrev pub AreAsked : Target → (versions next : List KnownBag)
     → (before after : Option (List Move)) → (old new : Option (List ℕ)) → Result ℕ AskFault
     → Type 0
 AreAsked asked versions next before after old new (Ok same) =
@@ -106,7 +106,7 @@ AreAsked asked versions next before after old new (Err fault) =
     StopsInRounds asked (open_of versions) before after old new fault
 
 -- and what is written then
-abbrev pub AreReported : Asked → List KnownBag → (before after : Option (List Move))
+abbrev pub AreReported : Target → List KnownBag → (before after : Option (List Move))
     → (old new : Option (List ℕ)) → Result ℕ AskFault → Type 0
 AreReported asked versions before after old new (Ok status) =
     (rounds : List (List Answer)) × (moves : List Move) × Grows before after moves

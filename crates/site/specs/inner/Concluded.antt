@@ -9,8 +9,9 @@ use Rattle.book.specs.declared.fault.CommitFault.{CommitFault}
 use Rattle.book.specs.declared.fault.CommitFault.TheVariants as commits
 use Rattle.fed_types.specs.Slots.{SlotName}
 use Rattle.dgram.specs.declared.body.Body.{Body}
-use Rattle.proposer.specs.Sessions.{Session, UnderWay, hears, current_by, current_if, under_way_if}
-use Rattle.proposer.specs.Sessions.{heard_if, waits}
+use Rattle.proposer.specs.Sessions.{Session, hears}
+use Rattle.proposer.specs.UnderWay.{UnderWay, current_by, current_if, under_way_if}
+use Rattle.proposer.specs.UnderWay.{heard_if, waits}
 use Rattle.site_tables.specs.Contents as tables
 use Rattle.fed_types.specs.Quorums.{quorums_of}
 use Rattle.fed_types.specs.Sites.{members_of}

@@ -1,6 +1,6 @@
 use Rattle.std.proofs.Common.{◌≡◌, ◌+◌, ◌++◌, length, map}
 use Rattle.site.specs.Datagrams.{handed_out}
-use Rattle.world_tables.specs.Numbers.{RepresentsSame}
+use Rattle.world_tables.specs.DatagramNumbers.{RepresentsSame}
 use Rattle.federation.specs.Sent.{lines_sent, places_from}
 use Rattle.federation.proofs.sends.send_all.Given as goal
 

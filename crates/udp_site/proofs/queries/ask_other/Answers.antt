@@ -1,10 +1,10 @@
 use Rattle.std.proofs.Common.{◌≡◌, ℕ, ◌==◌, Bool, true, false, List, [], ◌∷◌, sym, ap, subst, ◌∙◌}
 use Rattle.std.specs.List.{flat_map}
-use Rattle.site.specs.declared.answer.Sealed.{Sealed}
+use Rattle.site.specs.declared.answer.Outgoing.{Outgoing}
 use Rattle.site.specs.declared.fault.SiteFault.TheVariants as sites
 use Rattle.site.specs.Sites.{OpenSite}
 use Rattle.lines.specs.Notices.{Refused}
-use Rattle.udp_site.specs.Turns.{Serving, number, sealed_posts}
+use Rattle.udp_site.specs.Turns.{Serving, number, outgoing_posts}
 use Rattle.udp_site.specs.inner.Outcomes.{Hands, Notes}
 use Rattle.udp_site.proofs.Questions.{asks_by, isnt_asked, isnt_asked_in_part, not_asked}
 use Rattle.udp_site.proofs.Same.{same_number}
@@ -39,25 +39,25 @@ returns-in-Ok-clause-comes g c old there serves =
     g.C.Cell.device c.args.site.now there serves c.requires c.in-Ok.answer c.in-Ok.ensures.answer
     (g.P.Port.traffic c.args.port.now) (g.P.Port.traffic c.send_all.new.port)
     c.args.lines.now.items c.send_all.result
-    (subst (λ (l : List Sealed). Hands (g.P.Port.traffic c.args.port.now)
-    (g.P.Port.traffic c.send_all.new.port) (flat_map (sealed_posts c.args.ports.now) l)
+    (subst (λ (l : List Outgoing). Hands (g.P.Port.traffic c.args.port.now)
+    (g.P.Port.traffic c.send_all.new.port) (flat_map (outgoing_posts c.args.ports.now) l)
     c.send_all.result) c.as_slice.ensures.value c.send_all.ensures.hands)
 
-pub returns-in_err-say_refused-in-Err-clause-comes :
-    goal.returns-in_err-say_refused-in-Err-clause-comes
-returns-in_err-say_refused-in-Err-clause-comes g c old there serves =
+pub returns-in_err-push_refused-in-Err-clause-comes :
+    goal.returns-in_err-push_refused-in-Err-clause-comes
+returns-in_err-push_refused-in-Err-clause-comes g c old there serves =
     isnt_asked_in_part c.args.ports.now old c.args.slot.now c.args.member
-    (is_other g (goal.at.returns-in_err-say_refused-in-Err-clause-comes g c).Else-eq old there)
-    (g.P.Port.traffic c.args.port.now) c.args.lines.now.items c.say_refused.new.lines.items
+    (is_other g (goal.at.returns-in_err-push_refused-in-Err-clause-comes g c).Else-eq old there)
+    (g.P.Port.traffic c.args.port.now) c.args.lines.now.items c.push_refused.new.lines.items
     c.from_residual.result c.from_residual.ensures.1
 
-pub returns-in_ok-say_refused-in-Err-clause-comes :
-    goal.returns-in_ok-say_refused-in-Err-clause-comes
-returns-in_ok-say_refused-in-Err-clause-comes g c old there serves =
+pub returns-in_ok-push_refused-in-Err-clause-comes :
+    goal.returns-in_ok-push_refused-in-Err-clause-comes
+returns-in_ok-push_refused-in-Err-clause-comes g c old there serves =
     isnt_asked c.args.ports.now old c.args.slot.now c.args.member
-    (is_other g (goal.at.returns-in_ok-say_refused-in-Err-clause-comes g c).Else-eq old there)
-    (g.P.Port.traffic c.args.port.now) c.args.lines.now.items c.say_refused.new.lines.items
-    (subst (λ (site : ℕ). Notes c.args.lines.now.items c.say_refused.new.lines.items
+    (is_other g (goal.at.returns-in_ok-push_refused-in-Err-clause-comes g c).Else-eq old there)
+    (g.P.Port.traffic c.args.port.now) c.args.lines.now.items c.push_refused.new.lines.items
+    (subst (λ (site : ℕ). Notes c.args.lines.now.items c.push_refused.new.lines.items
     (Refused site sites.Memory ∷ []))
     (same_number old c.args.site.now there c.number-in-Err.result c.number-in-Err-2.result
-    c.number-in-Err-2.ensures.value c.number-in-Err.ensures) c.in_ok-say_refused-in-Err.ensures)
+    c.number-in-Err-2.ensures.value c.number-in-Err.ensures) c.in_ok-push_refused-in-Err.ensures)

@@ -1,7 +1,7 @@
 use Rattle.std.proofs.Common.{ℕ, List, Err, subst, le_refl, le_trans}
 use Rattle.std.specs.List.{flat_map}
 use Rattle.udp_site.specs.Traffic.{Grows, all_handed}
-use Rattle.udp_site.specs.Turns.{posts_to, sealed_posts}
+use Rattle.udp_site.specs.Turns.{posts_to, outgoing_posts}
 use Rattle.udp_site.specs.inner.Outcomes.{Hands}
 use Rattle.udp_site.proofs.Handed.{grows_by_no_posts, grows_by_next, part_within, handed_on}
 use Rattle.udp_site.proofs.sends.send_all.Goals as goal
@@ -15,7 +15,7 @@ loop-sealed-init g c = record {
 pub loop-sealed-preserved : goal.loop-sealed-preserved
 loop-sealed-preserved g c = record {
   grows =
-      grows_by_next (sealed_posts c.args.ports.now) c.args.sends.now c.loop-sealed.sealed-index
+      grows_by_next (outgoing_posts c.args.ports.now) c.args.sends.now c.loop-sealed.sealed-index
       c.sealed-item.result c.loop-sealed-test.true c.sealed-item.is
       (g.P.Port.traffic c.args.port.now) (g.P.Port.traffic c.loop-sealed.port)
       (g.P.Port.traffic c.send_to_site.new.port) c.loop-sealed.invariant.grows
@@ -28,7 +28,7 @@ loop-sealed-preserved g c = record {
 
 pub returns-in_err-send_to_site-clause-hands : goal.returns-in_err-send_to_site-clause-hands
 returns-in_err-send_to_site-clause-hands g c =
-    let posts = sealed_posts c.args.ports.now in
+    let posts = outgoing_posts c.args.ports.now in
     let before = g.P.Port.traffic c.args.port.now in
     let now = g.P.Port.traffic c.loop-sealed.port in
     let after = g.P.Port.traffic c.send_to_site.new.port in

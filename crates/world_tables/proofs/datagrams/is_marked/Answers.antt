@@ -1,6 +1,6 @@
 use Rattle.std.proofs.Common.{sym, ap, ◌∙◌}
 use Rattle.world_tables.proofs.Named.{marked_zero, marked_past, marked_at}
-use Rattle.world_tables.specs.Numbers.{is_marked}
+use Rattle.world_tables.specs.DatagramNumbers.{is_marked}
 use Rattle.world_tables.proofs.datagrams.is_marked.Goals as goal
 
 pub returns-then-number-eq0 : goal.returns-then-number-eq0

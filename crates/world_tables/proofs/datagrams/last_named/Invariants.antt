@@ -1,4 +1,4 @@
-use Rattle.world_tables.specs.Numbers.{AreNamed}
+use Rattle.world_tables.specs.DatagramNumbers.{AreNamed}
 use Rattle.world_tables.proofs.datagrams.last_named.Given as goal
 
 -- each number so far was named

@@ -39,11 +39,11 @@ returns g c session stands =
     (c.deposit-own.ensures _ _ c.self.invariant.of))
     (as_seen (known_of c.args.slot.now) c.self.view_is (c.known.ensures _ _ c.self.invariant.of))
     stands
-    (sym c.deposit_fault.ensures ∙ c.in_default.is) c.conclude.new.self
-    (map handed_out c.new-sends.result.items) c.conclude.result
+    (sym c.deposit_fault.ensures ∙ c.in_default.is) c.commit_and_answer.new.self
+    (map handed_out c.new-sends.result.items) c.commit_and_answer.result
     (none_of c.deposit-own.result (sym c.if-is_some.ensures))
     (ap (map handed_out) c.new-sends.ensures.items)
-    (subst (λ (k : SlotName). Concludes g.C.Cell.device c.args.self.now c.conclude.new.self
+    (subst (λ (k : SlotName). Concludes g.C.Cell.device c.args.self.now c.commit_and_answer.new.self
     (Some (record { slot = k; body = entry.Deposit c.args.bag }))
     (Some (lines.Registered c.args.bag)) (map handed_out c.new-sends.result.items)
-    c.conclude.result) c.in_ok-copy.ensures c.conclude.ensures)
+    c.commit_and_answer.result) c.in_ok-copy.ensures c.commit_and_answer.ensures)

@@ -57,14 +57,15 @@ returns g c = rw (← c.self.view_is) (record {
       (record { book = c.self.inside.book; tables = c.begin_ballot.new.tables })
       c.args.slot.now c.args.own refl c.begin_ballot.result c.owner-owner.result
       c.owner-owner.ensures c.begin_ballot.ensures c.self.invariant c.args.self.now c.self.view_is
-      c.requires.deposit session stands known c.conclude.new.self
-      (c.in_ok-new.new, c.in_ok-new.answer) c.conclude.result c.in_ok-new.was c.conclude.ensures;
+      c.requires.deposit session stands known c.commit_and_answer.new.self
+      (c.in_ok-new.new, c.in_ok-new.answer) c.commit_and_answer.result c.in_ok-new.was
+      c.commit_and_answer.ensures;
   refused = λ session stands known.
       refused_or_started g.C.Cell.device _
       (record { book = c.self.inside.book; tables = c.begin_ballot.new.tables })
       c.args.slot.now c.args.own refl c.begin_ballot.result c.owner-owner.result
       c.owner-owner.ensures c.begin_ballot.ensures c.self.invariant c.args.self.now c.self.view_is
-      c.requires.deposit session stands known c.conclude.result
-      (λ fault. not_refused c.begin_ballot.result c.conclude.result
+      c.requires.deposit session stands known c.commit_and_answer.result
+      (λ fault. not_refused c.begin_ballot.result c.commit_and_answer.result
       (c.in_ok-new.new, c.in_ok-new.answer) fault c.in_ok-new.was);
 })

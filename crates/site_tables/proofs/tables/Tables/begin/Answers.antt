@@ -28,7 +28,7 @@ returns-clause-begun c = if_ok c.begin.result c.begin.ensures.begun
     let was = was_inside c.self.view_is records session under stands in
     record {
       proposer = begins records session under was.proposer;
-      begun = at_deposits under.begun_with c.args.slot.now (Some c.args.own) records was.begun
+      begun = at_deposits under.begun_bag c.args.slot.now (Some c.args.own) records was.begun
           (λ bag e. own ∙ e);
       current = was.current;
       learner = was.learner;

@@ -1,7 +1,8 @@
 use Rattle.std.proofs.Common.{◌≡◌, ◌+◌, ℕ, List, [], ◌∷◌, ◌++◌, take, sym, ap, subst, ◌∙◌}
 use Rattle.std.proofs.lemmas.List.{take_all, take_more}
 use Rattle.records.specs.declared.record.Record.{Record}
-use Rattle.proposer.specs.Sessions.{new_session, nothing}
+use Rattle.proposer.specs.Sessions.{new_session}
+use Rattle.proposer.specs.UnderWay.{nothing}
 use Rattle.site_tables.specs.Contents.{IsOf, Represents}
 use Rattle.site_tables.proofs.Noted.{stays_new}
 use Rattle.site_tables.proofs.tables.Tables.of.Goals as goal

@@ -1,5 +1,6 @@
 use Rattle.std.proofs.Common.{take}
-use Rattle.proposer.specs.Sessions.{new_session, nothing}
+use Rattle.proposer.specs.Sessions.{new_session}
+use Rattle.proposer.specs.UnderWay.{nothing}
 use Rattle.site_tables.specs.Contents.{IsOf, Represents}
 use Rattle.site_tables.proofs.tables.Tables.of.Given as goal
 

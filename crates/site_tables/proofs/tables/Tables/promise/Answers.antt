@@ -16,7 +16,7 @@ returns-clause-ready c owner records session under of stands =
     let was = was_inside c.self.view_is records session under stands in
     c.promise.ensures.ready records session under was.proposer
     ∙ ready_with_deposit (quorums_of c.self.inside.proposer.members) c.args.slot.now
-    (under.current_with c.args.slot.now) (deposit_of c.args.slot.now records) session.heard
+    (under.current_bag c.args.slot.now) (deposit_of c.args.slot.now records) session.heard
     c.args.ballot (record { site = c.args.from; prior = c.args.prior })
     (session.current c.args.slot.now)
     (current_in (row_of c.self.inside.proposer.rows c.args.slot.now))

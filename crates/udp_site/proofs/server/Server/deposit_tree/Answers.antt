@@ -62,17 +62,17 @@ returns-clause-comes g c old there serves =
     let after = g.P.Port.traffic c.reply_to_deposit.new.port in
     calls_whole (call g at.After-reply_to_deposit old there serves)
     (done_of old c.args.client c.args.slot input) before after was.lines.now.items
-    c.say_deposit.new.lines.items
+    c.push_deposit.new.lines.items
     (subst (λ (posts : List Post). Grows before after (all_handed posts))
     (told g at.After-reply_to_deposit old there) c.in_ok-slot.ensures.handed)
-    (subst (λ (site : ℕ). Notes was.lines.now.items c.say_deposit.new.lines.items
+    (subst (λ (site : ℕ). Notes was.lines.now.items c.push_deposit.new.lines.items
     (notices_of site input c.deposit-answer.result))
     (same_number old was.site.now there c.number-from.result c.number.result
     c.number.ensures.value c.number-from.ensures)
-    (subst (λ (slot : SlotName). Notes was.lines.now.items c.say_deposit.new.lines.items
+    (subst (λ (slot : SlotName). Notes was.lines.now.items c.push_deposit.new.lines.items
     (notices_of c.number.result (Deposits slot (check_of c.args.facts.now))
     c.deposit-answer.result)) c.in_ok-slot.ensures.slot
-    (c.in_ok-say_deposit.ensures (check_of c.args.facts.now))))
+    (c.in_ok-push_deposit.ensures (check_of c.args.facts.now))))
 
 pub returns-in_err-slot-clause-comes : goal.returns-in_err-slot-clause-comes
 returns-in_err-slot-clause-comes g c old there serves =
@@ -88,19 +88,19 @@ returns-in_err-slot-clause-comes g c old there serves =
     (Err c.in_err-slot.field-0.0)) (told g at.After-reply_to_deposit old there)
     c.in_err-slot.ensures.handed)
 
-pub returns-in_err-say_deposit-clause-comes : goal.returns-in_err-say_deposit-clause-comes
-returns-in_err-say_deposit-clause-comes g c old there serves =
+pub returns-in_err-push_deposit-clause-comes : goal.returns-in_err-push_deposit-clause-comes
+returns-in_err-push_deposit-clause-comes g c old there serves =
     let was = c.args.self.now in
-    let at = goal.at.returns-in_err-say_deposit-clause-comes g c in
+    let at = goal.at.returns-in_err-push_deposit-clause-comes g c in
     let input = Deposits c.args.slot (check_of c.args.facts.now) in
     let before = g.P.Port.traffic was.port.now in
     let after = g.P.Port.traffic c.reply_to_deposit.new.port in
     calls_part (call g at.After-reply_to_deposit old there serves)
     (done_of old c.args.client c.args.slot input) before after was.lines.now.items
-    c.say_deposit.new.lines.items
+    c.push_deposit.new.lines.items
     (whole_part before after (all_handed
     (deposit_replies (members old).federation (number old) c.args.client c.args.slot
     (deposit_answer c.deposit-answer.result)))
     (subst (λ (posts : List Post). Grows before after (all_handed posts))
     (told g at.After-reply_to_deposit old there) c.in_ok-slot.ensures.handed))
-    c.from_residual-in_err-say_deposit.result c.from_residual-in_err-say_deposit.ensures.1
+    c.from_residual-in_err-push_deposit.result c.from_residual-in_err-push_deposit.ensures.1

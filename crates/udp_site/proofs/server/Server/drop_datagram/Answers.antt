@@ -19,16 +19,16 @@ returns-clause-comes g c old there serves = (
   there,
   serves,
   grows_by_no_posts (g.P.Port.traffic c.args.self.now.port.now),
-  subst (λ (site : ℕ). Notes c.args.self.now.lines.now.items c.say_dropped.new.lines.items
+  subst (λ (site : ℕ). Notes c.args.self.now.lines.now.items c.push_dropped.new.lines.items
       (Dropped site ∷ [])) (c.number-2.ensures.value
-      ∙ (c.number.ensures ∙ ap site_number (sym there))) c.in_ok-say_dropped.ensures,
+      ∙ (c.number.ensures ∙ ap site_number (sym there))) c.in_ok-push_dropped.ensures,
 )
 
-pub returns-in_err-say_dropped-clause-comes : goal.returns-in_err-say_dropped-clause-comes
-returns-in_err-say_dropped-clause-comes g c old there serves =
+pub returns-in_err-push_dropped-clause-comes : goal.returns-in_err-push_dropped-clause-comes
+returns-in_err-push_dropped-clause-comes g c old there serves =
     let was = c.args.self.now in
     let traffic = g.P.Port.traffic was.port.now in
     broken_off (drops old) traffic traffic was.lines.now.items
-    c.say_dropped.new.lines.items was.site.now
+    c.push_dropped.new.lines.items was.site.now
     (record { posts = []; notices = Dropped (number old) ∷ [] }) old (refl, refl) there
     (no_part traffic (all_handed [])) c.from_residual.result c.from_residual.ensures.1

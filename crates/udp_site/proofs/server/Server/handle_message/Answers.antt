@@ -39,7 +39,7 @@ returns-clause-comes g c old there serves =
     let was = c.args.self.now in
     let m = c.args.message in
     let before = was.lines.now.items in
-    let after = c.say_arrival.new.lines.items in
+    let after = c.push_arrival.new.lines.items in
     calls_whole (call g (goal.at.returns-clause-comes g c).After-send_answer old there serves)
     (done_of was.ports.now (number old) m)
     (g.P.Port.traffic was.port.now) (g.P.Port.traffic c.send_answer.new.port)
@@ -47,7 +47,7 @@ returns-clause-comes g c old there serves =
     (subst (λ (site : ℕ). Notes before after
     (notices_of site (Arrives (Some m)) c.arrive_message-answer.result))
     (same_number old was.site.now there c.number.result c.number-number.result
-    c.number-number.ensures.value c.number.ensures) (c.in_ok-say_arrival.ensures m))
+    c.number-number.ensures.value c.number.ensures) (c.in_ok-push_arrival.ensures m))
 
 pub returns-in_err-send_answer-clause-comes : goal.returns-in_err-send_answer-clause-comes
 returns-in_err-send_answer-clause-comes g c old there serves =
@@ -59,16 +59,16 @@ returns-in_err-send_answer-clause-comes g c old there serves =
     was.lines.now.items was.lines.now.items c.in_err-send_answer.field-0.0
     c.from_residual.result c.from_residual.ensures.1 c.in_err-send_answer.ensures.hands
 
-pub returns-in_err-say_arrival-clause-comes : goal.returns-in_err-say_arrival-clause-comes
-returns-in_err-say_arrival-clause-comes g c old there serves =
+pub returns-in_err-push_arrival-clause-comes : goal.returns-in_err-push_arrival-clause-comes
+returns-in_err-push_arrival-clause-comes g c old there serves =
     let was = c.args.self.now in
-    let at = goal.at.returns-in_err-say_arrival-clause-comes g c in
+    let at = goal.at.returns-in_err-push_arrival-clause-comes g c in
     let before = g.P.Port.traffic was.port.now in
     let after = g.P.Port.traffic c.send_answer.new.port in
     calls_part (call g at.After-send_answer old there serves)
     (done_of was.ports.now (number old) c.args.message) before after
-    was.lines.now.items c.say_arrival.new.lines.items
+    was.lines.now.items c.push_arrival.new.lines.items
     (whole_part before after
     (all_handed (posts_of was.ports.now c.arrive_message-answer.result))
     c.in_ok-send_answer.ensures.hands)
-    c.from_residual-in_err-say_arrival.result c.from_residual-in_err-say_arrival.ensures.1
+    c.from_residual-in_err-push_arrival.result c.from_residual-in_err-push_arrival.ensures.1

@@ -52,20 +52,20 @@ returns-clause-comes g c old there serves =
     let told = (goal.at.returns-clause-comes g c).After-reply in
     let known = known g told old there in
     answered was.ports.now old c.args.client c.args.slot start there serves before after end
-    was.lines.now.items c.say_reply.new.lines.items c.ask_unless_known.new.lines.items
+    was.lines.now.items c.push_reply.new.lines.items c.ask_unless_known.new.lines.items
     (subst (λ (posts : List Post). Grows before after (all_handed posts))
     (replied g told old there) c.in_ok-slot.ensures.hands)
     (same_notice c.number.result (number old) c.args.slot c.in_ok-slot.slot
     c.query-known.result (answer_to old c.args.slot)
     (same_number old start there c.number-from.result c.number.result c.number.ensures.value
     c.number-from.ensures) c.in_ok-slot.ensures.slot known
-    was.lines.now.items c.say_reply.new.lines.items c.in_ok-say_reply.ensures)
+    was.lines.now.items c.push_reply.new.lines.items c.in_ok-push_reply.ensures)
     c.ask_unless_known.result
     (subst (λ (k : Result Reply SiteFault). AsksFor was.ports.now old c.args.slot
-    (asked old k) after end c.say_reply.new.lines.items c.ask_unless_known.new.lines.items
+    (asked old k) after end c.push_reply.new.lines.items c.ask_unless_known.new.lines.items
     c.ask_unless_known.result) known
     (subst (λ (slot : SlotName). AsksFor was.ports.now old slot
-    (asked old c.query-known.result) after end c.say_reply.new.lines.items
+    (asked old c.query-known.result) after end c.push_reply.new.lines.items
     c.ask_unless_known.new.lines.items c.ask_unless_known.result) c.in_ok-slot.ensures.slot
     (c.ask_unless_known.ensures.comes old there serves)))
 
@@ -84,15 +84,15 @@ returns-in_err-slot-clause-comes g c old there serves =
     (subst (λ (f : ServeFault). IsErrAnd c.from_residual.result (λ e. e ≡ f)) fails.0
     c.from_residual.ensures.1)
 
-pub returns-in_err-say_reply-clause-comes : goal.returns-in_err-say_reply-clause-comes
-returns-in_err-say_reply-clause-comes g c old there serves =
+pub returns-in_err-push_reply-clause-comes : goal.returns-in_err-push_reply-clause-comes
+returns-in_err-push_reply-clause-comes g c old there serves =
     let was = c.args.self.now in
     let before = g.P.Port.traffic was.port.now in
     let after = g.P.Port.traffic c.reply.new.port in
-    let told = (goal.at.returns-in_err-say_reply-clause-comes g c).After-reply in
+    let told = (goal.at.returns-in_err-push_reply-clause-comes g c).After-reply in
     unanswered was.ports.now old c.args.client c.args.slot was.site.now there serves before
-    after was.lines.now.items c.say_reply.new.lines.items
+    after was.lines.now.items c.push_reply.new.lines.items
     (whole_part before after (all_handed (client_reply old c.args.client c.args.slot))
     (subst (λ (posts : List Post). Grows before after (all_handed posts))
     (replied g told old there) c.in_ok-slot.ensures.hands))
-    c.from_residual-in_err-say_reply.result c.from_residual-in_err-say_reply.ensures.1
+    c.from_residual-in_err-push_reply.result c.from_residual-in_err-push_reply.ensures.1

@@ -30,11 +30,11 @@ returns-clause-comes g c old there serves =
     proposes_whole (call g (goal.at.returns-clause-comes g c).After-send_answer old there serves)
     c.propose-answer.ensures.refused was.ports.now
     (g.P.Port.traffic was.port.now) (g.P.Port.traffic c.send_answer.new.port)
-    was.lines.now.items c.say_proposal.new.lines.items c.in_ok-send_answer.ensures.hands
-    (subst (λ (site : ℕ). Notes was.lines.now.items c.say_proposal.new.lines.items
+    was.lines.now.items c.push_proposal.new.lines.items c.in_ok-send_answer.ensures.hands
+    (subst (λ (site : ℕ). Notes was.lines.now.items c.push_proposal.new.lines.items
     (proposal_notices site (Proposes c.args.slot.now) c.propose-answer.result))
     (same_number old was.site.now there c.number.result c.number-number.result
-    c.number-number.ensures.value c.number.ensures) (c.in_ok-say_proposal.ensures c.args.slot.now))
+    c.number-number.ensures.value c.number.ensures) (c.in_ok-push_proposal.ensures c.args.slot.now))
 
 pub returns-in_err-send_answer-clause-comes : goal.returns-in_err-send_answer-clause-comes
 returns-in_err-send_answer-clause-comes g c old there serves =
@@ -46,14 +46,14 @@ returns-in_err-send_answer-clause-comes g c old there serves =
     was.lines.now.items was.lines.now.items c.in_err-send_answer.field-0.0
     c.from_residual.result c.from_residual.ensures.1 c.in_err-send_answer.ensures.hands
 
-pub returns-in_err-say_proposal-clause-comes : goal.returns-in_err-say_proposal-clause-comes
-returns-in_err-say_proposal-clause-comes g c old there serves =
+pub returns-in_err-push_proposal-clause-comes : goal.returns-in_err-push_proposal-clause-comes
+returns-in_err-push_proposal-clause-comes g c old there serves =
     let was = c.args.self.now in
-    let at = goal.at.returns-in_err-say_proposal-clause-comes g c in
+    let at = goal.at.returns-in_err-push_proposal-clause-comes g c in
     proposes_part (call g at.After-send_answer old there serves)
     c.propose-answer.ensures.refused was.ports.now
     (g.P.Port.traffic was.port.now) (g.P.Port.traffic c.send_answer.new.port)
-    was.lines.now.items c.say_proposal.new.lines.items
+    was.lines.now.items c.push_proposal.new.lines.items
     (whole_part (g.P.Port.traffic was.port.now) (g.P.Port.traffic c.send_answer.new.port)
     (all_handed (posts_of was.ports.now c.propose-answer.result)) c.in_ok-send_answer.ensures.hands)
-    c.from_residual-in_err-say_proposal.result c.from_residual-in_err-say_proposal.ensures.1
+    c.from_residual-in_err-push_proposal.result c.from_residual-in_err-push_proposal.ensures.1

@@ -1,6 +1,6 @@
 use Rattle.std.proofs.Common.{◌∙◌, ap, subst, ℕ, true, ◌≤◌, length}
 use Rattle.std.specs.Prelude.{slice_set, ◌-◌}
-use Rattle.world_tables.specs.Numbers.{Sending, is_named}
+use Rattle.world_tables.specs.DatagramNumbers.{Sending, is_named}
 use Rattle.world_tables.proofs.Named.{named_mark, named_other, named_stays, named_more}
 use Rattle.world_tables.proofs.datagrams.Datagrams.name.Goals as goal
 

@@ -1,5 +1,5 @@
 use Rattle.std.proofs.Common.{◌∙◌, ap, ℕ, Bool, List, []}
-use Rattle.world_tables.specs.Numbers.{is_named}
+use Rattle.world_tables.specs.DatagramNumbers.{is_named}
 use Rattle.world_tables.proofs.Named.{named_nothing}
 use Rattle.world_tables.proofs.datagrams.Datagrams.new.Goals as goal
 

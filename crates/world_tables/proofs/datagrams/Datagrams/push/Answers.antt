@@ -1,5 +1,5 @@
 use Rattle.std.proofs.Common.{◌∙◌, ap, Bool, List}
-use Rattle.world_tables.specs.Numbers.{Sending, is_named}
+use Rattle.world_tables.specs.DatagramNumbers.{Sending, is_named}
 use Rattle.world_tables.proofs.Named.{named_push}
 use Rattle.world_tables.proofs.datagrams.Datagrams.push.Goals as goal
 

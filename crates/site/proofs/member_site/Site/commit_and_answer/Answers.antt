@@ -4,7 +4,7 @@ use Rattle.site.specs.declared.fault.SiteFault.{SiteFault}
 use Rattle.site.specs.Datagrams.{handed_out}
 use Rattle.site.specs.inner.Concluded.{Concludes}
 use Rattle.site.proofs.Conclusions.{concludes_err, answer_err_of}
-use Rattle.site.proofs.member_site.Site.conclude.Goals as goal
+use Rattle.site.proofs.member_site.Site.commit_and_answer.Goals as goal
 
 pub returns-in_err-commit_and_note : goal.returns-in_err-commit_and_note
 returns-in_err-commit_and_note g c =

@@ -1,0 +1,87 @@
+-- What a call has begun and not finished, where memory may run out before its end. A first reading
+-- can pass this over: of what is heard, promised and voted it says nothing.
+use Rattle.std.specs.Prelude.{ℕ, ◌==◌, Option, Some, None, if◌then◌else◌}
+use Rattle.fed_types.specs.declared.bag_id.BagId.{BagId}
+use Rattle.fed_types.specs.Ballots.{BallotNumber}
+use Rattle.fed_types.specs.Slots.{SlotName}
+use Rattle.records.specs.declared.entry.Entry.{Entry}
+use Rattle.records.specs.declared.entry.Entry.TheVariants as entry
+use Rattle.dgram.specs.declared.message.Message.{Message}
+use Rattle.proposer.specs.Sessions.{Session, hears, at_slot, with_current}
+
+-- Of each slot, so that the session doesn't show it: where memory runs out meanwhile, nothing has
+-- happened. A ballot that was begun, while its Round record isn't noted, and the bag that it was
+-- begun with; the bag that the current ballot was begun with; and the promise that made a proposal
+-- ready, while the proposal isn't issued.
+pub record UnderWay : Type 0 where
+  pub begun : SlotName → Option BallotNumber
+  pub begun_bag : SlotName → Option BagId
+  pub current_bag : SlotName → Option BagId
+  pub waiting : SlotName → Option Message
+
+-- nothing is
+abbrev pub nothing : UnderWay
+nothing = record {
+  begun = λ slot. None;
+  begun_bag = λ slot. None;
+  current_bag = λ slot. None;
+  waiting = λ slot. None;
+}
+
+-- a ballot is begun with a bag
+abbrev pub begins : UnderWay → SlotName → BallotNumber → BagId → UnderWay
+begins under slot ballot own = record {
+  begun = at_slot slot (Some ballot) under.begun;
+  begun_bag = at_slot slot (Some own) under.begun_bag;
+  current_bag = under.current_bag;
+  waiting = under.waiting;
+}
+
+-- this promise waits, or none does
+abbrev pub waits : UnderWay → SlotName → Option Message → UnderWay
+waits under slot m = record {
+  begun = under.begun;
+  begun_bag = under.begun_bag;
+  current_bag = under.current_bag;
+  waiting = at_slot slot m under.waiting;
+}
+
+-- a promise that makes a proposal of this bag ready isn't heard yet; one that makes none ready is
+abbrev pub heard_after : Option BagId → Session → Message → Session
+heard_after None session m = hears session m
+heard_after (Some bag) session m = session
+
+-- but waits
+abbrev pub waiting_after : Option BagId → UnderWay → Message → UnderWay
+waiting_after None under m = under
+waiting_after (Some bag) under m = waits under m.slot (Some m)
+
+-- it is heard once the proposal is issued
+abbrev pub heard_if : Session → Option Message → Session
+heard_if session None = session
+heard_if session (Some m) = hears session m
+
+-- the ballot that was begun, where it is of this round
+abbrev pub of_round : Option BallotNumber → ℕ → Option BallotNumber
+of_round None round = None
+of_round (Some ballot) round = if ballot.round == round then Some ballot else None
+
+-- a Round record of the ballot that was begun makes it current, and no other record does
+abbrev pub current_by : Option BallotNumber → Entry → Option BallotNumber
+current_by begun (entry.Round round) = of_round begun round
+current_by begun _ = None
+
+-- the session after that
+abbrev pub current_if : Session → SlotName → Option BallotNumber → Session
+current_if session slot None = session
+current_if session slot (Some ballot) = with_current session slot ballot
+
+-- and what is under way: of this slot nothing but the bag of the ballot that is current now
+abbrev pub under_way_if : UnderWay → SlotName → Option BallotNumber → UnderWay
+under_way_if under slot None = under
+under_way_if under slot (Some ballot) = record {
+  begun = at_slot slot None under.begun;
+  begun_bag = at_slot slot None under.begun_bag;
+  current_bag = at_slot slot (under.begun_bag slot) under.current_bag;
+  waiting = at_slot slot None under.waiting;
+}
