@@ -48,7 +48,8 @@ is_vote asked None = false
 is_vote asked (Some vote) = same_ballot vote.ballot asked.ballot && same_bag vote.bag asked.bag
 
 -- Phase 2 (b), and P1a: asked for a vote that it hasn't cast last, it casts it, unless it has
--- promised a greater ballot, or has voted for another bag in this one.
+-- promised a greater ballot, or has voted for another bag in this one. A vote counts as a promise
+-- of its ballot, so where it has promised none it hasn't voted.
 abbrev pub on_new_accept : Option BallotNumber → Option Vote → Vote → Decision
 on_new_accept None vote asked = votes asked
 on_new_accept (Some promised) vote asked =

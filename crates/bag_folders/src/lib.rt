@@ -3,8 +3,8 @@
 //!
 //! ```
 //! match self.folders.read(path.as_str()) {
-//!     Ok(facts) => self.take_tree(client, slot, &facts),
-//!     Err(fault) => self.leave_folder(client, slot, fault),
+//!     Ok(facts) => self.deposit_tree(client, slot, &facts),
+//!     Err(fault) => self.refuse_deposit(client, slot, fault),
 //! }
 //! ```
 #![tactic(auto)]

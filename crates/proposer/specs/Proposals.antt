@@ -27,12 +27,12 @@ ballot_after site last =
 unfoldable pub next_ballot : ℕ → SlotName → List Record → List Message → Option BallotNumber
 next_ballot site slot records heard = ballot_after site (last_round slot records heard)
 
--- the ballot that the site has issued last, and how many messages it had heard then
+-- the ballot that the site has begun last, and how many messages it had heard before
 pub record Current : Type 0 where
   pub ballot : BallotNumber
   pub heard_before : ℕ
 
--- The responses to its prepare request: the promises for the ballot, since it was issued.
+-- The responses to its prepare request: the promises for the ballot, since it was begun.
 unfoldable pub gathered : SlotName → Current → List Message → List PromiseFrom
 gathered slot current heard =
     promises_for current.ballot (bodies_of slot (drop current.heard_before heard))

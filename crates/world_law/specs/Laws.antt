@@ -1,4 +1,5 @@
 -- What is said of a network, and the laws of agreement (Lamport, Paxos Made Simple, section 2.2).
+-- Each law is the contract of a function of src/law.rt.
 use Rattle.std.specs.Prelude.{ℕ, ◌≡◌, ◌⊎◌, List, [], ◌∷◌, ◌++◌, Option, Some, None}
 use Rattle.std.specs.Option.{option_to_list, option_map}
 use Rattle.fed_types.specs.declared.bag_id.BagId.{BagId}
@@ -89,8 +90,8 @@ abbrev pub IsHighestPrior : List PromiseFrom → Option Vote → Type 0
 IsHighestPrior promises None = (vote : Vote) → ¬ IsNamed promises vote
 IsHighestPrior promises (Some highest) = IsHighestNamed promises highest
 
--- members that are a quorum have promised the ballot, and the bag is the one that follows from the
--- highest vote that their promises name
+-- P2c: members that are a quorum have promised the ballot, and the bag is the one that follows from
+-- the highest vote that their promises name
 pub record IsBacked (q : QuorumSystem) (w : Network) (slot : SlotName) (vote : Vote) : Type 0 where
   pub promises : List PromiseFrom
   pub quorum : IsQuorum q (promisers promises)
@@ -140,7 +141,7 @@ VotesAreOnRecord w =
     (n : ℕ) (slot : SlotName) (vote : Vote) → WasSent w slot (Accepted n vote)
     → OnRecord w n slot (entry.Vote vote)
 
--- priors stay: a promise names its site's highest vote below its ballot. Since this is so after
+-- a promise names its site's highest vote below its ballot. Since this is so after
 -- any events, it stays so, whatever the site votes for later.
 abbrev pub PromisesNameHighestVotes : Network → Type 0
 PromisesNameHighestVotes w =
