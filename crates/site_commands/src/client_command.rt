@@ -4,7 +4,7 @@ use crate::client::send_on;
 use crate::file_members::{members_at, port_of};
 use crate::request::Request;
 use crate::send_arguments::SendTask;
-use crate::server_command::socket;
+use crate::socket::socket;
 use crate::stop::{Stop, write_stop};
 use crate::until_known::send_until_known;
 use dgram::FolderPath;

@@ -23,6 +23,7 @@ mod send_arguments;
 mod server_command;
 mod service;
 mod site_arguments;
+mod socket;
 mod stop;
 mod until_known;
 
@@ -34,10 +35,11 @@ pub use printed_members::print_members;
 pub use reply::{Reply, Wanted};
 pub use request::Request;
 pub use send_arguments::{SendTask, send_command, send_task, to_argument};
-pub use server_command::{serve_site, socket};
+pub use server_command::serve_site;
 pub use service::{Service, open_and_serve};
 pub use site_arguments::{
     SiteTask, Turns, members_argument, site_command, site_task, wait_argument,
 };
+pub use socket::socket;
 pub use stop::{Stop, write_numbered, write_stop};
 pub use until_known::send_until_known;

@@ -6,6 +6,7 @@ use crate::file_members::{expect_listed, members_at, port_of, ports_of};
 use crate::folders_below::FoldersBelow;
 use crate::service::{Service, open_and_serve};
 use crate::site_arguments::SiteTask;
+use crate::socket::socket;
 use crate::stop::{Stop, write_stop};
 use bag_folders::{DiskFolders, Folders};
 use cell_device::{CellFault, FileCell};
@@ -17,7 +18,7 @@ use std::alloc::AllocError;
 use std::fs::{self, File};
 use std::io;
 use std::io::{ErrorKind, Printer, Write};
-use udp_site::{Port, PortFault, UdpPort, Waits};
+use udp_site::{Port, UdpPort};
 
 /// Serves as the arguments say. The lines are written to standard output.
 pub fn serve_site(rt: &HostRuntime, task: &SiteTask<'_>) -> Result<u8, ProgramFault> {
@@ -206,19 +207,5 @@ fn disk(rt: &HostRuntime) -> Result<HostRuntime, Stop> {
     match rt.clone() {
         Ok(disk) => Ok(disk),
         Err(_) => Err(Stop::Memory),
-    }
-}
-
-/// A socket at this port, or at a free one where it is 0.
-pub fn socket(
-    rt: &HostRuntime,
-    federation: u64,
-    number: u16,
-    waits: Waits,
-) -> Result<UdpPort, Stop> {
-    match UdpPort::bind(rt, federation, number, waits) {
-        Ok(port) => Ok(port),
-        Err(PortFault::Device) => Err(Stop::Socket),
-        Err(PortFault::Memory) => Err(Stop::Memory),
     }
 }
