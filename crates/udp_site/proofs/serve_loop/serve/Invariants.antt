@@ -4,7 +4,7 @@ use Rattle.udp_site.specs.Turns.{IsServing, begins, turn_of}
 use Rattle.udp_site.specs.inner.Servers.{Keeps}
 use Rattle.udp_site.specs.inner.SlotRecords.{AreSettled}
 use Rattle.udp_site.proofs.OneMoreTurn.{SoFar}
-use Rattle.udp_site.proofs.serve.serve.Given as goal
+use Rattle.udp_site.proofs.serve_loop.serve.Given as goal
 
 -- the turns so far lead here, and no more of them were idle than there were
 abbrev pub invariant-turns : goal.invariant-turns

@@ -12,9 +12,9 @@ use Rattle.udp_site.specs.Served.{Rule, Outside, Turned, Serves, outside}
 use Rattle.udp_site.specs.inner.OneTurn.{OneTurn}
 use Rattle.udp_site.specs.inner.Servers.{Stands}
 use Rattle.udp_site.proofs.OneMoreTurn.{shows_none, one_turn_more, ended, ended_so, all_served}
-use Rattle.udp_site.proofs.serve.serve.Given.{Over}
-use Rattle.udp_site.proofs.serve.serve.Goals.{After-one_turn}
-use Rattle.udp_site.proofs.serve.serve.Goals as goal
+use Rattle.udp_site.proofs.serve_loop.serve.Given.{Over}
+use Rattle.udp_site.proofs.serve_loop.serve.Goals.{After-one_turn}
+use Rattle.udp_site.proofs.serve_loop.serve.Goals as goal
 
 -- how it ends with this site
 abbrev Ended :
