@@ -28,24 +28,21 @@ module _ (facts : TreeFacts) (test : Listing → NumberedFile → Bool)
   abbrev places : Listing → List Place
   places listing = flat_map (each listing) listing.files
 
-  -- a place is that of an entry that passes
-  passes_at : (place : Place) → In place (flat_map places (listings_of facts.files))
-      → (manifest : Manifest) × (entry : NumberedFile)
-      × IsNamed facts (manifest_name manifest.kind manifest.algorithm) manifest
-      × ListsNumbered manifest entry × (test (listing_of manifest) entry ≡ true)
-      × (at (listing_of manifest) entry ≡ place)
-  passes_at place h =
+  -- what holds at each entry that passes holds at each place
+  passes_at : (Is : Place → Type 0)
+      → ((manifest : Manifest) (entry : NumberedFile)
+      → IsNamed facts (manifest_name manifest.kind manifest.algorithm) manifest
+      → ListsNumbered manifest entry → test (listing_of manifest) entry ≡ true
+      → Is (at (listing_of manifest) entry))
+      → (place : Place) → In place (flat_map places (listings_of facts.files)) → Is place
+  passes_at Is holds place h =
       let (manifest, m, here) = of_manifest places facts.files place h in
       let listing = listing_of manifest in
       let (entry, listed, found) = in_some (each listing) listing.files place here in
-      let (passed, is) = in_when (test listing entry) (at listing entry) place found in (
-        manifest,
-        entry,
-        (in_contained (manifests_of facts.files) manifest m, refl),
-        entry_listed manifest entry listed,
-        passed,
-        is,
-      )
+      let (passed, is) = in_when (test listing entry) (at listing entry) place found in
+      subst Is is
+      (holds manifest entry (in_contained (manifests_of facts.files) manifest m, refl)
+      (entry_listed manifest entry listed) passed)
 
   -- an entry that passes has a place
   at_passes : (manifest : Manifest) (entry : NumberedFile) (place : Place)
@@ -70,9 +67,9 @@ module _ (facts : TreeFacts) where
       → In place (flat_map astray_places (listings_of facts.files))
       → IsWrongAt UnsafePath facts place
   unfolding IsWrongAt listing_of
-  astray_is place h =
-      let (manifest, entry, m, lists, passed, is) = passes_at facts astray entry_place place h in
-      subst (IsWrongAt UnsafePath facts) is (manifest, entry.file, m, lists, refl, passed)
+  astray_is =
+      passes_at facts astray entry_place (IsWrongAt UnsafePath facts)
+      (λ manifest entry m lists passed. (manifest, entry.file, m, lists, refl, passed))
 
   pub is_astray_there : (place : Place) → IsWrongAt UnsafePath facts place
       → In place (flat_map astray_places (listings_of facts.files))
@@ -91,9 +88,9 @@ module _ (facts : TreeFacts) where
       → In place (flat_map (missing_places facts.files) (listings_of facts.files))
       → IsWrongAt MissingFile facts place
   unfolding IsWrongAt listing_of
-  missing_is place h =
-      let (manifest, entry, m, lists, passed, is) = passes_at facts missing entry_place place h in
-      subst (IsWrongAt MissingFile facts) is (manifest, entry.file, m, lists, refl, passed)
+  missing_is =
+      passes_at facts missing entry_place (IsWrongAt MissingFile facts)
+      (λ manifest entry m lists passed. (manifest, entry.file, m, lists, refl, passed))
 
   pub is_missing_there : (place : Place) → IsWrongAt MissingFile facts place
       → In place (flat_map (missing_places facts.files) (listings_of facts.files))
@@ -112,9 +109,9 @@ module _ (facts : TreeFacts) where
       → In place (flat_map (wrong_places facts.files) (listings_of facts.files))
       → IsWrongAt WrongDigest facts place
   unfolding IsWrongAt listing_of
-  wrong_is place h =
-      let (manifest, entry, m, lists, passed, is) = passes_at facts wrong digest_place place h in
-      subst (IsWrongAt WrongDigest facts) is (manifest, entry.file, m, lists, refl, (refl, passed))
+  wrong_is =
+      passes_at facts wrong digest_place (IsWrongAt WrongDigest facts)
+      (λ manifest entry m lists passed. (manifest, entry.file, m, lists, refl, (refl, passed)))
 
   pub is_wrong_there : (place : Place) → IsWrongAt WrongDigest facts place
       → In place (flat_map (wrong_places facts.files) (listings_of facts.files))
