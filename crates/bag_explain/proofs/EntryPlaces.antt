@@ -14,7 +14,7 @@ use Rattle.bag_explain.specs.Places.{Place, at_entry, at_digest}
 use Rattle.bag_explain.specs.Places.{when, entry_place, digest_place, astray_places}
 use Rattle.bag_explain.specs.Places.{missing_places, wrong_places}
 use Rattle.bag_explain.specs.Wrong.{IsNamed, ListsNumbered, IsWrongAt}
-use Rattle.bag_explain.proofs.Members.{In, contained_in, in_contained, in_some, some_in}
+use Rattle.bag_explain.proofs.Members.{In, in_some, some_in}
 use Rattle.bag_explain.proofs.Members.{in_when, when_in}
 use Rattle.bag_explain.proofs.ListedEntries.{entry_listed, listed_entry, of_manifest, manifest_of}
 
@@ -41,7 +41,7 @@ module _ (facts : TreeFacts) (test : Listing → NumberedFile → Bool)
       let (entry, listed, found) = in_some (each listing) listing.files place here in
       let (passed, is) = in_when (test listing entry) (at listing entry) place found in
       subst Is is
-      (holds manifest entry (in_contained (manifests_of facts.files) manifest m, refl)
+      (holds manifest entry (m, refl)
       (entry_listed manifest entry listed) passed)
 
   -- an entry that passes has a place
@@ -52,8 +52,7 @@ module _ (facts : TreeFacts) (test : Listing → NumberedFile → Bool)
   at_passes manifest entry place c lists passed is =
       let listing = listing_of manifest in
       subst (λ p. In p (flat_map places (listings_of facts.files))) is
-      (manifest_of places facts.files (at listing entry) manifest
-      (contained_in (manifests_of facts.files) manifest c)
+      (manifest_of places facts.files (at listing entry) manifest c
       (some_in (each listing) listing.files entry (at listing entry)
       (listed_entry manifest entry lists) (when_in (test listing entry) (at listing entry) passed)))
 
