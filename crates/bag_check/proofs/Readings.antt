@@ -118,25 +118,20 @@ pub reads_kinds : (files : List FileFact) (empty between after : List Listed) �
     → Reads (manifests_of_kind Tag files) between after
     → Reads (manifests_of files) [] after
 reads_kinds files empty between after none payload tags =
-    let P : List Manifest → Type 0 = λ ms. Reads ms [] after in
-    let E : List Listed → Type 0 =
-    λ before. Reads (manifests_of_kind Payload files) before between in
-    subst P (sym (of_both files))
+    rw of_both
     (reads_both (manifests_of_kind Payload files) (manifests_of_kind Tag files) [] between after
-    (subst E none payload) tags)
+    (rw none at payload) tags)
 
 pub fails_payload : (files : List FileFact) (fault : BagFault)
     → FailsToRead (manifests_of_kind Payload files) fault → FailsToRead (manifests_of files) fault
 fails_payload files fault h =
-    let P : List Manifest → Type 0 = λ ms. FailsToRead ms fault in
-    subst P (sym (of_both files))
+    rw of_both
     (fails_first (manifests_of_kind Payload files) (manifests_of_kind Tag files) fault h)
 
 pub fails_tag : (files : List FileFact) (fault : BagFault)
     → FailsToRead (manifests_of_kind Tag files) fault → FailsToRead (manifests_of files) fault
 fails_tag files fault h =
-    let P : List Manifest → Type 0 = λ ms. FailsToRead ms fault in
-    subst P (sym (of_both files))
+    rw of_both
     (fails_second (manifests_of_kind Payload files) (manifests_of_kind Tag files) fault h)
 
 -- an error that a `?` hands on

@@ -17,22 +17,30 @@ bytes_eq-sym p q =
     same_from_decides (bytes_eq p q) (bytes_eq q p) (bytes_eq-Decides p q)
     (Decides-like (bytes_eq q p) sym sym (bytes_eq-Decides q p))
 
-mixed : (a s c d : Bool) → ((a || (s || false)) || (c || d)) ≡ ((a || c) || (s || d))
-mixed true s c d = refl
+-- a path among these files and one more
+pub listed-more : (q : List ℕ) (files : List ListedFile) (file : ListedFile)
+    → is_listed q (files ++ file ∷ []) ≡ (bytes_eq file.path q || is_listed q files)
+listed-more q files file =
+    list_any-append (λ (f : ListedFile). bytes_eq f.path q) files (file ∷ [])
+    ∙ (ap (λ t. is_listed q files || t) (or-false (bytes_eq file.path q))
+    ∙ or_comm (is_listed q files) (bytes_eq file.path q))
+
+mixed : (a s c d : Bool) → ((s || a) || (c || d)) ≡ ((a || c) || (s || d))
+mixed true true c d = refl
+mixed true false c d = refl
 mixed false true true d = refl
 mixed false true false d = refl
 mixed false false true d = refl
 mixed false false false d = refl
 
 -- one entry more
-repeats-snoc : (entries : List ListedFile) (entry : ListedFile)
+pub repeats-snoc : (entries : List ListedFile) (entry : ListedFile)
     → repeats (entries ++ entry ∷ []) ≡ (repeats entries || is_listed entry.path entries)
 unfolding repeats
 repeats-snoc [] entry = refl
 repeats-snoc (first ∷ entries) entry =
     rw (
-      list_any-append (λ (e : ListedFile). bytes_eq e.path first.path) entries
-          (entry ∷ []),
+      listed-more first.path entries entry,
       repeats-snoc entries entry,
       bytes_eq-sym first.path entry.path,
     )
@@ -77,11 +85,7 @@ module _ (entries : List ListedFile) (place : ℕ) (entry : ListedFile)
   pub listed_next : (q : List ℕ)
       → is_listed q (take (place + 1) entries)
       ≡ (bytes_eq entry.path q || is_listed q (take place entries))
-  listed_next q =
-      ap (is_listed q) next
-      ∙ (list_any-append (λ (e : ListedFile). bytes_eq e.path q) (take place entries) (entry ∷ [])
-      ∙ (ap (λ t. is_listed q (take place entries) || t) (or-false (bytes_eq entry.path q))
-      ∙ or_comm (is_listed q (take place entries)) (bytes_eq entry.path q)))
+  listed_next q = ap (is_listed q) next ∙ listed-more q (take place entries) entry
 
 -- a test that each element passes alike
 pub same_any : {X : Type 0} (p q : X → Bool) → ((x : X) → p x ≡ q x) → (xs : List X)

@@ -14,7 +14,7 @@ use Rattle.bag_explain.specs.Places.{Place, at_entry, at_digest}
 use Rattle.bag_explain.specs.Places.{when, entry_place, digest_place, astray_places}
 use Rattle.bag_explain.specs.Places.{missing_places, wrong_places}
 use Rattle.bag_explain.specs.Wrong.{IsNamed, ListsNumbered, IsWrongAt}
-use Rattle.bag_explain.proofs.Members.{In, contained_in, in_contained, in_some, some_in}
+use Rattle.bag_explain.proofs.Members.{In, in_some, some_in}
 use Rattle.bag_explain.proofs.Members.{in_when, when_in}
 use Rattle.bag_explain.proofs.ListedEntries.{entry_listed, listed_entry, of_manifest, manifest_of}
 
@@ -28,24 +28,21 @@ module _ (facts : TreeFacts) (test : Listing → NumberedFile → Bool)
   abbrev places : Listing → List Place
   places listing = flat_map (each listing) listing.files
 
-  -- a place is that of an entry that passes
-  passes_at : (place : Place) → In place (flat_map places (listings_of facts.files))
-      → (manifest : Manifest) × (entry : NumberedFile)
-      × IsNamed facts (manifest_name manifest.kind manifest.algorithm) manifest
-      × ListsNumbered manifest entry × (test (listing_of manifest) entry ≡ true)
-      × (at (listing_of manifest) entry ≡ place)
-  passes_at place h =
+  -- what holds at each entry that passes holds at each place
+  passes_at : (Is : Place → Type 0)
+      → ((manifest : Manifest) (entry : NumberedFile)
+      → IsNamed facts (manifest_name manifest.kind manifest.algorithm) manifest
+      → ListsNumbered manifest entry → test (listing_of manifest) entry ≡ true
+      → Is (at (listing_of manifest) entry))
+      → (place : Place) → In place (flat_map places (listings_of facts.files)) → Is place
+  passes_at Is holds place h =
       let (manifest, m, here) = of_manifest places facts.files place h in
       let listing = listing_of manifest in
       let (entry, listed, found) = in_some (each listing) listing.files place here in
-      let (passed, is) = in_when (test listing entry) (at listing entry) place found in (
-        manifest,
-        entry,
-        (in_contained (manifests_of facts.files) manifest m, refl),
-        entry_listed manifest entry listed,
-        passed,
-        is,
-      )
+      let (passed, is) = in_when (test listing entry) (at listing entry) place found in
+      subst Is is
+      (holds manifest entry (m, refl)
+      (entry_listed manifest entry listed) passed)
 
   -- an entry that passes has a place
   at_passes : (manifest : Manifest) (entry : NumberedFile) (place : Place)
@@ -55,8 +52,7 @@ module _ (facts : TreeFacts) (test : Listing → NumberedFile → Bool)
   at_passes manifest entry place c lists passed is =
       let listing = listing_of manifest in
       subst (λ p. In p (flat_map places (listings_of facts.files))) is
-      (manifest_of places facts.files (at listing entry) manifest
-      (contained_in (manifests_of facts.files) manifest c)
+      (manifest_of places facts.files (at listing entry) manifest c
       (some_in (each listing) listing.files entry (at listing entry)
       (listed_entry manifest entry lists) (when_in (test listing entry) (at listing entry) passed)))
 
@@ -70,9 +66,9 @@ module _ (facts : TreeFacts) where
       → In place (flat_map astray_places (listings_of facts.files))
       → IsWrongAt UnsafePath facts place
   unfolding IsWrongAt listing_of
-  astray_is place h =
-      let (manifest, entry, m, lists, passed, is) = passes_at facts astray entry_place place h in
-      subst (IsWrongAt UnsafePath facts) is (manifest, entry.file, m, lists, refl, passed)
+  astray_is =
+      passes_at facts astray entry_place (IsWrongAt UnsafePath facts)
+      (λ manifest entry m lists passed. (manifest, entry.file, m, lists, refl, passed))
 
   pub is_astray_there : (place : Place) → IsWrongAt UnsafePath facts place
       → In place (flat_map astray_places (listings_of facts.files))
@@ -91,9 +87,9 @@ module _ (facts : TreeFacts) where
       → In place (flat_map (missing_places facts.files) (listings_of facts.files))
       → IsWrongAt MissingFile facts place
   unfolding IsWrongAt listing_of
-  missing_is place h =
-      let (manifest, entry, m, lists, passed, is) = passes_at facts missing entry_place place h in
-      subst (IsWrongAt MissingFile facts) is (manifest, entry.file, m, lists, refl, passed)
+  missing_is =
+      passes_at facts missing entry_place (IsWrongAt MissingFile facts)
+      (λ manifest entry m lists passed. (manifest, entry.file, m, lists, refl, passed))
 
   pub is_missing_there : (place : Place) → IsWrongAt MissingFile facts place
       → In place (flat_map (missing_places facts.files) (listings_of facts.files))
@@ -112,9 +108,9 @@ module _ (facts : TreeFacts) where
       → In place (flat_map (wrong_places facts.files) (listings_of facts.files))
       → IsWrongAt WrongDigest facts place
   unfolding IsWrongAt listing_of
-  wrong_is place h =
-      let (manifest, entry, m, lists, passed, is) = passes_at facts wrong digest_place place h in
-      subst (IsWrongAt WrongDigest facts) is (manifest, entry.file, m, lists, refl, (refl, passed))
+  wrong_is =
+      passes_at facts wrong digest_place (IsWrongAt WrongDigest facts)
+      (λ manifest entry m lists passed. (manifest, entry.file, m, lists, refl, (refl, passed)))
 
   pub is_wrong_there : (place : Place) → IsWrongAt WrongDigest facts place
       → In place (flat_map (wrong_places facts.files) (listings_of facts.files))

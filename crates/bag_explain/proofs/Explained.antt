@@ -99,11 +99,11 @@ explained facts files payload found empty first all same_files same_payload list
     ∙ sym (explanation-is facts)))))
 
 -- one fault more is written
-pub fault_more : (facts : TreeFacts) (faults : List BagFault) (fault : BagFault)
-    (start before after : List ℕ) → before ≡ start ++ printed_faults facts faults
+pub fault_more : {before after : List ℕ} (facts : TreeFacts) (faults : List BagFault)
+    (fault : BagFault) (start : List ℕ) → before ≡ start ++ printed_faults facts faults
     → after ≡ before ++ printed_places fault (places_of fault facts)
     → after ≡ start ++ printed_faults facts (faults ++ fault ∷ [])
-fault_more facts faults fault start before after e h =
+fault_more {before} {after} facts faults fault start e h =
     after_both start (printed_faults facts faults) (printed_places fault (places_of fault facts))
     before after e h
     ∙ ap (λ t. start ++ t)

@@ -18,26 +18,23 @@ use Rattle.bag_explain.proofs.ManifestNames.{name_in, AreOther, manifests_once}
 
 -- ---- what a place says
 
-abbrev pub name_at : Place → List ℕ
-name_at (at_file path) = path
-name_at (at_line name line) = name
-name_at (at_entry path name line) = name
-name_at (at_digest path algorithm name line) = name
-name_at (at_unlisted path name) = name
-
-abbrev pub line_at : Place → ℕ
-line_at (at_file path) = 0
-line_at (at_line name line) = line
-line_at (at_entry path name line) = line
-line_at (at_digest path algorithm name line) = line
-line_at (at_unlisted path name) = 0
+-- the path, the name and the number of the line; the one is the other where there is only one of
+-- them, and the number is 0 where there is none
+abbrev pub said_at : Place → List ℕ × List ℕ × ℕ
+said_at (at_file path) = (path, path, 0)
+said_at (at_line name line) = (name, name, line)
+said_at (at_entry path name line) = (path, name, line)
+said_at (at_digest path algorithm name line) = (path, name, line)
+said_at (at_unlisted path name) = (path, name, 0)
 
 abbrev pub path_at : Place → List ℕ
-path_at (at_file path) = path
-path_at (at_line name line) = name
-path_at (at_entry path name line) = path
-path_at (at_digest path algorithm name line) = path
-path_at (at_unlisted path name) = path
+path_at place = (said_at place).0
+
+abbrev pub name_at : Place → List ℕ
+name_at place = (said_at place).1
+
+abbrev pub line_at : Place → ℕ
+line_at place = (said_at place).2
 
 -- no place comes twice
 abbrev pub Once : List Place → Type 0

@@ -1,6 +1,7 @@
 -- What a listing has is what its manifest lists.
 use Rattle.std.proofs.Common.{◌≡◌, ℕ, List, [], ◌∷◌, Result, Ok, Err, refl, sym, ap}
 use Rattle.std.proofs.Common.{◌∙◌, subst}
+use Rattle.std.specs.Prelude.{Contains}
 use Rattle.std.specs.List.{flat_map}
 use Rattle.std.proofs.lemmas.List.Folds.{flat_map-map}
 use Rattle.bag_text.specs.ListedFile.{ListedFile}
@@ -15,7 +16,8 @@ use Rattle.bag_explain.specs.Wrong.{ListsNumbered}
 use Rattle.bag_explain.specs.Findings.{has_some}
 use Rattle.bag_explain.proofs.LineLaws.{Agrees, text_agrees}
 use Rattle.bag_explain.proofs.NumberLaws.{numbered_are, malformed_are}
-use Rattle.bag_explain.proofs.Members.{In, of_each, in_some, some_in, in_unless, unless_in}
+use Rattle.bag_explain.proofs.Members.{In, contained_in, in_contained, of_each, in_some, some_in}
+use Rattle.bag_explain.proofs.Members.{in_unless, unless_in}
 use Rattle.bag_explain.proofs.ListedLines.{listed_numbered, malformed_numbered}
 use Rattle.bag_explain.proofs.RisingLines.{Rises, rises}
 
@@ -107,17 +109,20 @@ module _ (manifest : Manifest) where
 -- a place among all is one of some manifest's
 pub of_manifest : (places : Listing → List Place) (files : List FileFact) (place : Place)
     → In place (flat_map places (listings_of files))
-    → (manifest : Manifest) × In manifest (manifests_of files)
+    → (manifest : Manifest) × Contains (manifests_of files) manifest
     × In place (places (listing_of manifest))
 unfolding listings_of
 of_manifest places files place h =
+    let (manifest, m, here) =
     in_some (λ manifest. places (listing_of manifest)) (manifests_of files) place
-    (subst (In place) (flat_map-map places listing_of (manifests_of files)) h)
+    (subst (In place) (flat_map-map places listing_of (manifests_of files)) h) in
+    (manifest, in_contained (manifests_of files) manifest m, here)
 
 pub manifest_of : (places : Listing → List Place) (files : List FileFact) (place : Place)
-    (manifest : Manifest) → In manifest (manifests_of files)
+    (manifest : Manifest) → Contains (manifests_of files) manifest
     → In place (places (listing_of manifest)) → In place (flat_map places (listings_of files))
 unfolding listings_of
 manifest_of places files place manifest m h =
     subst (In place) (sym (flat_map-map places listing_of (manifests_of files)))
-    (some_in (λ manifest. places (listing_of manifest)) (manifests_of files) manifest place m h)
+    (some_in (λ manifest. places (listing_of manifest)) (manifests_of files) manifest place
+    (contained_in (manifests_of files) manifest m) h)

@@ -1,13 +1,13 @@
 -- The malformed lines that are found are all that are.
-use Rattle.std.proofs.Common.{◌≡◌, refl, subst, inl, inr}
+use Rattle.std.proofs.Common.{◌≡◌, refl, subst, inl}
 use Rattle.std.specs.List.{flat_map}
 use Rattle.bag_tree.specs.Facts.{TreeFacts}
 use Rattle.bag_check.specs.declared.fault.BagFault.TheVariants.{MalformedLine}
-use Rattle.bag_check.specs.Manifests.{manifests_of, manifest_name}
+use Rattle.bag_check.specs.Manifests.{manifest_name}
 use Rattle.bag_explain.specs.Listings.{listing_of, listings_of}
-use Rattle.bag_explain.specs.Places.{Place, at_line, malformed_at, malformed_places}
+use Rattle.bag_explain.specs.Places.{Place, at_line, name_of, malformed_at, malformed_places}
 use Rattle.bag_explain.specs.Wrong.{IsWrongAt}
-use Rattle.bag_explain.proofs.Members.{In, contained_in, in_contained, in_some, some_in}
+use Rattle.bag_explain.proofs.Members.{In, in_one, in_some, some_in}
 use Rattle.bag_explain.proofs.ListedEntries.{of_manifest, manifest_of}
 use Rattle.bag_explain.proofs.ListedEntries.{malformed_here, here_malformed}
 
@@ -21,15 +21,8 @@ module _ (facts : TreeFacts) where
       let (manifest, m, here) = of_manifest malformed_places facts.files place h in
       let listing = listing_of manifest in
       let (line, malformed, is) = in_some (malformed_at listing) listing.malformed place here in
-      elim is [
-        | inl e ↦
-            subst (IsWrongAt MalformedLine facts) e (
-              manifest,
-              (in_contained (manifests_of facts.files) manifest m, refl),
-              malformed_here manifest line malformed,
-            )
-        | inr none ↦ absurd none
-      ]
+      subst (IsWrongAt MalformedLine facts) (in_one (at_line (name_of listing) line) place is)
+      (manifest, (m, refl), malformed_here manifest line malformed)
 
   -- and a malformed line's place is found
   pub is_malformed_there : (place : Place) → IsWrongAt MalformedLine facts place
@@ -39,8 +32,7 @@ module _ (facts : TreeFacts) where
       let listing = listing_of manifest in
       let e : at_line (manifest_name manifest.kind manifest.algorithm) line ≡ at_line name line =
       cc in
-      manifest_of malformed_places facts.files (at_line name line) manifest
-      (contained_in (manifests_of facts.files) manifest c)
+      manifest_of malformed_places facts.files (at_line name line) manifest c
       (some_in (malformed_at listing) listing.malformed line (at_line name line)
       (here_malformed manifest line malformed) (inl e))
   is_malformed_there place h = absurd h

@@ -81,12 +81,16 @@ map_in f [] x h = absurd h
 map_in f (first ∷ xs) x (inl e) = inl (ap f e)
 map_in f (first ∷ xs) x (inr h) = inr (map_in f xs x h)
 
--- ---- one element, where a test passes
+-- ---- one element
 
+pub in_one : {X : Type 0} (x y : X) → In y (x ∷ []) → x ≡ y
+in_one x y (inl e) = e
+in_one x y (inr none) = absurd none
+
+-- the same, where a test passes
 pub in_when : {X : Type 0} (test : Bool) (x y : X) → In y (when test (x ∷ []))
     → (test ≡ true) × (x ≡ y)
-in_when true x y (inl e) = (refl, e)
-in_when true x y (inr h) = absurd h
+in_when true x y h = (refl, in_one x y h)
 in_when false x y h = absurd h
 
 pub when_in : {X : Type 0} (test : Bool) (x : X) → test ≡ true → In x (when test (x ∷ []))

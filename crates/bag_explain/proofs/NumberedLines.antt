@@ -64,14 +64,15 @@ module _ (algorithm : Algorithm) (items : List (Bor (List ℕ))) (place number :
       omega (arith, e, k, counted)
 
   from_more : {X : Type 0} (at : ℕ → List ℕ → List X) (from : ℕ → List (List ℕ) → List X)
-      → ((lines : List (List ℕ)) (line : List ℕ)
-      → from 1 (lines ++ line ∷ []) ≡ from 1 lines ++ at (1 + length lines) line)
+      → ((number : ℕ) → from number [] ≡ [])
+      → ((number : ℕ) (line : List ℕ) (lines : List (List ℕ))
+      → from number (line ∷ lines) ≡ at number line ++ from (number + 1) lines)
       → (before after : List X) → before ≡ from 1 (texts_of (take place items))
       → after ≡ before ++ at (number + 1) text → after ≡ from 1 (texts_of (take (place + 1) items))
-  from_more at from snoc before after e h =
+  from_more at from none more before after e h =
       h ∙ (ap (λ t. t ++ at (number + 1) text) e
       ∙ (ap (λ n. from 1 (texts_of (take place items)) ++ at n text) (sym here)
-      ∙ (sym (snoc (texts_of (take place items)) text)
+      ∙ (sym (from-snoc at from none more 1 (texts_of (take place items)) text)
       ∙ ap (from 1) (sym next))))
 
   pub malformed_more : (before after : List ℕ)
@@ -79,22 +80,16 @@ module _ (algorithm : Algorithm) (items : List (Bor (List ℕ))) (place number :
       → after ≡ before ++ if_malformed (number + 1) (entries_of algorithm text)
       → after ≡ malformed_from algorithm 1 (texts_of (take (place + 1) items))
   unfolding malformed_from
-  malformed_more before after e h =
-      let at = λ (n : ℕ) (line : List ℕ). if_malformed n (entries_of algorithm line) in
-      from_more at (malformed_from algorithm)
-      (from-snoc at (malformed_from algorithm) (λ n. refl) (λ n line lines. refl) 1)
-      before after e h
+  malformed_more = from_more (λ n line. if_malformed n (entries_of algorithm line))
+      (malformed_from algorithm) (λ n. refl) (λ n line lines. refl)
 
   pub numbered_more : (before after : List NumberedFile)
       → before ≡ numbered_from algorithm 1 (texts_of (take place items))
       → after ≡ before ++ numbered (number + 1) (entries_of algorithm text)
       → after ≡ numbered_from algorithm 1 (texts_of (take (place + 1) items))
   unfolding numbered_from
-  numbered_more before after e h =
-      let at = λ (n : ℕ) (line : List ℕ). numbered n (entries_of algorithm line) in
-      from_more at (numbered_from algorithm)
-      (from-snoc at (numbered_from algorithm) (λ n. refl) (λ n line lines. refl) 1)
-      before after e h
+  numbered_more = from_more (λ n line. numbered n (entries_of algorithm line))
+      (numbered_from algorithm) (λ n. refl) (λ n line lines. refl)
 
 -- after the last line
 pub all_read : (manifest : Manifest) (items : List (Bor (List ℕ))) (place : ℕ)

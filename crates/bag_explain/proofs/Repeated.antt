@@ -6,25 +6,17 @@ use Rattle.std.specs.List.{flat_map}
 use Rattle.std.specs.Str.{bytes_eq}
 use Rattle.std.proofs.lemmas.Grind.{flat_map-append}
 use Rattle.std.proofs.lemmas.List.{take_more, take_all}
-use Rattle.std.proofs.lemmas.List.Folds.{list_any-append}
-use Rattle.std.proofs.Math.Bool.{or-false, or-true, or_comm, or_assoc}
+use Rattle.std.proofs.Math.Bool.{or-false}
 use Rattle.bag_text.specs.ListedFile.{ListedFile}
 use Rattle.bag_check.specs.declared.fault.BagFault.TheVariants.{DuplicateEntry}
 use Rattle.bag_check.specs.Manifests.{is_listed}
 use Rattle.bag_check.specs.Check.{repeats}
-use Rattle.bag_check.proofs.Repeats.{bytes_eq-sym}
+use Rattle.bag_check.proofs.Repeats.{listed-more, repeats-snoc}
 use Rattle.bag_explain.specs.Lines.{NumberedFile}
 use Rattle.bag_explain.specs.Listings.{Listing}
 use Rattle.bag_explain.specs.Places.{Place, when, files_in, repeated_after, repeated_at}
 use Rattle.bag_explain.specs.Findings.{printed_places, has_some}
 use Rattle.bag_explain.proofs.FaultLines.{after_both, printed-append}
-
--- a path among these files and one more
-listed-snoc : (q : List ℕ) (files : List ListedFile) (file : ListedFile)
-    → is_listed q (files ++ file ∷ []) ≡ (is_listed q files || bytes_eq file.path q)
-listed-snoc q files file =
-    list_any-append (λ (f : ListedFile). bytes_eq f.path q) files (file ∷ [])
-    ∙ ap (λ t. is_listed q files || t) (or-false (bytes_eq file.path q))
 
 files_in-append : (a b : List NumberedFile) → files_in (a ++ b) ≡ files_in a ++ files_in b
 files_in-append [] b = refl
@@ -62,8 +54,7 @@ module _ (entries : List NumberedFile) (place : ℕ) (entry : NumberedFile)
   listed_next q =
       ap (λ es. is_listed q (files_in es)) next
       ∙ (ap (is_listed q) (files_in-append (take place entries) (entry ∷ []))
-      ∙ (listed-snoc q (files_in (take place entries)) entry.file
-      ∙ or_comm (is_listed q (files_in (take place entries))) (bytes_eq entry.file.path q)))
+      ∙ listed-more q (files_in (take place entries)) entry.file)
 
   repeated_next : repeated_after [] (take (place + 1) entries)
       ≡ repeated_after [] (take place entries)
@@ -123,23 +114,6 @@ module _ (listing : Listing) (items : List NumberedFile) (place : ℕ)
       (take_all place listing.files (subst (λ es. length es ≤ place) same past))
 
 -- ---- a path is listed twice where an entry is repeated
-
-or_swap : (a b c : Bool) → (a || (b || c)) ≡ (b || (a || c))
-or_swap true b c = sym (or-true b)
-or_swap false b c = refl
-
-repeats-snoc : (entries : List ListedFile) (entry : ListedFile)
-    → repeats (entries ++ entry ∷ []) ≡ (repeats entries || is_listed entry.path entries)
-unfolding repeats
-repeats-snoc [] entry = refl
-repeats-snoc (first ∷ entries) entry =
-    rw (
-      listed-snoc first.path entries entry,
-      repeats-snoc entries entry,
-      bytes_eq-sym first.path entry.path,
-    )
-    (simp or_assoc (ap (λ (t : Bool). is_listed first.path entries || t)
-    (or_swap (bytes_eq entry.path first.path) (repeats entries) (is_listed entry.path entries))))
 
 once_more : (a t h : Bool) (e : NumberedFile) (others : List NumberedFile) → has_some others ≡ h
     → ((a || t) || h) ≡ (a || has_some (when t (e ∷ []) ++ others))

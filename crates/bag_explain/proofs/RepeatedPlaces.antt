@@ -3,12 +3,13 @@ use Rattle.std.proofs.Common.{◌≡◌, ◌<◌, [], refl, sym, ◌∙◌, subs
 use Rattle.std.specs.List.{flat_map}
 use Rattle.bag_tree.specs.Facts.{TreeFacts}
 use Rattle.bag_check.specs.declared.fault.BagFault.TheVariants.{DuplicateEntry}
-use Rattle.bag_check.specs.Manifests.{manifests_of, manifest_name}
+use Rattle.bag_check.specs.Manifests.{manifest_name}
 use Rattle.bag_explain.specs.Lines.{NumberedFile}
 use Rattle.bag_explain.specs.Listings.{listing_of, listings_of}
-use Rattle.bag_explain.specs.Places.{Place, at_entry, repeated_after, repeated_at, repeated_places}
+use Rattle.bag_explain.specs.Places.{Place, at_entry, entry_place, repeated_after, repeated_at}
+use Rattle.bag_explain.specs.Places.{repeated_places}
 use Rattle.bag_explain.specs.Wrong.{IsWrongAt}
-use Rattle.bag_explain.proofs.Members.{In, contained_in, in_contained, in_some, some_in}
+use Rattle.bag_explain.proofs.Members.{In, in_one, in_some, some_in}
 use Rattle.bag_explain.proofs.Members.{in_payload, payload_in}
 use Rattle.bag_explain.proofs.EarlierEntries.{IsBefore, repeated_before, before_repeated}
 use Rattle.bag_explain.proofs.ListedEntries.{entry_listed, listed_entry, of_manifest, manifest_of}
@@ -33,18 +34,14 @@ module _ (facts : TreeFacts) where
       × (first.file.path ≡ entry.file.path) × (first.line < entry.line) =
       elim before [ inl none ↦ absurd cc | inr first ↦ first ] in
       let (first, k, path, below) = there in
-      elim is [
-        | inl e ↦
-            subst (IsWrongAt DuplicateEntry facts) e (
-              manifest,
-              entry.file,
-              (in_contained (manifests_of facts.files) manifest m, refl),
-              entry_listed manifest entry listed,
-              refl,
-              (payload, (first, entry_listed manifest first k, path, below)),
-            )
-        | inr none ↦ absurd none
-      ]
+      subst (IsWrongAt DuplicateEntry facts) (in_one (entry_place listing entry) place is) (
+        manifest,
+        entry.file,
+        (m, refl),
+        entry_listed manifest entry listed,
+        refl,
+        (payload, (first, entry_listed manifest first k, path, below)),
+      )
 
   -- and a repeated entry's place is found
   pub is_repeated_there : (place : Place) → IsWrongAt DuplicateEntry facts place
@@ -59,8 +56,7 @@ module _ (facts : TreeFacts) where
       ≡ at_entry path name line = cc in
       let before : IsBefore [] listing.files entry =
       inr (first, listed_entry manifest first earlier, path_of_it ∙ sym same, below) in
-      manifest_of repeated_places facts.files (at_entry path name line) manifest
-      (contained_in (manifests_of facts.files) manifest c)
+      manifest_of repeated_places facts.files (at_entry path name line) manifest c
       (payload_in listing.kind (flat_map (repeated_at listing) again) (at_entry path name line)
       payload
       (some_in (repeated_at listing) again entry (at_entry path name line)

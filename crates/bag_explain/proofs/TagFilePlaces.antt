@@ -1,6 +1,6 @@
 -- The places of the faults that need no manifest to be read.
 use Rattle.std.proofs.Common.{◌≡◌, ℕ, Bool, true, List, [], ◌∷◌, Option, Some, None, Result, Ok}
-use Rattle.std.proofs.Common.{Err, refl, sym, subst, inl, inr}
+use Rattle.std.proofs.Common.{Err, refl, sym, subst, inl}
 use Rattle.std.specs.Prelude.{◌↔◌, codes}
 use Rattle.std.specs.List.{flat_map}
 use Rattle.bag_text.specs.Readers.{declaration_of}
@@ -10,7 +10,7 @@ use Rattle.bag_check.specs.Manifests.{is_unknown}
 use Rattle.bag_explain.specs.Places.{Place, at_file, at_line}
 use Rattle.bag_explain.specs.Places.{when, faulty_line, faulty_lines, unknown_at}
 use Rattle.bag_explain.specs.Wrong.{IsWrongAt}
-use Rattle.bag_explain.proofs.Members.{In, contained_in, in_contained, in_some, some_in}
+use Rattle.bag_explain.proofs.Members.{In, in_one, contained_in, in_contained, in_some, some_in}
 use Rattle.bag_explain.proofs.Members.{in_when, when_in}
 
 -- ---- the one place of a fault
@@ -37,8 +37,8 @@ declared_line (Some text) place h = go (declaration_of text) refl h
     go : (read : Result (List ℕ × List ℕ) ℕ) → declaration_of text ≡ read
         → In place (faulty_line read) → IsFaultyLine (Some text) place
     go (Ok declared) e h = absurd h
-    go (Err line) e (inl is) = (text, line, refl, e, sym is)
-    go (Err line) e (inr none) = absurd none
+    go (Err line) e h =
+        (text, line, refl, e, sym (in_one (at_line (codes "bagit.txt") line) place h))
 
 pub line_declared : (declaration : Option (List ℕ)) (place : Place) → IsFaultyLine declaration place
     → In place (faulty_lines declaration)

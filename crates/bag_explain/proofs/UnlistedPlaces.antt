@@ -4,7 +4,7 @@ use Rattle.std.specs.List.{flat_map}
 use Rattle.bag_text.specs.ListedFile.{ListedFile}
 use Rattle.bag_tree.specs.Facts.{TreeFacts}
 use Rattle.bag_check.specs.declared.fault.BagFault.TheVariants.{UnlistedFile}
-use Rattle.bag_check.specs.Manifests.{manifests_of, manifest_name}
+use Rattle.bag_check.specs.Manifests.{manifest_name}
 use Rattle.bag_check.specs.Check.{is_unlisted}
 use Rattle.bag_explain.specs.Listings.{listing_of, listings_of}
 use Rattle.bag_explain.specs.Places.{Place, at_unlisted, files_in, name_of, of_payload}
@@ -37,7 +37,7 @@ module _ (facts : TreeFacts) where
         manifest,
         files,
         file,
-        (in_contained (manifests_of facts.files) manifest m, refl),
+        (m, refl),
         payload,
         read,
         in_contained facts.files file there,
@@ -58,8 +58,7 @@ module _ (facts : TreeFacts) where
       ≡ at_unlisted path name = cc in
       let test : is_unlisted (files_in listing.files) file ≡ true =
       subst (λ (fs : List ListedFile). is_unlisted fs file ≡ true) (sym are) unlisted in
-      manifest_of (unlisted_places facts.files) facts.files (at_unlisted path name) manifest
-      (contained_in (manifests_of facts.files) manifest c)
+      manifest_of (unlisted_places facts.files) facts.files (at_unlisted path name) manifest c
       (unless_in listing.malformed (of_payload listing.kind places) (at_unlisted path name) sound
       (payload_in listing.kind places (at_unlisted path name) payload
       (some_in (unlisted_at listing) facts.files file (at_unlisted path name)

@@ -2,7 +2,7 @@ ghost use Rattle.std.specs.Prelude.{◌≡◌, ◌∷◌, [], codes};
 ghost use Rattle.std.specs.Option.{option_copied};
 ghost use Rattle.bag_text.specs.Readers.{declaration_of};
 ghost use Rattle.bag_check.specs.Check.{holds, is_supported_version, is_supported_encoding};
-ghost use Rattle.bag_check.specs.Check.{fails, declares_other};
+ghost use Rattle.bag_check.specs.Check.{declares_other};
 ghost use Rattle.bag_check.specs.Manifests.{text_at, is_unknown};
 ghost use Rattle.words.specs.Pushes.{Pushes};
 ghost use Rattle.bag_explain.specs.Places.{when, at_file, at_line, faulty_line};
@@ -126,17 +126,10 @@ fn has_other_version(declared: Option<&[u8]>) -> bool
     ensures { result ≡ declares_other (λ version encoding. is_supported_version version)
         (option_copied declared.entry) }
 {
-    match declared {
-        None => false,
-        Some(declared) => declares_other_version(declared),
-    }
-}
-
-fn declares_other_version(declared: &[u8]) -> bool
-    ensures { result ≡ fails (λ version encoding. is_supported_version version)
-        (declaration_of declared.now) }
-{
-    match declaration(declared) {
+    let Some(text) = declared else {
+        return false;
+    };
+    match declaration(text) {
         Ok(found) => !is_supported_version(found.version),
         Err(_) => false,
     }
@@ -146,17 +139,10 @@ fn has_other_encoding(declared: Option<&[u8]>) -> bool
     ensures { result ≡ declares_other (λ version encoding. is_supported_encoding encoding)
         (option_copied declared.entry) }
 {
-    match declared {
-        None => false,
-        Some(declared) => declares_other_encoding(declared),
-    }
-}
-
-fn declares_other_encoding(declared: &[u8]) -> bool
-    ensures { result ≡ fails (λ version encoding. is_supported_encoding encoding)
-        (declaration_of declared.now) }
-{
-    match declaration(declared) {
+    let Some(text) = declared else {
+        return false;
+    };
+    match declaration(text) {
         Ok(found) => !is_supported_encoding(found.encoding),
         Err(_) => false,
     }

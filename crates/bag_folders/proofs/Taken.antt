@@ -4,6 +4,7 @@ use Rattle.std.proofs.Common.{length, append-nil, take, subst, arith, Option, So
 use Rattle.std.proofs.Common.{Ok, Err, IfSome, refl, sym, ap, ◌∙◌, inl, inr}
 use Rattle.std.proofs.lemmas.Bool.{ltb-true, lt-ltb}
 use Rattle.std.proofs.lemmas.List.{length-append}
+use Rattle.std.proofs.lemmas.Option.{cond_some}
 use Rattle.std.specs.Prelude.{IfErr, IsErrAnd, IsErrOf}
 use Rattle.std.specs.Io.KnownBytes.{Consumes, Keeps, IsAtEnd}
 use Rattle.std.proofs.KnownBytes.{Consumes-trans, Consumes-kept}
@@ -132,25 +133,22 @@ refused_too_long file path piece had has now fault t d h e =
 -- feeding a piece is refused for these faults alone
 pub refused_as : (path bytes : List ℕ) (fault : TreeFault)
     → RefusesFor {T = Unit {0}} (fault_of_text path bytes) (Err fault) → IsReadFault fault
-refused_as path bytes fault h = go (is_read_text path && nat_lt longest_text (length bytes)) fault h
+refused_as path bytes fault h =
+    go (fault_of_text path bytes)
+    (λ found e. sym (cond_some (is_read_text path && nat_lt longest_text (length bytes))
+    TextTooLong found e).1) fault h
   where
-    go : (long : Bool) (fault : TreeFault)
-        → RefusesFor {T = Unit {0}} (cond long (Some TextTooLong) None) (Err fault)
-        → IsReadFault fault
-    go true TextTooLong h = inl refl
-    go long Memory h = inr (inr refl)
-    go long Device h = inr (inl refl)
-    go true Listing h = absurd (cc h)
-    go false Listing h = absurd (cc h)
-    go true NotAFile h = absurd (cc h)
-    go false NotAFile h = absurd (cc h)
-    go true TooDeep h = absurd (cc h)
-    go false TooDeep h = absurd (cc h)
-    go true TooMany h = absurd (cc h)
-    go false TooMany h = absurd (cc h)
-    go false TextTooLong h = absurd (cc h)
-    go true BadPath h = absurd (cc h)
-    go false BadPath h = absurd (cc h)
+    go : (found : Option TreeFault)
+        → ((fault : TreeFault) → found ≡ Some fault → fault ≡ TextTooLong)
+        → (fault : TreeFault) → RefusesFor {T = Unit {0}} found (Err fault) → IsReadFault fault
+    go found only Memory h = inr (inr refl)
+    go found only Listing h = inl (only Listing h)
+    go found only NotAFile h = inl (only NotAFile h)
+    go found only TooDeep h = inl (only TooDeep h)
+    go found only TooMany h = inl (only TooMany h)
+    go found only TextTooLong h = inl refl
+    go found only Device h = inl (only Device h)
+    go found only BadPath h = inl (only BadPath h)
 
 -- ---- a fault that is passed on
 

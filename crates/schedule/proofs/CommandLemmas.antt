@@ -1,11 +1,10 @@
 -- The words that the grammar has for a command are those that are read as the command.
-use Rattle.std.proofs.Common.{◌≡◌, ℕ, List, [], ◌∷◌, ◌++◌, Option, Some, None, refl, sym, subst}
-use Rattle.std.proofs.Common.{cond, inl, inr}
+use Rattle.std.proofs.Common.{◌≡◌, ℕ, List, [], ◌∷◌, ◌++◌, Option, Some, None, refl, subst}
+use Rattle.std.proofs.Common.{cond}
 use Rattle.std.specs.Prelude.{codes}
+use Rattle.std.specs.Option.{option_map}
 use Rattle.std.specs.Str.{bytes_eq}
-use Rattle.std.proofs.lemmas.Bool.{cases_Bool}
 use Rattle.std.proofs.lemmas.Option.{same_Some}
-use Rattle.std.proofs.lemmas.Slice.Eq.{bytes_eq-Decides}
 use Rattle.fed_types.specs.Limits.{greatest_version}
 use Rattle.fed_types.specs.Slots.{SlotName}
 use Rattle.schedule.specs.declared.call.Call.{Call}
@@ -13,22 +12,28 @@ use Rattle.schedule.specs.declared.call.Call.TheVariants.{Deposit, Propose, Deli
 use Rattle.schedule.specs.declared.command.Command.{Command}
 use Rattle.schedule.specs.declared.command.Command.TheVariants as commands
 use Rattle.schedule.specs.declared.fate.Fate.{Fate}
+<<<<<<< HEAD
 use Rattle.words.specs.Slots.{slot_of}
 use Rattle.schedule.specs.Commands.{site_of, tree_of, amount_of, call_command}
 use Rattle.schedule.specs.Commands.{tree_command, folder_command, file_command, deposit_command}
 use Rattle.schedule.specs.Commands.{propose_command, deliver_command, ask_command, query_command}
 use Rattle.schedule.specs.Commands.{raw_command, pump_command, stop_command, start_command}
+=======
+use Rattle.schedule.specs.Commands.{site_of, tree_of, amount_of, slot_of, call_command}
+use Rattle.schedule.specs.Commands.{only, file_command, deposit_command, propose_command}
+use Rattle.schedule.specs.Commands.{deliver_command, ask_command, query_command, raw_command}
+>>>>>>> 079e0a688beb4538c8afdbfd6ac648ffec09d4b0
 use Rattle.schedule.specs.Commands.{command_of}
-use Rattle.schedule.specs.Limits.{greatest_site, greatest_tree, greatest_amount}
-use Rattle.schedule.specs.Lines.{site_token, tree_token, amount_token, slot_tokens, call_tokens}
+use Rattle.schedule.specs.Limits.{greatest_site, greatest_tree}
+use Rattle.schedule.specs.Lines.{site_token, tree_token, slot_tokens, call_tokens}
 use Rattle.schedule.specs.Lines.{fate_tokens, command_tokens}
 use Rattle.schedule.specs.Tokens.{Token, Number, Object, IsWordFor, AreWordsFor}
 use Rattle.words.proofs.GrammarLemmas.{number_in-from, IsNumeral-number_in}
-use Rattle.schedule.proofs.FateLemmas.{fate_of-from, fate_of-says}
+use Rattle.schedule.proofs.FateLemmas.{amount-from, amount-says, fate_of-from, fate_of-says}
 use Rattle.words.proofs.StepLemmas.{bind_some}
 use Rattle.schedule.proofs.TokenLemmas.{text_of-from, IsTextFor-text_of, object_of-from}
 use Rattle.schedule.proofs.TokenLemmas.{IsObject-object_of, bytes_of-from, IsHexFor-bytes_of}
-use Rattle.schedule.proofs.TokenLemmas.{of_each, of_each_and}
+use Rattle.schedule.proofs.TokenLemmas.{mapped, same_words, by_keyword, of_each, of_each_and}
 
 -- ---- from the grammar
 
@@ -37,9 +42,6 @@ site-from word s is = number_in-from 0 greatest_site word s is
 
 tree-from : (word : List ℕ) (t : ℕ) → IsWordFor word (tree_token t) → tree_of word ≡ Some t
 tree-from word t is = number_in-from 1 greatest_tree word t is
-
-amount-from : (word : List ℕ) (n : ℕ) → IsWordFor word (amount_token n) → amount_of word ≡ Some n
-amount-from word n is = number_in-from 0 greatest_amount word n is
 
 slot-from : (object version : List ℕ) (slot : SlotName) → IsWordFor object (Object slot.object)
     → IsWordFor version (Number 1 greatest_version slot.version)
@@ -104,8 +106,7 @@ call_of-from (Ask s to slot) fate words are =
 
 pub command_of-from : (words : List (List ℕ)) (command : Command)
     → AreWordsFor words (command_tokens command) → command_of words ≡ Some command
-unfolding command_of tree_command folder_command file_command query_command raw_command
-    pump_command stop_command start_command
+unfolding command_of only file_command query_command raw_command
 command_of-from words (commands.Tree t) are =
     of_each (command_tokens (commands.Tree t)) (IsRead (commands.Tree t))
     (λ name is tree t_is. rw (is, tree-from tree t t_is) refl) words are
@@ -149,9 +150,6 @@ site-says word s is = IsNumeral-number_in 0 greatest_site word s is
 tree-says : (word : List ℕ) (t : ℕ) → tree_of word ≡ Some t → IsWordFor word (tree_token t)
 tree-says word t is = IsNumeral-number_in 1 greatest_tree word t is
 
-amount-says : (word : List ℕ) (n : ℕ) → amount_of word ≡ Some n → IsWordFor word (amount_token n)
-amount-says word n is = IsNumeral-number_in 0 greatest_amount word n is
-
 slot-says : (object version : List ℕ) (slot : SlotName) → slot_of object version ≡ Some slot
     → AreWordsFor (object ∷ version ∷ []) (slot_tokens slot)
 unfolding slot_of
@@ -163,12 +161,6 @@ slot-says object version slot is =
       IsObject-object_of object o.0 o.1,
       (IsNumeral-number_in 1 greatest_version version v.0 v.1, tt),
     )
-
--- words are the command's, too
-same_words : (words : List (List ℕ)) (found command : Command) → Some found ≡ Some command
-    → AreWordsFor words (command_tokens found) → AreWordsFor words (command_tokens command)
-same_words words found command is are =
-    subst (λ (c : Command). AreWordsFor words (command_tokens c)) (same_Some found command is) are
 
 -- the words of a call, and then those of a fate
 AreWordsFor-append : (a b : List (List ℕ)) (c d : List Token) → AreWordsFor a c → AreWordsFor b d
@@ -185,39 +177,35 @@ call-says : (own fate_words : List (List ℕ)) (call : Call) (command : Command)
 unfolding call_command
 call-says own fate_words call command is are =
     let f = bind_some _ _ command is in
-    same_words (own ++ fate_words) (commands.Call call f.0) command f.2
+    same_words command_tokens (own ++ fate_words) (commands.Call call f.0) command f.2
     (AreWordsFor-append own fate_words (call_tokens call) (fate_tokens f.0) are
     (fate_of-says fate_words f.0 f.1))
 
-tree_command-says : (words : List (List ℕ)) (command : Command)
-    → tree_command words ≡ Some command
-    → AreWordsFor (codes "tree" ∷ words) (command_tokens command)
-unfolding tree_command
-tree_command-says (tree ∷ []) command is =
-    let t = bind_some _ _ command is in
-    same_words (codes "tree" ∷ tree ∷ []) (commands.Tree t.0) command t.2
-    (refl, (tree-says tree t.0 t.1, tt))
-tree_command-says words command is = absurd (cc is)
+-- the words that are read as a command after this keyword are the command's
+abbrev Says : List ℕ → (List (List ℕ) → Option Command) → Type 0
+Says keyword read = (words : List (List ℕ)) (command : Command) → read words ≡ Some command
+    → AreWordsFor (keyword ∷ words) (command_tokens command)
 
-folder_command-says : (words : List (List ℕ)) (command : Command)
-    → folder_command words ≡ Some command
-    → AreWordsFor (codes "folder" ∷ words) (command_tokens command)
-unfolding folder_command
-folder_command-says (tree ∷ []) command is =
-    let t = bind_some _ _ command is in
-    same_words (codes "folder" ∷ tree ∷ []) (commands.Folder t.0) command t.2
-    (refl, (tree-says tree t.0 t.1, tt))
-folder_command-says words command is = absurd (cc is)
+-- a command whose only word is read, as the grammar says
+only-says : (keyword : List ℕ) (read : List ℕ → Option ℕ) (make : ℕ → Command)
+    → ((word : List ℕ) (n : ℕ) → read word ≡ Some n
+    → AreWordsFor (keyword ∷ word ∷ []) (command_tokens (make n)))
+    → Says keyword (λ words. option_map make (only read words))
+unfolding only
+only-says keyword read make says [] command is = absurd (cc is)
+only-says keyword read make says (word ∷ []) command is =
+    let n = mapped make (read word) command is in
+    rw (← n.2) (says word n.0 n.1)
+only-says keyword read make says (word ∷ other ∷ words) command is = absurd (cc is)
 
-file_command-says : (words : List (List ℕ)) (command : Command)
-    → file_command words ≡ Some command
-    → AreWordsFor (codes "file" ∷ words) (command_tokens command)
+file_command-says : Says (codes "file") file_command
 unfolding file_command
 file_command-says (tree ∷ path ∷ content ∷ []) command is =
     let t = bind_some _ _ command is in
     let p = bind_some _ _ command t.2 in
     let b = bind_some _ _ command p.2 in
-    same_words (codes "file" ∷ tree ∷ path ∷ content ∷ []) (commands.File t.0 p.0 b.0) command b.2 (
+    same_words command_tokens (codes "file" ∷ tree ∷ path ∷ content ∷ [])
+    (commands.File t.0 p.0 b.0) command b.2 (
       refl,
       (
         tree-says tree t.0 t.1,
@@ -226,9 +214,7 @@ file_command-says (tree ∷ path ∷ content ∷ []) command is =
     )
 file_command-says words command is = absurd (cc is)
 
-deposit_command-says : (words : List (List ℕ)) (command : Command)
-    → deposit_command words ≡ Some command
-    → AreWordsFor (codes "deposit" ∷ words) (command_tokens command)
+deposit_command-says : Says (codes "deposit") deposit_command
 unfolding deposit_command
 deposit_command-says (site ∷ tree ∷ object ∷ version ∷ fate) command is =
     let s = bind_some _ _ command is in
@@ -244,9 +230,7 @@ deposit_command-says (site ∷ tree ∷ object ∷ version ∷ fate) command is 
     )
 deposit_command-says words command is = absurd (cc is)
 
-propose_command-says : (words : List (List ℕ)) (command : Command)
-    → propose_command words ≡ Some command
-    → AreWordsFor (codes "propose" ∷ words) (command_tokens command)
+propose_command-says : Says (codes "propose") propose_command
 unfolding propose_command
 propose_command-says (site ∷ object ∷ version ∷ fate) command is =
     let s = bind_some _ _ command is in
@@ -255,9 +239,7 @@ propose_command-says (site ∷ object ∷ version ∷ fate) command is =
     slot.2 (refl, (site-says site s.0 s.1, slot-says object version slot.0 slot.1))
 propose_command-says words command is = absurd (cc is)
 
-deliver_command-says : (words : List (List ℕ)) (command : Command)
-    → deliver_command words ≡ Some command
-    → AreWordsFor (codes "deliver" ∷ words) (command_tokens command)
+deliver_command-says : Says (codes "deliver") deliver_command
 unfolding deliver_command
 deliver_command-says (datagram ∷ fate) command is =
     let k = bind_some _ _ command is in
@@ -265,9 +247,7 @@ deliver_command-says (datagram ∷ fate) command is =
     (refl, (amount-says datagram k.0 k.1, tt))
 deliver_command-says words command is = absurd (cc is)
 
-ask_command-says : (words : List (List ℕ)) (command : Command)
-    → ask_command words ≡ Some command
-    → AreWordsFor (codes "ask" ∷ words) (command_tokens command)
+ask_command-says : Says (codes "ask") ask_command
 unfolding ask_command
 ask_command-says (site ∷ to ∷ object ∷ version ∷ fate) command is =
     let s = bind_some _ _ command is in
@@ -283,84 +263,46 @@ ask_command-says (site ∷ to ∷ object ∷ version ∷ fate) command is =
     )
 ask_command-says words command is = absurd (cc is)
 
-query_command-says : (words : List (List ℕ)) (command : Command)
-    → query_command words ≡ Some command
-    → AreWordsFor (codes "query" ∷ words) (command_tokens command)
+query_command-says : Says (codes "query") query_command
 unfolding query_command
 query_command-says (site ∷ object ∷ version ∷ []) command is =
     let s = bind_some _ _ command is in
     let slot = bind_some _ _ command s.2 in
-    same_words (codes "query" ∷ site ∷ object ∷ version ∷ []) (commands.Query s.0 slot.0) command
-    slot.2 (refl, (site-says site s.0 s.1, slot-says object version slot.0 slot.1))
+    same_words command_tokens (codes "query" ∷ site ∷ object ∷ version ∷ [])
+    (commands.Query s.0 slot.0) command slot.2
+    (refl, (site-says site s.0 s.1, slot-says object version slot.0 slot.1))
 query_command-says words command is = absurd (cc is)
 
-raw_command-says : (words : List (List ℕ)) (command : Command)
-    → raw_command words ≡ Some command
-    → AreWordsFor (codes "raw" ∷ words) (command_tokens command)
+raw_command-says : Says (codes "raw") raw_command
 unfolding raw_command
 raw_command-says (site ∷ bytes ∷ []) command is =
     let s = bind_some _ _ command is in
     let b = bind_some _ _ command s.2 in
-    same_words (codes "raw" ∷ site ∷ bytes ∷ []) (commands.Raw s.0 b.0) command b.2
+    same_words command_tokens (codes "raw" ∷ site ∷ bytes ∷ []) (commands.Raw s.0 b.0) command b.2
     (refl, (site-says site s.0 s.1, (IsHexFor-bytes_of bytes b.0 b.1, tt)))
 raw_command-says words command is = absurd (cc is)
 
-pump_command-says : (words : List (List ℕ)) (command : Command)
-    → pump_command words ≡ Some command
-    → AreWordsFor (codes "pump" ∷ words) (command_tokens command)
-unfolding pump_command
-pump_command-says (turns ∷ []) command is =
-    let n = bind_some _ _ command is in
-    same_words (codes "pump" ∷ turns ∷ []) (commands.Pump n.0) command n.2
-    (refl, (amount-says turns n.0 n.1, tt))
-pump_command-says words command is = absurd (cc is)
-
-stop_command-says : (words : List (List ℕ)) (command : Command)
-    → stop_command words ≡ Some command
-    → AreWordsFor (codes "stop" ∷ words) (command_tokens command)
-unfolding stop_command
-stop_command-says (site ∷ []) command is =
-    let s = bind_some _ _ command is in
-    same_words (codes "stop" ∷ site ∷ []) (commands.Stop s.0) command s.2
-    (refl, (site-says site s.0 s.1, tt))
-stop_command-says words command is = absurd (cc is)
-
-start_command-says : (words : List (List ℕ)) (command : Command)
-    → start_command words ≡ Some command
-    → AreWordsFor (codes "start" ∷ words) (command_tokens command)
-unfolding start_command
-start_command-says (site ∷ []) command is =
-    let s = bind_some _ _ command is in
-    same_words (codes "start" ∷ site ∷ []) (commands.Start s.0) command s.2
-    (refl, (site-says site s.0 s.1, tt))
-start_command-says words command is = absurd (cc is)
-
 -- one of these names, or another
 named : (keyword : List ℕ) (read : List (List ℕ) → Option Command) (other : Option Command)
-    (name : List ℕ) (arguments : List (List ℕ)) (command : Command)
-    → ((words : List (List ℕ)) (found : Command) → read words ≡ Some found
-    → AreWordsFor (keyword ∷ words) (command_tokens found))
+    (name : List ℕ) (arguments : List (List ℕ)) (command : Command) → Says keyword read
     → (other ≡ Some command → AreWordsFor (name ∷ arguments) (command_tokens command))
     → cond (bytes_eq name keyword) (read arguments) other ≡ Some command
     → AreWordsFor (name ∷ arguments) (command_tokens command)
-named keyword read other name arguments command says otherwise is =
-    elim (cases_Bool (bytes_eq name keyword)) [
-      | inl same ↦
-          let here : read arguments ≡ Some command = rw same at is in
-          subst (λ (n : List ℕ). AreWordsFor (n ∷ arguments) (command_tokens command))
-          (sym ((bytes_eq-Decides name keyword).0 same)) (says arguments command here)
-      | inr isnt ↦
-          let there : other ≡ Some command = rw isnt at is in
-          otherwise there
-    ]
+named keyword read other name arguments command says =
+    by_keyword (λ n. AreWordsFor (n ∷ arguments) (command_tokens command)) keyword name
+    (read arguments) other command (says arguments command)
 
 pub command_of-says : (words : List (List ℕ)) (command : Command)
     → command_of words ≡ Some command → AreWordsFor words (command_tokens command)
 unfolding command_of
 command_of-says [] command is = absurd (cc is)
 command_of-says (name ∷ words) command is =
-    named (codes "tree") tree_command _ name words command tree_command-says
-    (named (codes "folder") folder_command _ name words command folder_command-says
+    named (codes "tree") _ _ name words command
+    (only-says (codes "tree") tree_of (λ t. commands.Tree t)
+    (λ word t says. (refl, (tree-says word t says, tt))))
+    (named (codes "folder") _ _ name words command
+    (only-says (codes "folder") tree_of (λ t. commands.Folder t)
+    (λ word t says. (refl, (tree-says word t says, tt))))
     (named (codes "file") file_command _ name words command file_command-says
     (named (codes "deposit") deposit_command _ name words command deposit_command-says
     (named (codes "propose") propose_command _ name words command propose_command-says
@@ -368,7 +310,13 @@ command_of-says (name ∷ words) command is =
     (named (codes "ask") ask_command _ name words command ask_command-says
     (named (codes "query") query_command _ name words command query_command-says
     (named (codes "raw") raw_command _ name words command raw_command-says
-    (named (codes "pump") pump_command _ name words command pump_command-says
-    (named (codes "stop") stop_command _ name words command stop_command-says
-    (named (codes "start") start_command None name words command start_command-says
+    (named (codes "pump") _ _ name words command
+    (only-says (codes "pump") amount_of (λ n. commands.Pump n)
+    (λ word n says. (refl, (amount-says word n says, tt))))
+    (named (codes "stop") _ _ name words command
+    (only-says (codes "stop") site_of (λ s. commands.Stop s)
+    (λ word s says. (refl, (site-says word s says, tt))))
+    (named (codes "start") _ None name words command
+    (only-says (codes "start") site_of (λ s. commands.Start s)
+    (λ word s says. (refl, (site-says word s says, tt))))
     (λ none. absurd (cc none))))))))))))) is

@@ -1,24 +1,21 @@
 -- The words that the grammar has for a federation's members are those that are read as them.
 use Rattle.std.proofs.Common.{◌≡◌, ℕ, ◌≤◌, true, false, eqb, List, [], ◌∷◌, length}
-use Rattle.std.proofs.Common.{map, replicate, Option, Some, None, refl, sym, ap, ◌∙◌, subst, inl}
+use Rattle.std.proofs.Common.{map, replicate, Some, None, refl, sym, ap, ◌∙◌, subst, inl}
 use Rattle.std.proofs.Common.{inr, ◌⊎◌, arith}
 use Rattle.std.specs.Prelude.{codes}
-use Rattle.std.specs.Option.{option_map}
-use Rattle.std.specs.Str.{bytes_eq}
 use Rattle.std.proofs.lemmas.Bool.{cases_Bool, eqb-true, eq-eqb, ne_eqb}
 use Rattle.std.proofs.lemmas.List.{length-map, length-replicate}
 use Rattle.std.proofs.lemmas.Option.{same_Some}
-use Rattle.std.proofs.lemmas.Slice.Eq.{bytes_eq-Decides}
 use Rattle.fed_types.specs.Limits.{most_members, greatest_weight}
 use Rattle.fed_types.specs.Sites.{Membership, membership_of, count_of}
-use Rattle.words.specs.Words.{◌>>=◌, number_in}
+use Rattle.words.specs.Words.{number_in}
 use Rattle.schedule.specs.Commands.{federation_of, weights_in, weights_of}
 use Rattle.fed_types.specs.Limits.{greatest_federation}
 use Rattle.schedule.specs.Lines.{federation_tokens, AreWordsForMembers}
 use Rattle.schedule.specs.Tokens.{Token, Number, IsWordFor, AreWordsFor}
 use Rattle.words.proofs.GrammarLemmas.{number_in-from, IsNumeral-number_in}
 use Rattle.words.proofs.StepLemmas.{bind_some}
-use Rattle.schedule.proofs.TokenLemmas.{of_each, of_each_and}
+use Rattle.schedule.proofs.TokenLemmas.{mapped, by_keyword, of_each, of_each_and}
 
 -- the token of a weight
 abbrev weight_token : ℕ → Token
@@ -138,13 +135,6 @@ weights_of-says n (word ∷ words) weights is =
           absurd (cc none)
     ]
 
--- what was found
-mapped : (f : ℕ) (found : Option (List ℕ)) (m : Membership)
-    → option_map (membership_of f) found ≡ Some m
-    → (weights : List ℕ) × (found ≡ Some weights) × (membership_of f weights ≡ m)
-mapped f None m is = absurd (cc is)
-mapped f (Some weights) m is = (weights, refl, same_Some (membership_of f weights) m is)
-
 -- the parts of a line that names members
 members_from : (federation count : List ℕ) (words : List (List ℕ)) (f n : ℕ) (weights : List ℕ)
     → number_in 0 greatest_federation federation ≡ Some f
@@ -171,21 +161,13 @@ pub federation_of-says : (words : List (List ℕ)) (m : Membership) → federati
     → AreWordsForMembers words m
 unfolding federation_of
 federation_of-says (name ∷ federation ∷ count ∷ words) m is =
-    elim (cases_Bool (bytes_eq name (codes "federation"))) [
-      | inl same ↦
-          let found : (number_in 0 greatest_federation federation
-          >>= (λ f. number_in 1 most_members count
-          >>= (λ n. option_map (membership_of f) (weights_of n words)))) ≡ Some m =
-          rw same at is in
-          let f = bind_some _ _ m found in
-          let n = bind_some _ _ m f.2 in
-          let w = mapped f.0 (weights_of n.0 words) m n.2 in
-          subst (λ (k : List ℕ). AreWordsForMembers (k ∷ federation ∷ count ∷ words) m)
-          (sym ((bytes_eq-Decides name (codes "federation")).0 same))
-          (subst (AreWordsForMembers (codes "federation" ∷ federation ∷ count ∷ words)) w.2
-          (members_from federation count words f.0 n.0 w.0 f.1 n.1 w.1))
-      | inr other ↦
-          let none : None ≡ Some m = rw other at is in
-          absurd (cc none)
-    ]
+    by_keyword (λ k. AreWordsForMembers (k ∷ federation ∷ count ∷ words) m) (codes "federation")
+    name _ _ m
+    (λ found.
+    let f = bind_some _ _ m found in
+    let n = bind_some _ _ m f.2 in
+    let w = mapped (membership_of f.0) (weights_of n.0 words) m n.2 in
+    subst (AreWordsForMembers (codes "federation" ∷ federation ∷ count ∷ words)) w.2
+    (members_from federation count words f.0 n.0 w.0 f.1 n.1 w.1))
+    (λ none. absurd (cc none)) is
 federation_of-says words m is = absurd (cc is)

@@ -8,7 +8,7 @@ use Rattle.schedule.specs.declared.fault.ParseFault.{ParseFault}
 use Rattle.schedule.specs.declared.fault.ParseFault.TheVariants.{Line, Memory}
 use Rattle.std.specs.Option.{ok_or}
 use Rattle.schedule.specs.Plans.{Plan, is_skipped, later_line, later_lines, line_then, plan_from}
-use Rattle.schedule.specs.Plans.{plan_after, plan_with}
+use Rattle.schedule.specs.Plans.{plan_after}
 use Rattle.schedule.specs.Commands.{federation_of}
 use Rattle.schedule.specs.Faults.{IsOrMemory}
 use Rattle.words.specs.Words.{words_of}
@@ -96,16 +96,3 @@ IsOrMemory-later_fault plan skipped members known later (Line number) is some fa
     is ∙ ap (λ (m : Option Membership). plan_from skipped m later) some
     ∙ ap (plan_from skipped (Some known)) fails
 IsOrMemory-later_fault plan skipped members known later Memory is some fails = tt
-
--- a whole schedule that could be read
-pub whole_plan : (plan : Result Plan ℕ) (skipped : ℕ) (line : List ℕ) (lines : List (List ℕ))
-    (words : List (List ℕ)) (members : Membership) (said : List (Option Command))
-    → plan ≡ plan_after skipped (line ∷ lines) → is_skipped line ≡ false
-    → words ≡ words_of line → federation_of words ≡ Some members
-    → later_lines (skipped + 2) lines ≡ Ok said
-    → plan ≡ Ok (plan_with skipped members said)
-whole_plan plan skipped line lines words members said is goes_on are found later =
-    is ∙ plan_after-federation skipped line lines goes_on
-    ∙ ap (λ (m : Option Membership). plan_from skipped m (later_lines (skipped + 2) lines))
-    (sym (ap federation_of are) ∙ found)
-    ∙ ap (plan_from skipped (Some members)) later

@@ -4,10 +4,11 @@ use Rattle.std.proofs.Common.{◌++◌, length, map, Option, Some, None, Ok, ref
 use Rattle.std.proofs.Common.{inr, Result, Err, cond, subst, leb, arith}
 use Rattle.std.specs.Prelude.{codes}
 use Rattle.std.specs.List.{AllByRecursion}
+use Rattle.std.specs.Option.{option_map}
 use Rattle.std.specs.Result.{result_ok}
 use Rattle.std.specs.Str.{IsUtf8, is_utf8, bytes_eq}
 use Rattle.std.proofs.lemmas.Bool.{cases_Bool, and_parts, le-leb, leb-true, ltb-true}
-use Rattle.std.proofs.lemmas.Option.{cond_some}
+use Rattle.std.proofs.lemmas.Option.{cond_some, same_Some}
 use Rattle.std.proofs.lemmas.Slice.Eq.{bytes_eq-Decides}
 use Rattle.std.proofs.lemmas.Str.{IsUtf8-from_is_utf8, is_utf8-from_IsUtf8}
 use Rattle.hex.specs.Hex.{decode_of, IsBytes}
@@ -203,6 +204,34 @@ are_plain-append (token ∷ a) b first second =
     let parts = and_parts (is_plain token) (are_plain a) first in
     let rest = are_plain-append a b parts.1 second in
     rw (parts.0, rest) refl
+
+-- ---- what is read of a word
+
+-- what was found, of which this was made
+pub mapped : {X Y : Type 0} (make : X → Y) (found : Option X) (y : Y)
+    → option_map make found ≡ Some y → (x : X) × (found ≡ Some x) × (make x ≡ y)
+mapped make None y is = absurd (cc is)
+mapped make (Some x) y is = (x, refl, same_Some (make x) y is)
+
+-- words for what was found
+pub same_words : {X : Type 0} (tokens : X → List Token) (words : List (List ℕ)) (found x : X)
+    → Some found ≡ Some x → AreWordsFor words (tokens found) → AreWordsFor words (tokens x)
+same_words tokens words found x is are =
+    subst (λ y. AreWordsFor words (tokens y)) (same_Some found x is) are
+
+-- the word is this keyword, or another word
+pub by_keyword : {X : Type 0} (P : List ℕ → Type 0) (keyword word : List ℕ) (here other : Option X)
+    (found : X) → (here ≡ Some found → P keyword) → (other ≡ Some found → P word)
+    → cond (bytes_eq word keyword) here other ≡ Some found → P word
+by_keyword P keyword word here other found says otherwise is =
+    elim (cases_Bool (bytes_eq word keyword)) [
+      | inl same ↦
+          let first : here ≡ Some found = rw same at is in
+          subst P (sym ((bytes_eq-Decides word keyword).0 same)) (says first)
+      | inr isnt ↦
+          let second : other ≡ Some found = rw isnt at is in
+          otherwise second
+    ]
 
 -- ---- a fact about lists of words, by a word for each token
 

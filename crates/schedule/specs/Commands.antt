@@ -56,19 +56,10 @@ federation_of (name ∷ federation ∷ count ∷ weights) =
     else None
 federation_of words = None
 
--- `tree T`
-unfoldable pub tree_command : List (List ℕ) → Option Command
-tree_command (tree ∷ []) = do
-  t ← tree_of tree
-  Some (commands.Tree t)
-tree_command words = None
-
--- `folder T`
-unfoldable pub folder_command : List (List ℕ) → Option Command
-folder_command (tree ∷ []) = do
-  t ← tree_of tree
-  Some (commands.Folder t)
-folder_command words = None
+-- what the only word says: the T, N or S of `tree T`, `folder T`, `pump N`, `stop S`, `start S`
+unfoldable pub only : (List ℕ → Option ℕ) → List (List ℕ) → Option ℕ
+only read (word ∷ []) = read word
+only read words = None
 
 -- `file T PATH HEX`
 unfoldable pub file_command : List (List ℕ) → Option Command
@@ -170,33 +161,14 @@ raw_command (site ∷ bytes ∷ []) = do
   Some (commands.Raw s b)
 raw_command words = None
 
--- `pump N`
-unfoldable pub pump_command : List (List ℕ) → Option Command
-pump_command (turns ∷ []) = do
-  n ← amount_of turns
-  Some (commands.Pump n)
-pump_command words = None
-
--- `stop S`
-unfoldable pub stop_command : List (List ℕ) → Option Command
-stop_command (site ∷ []) = do
-  s ← site_of site
-  Some (commands.Stop s)
-stop_command words = None
-
--- `start S`
-unfoldable pub start_command : List (List ℕ) → Option Command
-start_command (site ∷ []) = do
-  s ← site_of site
-  Some (commands.Start s)
-start_command words = None
-
 -- the command of these words, if they are one's
 unfoldable pub command_of : List (List ℕ) → Option Command
 command_of [] = None
 command_of (name ∷ arguments) =
-    if bytes_eq name (codes "tree") then tree_command arguments
-    else if bytes_eq name (codes "folder") then folder_command arguments
+    if bytes_eq name (codes "tree")
+    then option_map (λ t. commands.Tree t) (only tree_of arguments)
+    else if bytes_eq name (codes "folder")
+    then option_map (λ t. commands.Folder t) (only tree_of arguments)
     else if bytes_eq name (codes "file") then file_command arguments
     else if bytes_eq name (codes "deposit") then deposit_command arguments
     else if bytes_eq name (codes "propose") then propose_command arguments
@@ -204,7 +176,10 @@ command_of (name ∷ arguments) =
     else if bytes_eq name (codes "ask") then ask_command arguments
     else if bytes_eq name (codes "query") then query_command arguments
     else if bytes_eq name (codes "raw") then raw_command arguments
-    else if bytes_eq name (codes "pump") then pump_command arguments
-    else if bytes_eq name (codes "stop") then stop_command arguments
-    else if bytes_eq name (codes "start") then start_command arguments
+    else if bytes_eq name (codes "pump")
+    then option_map (λ n. commands.Pump n) (only amount_of arguments)
+    else if bytes_eq name (codes "stop")
+    then option_map (λ s. commands.Stop s) (only site_of arguments)
+    else if bytes_eq name (codes "start")
+    then option_map (λ s. commands.Start s) (only site_of arguments)
     else None

@@ -1,10 +1,10 @@
 ghost use Rattle.std.specs.Prelude.{◌≡◌, ◌<◌, length, map, All, IfOk};
-ghost use Rattle.schedule.specs.Commands.{tree_command, folder_command, file_command};
-ghost use Rattle.schedule.specs.Commands.{query_command, raw_command, pump_command, stop_command};
-ghost use Rattle.schedule.specs.Commands.{start_command, command_of};
+ghost use Rattle.schedule.specs.Commands.{site_of, tree_of, amount_of, only, file_command};
+ghost use Rattle.schedule.specs.Commands.{query_command, raw_command, command_of};
 
 use crate::command::Command;
 use crate::parse_call::{parse_ask, parse_deliver, parse_deposit, parse_propose};
+use crate::tree_no::TreeNo;
 use crate::value::{parse_amount, parse_bytes, parse_path, parse_site, parse_tree_no};
 use std::alloc::{AllocError, Global};
 use words::parse_slot;
@@ -20,9 +20,9 @@ pub(crate) fn parse_command(alloc: Global, words: &[&[u8]]) -> Result<Option<Com
     };
     let name = *name;
     if name == b"tree".as_slice() {
-        Ok(parse_tree(arguments))
+        Ok(only_tree(arguments).map(|tree| Command::Tree { tree }))
     } else if name == b"folder".as_slice() {
-        Ok(parse_folder(arguments))
+        Ok(only_tree(arguments).map(|tree| Command::Folder { tree }))
     } else if name == b"file".as_slice() {
         parse_file(alloc, arguments)
     } else if name == b"deposit".as_slice() {
@@ -38,38 +38,25 @@ pub(crate) fn parse_command(alloc: Global, words: &[&[u8]]) -> Result<Option<Com
     } else if name == b"raw".as_slice() {
         parse_raw(alloc, arguments)
     } else if name == b"pump".as_slice() {
-        Ok(parse_pump(arguments))
+        Ok(only_amount(arguments).map(|turns| Command::Pump { turns }))
     } else if name == b"stop".as_slice() {
-        Ok(parse_stop(arguments))
+        Ok(only_site(arguments).map(|site| Command::Stop { site }))
     } else if name == b"start".as_slice() {
-        Ok(parse_start(arguments))
+        Ok(only_site(arguments).map(|site| Command::Start { site }))
     } else {
         Ok(None)
     }
 }
 
-#[tactic(auto, unfolding(crate::specs::Commands::tree_command))]
-fn parse_tree(words: &[&[u8]]) -> Option<Command>
-    ensures { result ≡ tree_command (map (λ word. word.now) words.now) }
+// The number of the tree that the only word names.
+#[tactic(auto, unfolding(crate::specs::Commands::only))]
+fn only_tree(words: &[&[u8]]) -> Option<TreeNo>
+    ensures { result ≡ only tree_of (map (λ word. word.now) words.now) }
 {
     let [tree] = words else {
         return None;
     };
-    Some(Command::Tree {
-        tree: parse_tree_no(tree)?,
-    })
-}
-
-#[tactic(auto, unfolding(crate::specs::Commands::folder_command))]
-fn parse_folder(words: &[&[u8]]) -> Option<Command>
-    ensures { result ≡ folder_command (map (λ word. word.now) words.now) }
-{
-    let [tree] = words else {
-        return None;
-    };
-    Some(Command::Folder {
-        tree: parse_tree_no(tree)?,
-    })
+    parse_tree_no(tree)
 }
 
 #[tactic(auto, unfolding(crate::specs::Commands::file_command))]
@@ -128,38 +115,24 @@ fn parse_raw(alloc: Global, words: &[&[u8]]) -> Result<Option<Command>, AllocErr
     Ok(Some(Command::Raw { site, bytes }))
 }
 
-#[tactic(auto, unfolding(crate::specs::Commands::pump_command))]
-fn parse_pump(words: &[&[u8]]) -> Option<Command>
-    ensures { result ≡ pump_command (map (λ word. word.now) words.now) }
+// The amount that the only word gives.
+#[tactic(auto, unfolding(crate::specs::Commands::only))]
+fn only_amount(words: &[&[u8]]) -> Option<u32>
+    ensures { result ≡ only amount_of (map (λ word. word.now) words.now) }
 {
-    let [turns] = words else {
+    let [amount] = words else {
         return None;
     };
-    Some(Command::Pump {
-        turns: parse_amount(turns)?,
-    })
+    parse_amount(amount)
 }
 
-#[tactic(auto, unfolding(crate::specs::Commands::stop_command))]
-fn parse_stop(words: &[&[u8]]) -> Option<Command>
-    ensures { result ≡ stop_command (map (λ word. word.now) words.now) }
+// The number of the site that the only word names.
+#[tactic(auto, unfolding(crate::specs::Commands::only))]
+fn only_site(words: &[&[u8]]) -> Option<u8>
+    ensures { result ≡ only site_of (map (λ word. word.now) words.now) }
 {
     let [site] = words else {
         return None;
     };
-    Some(Command::Stop {
-        site: parse_site(site)?,
-    })
-}
-
-#[tactic(auto, unfolding(crate::specs::Commands::start_command))]
-fn parse_start(words: &[&[u8]]) -> Option<Command>
-    ensures { result ≡ start_command (map (λ word. word.now) words.now) }
-{
-    let [site] = words else {
-        return None;
-    };
-    Some(Command::Start {
-        site: parse_site(site)?,
-    })
+    parse_site(site)
 }

@@ -75,7 +75,7 @@ module _ (old new : OpenSite MemoryCell) (input : Input) (told : Told)
   owner = old.book.owner
 
   -- what is to be shown, of an outcome
-  abbrev Goal : networks.Outcome → Type 0
+  abbrev Goal : networks.SiteOutcome → Type 0
   Goal = ComesTo owner input (Running new) told
 
   done_goes_on : (e : Effect) → old.book.records ≡ records → Done old new input told e

@@ -13,28 +13,19 @@ pub returns : goal.returns
 returns c =
     let facts = tree_of c.args.files.now c.args.payload in
     let start = string_bytes c.args.text.now in
-    let e1 = fault_more facts (take 0 first_faults) NoDeclaration start
-    start (string_bytes c.push_no_declaration.new.text)
-    (no_faults start) c.in_ok-push_no_declaration.ensures in
-    let e2 = fault_more facts (take 1 first_faults) BadDeclaration start
-    (string_bytes c.push_no_declaration.new.text) (string_bytes c.push_bad_declaration.new.text)
-    e1 c.in_ok-push_bad_declaration.ensures in
-    let e3 = fault_more facts (take 2 first_faults) UnsupportedVersion start
-    (string_bytes c.push_bad_declaration.new.text) (string_bytes c.push_other_version.new.text)
-    e2 c.in_ok-push_other_version.ensures in
-    let e4 = fault_more facts (take 3 first_faults) UnsupportedEncoding start
-    (string_bytes c.push_other_version.new.text) (string_bytes c.push_other_encoding.new.text)
-    e3 c.in_ok-push_other_encoding.ensures in
-    let e5 = fault_more facts (take 4 first_faults) HasFetch start
-    (string_bytes c.push_other_encoding.new.text) (string_bytes c.push_fetch.new.text)
-    e4 c.in_ok-push_fetch.ensures in
-    let e6 = fault_more facts (take 5 first_faults) NoPayloadFolder start
-    (string_bytes c.push_fetch.new.text) (string_bytes c.push_no_payload.new.text)
-    e5 c.in_ok-push_no_payload.ensures in
-    let e7 = fault_more facts (take 6 first_faults) NoSha512Manifest start
-    (string_bytes c.push_no_payload.new.text) (string_bytes c.push_no_manifest.new.text)
-    e6 c.in_ok-push_no_manifest.ensures in
+    let e1 = fault_more facts (take 0 first_faults) NoDeclaration start (no_faults start)
+    c.in_ok-push_no_declaration.ensures in
+    let e2 = fault_more facts (take 1 first_faults) BadDeclaration start e1
+    c.in_ok-push_bad_declaration.ensures in
+    let e3 = fault_more facts (take 2 first_faults) UnsupportedVersion start e2
+    c.in_ok-push_other_version.ensures in
+    let e4 = fault_more facts (take 3 first_faults) UnsupportedEncoding start e3
+    c.in_ok-push_other_encoding.ensures in
+    let e5 = fault_more facts (take 4 first_faults) HasFetch start e4
+    c.in_ok-push_fetch.ensures in
+    let e6 = fault_more facts (take 5 first_faults) NoPayloadFolder start e5
+    c.in_ok-push_no_payload.ensures in
+    let e7 = fault_more facts (take 6 first_faults) NoSha512Manifest start e6
+    c.in_ok-push_no_manifest.ensures in
     on_ok_weaker c.push_all_unknown.result
-    (fault_more facts (take 7 first_faults) UnknownAlgorithm start
-    (string_bytes c.push_no_manifest.new.text) (string_bytes c.push_all_unknown.new.text) e7)
-    c.push_all_unknown.ensures
+    (fault_more facts (take 7 first_faults) UnknownAlgorithm start e7) c.push_all_unknown.ensures
