@@ -26,7 +26,7 @@ use Rattle.records.specs.Layout.{all_encoded, header_of, old_header}
 use Rattle.records.specs.Records.{AreRecords}
 use Rattle.records.specs.Starts.{Start, Old, New, Carried, IsStart, layout_after}
 use Rattle.records.specs.Starts.{HasWeights, text_bytes, records_of, is_current}
-use Rattle.records.specs.Journals.{Reaches, IsEnd, IsNoRecord, IsHeaderPart, HasHeader}
+use Rattle.records.specs.Journals.{Reaches, IsEnd, IsHeaderPart, HasHeader}
 use Rattle.records.specs.Journals.{Says}
 use Rattle.records.specs.inner.Parts.{IsRun, IsParts, first_records, second_records, weights_in}
 use Rattle.records.specs.inner.Steps.{IsShort, Follows, Passes, IsHeaderAt, HasRead}
