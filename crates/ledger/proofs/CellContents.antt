@@ -10,12 +10,12 @@ use Rattle.records.specs.declared.owner.Owner.{Owner}
 use Rattle.fed_types.specs.Limits.{federation_bits}
 use Rattle.fed_types.specs.Sites.{AreWeights, IsSiteNumber, IsWeight}
 use Rattle.records.specs.Starts.{Start, Old, New, Carried, HasWeights, IsStart, text_bytes}
-use Rattle.records.specs.Journals.{Reaches, IsEnd}
+use Rattle.records.specs.Journals.{Reaches, IsEnd, HasEnd}
 use Rattle.ledger.specs.declared.contents.Contents.{Contents}
 use Rattle.ledger.specs.declared.ending.Ending.{Ending}
 use Rattle.ledger.specs.declared.ending.Ending.TheVariants.{Damaged}
 use Rattle.ledger.specs.Cells.{NamesWeights, EndsWith, IsCell, IsOwner}
-use Rattle.ledger.specs.inner.Found.{HasEnd, HasDamage, IsTextRead, ending_of}
+use Rattle.ledger.specs.inner.Found.{HasDamage, IsTextRead, ending_of}
 use Rattle.ledger.specs.inner.Named.{IsHeadedBy}
 use Rattle.ledger.proofs.SameOwners.{reaches_of, end_of, damage_of}
 
@@ -59,7 +59,7 @@ told : (owner : Owner) (bytes text : List ℕ) → IsHeadedBy owner bytes → (e
     → (ending : Ending) → EndsWith contents.owner bytes e.start rest ending
     → IsCell bytes (record contents { ending = ending })
 told owner bytes text h e contents t rest reaches ending ends =
-    let all = t.all e.start e.records e.rest e.reaches e.ends in
+    let all = t.all e.start e.records e.end e.reaches e.ends in
     record {
       start = e.start;
       records = e.records;
@@ -77,11 +77,11 @@ told owner bytes text h e contents t rest reaches ending ends =
 pub tells : (owner : Owner) (bytes : List ℕ) → IsHeadedBy owner bytes → HasEnd owner bytes
     → (r : Result Contents AllocError) → IfOk r (IsTextRead owner bytes) → IfOk r (IsCell bytes)
 tells owner bytes h e (Ok contents) t =
-    told owner bytes bytes h e contents t e.rest e.reaches contents.ending
-    (subst (EndsWith contents.owner bytes e.start e.rest)
-    (sym (t.all e.start e.records e.rest e.reaches e.ends).2)
-    (ends_with contents.owner bytes e.start e.rest
-    (end_of owner contents.owner (sym t.federation) (sym t.site) e.start e.rest e.ends)))
+    told owner bytes bytes h e contents t e.end e.reaches contents.ending
+    (subst (EndsWith contents.owner bytes e.start e.end)
+    (sym (t.all e.start e.records e.end e.reaches e.ends).2)
+    (ends_with contents.owner bytes e.start e.end
+    (end_of owner contents.owner (sym t.federation) (sym t.site) e.start e.end e.ends)))
 tells owner bytes h e (Err fault) t = tt
 
 -- ---- damage
@@ -106,7 +106,7 @@ module _ (owner : Owner) (bytes : List ℕ) (place : ℕ) (d : HasDamage owner b
   text_ends = record {
     start = d.start;
     records = d.records;
-    rest = [];
+    end = [];
     reaches = text_reaches;
     ends = inl refl;
   }
