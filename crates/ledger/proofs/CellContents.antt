@@ -116,5 +116,7 @@ module _ (owner : Owner) (bytes : List ℕ) (place : ℕ) (d : HasDamage owner b
       → IsCell bytes (record text { ending = Damaged place })
   unfolding text_ends
   damage_told h text t =
-      told owner bytes (take place bytes) h text_ends text t d.rest d.reaches (Damaged place)
-      (damage_of owner text.owner (sym t.federation) (sym t.site) d.start d.rest d.damage, d.place_is)
+      told owner bytes (take place bytes) h text_ends text t d.rest d.reaches (Damaged place) (
+        damage_of owner text.owner (sym t.federation) (sym t.site) d.start d.rest d.damage,
+        d.place_is,
+      )
