@@ -122,7 +122,7 @@ module _ {C : Type 0} (device : C → devices.Device)
             bytes = memory (found_no_memory e no_memory);
           };
           any_moment = written owner records r device only_now old held new bytes is_record same
-          run;
+              run;
           cause = record {
             later = cause.later;
             failed = λ failed. cause.failed (device_failed e failed);

@@ -5,9 +5,9 @@ use Rattle.std.proofs.lemmas.List.{append-nil, take_all}
 use Rattle.cell_device.specs.declared.fault.CellFault.{CellFault}
 use Rattle.cell_device.specs.Images.{IfKnown, MayLeave, with_bytes, cut_to, all_synced}
 use Rattle.cell_device.specs.Images.{same_image}
-use Rattle.cell_device.specs.Calls.{Turns}
+use Rattle.cell_device.specs.Calls.{Calls}
 use Rattle.cell_device.specs.Devices.{Device}
-use Rattle.cell_device.specs.Time.{Elapses, LeavesOnly}
+use Rattle.cell_device.specs.Time.{LeavesOnly}
 use Rattle.book.specs.inner.Sound.{RestsAt}
 use Rattle.book.proofs.AtRest.{at_start, append_leaves, append_sync_leaves, cut_leaves}
 use Rattle.book.proofs.AtRest.{cut_sync_leaves}
@@ -20,39 +20,32 @@ module _ {C : Type 0} (device : C → Device) (only_now : (cell : C) (c : List �
   abbrev pub OneOf : (ℕ → List ℕ) → List ℕ → Type 0
   OneOf each left = IfKnown (device old).image (λ i. (k : ℕ) × (left ≡ each k))
 
-  -- it passes in this time
-  abbrev Passes : C → C → Type 0
-  Passes before after =
-      Elapses (device before).moment (device after).moment (device before).left_since
-      (device after).left_since (MayLeave (device after).image)
-
   -- ---- bytes are appended
 
   module _ (more : List ℕ) where
     abbrev longer : ℕ → List ℕ
     longer k = bytes ++ take k more
 
-    pub appended : {T : Type 0} (result : Result T CellFault) (new : C) → Passes old new
-        → Turns result (with_bytes more) (with_bytes more) (device old).image (device new).image
+    pub appended : {T : Type 0} (result : Result T CellFault) (new : C)
+        → Calls (with_bytes more) (with_bytes more) (device old) (device new) result
         → LeavesOnly (device old) (device new) (OneOf longer)
-    appended result new time turns =
+    appended result new call =
         goes_on device only_now old old new (OneOf longer)
         (started device only_now old (OneOf longer)
         (at_start bytes (device old).image (λ l. (k : ℕ) × (l ≡ longer k)) rest
-        (0, sym (append-nil bytes)))) time
+        (0, sym (append-nil bytes)))) call.time
         (append_leaves result bytes more (device old).image (device new).image
-        (λ l. (k : ℕ) × (l ≡ longer k)) rest turns (λ k. (k, refl)))
+        (λ l. (k : ℕ) × (l ≡ longer k)) rest call.bytes (λ k. (k, refl)))
 
     pub appended_synced : {T U : Type 0} (x : T) (result : Result U CellFault) (mid new : C)
-        → Passes old mid
-        → Turns (Ok x) (with_bytes more) (with_bytes more) (device old).image (device mid).image
-        → Passes mid new → Turns result same_image all_synced (device mid).image (device new).image
+        → Calls (with_bytes more) (with_bytes more) (device old) (device mid) (Ok x)
+        → Calls same_image all_synced (device mid) (device new) result
         → LeavesOnly (device old) (device new) (OneOf longer)
-    appended_synced x result mid new first_time first second_time second =
-        goes_on device only_now old mid new (OneOf longer) (appended (Ok x) mid first_time first)
-        second_time
+    appended_synced x result mid new first second =
+        goes_on device only_now old mid new (OneOf longer) (appended (Ok x) mid first) second.time
         (append_sync_leaves x result bytes more (device old).image (device mid).image
-        (device new).image (λ l. (k : ℕ) × (l ≡ longer k)) rest first second (λ k. (k, refl)))
+        (device new).image (λ l. (k : ℕ) × (l ≡ longer k)) rest first.bytes second.bytes
+        (λ k. (k, refl)))
 
   -- ---- the cell is cut
 
@@ -66,22 +59,20 @@ module _ {C : Type 0} (device : C → Device) (only_now : (cell : C) (c : List �
         (at_start bytes (device old).image (λ l. (k : ℕ) × (l ≡ shorter k)) rest
         (length bytes, sym (take_all (len + length bytes) bytes (omega arith))))
 
-    pub cut : {T : Type 0} (result : Result T CellFault) (new : C) → Passes old new
-        → Turns result (cut_to len) (cut_to len) (device old).image (device new).image
+    pub cut : {T : Type 0} (result : Result T CellFault) (new : C)
+        → Calls (cut_to len) (cut_to len) (device old) (device new) result
         → LeavesOnly (device old) (device new) (OneOf shorter)
-    cut result new time turns =
-        goes_on device only_now old old new (OneOf shorter) untouched time
+    cut result new call =
+        goes_on device only_now old old new (OneOf shorter) untouched call.time
         (cut_leaves result bytes len (device old).image (device new).image
-        (λ l. (k : ℕ) × (l ≡ shorter k)) within rest turns (λ k. (k, refl)))
+        (λ l. (k : ℕ) × (l ≡ shorter k)) within rest call.bytes (λ k. (k, refl)))
 
     pub cut_synced : {T U : Type 0} (x : T) (result : Result U CellFault) (mid new : C)
-        → Passes old mid
-        → Turns (Ok x) (cut_to len) (cut_to len) (device old).image (device mid).image
-        → Passes mid new → Turns result same_image all_synced (device mid).image (device new).image
+        → Calls (cut_to len) (cut_to len) (device old) (device mid) (Ok x)
+        → Calls same_image all_synced (device mid) (device new) result
         → LeavesOnly (device old) (device new) (OneOf shorter)
-    cut_synced x result mid new first_time first second_time second =
-        goes_on device only_now old mid new (OneOf shorter) (cut (Ok x) mid first_time first)
-        second_time
+    cut_synced x result mid new first second =
+        goes_on device only_now old mid new (OneOf shorter) (cut (Ok x) mid first) second.time
         (cut_sync_leaves x result bytes len (device old).image (device mid).image
-        (device new).image (λ l. (k : ℕ) × (l ≡ shorter k)) within rest first second
+        (device new).image (λ l. (k : ℕ) × (l ≡ shorter k)) within rest first.bytes second.bytes
         (λ k. (k, refl)))

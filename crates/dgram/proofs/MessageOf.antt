@@ -18,7 +18,7 @@ use Rattle.dgram.specs.Messages.{IsMessage}
 use Rattle.dgram.specs.Encoding.{kind_of, front_bytes, datagram_of}
 use Rattle.dgram.specs.Decoders.{datagram_at}
 use Rattle.dgram.specs.Decoded.{IsOurs, IsDatagramOf, message_of, Decodes}
-use Rattle.dgram.proofs.Whole.{rest_of, Faulted, is_read, is_found, datagram_read, some_found}
+use Rattle.dgram.proofs.Whole.{rest_of, Faulted, is_read, is_found, datagram_read, memory_found}
 
 -- the message of a message's datagram
 pub message_of-again : (federation : ℕ) (m : Message) → IsMessage m
@@ -108,13 +108,12 @@ others_none federation bytes fits others =
 
 -- where reading ended in a fault of a field
 pub err_message : (federation : ℕ) (bytes : List ℕ) (f : FieldFault) (r : Result Message DgramFault)
-    → IsBytes bytes → FRONT ≤ length bytes → IsOurs federation bytes → Faulted bytes f r
-    → Decodes r (message_of federation bytes)
-err_message federation bytes field_faults.Malformed r fits long ours h =
-    let none = no_message federation bytes fits
+    → Faulted federation bytes f r → Decodes r (message_of federation bytes)
+err_message federation bytes field_faults.Malformed r h =
+    let none = no_message federation bytes h.fits
     (λ m d. not_some (datagram_at bytes) m h.gives (is_read federation bytes m d)) in
     rw h.answer none
-err_message federation bytes field_faults.Memory r fits long ours h =
-    let found = some_found federation bytes fits long ours (h.memory refl) in
-    let some = (message_of-is federation bytes fits found.0).0 found.1 in
+err_message federation bytes field_faults.Memory r h =
+    let found = memory_found federation bytes r h in
+    let some = (message_of-is federation bytes h.fits found.0).0 found.1 in
     rw (h.answer, some) refl

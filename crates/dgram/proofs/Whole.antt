@@ -149,12 +149,6 @@ of_some : (read : Option Message) → IsSome read → (m : Message) × (read ≡
 of_some (Some m) h = (m, refl)
 of_some None h = absurd cc
 
-pub some_found : (federation : ℕ) (bytes : List ℕ) → IsBytes bytes → FRONT ≤ length bytes
-    → IsOurs federation bytes → IsSome (datagram_at bytes) → IsDatagram federation bytes
-some_found federation bytes fits long ours some =
-    let m = of_some (datagram_at bytes) some in
-    (m.0, is_found federation bytes m.0 fits long ours m.1)
-
 -- what reading a message's datagram gives
 pub datagram_read : (federation : ℕ) (m : Message) → IsMessage m
     → datagram_at (datagram_of federation m) ≡ Some m
@@ -188,8 +182,13 @@ ok_malformed federation bytes x long found = (
   ],
 )
 
--- what is known where reading ended in a fault of a field, which gave the answer r
-pub record Faulted (bytes : List ℕ) (f : FieldFault) (r : Result Message DgramFault) : Type 0 where
+-- what is known where reading what begins as it has to ended in a fault of a field, which gave the
+-- answer r
+pub record Faulted (federation : ℕ) (bytes : List ℕ) (f : FieldFault)
+    (r : Result Message DgramFault) : Type 0 where
+  pub fits : IsBytes bytes
+  pub long : FRONT ≤ length bytes
+  pub ours : IsOurs federation bytes
   pub gives : Fails f (datagram_at bytes)
   pub memory : f ≡ field_faults.Memory → IsSome (datagram_at bytes)
   pub answer : r ≡ Err (fault_of_field f)
@@ -199,46 +198,58 @@ answer_of : (f : FieldFault) (r : Result Message DgramFault)
 answer_of f (Ok x) h = absurd h
 answer_of f (Err d) h = let P : DgramFault → Result Message DgramFault = λ y. Err y in ap P h
 
-pub faulted : (bytes : List ℕ) (f : FieldFault) (r : Result Message DgramFault)
+pub faulted : (federation : ℕ) (bytes : List ℕ) (f : FieldFault) (r : Result Message DgramFault)
+    → IsBytes bytes → FRONT ≤ length bytes → IsOurs federation bytes
     → Fails f (datagram_at bytes)
     → (IsErrOf {T = Message} (Err f) field_faults.Memory → IsSome (datagram_at bytes))
-    → IsErrAnd r (λ d. d ≡ fault_of_field f) → Faulted bytes f r
-faulted bytes f r gives memory given =
+    → IsErrAnd r (λ d. d ≡ fault_of_field f) → Faulted federation bytes f r
+faulted federation bytes f r fits long ours gives memory given =
     let P : FieldFault → Result Message FieldFault = λ y. Err y in
-    record { gives = gives; memory = λ e. memory (ap P e); answer = answer_of f r given }
+    record {
+      fits = fits;
+      long = long;
+      ours = ours;
+      gives = gives;
+      memory = λ e. memory (ap P e);
+      answer = answer_of f r given;
+    }
 
 pub err_only : (federation : ℕ) (bytes : List ℕ) (f : FieldFault) (r : Result Message DgramFault)
-    → Faulted bytes f r → (m : Message) → IsDatagramOf federation bytes m → IsOrMemory r (Ok m)
+    → Faulted federation bytes f r → (m : Message) → IsDatagramOf federation bytes m
+    → IsOrMemory r (Ok m)
 err_only federation bytes field_faults.Malformed r h m d =
     absurd (not_some (datagram_at bytes) m h.gives (is_read federation bytes m d))
 err_only federation bytes field_faults.Memory r h m d = inr h.answer
 
+-- where memory ran out, there is a message
+pub memory_found : (federation : ℕ) (bytes : List ℕ) (r : Result Message DgramFault)
+    → Faulted federation bytes field_faults.Memory r → IsDatagram federation bytes
+memory_found federation bytes r h =
+    let m = of_some (datagram_at bytes) (h.memory refl) in
+    (m.0, is_found federation bytes m.0 h.fits h.long h.ours m.1)
+
 pub err_memory : (federation : ℕ) (bytes : List ℕ) (f : FieldFault) (r : Result Message DgramFault)
-    → IsBytes bytes → FRONT ≤ length bytes → IsOurs federation bytes → Faulted bytes f r
-    → IsErrOf r faults.Memory → IsDatagram federation bytes
-err_memory federation bytes field_faults.Malformed r fits long ours h e =
-    let given = h.answer in absurd cc
-err_memory federation bytes field_faults.Memory r fits long ours h e =
-    some_found federation bytes fits long ours (h.memory refl)
+    → Faulted federation bytes f r → IsErrOf r faults.Memory → IsDatagram federation bytes
+err_memory federation bytes field_faults.Malformed r h e = let given = h.answer in absurd cc
+err_memory federation bytes field_faults.Memory r h e = memory_found federation bytes r h
 
 pub err_malformed : (federation : ℕ) (bytes : List ℕ) (f : FieldFault)
-    (r : Result Message DgramFault) → IsBytes bytes → FRONT ≤ length bytes → IsOurs federation bytes
-    → Faulted bytes f r
+    (r : Result Message DgramFault) → Faulted federation bytes f r
     → IsErrOf r faults.Malformed ↔ IsMalformed federation bytes
-err_malformed federation bytes field_faults.Malformed r fits long ours h = (
+err_malformed federation bytes field_faults.Malformed r h = (
   λ e. inr (
-    ours,
+    h.ours,
     λ m is e'.
         not_some (datagram_at bytes) m h.gives (is_read federation bytes m (is, e')),
   ),
   λ bad. h.answer,
 )
-err_malformed federation bytes field_faults.Memory r fits long ours h =
-    let found = some_found federation bytes fits long ours (h.memory refl) in
+err_malformed federation bytes field_faults.Memory r h =
+    let found = memory_found federation bytes r h in
     let given = h.answer in (
       λ e. absurd cc,
       λ bad. elim bad [
-        | inl short ↦ absurd (omega (arith, short, long))
+        | inl short ↦ let long = h.long in absurd (omega (arith, short, long))
         | inr none ↦ absurd (none.1 found.0 found.1.0 found.1.1)
       ],
     )

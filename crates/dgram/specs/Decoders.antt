@@ -45,16 +45,20 @@ path_at bytes = number_at w16 bytes >>= λ n. text_at LONGEST_PATH n.0 n.1
 abbrev pub is_fault : ℕ → ℕ → ℕ → Bool
 is_fault low greatest code = nat_lt low code && nat_le code (low + greatest)
 
+-- an answer to a deposit that is a fault
+abbrev pub fault_answer : ℕ → Option DepositAnswer
+fault_answer code =
+    if is_fault BEFORE_TREE_FAULTS GREATEST_TREE_FAULT code
+    then Some (deposit.Tree (code - BEFORE_TREE_FAULTS)) else
+    (if is_fault BEFORE_BAG_FAULTS GREATEST_BAG_FAULT code
+    then Some (deposit.Bag (code - BEFORE_BAG_FAULTS)) else None)
+
 -- an answer to a deposit that names no bag
 abbrev pub unnamed_answer : ℕ → Option DepositAnswer
 unnamed_answer code =
     if code == DEVICE then Some deposit.Device else
     (if code == MEMORY then Some deposit.Memory else
-    (if code == NEEDS_OPEN then Some deposit.NeedsOpen else
-    (if is_fault BEFORE_TREE_FAULTS GREATEST_TREE_FAULT code
-    then Some (deposit.Tree (code - BEFORE_TREE_FAULTS)) else
-    (if is_fault BEFORE_BAG_FAULTS GREATEST_BAG_FAULT code
-    then Some (deposit.Bag (code - BEFORE_BAG_FAULTS)) else None))))
+    (if code == NEEDS_OPEN then Some deposit.NeedsOpen else fault_answer code))
 
 -- an answer to a deposit; where it names no bag, zeros are in the bag's place
 abbrev pub deposit_answer : ℕ → BagId → Option DepositAnswer

@@ -10,13 +10,13 @@ use Rattle.records.specs.declared.owner.Owner.{Owner}
 use Rattle.fed_types.specs.Limits.{federation_bits}
 use Rattle.fed_types.specs.Sites.{AreWeights, IsSiteNumber, IsWeight}
 use Rattle.records.specs.Starts.{Start, Old, New, Carried, HasWeights, IsStart, text_bytes}
-use Rattle.records.specs.Journals.{Reaches, IsEnd}
+use Rattle.records.specs.Journals.{Reaches, IsEnd, HasEnd}
 use Rattle.ledger.specs.declared.contents.Contents.{Contents}
+use Rattle.ledger.specs.declared.ending.Ending.{Ending}
 use Rattle.ledger.specs.declared.ending.Ending.TheVariants.{Damaged}
 use Rattle.ledger.specs.Cells.{NamesWeights, EndsWith, IsCell, IsOwner}
-use Rattle.ledger.specs.inner.Found.{HasEnd, HasDamage, IsTextRead, ending_of}
+use Rattle.ledger.specs.inner.Found.{HasDamage, IsTextRead, ending_of}
 use Rattle.ledger.specs.inner.Named.{IsHeadedBy}
-use Rattle.ledger.proofs.TextEnds.{text_headed}
 use Rattle.ledger.proofs.SameOwners.{reaches_of, end_of, damage_of}
 
 pub weights_of : (start : Start) (weights : List ℕ) (named : Bool) → NamesWeights start weights named
@@ -52,30 +52,36 @@ named_owner owner bytes h its federation site weights = (
   subst IsSiteNumber (sym site) h.site,
 )
 
-told : (owner : Owner) (bytes : List ℕ) → IsHeadedBy owner bytes → (e : HasEnd owner bytes)
-    → (contents : Contents) → IsTextRead owner bytes contents → IsCell bytes contents
-told owner bytes h e contents t =
-    let all = t.all e.start e.records e.rest e.reaches e.ends in
-    let f = sym t.federation in
-    let s = sym t.site in
+-- a text that was read, and how a cell goes on that begins with it
+told : (owner : Owner) (bytes text : List ℕ) → IsHeadedBy owner bytes → (e : HasEnd owner text)
+    → (contents : Contents) → IsTextRead owner text contents
+    → (rest : List ℕ) → Reaches owner bytes e.start e.records rest
+    → (ending : Ending) → EndsWith contents.owner bytes e.start rest ending
+    → IsCell bytes (record contents { ending = ending })
+told owner bytes text h e contents t rest reaches ending ends =
+    let all = t.all e.start e.records e.end e.reaches e.ends in
     record {
       start = e.start;
       records = e.records;
-      rest = e.rest;
+      rest = rest;
       owner_is = named_owner owner bytes h contents.owner t.federation t.site
           (their_weights e.start contents.owner.members.weights contents.names_weights
           e.reaches.is_start all.1);
-      reaches = reaches_of owner contents.owner f s bytes e.start e.records e.rest e.reaches;
+      reaches = reaches_of owner contents.owner (sym t.federation) (sym t.site) bytes e.start
+          e.records rest reaches;
       records_are = all.0;
       weights_are = all.1;
-      ends = subst (EndsWith contents.owner bytes e.start e.rest) (sym all.2)
-          (ends_with contents.owner bytes e.start e.rest
-          (end_of owner contents.owner f s e.start e.rest e.ends));
+      ends = ends;
     }
 
 pub tells : (owner : Owner) (bytes : List ℕ) → IsHeadedBy owner bytes → HasEnd owner bytes
     → (r : Result Contents AllocError) → IfOk r (IsTextRead owner bytes) → IfOk r (IsCell bytes)
-tells owner bytes h e (Ok contents) t = told owner bytes h e contents t
+tells owner bytes h e (Ok contents) t =
+    told owner bytes bytes h e contents t e.end e.reaches contents.ending
+    (subst (EndsWith contents.owner bytes e.start e.end)
+    (sym (t.all e.start e.records e.end e.reaches e.ends).2)
+    (ends_with contents.owner bytes e.start e.end
+    (end_of owner contents.owner (sym t.federation) (sym t.site) e.start e.end e.ends)))
 tells owner bytes h e (Err fault) t = tt
 
 -- ---- damage
@@ -100,35 +106,17 @@ module _ (owner : Owner) (bytes : List ℕ) (place : ℕ) (d : HasDamage owner b
   text_ends = record {
     start = d.start;
     records = d.records;
-    rest = [];
+    end = [];
     reaches = text_reaches;
     ends = inl refl;
-  }
-
-  pub text_headed_by : IsHeadedBy owner bytes → IsHeadedBy owner (take place bytes)
-  text_headed_by h = record {
-    headed = text_headed owner (take place bytes) d.start d.records [] text_reaches;
-    federation = h.federation;
-    single = h.single;
-    site = h.site;
   }
 
   pub damage_told : IsHeadedBy owner bytes → (text : Contents)
       → IsTextRead owner (take place bytes) text
       → IsCell bytes (record text { ending = Damaged place })
+  unfolding text_ends
   damage_told h text t =
-      let all = t.all d.start d.records [] text_reaches (inl refl) in
-      let f = sym t.federation in
-      let s = sym t.site in
-      record {
-        start = d.start;
-        records = d.records;
-        rest = d.rest;
-        owner_is = named_owner owner bytes h text.owner t.federation t.site
-            (their_weights d.start text.owner.members.weights text.names_weights
-            d.reaches.is_start all.1);
-        reaches = reaches_of owner text.owner f s bytes d.start d.records d.rest d.reaches;
-        records_are = all.0;
-        weights_are = all.1;
-        ends = (damage_of owner text.owner f s d.start d.rest d.damage, d.place_is);
-      }
+      told owner bytes (take place bytes) h text_ends text t d.rest d.reaches (Damaged place) (
+        damage_of owner text.owner (sym t.federation) (sym t.site) d.start d.rest d.damage,
+        d.place_is,
+      )

@@ -112,12 +112,13 @@ module _ (owner : Owner) (bytes : List ℕ) (journal : Journal) (batch : Batch)
       by (inl (e, new)) =
           absurd (new_not_headed owner bytes new (inr (has_own owner bytes after is are)))
       by (inr j) =
-          let own = own_start owner bytes after is j.start j.records j.end j.reaches in
-          let rs : j.records ≡ [] = ap (λ (s : Start). records_of s j.records) (sym own.0)
+          let t = j.text in
+          let own = own_start owner bytes after is t.start t.records t.end t.reaches in
+          let rs : t.records ≡ [] = ap (λ (s : Start). records_of s t.records) (sym own.0)
           ∙ sym j.all_are ∙ none in
-          let rest : after ≡ j.end = own.1
-          ∙ ap (λ (l : List Record). all_encoded Second l ++ j.end) rs ∙ nothing j.end in
-          by_start owner bytes after is j.start j.records j.end batch own.0 own.1 j.reaches
+          let rest : after ≡ t.end = own.1
+          ∙ ap (λ (l : List Record). all_encoded Second l ++ t.end) rs ∙ nothing t.end in
+          by_start owner bytes after is t.start t.records t.end batch own.0 own.1 t.reaches
           (records_are ∙ j.all_are)
           (omega (
             arith,
@@ -125,7 +126,7 @@ module _ (owner : Owner) (bytes : List ℕ) (journal : Journal) (batch : Batch)
             own_length owner bytes after is,
             ap length rest,
           ))
-          (follows_short j.end (short owner bytes after is j.start j.end own.0 j.ends))
+          (follows_short t.end (short owner bytes after is t.start t.end own.0 t.ends))
   next_by (r ∷ rs) some after are is = by text
     where
       by : HasTextEnd owner bytes journal → AreNext bytes batch after

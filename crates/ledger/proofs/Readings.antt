@@ -11,13 +11,12 @@ use Rattle.records.specs.declared.record.Record.{Record}
 use Rattle.records.specs.Answers.{IsReading}
 use Rattle.records.specs.Faults.{IsOrMemory}
 use Rattle.records.specs.Starts.{Start, HasWeights, records_of, text_bytes}
-use Rattle.records.specs.Journals.{HasNoHeader, Reaches, IsEnd, Says}
-use Rattle.records.specs.Journals.{IsDamagedAt}
+use Rattle.records.specs.Journals.{HasNoHeader, Reaches, IsEnd, HasEnd, IsDamagedAt, Says}
 use Rattle.records.proofs.Apart.{old_header_magic}
 use Rattle.records.proofs.OneReading.{new_not_headed}
 use Rattle.records.proofs.Texts.{magics_differ}
 use Rattle.ledger.specs.Cells.{IsHeaded}
-use Rattle.ledger.specs.inner.Found.{HasEnd, HasDamage, IsDamageIn, IsDamageFound}
+use Rattle.ledger.specs.inner.Found.{HasDamage, IsDamageIn, IsDamageFound}
 use Rattle.ledger.proofs.Headers.{headed_owner, headed_names}
 
 pub says_end : (owner : Owner) (bytes : List ℕ) (records : List Record) → IsHeaded owner bytes
@@ -25,13 +24,7 @@ pub says_end : (owner : Owner) (bytes : List ℕ) (records : List Record) → Is
 unfolding Says
 says_end owner bytes records headed (inl (none, new)) =
     absurd (new_not_headed owner bytes new headed)
-says_end owner bytes records headed (inr j) = record {
-  start = j.start;
-  records = j.records;
-  rest = j.end;
-  reaches = j.reaches;
-  ends = j.ends;
-}
+says_end owner bytes records headed (inr j) = j.text
 
 -- ---- faults
 
@@ -74,13 +67,7 @@ found_damage owner bytes faults.OtherSite r headed said e =
 found_damage owner bytes (faults.Damaged place) r headed said e =
     subst (λ r. IfOk r (IsDamageFound owner bytes)) (sym e) (damaged owner bytes place headed said)
 found_damage owner bytes faults.OtherWeights r headed said e =
-    subst (λ r. IfOk r (IsDamageFound owner bytes)) (sym e) (record {
-      start = said.start;
-      records = said.records;
-      rest = said.end;
-      reaches = said.reaches;
-      ends = said.ends;
-    })
+    subst (λ r. IfOk r (IsDamageFound owner bytes)) (sym e) said.text
 found_damage owner bytes faults.Memory r headed said e = memory r (IsDamageFound owner bytes) e
 
 -- ---- records
@@ -90,11 +77,7 @@ pub says_all : (owner : Owner) (bytes : List ℕ) (start : Start) (rs : List Rec
     → HasWeights owner.members.weights start → Says owner bytes (Ok (records_of start rs))
 unfolding Says
 says_all owner bytes start rs rest reaches ends has = inr (record {
-  start = start;
-  records = rs;
-  end = rest;
-  reaches = reaches;
-  ends = ends;
+  text = record { start = start; records = rs; end = rest; reaches = reaches; ends = ends };
   all_are = refl;
   weights = inr has;
 })

@@ -30,13 +30,12 @@ use Rattle.ledger.specs.declared.part.Head.{Head}
 use Rattle.ledger.specs.declared.part.LastPart.{LastPart}
 use Rattle.ledger.specs.declared.part.Part.{Part}
 use Rattle.ledger.specs.declared.steps.Kept.{Kept}
-use Rattle.ledger.specs.declared.steps.Step.{Step}
 use Rattle.ledger.specs.Cells.{NamesWeights, EndsWith, Said, IsSaid, said_in, IsCell}
 use Rattle.ledger.specs.Parts.{Told, nothing, and_part, told_of, Fits, IsTold, HasToldBy}
 use Rattle.ledger.specs.Parts.{IsDamaged, IsEmpty, TellsLast}
 use Rattle.ledger.specs.inner.Batches.{AreNext, IsBatch, batch_size, ending_by, ending_after}
 use Rattle.ledger.specs.inner.Batches.{text_end, IsPartOf, IsNextPart, KeepsFirst, KeepsNext}
-use Rattle.ledger.specs.inner.Batches.{IsEndOfBatch, IsStep}
+use Rattle.ledger.specs.inner.Batches.{IsEndOfBatch}
 use Rattle.ledger.specs.inner.Found.{ending_of}
 
 -- ---- records after records
@@ -519,22 +518,13 @@ module _ (o : Option Owner) (passed : ℕ) (bytes : List ℕ) (none : o ≡ None
   nothing_told taken told given =
       subst (λ (it : Option Owner). HasToldBy it passed bytes taken told) none given
 
-  -- all bytes give the last part
-  pub wholes : (result : Result LastPart AllocError) → IfOk result (TellsLast bytes nothing)
-      → IfOk result (λ last. (taken : List ℕ) (told : Told)
-      → HasToldBy o passed bytes taken told → TellsLast taken told last)
-  wholes (Err e) h = tt
-  wholes (Ok last) h = λ taken told given.
+  -- what is so of all bytes is so of what is told
+  pub from_all : {X : Type 0} (P : List ℕ → Told → X → Type 0) (result : Result X AllocError)
+      → IfOk result (P bytes nothing)
+      → IfOk result (λ x. (taken : List ℕ) (told : Told)
+      → HasToldBy o passed bytes taken told → P taken told x)
+  from_all P (Err e) h = tt
+  from_all P (Ok x) h = λ taken told given.
       let none = nothing_told taken told given in
-      subst (λ (b : List ℕ). TellsLast b told last) none.0
-      (subst (λ (t : Told). TellsLast bytes t last) (sym none.1) h)
-
-  -- and a step
-  pub first_step : (result : Result Step AllocError) → IfOk result (IsStep bytes nothing)
-      → IfOk result (λ step. (taken : List ℕ) (told : Told)
-      → HasToldBy o passed bytes taken told → IsStep taken told step)
-  first_step (Err e) h = tt
-  first_step (Ok step) h = λ taken told given.
-      let none = nothing_told taken told given in
-      subst (λ (b : List ℕ). IsStep b told step) none.0
-      (subst (λ (t : Told). IsStep bytes t step) (sym none.1) h)
+      subst (λ (b : List ℕ). P b told x) none.0
+      (subst (λ (t : Told). P bytes t x) (sym none.1) h)

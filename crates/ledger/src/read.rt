@@ -1,10 +1,10 @@
 //! What the bytes of a cell say.
 
 ghost use Rattle.std.specs.Prelude.{◌≡◌, ◌≤◌, ◌-◌, ◌+◌, IfOk, MatchOption, length};
-ghost use Rattle.records.specs.Journals.{HasHeader};
+ghost use Rattle.records.specs.Journals.{HasEnd, HasHeader};
 ghost use Rattle.ledger.specs.Cells.{HasNoOwner, IsCell};
 ghost use Rattle.ledger.specs.inner.Named.{IsHeadedBy};
-ghost use Rattle.ledger.specs.inner.Found.{HasEnd, IsDamageFound, IsDamageIn, IsAllFound};
+ghost use Rattle.ledger.specs.inner.Found.{IsDamageFound, IsDamageIn, IsAllFound};
 ghost use Rattle.ledger.specs.inner.Found.{IsAllAfter};
 ghost use Rattle.ledger.specs.inner.Found.{AreRecordsRead, IsTextRead, ending_of};
 

@@ -26,7 +26,7 @@ use Rattle.records.specs.Layout.{all_encoded, header_of, old_header}
 use Rattle.records.specs.Records.{AreRecords}
 use Rattle.records.specs.Starts.{Start, Old, New, Carried, IsStart, layout_after}
 use Rattle.records.specs.Starts.{HasWeights, text_bytes, records_of, is_current}
-use Rattle.records.specs.Journals.{Reaches, IsEnd, IsNoRecord, IsHeaderPart, HasHeader}
+use Rattle.records.specs.Journals.{Reaches, IsEnd, HasEnd, IsHeaderPart, HasHeader}
 use Rattle.records.specs.Journals.{Says}
 use Rattle.records.specs.inner.Parts.{IsRun, IsParts, first_records, second_records, weights_in}
 use Rattle.records.specs.inner.Steps.{IsShort, Follows, Passes, IsHeaderAt, HasRead}
@@ -303,33 +303,27 @@ module _ (owner : Owner) (bytes old weights new : List ℕ) (end : ℕ)
       by (inl some) both = some (p.old_is ∙ ap (all_encoded First) both.0)
       by (inr some) both = some (p.new_is ∙ ap (all_encoded Second) both.1)
 
-  -- what the parts say, by whether the weights are the owner's
-  pub parts_say : (all : List Record) → all ≡ records_of p.start p.records
-      → (all ≡ []) ⊎ HasWeights owner.members.weights p.start → Says owner bytes (Ok all)
-  unfolding Says
-  parts_say all is weights = inr (record {
+  abbrev parts_text : HasEnd owner bytes
+  parts_text = record {
     start = p.start;
     records = p.records;
     end = drop end bytes;
     reaches = p.reaches;
     ends = p.ends;
-    all_are = is;
-    weights = weights;
-  })
+  }
+
+  -- what the parts say, by whether the weights are the owner's
+  pub parts_say : (all : List Record) → all ≡ records_of p.start p.records
+      → (all ≡ []) ⊎ HasWeights owner.members.weights p.start → Says owner bytes (Ok all)
+  unfolding Says
+  parts_say all is weights =
+      inr (record { text = parts_text; all_are = is; weights = weights })
 
   pub parts_refuse : records_of p.start p.records ≢ []
       → ¬ HasWeights owner.members.weights p.start
       → Says owner bytes (Err faults.OtherWeights)
   unfolding Says
-  parts_refuse some other = record {
-    start = p.start;
-    records = p.records;
-    end = drop end bytes;
-    reaches = p.reaches;
-    ends = p.ends;
-    some = some;
-    weights = other;
-  }
+  parts_refuse some other = record { text = parts_text; some = some; weights = other }
 
   pub parts_end : (all : List Record) (current : Bool) → all ≡ records_of p.start p.records
       → HasWeights owner.members.weights p.start → is_current p.start ≡ current

@@ -11,7 +11,6 @@ pub mod FoundParts
 pub mod Readings
 pub mod Mended
 pub mod SlotStates
-pub mod Lists
 pub mod Highest
 pub mod Bounds
 pub mod Total

@@ -1,6 +1,6 @@
 -- A record is decoded as it is encoded.
-use Rattle.std.proofs.Common.{◌≡◌, ℕ, ◌^◌, ◌<◌, ◌≤◌, false, eqb, List, [], ◌∷◌, ◌++◌, length}
-use Rattle.std.proofs.Common.{Option, Some, None, refl, sym, ap, subst, ◌∙◌, arith, inl, inr}
+use Rattle.std.proofs.Common.{◌≡◌, ℕ, ◌^◌, ◌<◌, ◌≤◌, false, cond, eqb, List, [], ◌∷◌, ◌++◌, length}
+use Rattle.std.proofs.Common.{Option, Some, refl, sym, ap, subst, ◌∙◌, arith, inl, inr}
 use Rattle.std.specs.Int.{w32, to_be_bytes}
 use Rattle.std.proofs.lemmas.Bool.{eqb-true}
 use Rattle.std.proofs.lemmas.Bool.Decides.{eqb_tells}
@@ -58,52 +58,37 @@ made {A = A} r s F kind con reads is bytes e rest fits h =
 abbrev Decodes : ℕ → List ℕ → List ℕ → Entry → Type 0
 Decodes kind bytes rest e = entry_at kind bytes ≡ Some (e, rest)
 
+-- what was read as an entry of the kind of this code, or as one of the kinds after it
+by_code : {kind : ℕ} {bytes rest : List ℕ} {e : Entry} {r after : Option (Entry × List ℕ)}
+    (code : ℕ) → (r ≡ Some (e, rest) → IsRead code bytes rest e)
+    → (after ≡ Some (e, rest) → IsRead kind bytes rest e)
+    → cond (eqb kind code) r after ≡ Some (e, rest) → IsRead kind bytes rest e
+by_code {kind} {bytes} {rest} {e} {r} {after} code here there h =
+    elim (eqb_tells kind code) [
+      | inl t ↦ subst (λ (k : ℕ). IsRead k bytes rest e) (sym t.1) (here (rw t.0 at h))
+      | inr f ↦ there (rw f.0 at h)
+    ]
+
 entry_taken : (kind : ℕ) (bytes : List ℕ) (e : Entry) (rest : List ℕ) → IsBytes bytes
     → Decodes kind bytes rest e → IsRead kind bytes rest e
 unfolding entry_at
-entry_taken kind bytes e rest fits h =
-    elim (eqb_tells kind deposit_code) [
-      | inl t ↦
-          let is : entry_at kind bytes ≡ meant bag_at (λ b. Some (Deposit b)) bytes = rw t.0 refl in
-          subst (λ (k : ℕ). IsRead k bytes rest e) (sym t.1)
-          (made bag_at bag_bytes IsBag deposit_code Deposit bag_read (λ a. (refl, refl, λ f. f))
-          bytes e rest fits (sym is ∙ h))
-      | inr f ↦ elim (eqb_tells kind round_code) [
-        | inl t ↦
-            let is : entry_at kind bytes ≡ meant round_at (λ n. Some (Round n)) bytes =
-            rw (f.0, t.0) refl in
-            subst (λ (k : ℕ). IsRead k bytes rest e) (sym t.1)
-            (made round_at (to_be_bytes w32) IsRound round_code Round round_read
-            (λ a. (refl, refl, λ f. f)) bytes e rest fits (sym is ∙ h))
-        | inr g ↦ elim (eqb_tells kind promise_code) [
-          | inl t ↦
-              let is : entry_at kind bytes ≡ meant ballot_at (λ b. Some (Promise b)) bytes =
-              rw (f.0, g.0, t.0) refl in
-              subst (λ (k : ℕ). IsRead k bytes rest e) (sym t.1)
-              (made ballot_at ballot_bytes IsBallot promise_code Promise ballot_read
-              (λ a. (refl, refl, λ f. f)) bytes e rest fits (sym is ∙ h))
-          | inr i ↦ elim (eqb_tells kind vote_code) [
-            | inl t ↦
-                let is : entry_at kind bytes ≡ meant vote_at (λ v. Some (Vote v)) bytes =
-                rw (f.0, g.0, i.0, t.0) refl in
-                subst (λ (k : ℕ). IsRead k bytes rest e) (sym t.1)
-                (made vote_at vote_bytes IsVote vote_code Vote vote_read
-                (λ a. (refl, refl, λ f. f)) bytes e rest fits (sym is ∙ h))
-            | inr j ↦ elim (eqb_tells kind known_code) [
-              | inl t ↦
-                  let is : entry_at kind bytes ≡ meant bag_at (λ b. Some (Known b)) bytes =
-                  rw (f.0, g.0, i.0, j.0, t.0) refl in
-                  subst (λ (k : ℕ). IsRead k bytes rest e) (sym t.1)
-                  (made bag_at bag_bytes IsBag known_code Known bag_read
-                  (λ a. (refl, refl, λ f. f)) bytes e rest fits (sym is ∙ h))
-              | inr k ↦
-                  let is : entry_at kind bytes ≡ None = rw (f.0, g.0, i.0, j.0, k.0) refl in
-                  absurd (cc (is, h))
-            ]
-          ]
-        ]
-      ]
-    ]
+entry_taken kind bytes e rest fits =
+    by_code deposit_code
+    (made bag_at bag_bytes IsBag deposit_code Deposit bag_read (λ a. (refl, refl, λ f. f)) bytes e
+    rest fits)
+    (by_code round_code
+    (made round_at (to_be_bytes w32) IsRound round_code Round round_read
+    (λ a. (refl, refl, λ f. f)) bytes e rest fits)
+    (by_code promise_code
+    (made ballot_at ballot_bytes IsBallot promise_code Promise ballot_read
+    (λ a. (refl, refl, λ f. f)) bytes e rest fits)
+    (by_code vote_code
+    (made vote_at vote_bytes IsVote vote_code Vote vote_read (λ a. (refl, refl, λ f. f)) bytes e
+    rest fits)
+    (by_code known_code
+    (made bag_at bag_bytes IsBag known_code Known bag_read (λ a. (refl, refl, λ f. f)) bytes e
+    rest fits)
+    (λ h. absurd (cc h))))))
 
 entry_again : (e : Entry) (rest : List ℕ) → IsEntry e
     → Decodes (kind_code e) (entry_bytes e ++ rest) rest e

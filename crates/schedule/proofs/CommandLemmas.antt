@@ -12,17 +12,10 @@ use Rattle.schedule.specs.declared.call.Call.TheVariants.{Deposit, Propose, Deli
 use Rattle.schedule.specs.declared.command.Command.{Command}
 use Rattle.schedule.specs.declared.command.Command.TheVariants as commands
 use Rattle.schedule.specs.declared.fate.Fate.{Fate}
-<<<<<<< HEAD
 use Rattle.words.specs.Slots.{slot_of}
 use Rattle.schedule.specs.Commands.{site_of, tree_of, amount_of, call_command}
-use Rattle.schedule.specs.Commands.{tree_command, folder_command, file_command, deposit_command}
-use Rattle.schedule.specs.Commands.{propose_command, deliver_command, ask_command, query_command}
-use Rattle.schedule.specs.Commands.{raw_command, pump_command, stop_command, start_command}
-=======
-use Rattle.schedule.specs.Commands.{site_of, tree_of, amount_of, slot_of, call_command}
 use Rattle.schedule.specs.Commands.{only, file_command, deposit_command, propose_command}
 use Rattle.schedule.specs.Commands.{deliver_command, ask_command, query_command, raw_command}
->>>>>>> 079e0a688beb4538c8afdbfd6ac648ffec09d4b0
 use Rattle.schedule.specs.Commands.{command_of}
 use Rattle.schedule.specs.Limits.{greatest_site, greatest_tree}
 use Rattle.schedule.specs.Lines.{site_token, tree_token, slot_tokens, call_tokens}

@@ -1,7 +1,8 @@
 -- What a site promises is read in this order: Effects (what a call comes to), Arrivals (what a
 -- message does), Calls (what a call does), Sites (what a site represents), Answered (when a call
 -- answers so), Datagrams, Opened, Faults. Before them come the words of `acceptor`, `proposer` and
--- `learner`, and of `book` Committed and Opened. A commit puts a record on record; that a quorum has
+-- `learner`, and of `book` Committed and Opened. A commit puts a record on record; that a quorum
+has
 -- voted for a bag is `IsChosen` of `world_law`. inner/ is for private clauses and proofs.
 pub mod Effects
 pub mod Datagrams

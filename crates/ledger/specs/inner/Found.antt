@@ -8,7 +8,7 @@ use Rattle.records.specs.declared.fault.JournalFault.TheVariants as faults
 use Rattle.records.specs.declared.layout.Layout.TheVariants.{Second}
 use Rattle.records.specs.declared.owner.Owner.{Owner}
 use Rattle.records.specs.declared.record.Record.{Record}
-use Rattle.records.specs.Journals.{Reaches, IsEnd, IsDamage}
+use Rattle.records.specs.Journals.{Reaches, IsEnd, HasEnd, IsDamage}
 use Rattle.records.specs.Layout.{all_encoded}
 use Rattle.records.specs.Records.{AreRecords}
 use Rattle.records.specs.Starts.{Start, HasWeights, records_of}
@@ -18,14 +18,6 @@ use Rattle.ledger.specs.declared.ending.Ending.TheVariants.{Whole, Torn}
 use Rattle.ledger.specs.declared.read.Found.{Found}
 use Rattle.ledger.specs.Cells.{NamesWeights}
 use Rattle.ledger.specs.inner.Sizes.{Stops}
-
--- headers and records, and an end that is no damage
-pub record HasEnd (owner : Owner) (bytes : List ℕ) : Type 0 where
-  pub start : Start
-  pub records : List Record
-  pub rest : List ℕ
-  pub reaches : Reaches owner bytes start records rest
-  pub ends : IsEnd owner start rest
 
 -- headers and records, and damage from this place on
 pub record HasDamage (owner : Owner) (bytes : List ℕ) (place : ℕ) : Type 0 where

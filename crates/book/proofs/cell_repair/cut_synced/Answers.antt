@@ -9,12 +9,10 @@ returns-then-len-bytes-clause-any_moment g c =
 pub returns-in_err-cut-clause-any_moment : goal.returns-in_err-cut-clause-any_moment
 returns-in_err-cut-clause-any_moment g c =
     cut g.C.Cell.device g.met.C.Cell.only_now c.args.cell.now c.args.bytes.now c.requires.rest
-    c.args.len c.requires.in_range c.cut.result c.cut.new.self c.cut.ensures.does.time
-    c.cut.ensures.does.bytes
+    c.args.len c.requires.in_range c.cut.result c.cut.new.self c.cut.ensures.does
 
 pub returns-clause-any_moment : goal.returns-clause-any_moment
 returns-clause-any_moment g c =
     cut_synced g.C.Cell.device g.met.C.Cell.only_now c.args.cell.now c.args.bytes.now
     c.requires.rest c.args.len c.requires.in_range c.in_ok-cut.field-0 c.sync.result c.cut.new.self
-    c.sync.new.self c.cut.ensures.does.time c.in_ok-cut.ensures.does.bytes
-    c.sync.ensures.does.time c.sync.ensures.does.bytes
+    c.sync.new.self c.in_ok-cut.ensures.does c.sync.ensures.does

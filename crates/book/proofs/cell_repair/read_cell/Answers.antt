@@ -1,7 +1,12 @@
-use Rattle.std.proofs.Common.{List, ℕ, sym, subst}
+use Rattle.std.proofs.Common.{List, ℕ, Ok, sym, subst}
+use Rattle.cell_device.specs.Time.{LeavesOnly}
 use Rattle.records.specs.Journals.{Says}
 use Rattle.book.proofs.Commits.{leaves_text, recovers}
-use Rattle.book.proofs.Alike.{said_seen, answered, synced, repaired_read}
+use Rattle.book.specs.Opened.{LeavesAlike}
+use Rattle.book.specs.Volumes.{ReadSays}
+use Rattle.book.proofs.Alike.{said_seen, answered, synced, repaired}
+use Rattle.book.proofs.cell_repair.read_cell.Given.{Over}
+use Rattle.book.proofs.cell_repair.read_cell.Goals.{After-header, After-repair}
 use Rattle.book.proofs.cell_repair.read_cell.Goals as goal
 
 pub returns-in_err-journal-clause-only : goal.returns-in_err-journal-clause-only
@@ -13,11 +18,27 @@ returns-in_err-journal-clause-only g c = λ said.
     (subst (λ (b : List ℕ). Says c.args.owner b other) (sym c.deref.ensures.value) says))
     c.from_residual-in_err-journal.ensures.1 said
 
-pub returns-clause-records : goal.returns-clause-records
-returns-clause-records g c =
+-- what was read says the journal's records
+says : (g : Over) (c : After-header g)
+    → ReadSays c.args.owner (g.C.Cell.device c.args.cell.now).image
+    (Ok c.in_ok-journal.journal.records.items)
+says g c =
     said_seen c.args.owner (g.C.Cell.device c.args.cell.now).image c.in_ok-bytes.bytes.items
     c.deref.result.now c.in_ok-journal.journal.records.items c.in_ok-bytes.ensures.read
     c.deref.ensures.value c.in_ok-journal.ensures.said
+
+-- whatever the repair came to
+leaves : (g : Over) (c : After-repair g)
+    → LeavesOnly (g.C.Cell.device c.args.cell.now) (g.C.Cell.device c.repair.new.cell)
+    (LeavesAlike c.args.owner (g.C.Cell.device c.args.cell.now).image)
+leaves g c =
+    repaired c.args.owner g.C.Cell.device g.met.C.Cell.only_now c.args.cell.now
+    c.in_ok-bytes.bytes c.in_ok-sync.field-0 c.load.new.self c.sync.new.self c.repair.new.cell
+    c.in_ok-journal.journal.records.items (says g (goal.at.After-repair g c).After-header)
+    c.in_ok-bytes.ensures.does c.in_ok-sync.ensures.does c.repair.ensures.any_moment
+
+pub returns-clause-records : goal.returns-clause-records
+returns-clause-records g c = says g (goal.at.returns-clause-records g c).After-header
 
 pub returns-clause-durable : goal.returns-clause-durable
 returns-clause-durable g c =
@@ -26,31 +47,17 @@ returns-clause-durable g c =
 
 pub returns-in_err-sync-clause-any_moment : goal.returns-in_err-sync-clause-any_moment
 returns-in_err-sync-clause-any_moment g c =
-    let device = g.C.Cell.device in
-    let records = c.in_ok-journal.journal.records.items in
-    let read = c.in_ok-bytes in
-    let said = said_seen c.args.owner (device c.args.cell.now).image read.bytes.items
-    c.deref.result.now records read.ensures.read c.deref.ensures.value
-    c.in_ok-journal.ensures.said in
-    synced c.args.owner device g.met.C.Cell.only_now c.args.cell.now read.bytes c.sync.result
-    c.load.new.self c.sync.new.self records said read.ensures.does.bytes c.load.ensures.does.time
-    c.sync.ensures.does.bytes c.sync.ensures.does.time
+    synced c.args.owner g.C.Cell.device g.met.C.Cell.only_now c.args.cell.now c.in_ok-bytes.bytes
+    c.sync.result c.load.new.self c.sync.new.self c.in_ok-journal.journal.records.items
+    (says g (goal.at.returns-in_err-sync-clause-any_moment g c).After-header)
+    c.in_ok-bytes.ensures.does c.sync.ensures.does
 
 pub returns-in_err-repair-clause-any_moment : goal.returns-in_err-repair-clause-any_moment
 returns-in_err-repair-clause-any_moment g c =
-    repaired_read c.args.owner g.C.Cell.device g.met.C.Cell.only_now c.args.cell.now
-    c.in_ok-bytes.bytes c.in_ok-sync.field-0 c.load.new.self c.sync.new.self c.repair.new.cell
-    c.in_ok-journal.journal.records.items c.in_ok-bytes.ensures.read c.deref.ensures.value
-    c.in_ok-journal.ensures.said c.in_ok-bytes.ensures.does.bytes c.load.ensures.does.time
-    c.in_ok-sync.ensures.does.bytes c.sync.ensures.does.time c.repair.ensures.any_moment
+    leaves g (goal.at.returns-in_err-repair-clause-any_moment g c).After-repair
 
 pub returns-clause-any_moment : goal.returns-clause-any_moment
-returns-clause-any_moment g c =
-    repaired_read c.args.owner g.C.Cell.device g.met.C.Cell.only_now c.args.cell.now
-    c.in_ok-bytes.bytes c.in_ok-sync.field-0 c.load.new.self c.sync.new.self c.repair.new.cell
-    c.in_ok-journal.journal.records.items c.in_ok-bytes.ensures.read c.deref.ensures.value
-    c.in_ok-journal.ensures.said c.in_ok-bytes.ensures.does.bytes c.load.ensures.does.time
-    c.in_ok-sync.ensures.does.bytes c.sync.ensures.does.time c.repair.ensures.any_moment
+returns-clause-any_moment g c = leaves g (goal.at.returns-clause-any_moment g c).After-repair
 
 pub returns-clause-recovers : goal.returns-clause-recovers
 returns-clause-recovers g c =

@@ -1,7 +1,8 @@
 use Rattle.std.proofs.Common.{refl, arith}
 use Rattle.dgram.proofs.Whole.{is_found, ok_only, ok_malformed}
-use Rattle.dgram.proofs.Whole.{faulted, err_only, err_memory, err_malformed}
+use Rattle.dgram.proofs.Whole.{Faulted, faulted, err_only, err_memory, err_malformed}
 use Rattle.dgram.proofs.MessageOf.{message_of-is, short_none, others_none, err_message}
+use Rattle.dgram.proofs.decoder.decode.Goals.{After-from_residual}
 use Rattle.dgram.proofs.decoder.decode.Goals as goal
 
 pub returns-then-bytes-lt-FRONT-clause-message : goal.returns-then-bytes-lt-FRONT-clause-message
@@ -14,44 +15,36 @@ returns-then-not-is_ours-clause-message c =
     others_none c.args.federation c.args.bytes.now (λ i. omega (arith, c.type_inv.bytes i))
     (λ ours. let t = c.if-not-is_ours.ensures.1 ours in absurd cc)
 
+-- reading ended in a fault
+fails : (c : After-from_residual)
+    → Faulted c.args.federation c.args.bytes.now c.in_err-read_datagram.field-0.0
+    c.from_residual.result
+fails c =
+    let known = c.in_err-read_datagram.ensures in
+    faulted c.args.federation c.args.bytes.now c.in_err-read_datagram.field-0.0
+    c.from_residual.result (λ i. omega (arith, c.type_inv.bytes i)) c.if-bytes-lt-FRONT.false
+    (c.if-not-is_ours.ensures.0 refl) known.gives known.memory c.from_residual.ensures.1
+
 pub returns-in_err-read_datagram-clause-message : goal.returns-in_err-read_datagram-clause-message
 returns-in_err-read_datagram-clause-message c =
-    let fault = c.in_err-read_datagram.field-0.0 in
-    let known = c.in_err-read_datagram.ensures in
-    err_message c.args.federation c.args.bytes.now fault c.from_residual.result
-    (λ i. omega (arith, c.type_inv.bytes i)) c.if-bytes-lt-FRONT.false
-    (c.if-not-is_ours.ensures.0 refl)
-    (faulted c.args.bytes.now fault c.from_residual.result known.gives known.memory
-    c.from_residual.ensures.1)
+    err_message c.args.federation c.args.bytes.now _ _
+    (fails (goal.at.returns-in_err-read_datagram-clause-message c).After-from_residual)
 
 pub returns-in_err-read_datagram-clause-only : goal.returns-in_err-read_datagram-clause-only
 returns-in_err-read_datagram-clause-only c =
-    let fault = c.in_err-read_datagram.field-0.0 in
-    let known = c.in_err-read_datagram.ensures in
-    err_only c.args.federation c.args.bytes.now fault c.from_residual.result
-    (faulted c.args.bytes.now fault c.from_residual.result known.gives known.memory
-    c.from_residual.ensures.1)
+    err_only c.args.federation c.args.bytes.now _ _
+    (fails (goal.at.returns-in_err-read_datagram-clause-only c).After-from_residual)
 
 pub returns-in_err-read_datagram-clause-malformed :
     goal.returns-in_err-read_datagram-clause-malformed
 returns-in_err-read_datagram-clause-malformed c =
-    let fault = c.in_err-read_datagram.field-0.0 in
-    let known = c.in_err-read_datagram.ensures in
-    err_malformed c.args.federation c.args.bytes.now fault c.from_residual.result
-    (λ i. omega (arith, c.type_inv.bytes i)) c.if-bytes-lt-FRONT.false
-    (c.if-not-is_ours.ensures.0 refl)
-    (faulted c.args.bytes.now fault c.from_residual.result known.gives known.memory
-    c.from_residual.ensures.1)
+    err_malformed c.args.federation c.args.bytes.now _ _
+    (fails (goal.at.returns-in_err-read_datagram-clause-malformed c).After-from_residual)
 
 pub returns-in_err-read_datagram-clause-memory : goal.returns-in_err-read_datagram-clause-memory
 returns-in_err-read_datagram-clause-memory c =
-    let fault = c.in_err-read_datagram.field-0.0 in
-    let known = c.in_err-read_datagram.ensures in
-    err_memory c.args.federation c.args.bytes.now fault c.from_residual.result
-    (λ i. omega (arith, c.type_inv.bytes i)) c.if-bytes-lt-FRONT.false
-    (c.if-not-is_ours.ensures.0 refl)
-    (faulted c.args.bytes.now fault c.from_residual.result known.gives known.memory
-    c.from_residual.ensures.1)
+    err_memory c.args.federation c.args.bytes.now _ _
+    (fails (goal.at.returns-in_err-read_datagram-clause-memory c).After-from_residual)
 
 pub returns-clause-found : goal.returns-clause-found
 returns-clause-found c =

@@ -1,5 +1,6 @@
 use Rattle.std.proofs.Common.{subst}
-use Rattle.ledger.specs.inner.Found.{HasEnd, HasDamage, IsDamageFound}
+use Rattle.records.specs.Journals.{HasEnd}
+use Rattle.ledger.specs.inner.Found.{HasDamage, IsDamageFound}
 use Rattle.ledger.proofs.CellContents.{tells, text_ends, damage_told}
 use Rattle.ledger.proofs.read.contents_of.Goals as goal
 

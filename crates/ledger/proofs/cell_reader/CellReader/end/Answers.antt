@@ -1,12 +1,13 @@
 use Rattle.std.proofs.Common.{subst}
 use Rattle.std.specs.Prelude.{IfOk}
 use Rattle.ledger.specs.Parts.{TellsLast, nothing}
-use Rattle.ledger.proofs.ToldParts.{wholes}
+use Rattle.ledger.proofs.ToldParts.{from_all}
 use Rattle.ledger.proofs.cell_reader.CellReader.end.Goals as goal
 
 pub returns-in-None : goal.returns-in-None
 returns-in-None c =
     let reader = c.args.self.now in
-    wholes reader.owner reader.passed reader.bytes.items c.in-None.is c.whole_part.result
+    from_all reader.owner reader.passed reader.bytes.items c.in-None.is TellsLast
+    c.whole_part.result
     (subst (λ b. IfOk c.whole_part.result (TellsLast b nothing)) c.as_slice.ensures.value
     c.whole_part.ensures)
