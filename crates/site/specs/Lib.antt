@@ -2,8 +2,7 @@
 -- message does), Calls (what a call does), Sites (what a site represents), Answered (when a call
 -- answers so), Datagrams, Opened, Faults. Before them come the words of `acceptor`, `proposer` and
 -- `learner`, and of `book` Committed and Opened. A commit puts a record on record; that a quorum
-has
--- voted for a bag is `IsChosen` of `world_law`. inner/ is for private clauses and proofs.
+-- has voted for a bag is `IsChosen` of `world_law`. inner/ is for private clauses and proofs.
 pub mod Effects
 pub mod Datagrams
 pub mod Arrivals
