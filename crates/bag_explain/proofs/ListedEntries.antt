@@ -9,7 +9,7 @@ use Rattle.bag_text.specs.Lines.{lines_of}
 use Rattle.bag_tree.specs.Facts.{FileFact}
 use Rattle.bag_check.specs.Manifests.{Manifest, manifests_of, entries}
 use Rattle.bag_explain.specs.Lines.{NumberedFile, numbered_from, malformed_from}
-use Rattle.bag_explain.specs.Numbers.{ListsAt, IsMalformedAt}
+use Rattle.bag_explain.specs.LineNumbers.{ListsAt, IsMalformedAt}
 use Rattle.bag_explain.specs.Listings.{Listing, listing_of, listings_of, unless_malformed}
 use Rattle.bag_explain.specs.Places.{Place, files_in}
 use Rattle.bag_explain.specs.Wrong.{ListsNumbered}

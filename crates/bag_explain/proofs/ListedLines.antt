@@ -12,7 +12,7 @@ use Rattle.bag_text.specs.Readers.{entries_of, file_in}
 use Rattle.bag_text.proofs.EntryLaws.{file_in-entry, entry-file_in, entry-not_blank}
 use Rattle.bag_explain.specs.Lines.{NumberedFile, numbered, if_malformed, numbered_from}
 use Rattle.bag_explain.specs.Lines.{malformed_from}
-use Rattle.bag_explain.specs.Numbers.{ListsAt, IsMalformedAt}
+use Rattle.bag_explain.specs.LineNumbers.{ListsAt, IsMalformedAt}
 use Rattle.bag_explain.proofs.LineLaws.{has_end, Endless, endless, said, line_says}
 use Rattle.bag_explain.proofs.Members.{In, in_left, in_right}
 

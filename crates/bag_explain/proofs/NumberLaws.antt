@@ -13,7 +13,7 @@ use Rattle.bag_text.specs.Readers.{entries_of, file_in}
 use Rattle.bag_text.proofs.EntryLaws.{file_in-entry, entry-file_in}
 use Rattle.bag_explain.specs.Lines.{numbered, if_malformed, numbered_from}
 use Rattle.bag_explain.specs.Lines.{malformed_from}
-use Rattle.bag_explain.specs.Numbers.{ListsAt, IsMalformedAt}
+use Rattle.bag_explain.specs.LineNumbers.{ListsAt, IsMalformedAt}
 use Rattle.bag_explain.proofs.LineLaws.{has_end, Endless, endless, said, line_says}
 
 all_append : {X : Type 0} (P : X → Type 0) (xs ys : List X) → AllByRecursion P xs

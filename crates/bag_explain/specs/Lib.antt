@@ -1,5 +1,5 @@
 pub mod Lines
-pub mod Numbers
+pub mod LineNumbers
 pub mod Listings
 pub mod Places
 pub mod Wrong

@@ -21,7 +21,7 @@ use Rattle.bag_check.specs.Manifests.{entries, is_unknown}
 use Rattle.bag_check.specs.Check.{holds, declaration_in, is_astray, is_missing, is_wrong}
 use Rattle.bag_check.specs.Check.{is_unlisted}
 use Rattle.bag_explain.specs.Lines.{NumberedFile}
-use Rattle.bag_explain.specs.Numbers.{ListsAt, IsMalformedAt}
+use Rattle.bag_explain.specs.LineNumbers.{ListsAt, IsMalformedAt}
 use Rattle.bag_explain.specs.Places.{Place, at_file, at_line, at_entry, at_digest, at_unlisted}
 
 -- the manifest is among the tree's, and has this name

@@ -15,7 +15,7 @@ ghost use Rattle.bag_check.specs.Fault.{number_of};
 ghost use Rattle.bag_check.specs.Named.{only_named, named_facts_of};
 ghost use Rattle.bag_check.specs.Valid.{IsValid};
 ghost use Rattle.bag_explain.specs.Lines.{numbered_from, malformed_from};
-ghost use Rattle.bag_explain.specs.Numbers.{ListsAt, IsMalformedAt};
+ghost use Rattle.bag_explain.specs.LineNumbers.{ListsAt, IsMalformedAt};
 ghost use Rattle.bag_explain.specs.Places.{Place, places_of, files_in};
 ghost use Rattle.bag_explain.specs.Wrong.{IsWrongAt};
 ghost use Rattle.bag_explain.specs.Findings.{Finding, findings_of, explanation_of};

@@ -20,7 +20,7 @@ use Rattle.book.specs.declared.fault.CommitFault.{CommitFault}
 use Rattle.book.specs.declared.fault.CommitFault.TheVariants as commits
 use Rattle.book.specs.Committed.{Commits, after_append_and_sync}
 use Rattle.book.specs.Faults.{commit_fault}
-use Rattle.book.specs.Volumes.{HoldsText}
+use Rattle.book.specs.OpenBooks.{HoldsText}
 use Rattle.book.specs.inner.Appended.{AppendCameOut, append_outcome, after_appending, book_of}
 use Rattle.book.specs.inner.Appended.{has_failed}
 use Rattle.book.specs.inner.Sound.{IsSound, RestsAt, seen_of}

@@ -15,7 +15,7 @@ use Rattle.records.specs.Layout.{all_encoded, header_bytes, header_of, old_heade
 use Rattle.records.specs.Records.{AreRecords}
 use Rattle.records.specs.Starts.{Start, Old, New, Carried, HasWeights, layout_after, records_of}
 use Rattle.records.specs.Starts.{text_bytes}
-use Rattle.records.specs.Journals.{HasHeader, Reaches, IsEnd, IsNoRecord, IsDamagedAt, Says}
+use Rattle.records.specs.Journals.{HasHeader, Reaches, IsEnd, IsNoRecord, IsDamagedAt, DecodesTo}
 use Rattle.records.specs.inner.Steps.{IsShort, Follows}
 use Rattle.records.proofs.Apart.{header_size, same_weights}
 use Rattle.records.proofs.OneReading.{new_not_headed}
@@ -95,7 +95,8 @@ in_range owner [] end len = omega arith
 in_range owner (r ∷ rs) end len = omega arith
 
 module _ (owner : Owner) (bytes : List ℕ) (journal : Journal) (batch : Batch)
-    (said : Says owner bytes (Ok journal.records.items)) (text : HasTextEnd owner bytes journal)
+    (said : DecodesTo owner bytes (Ok journal.records.items))
+    (text : HasTextEnd owner bytes journal)
     (records_are : batch.records.items ≡ journal.records.items)
     (end_is : batch.end ≡ end_by owner journal.records.items journal.end (length bytes))
     (whole : batch.is_damaged ≡ false) where
@@ -105,10 +106,10 @@ module _ (owner : Owner) (bytes : List ℕ) (journal : Journal) (batch : Batch)
   next_by : (items : List Record) → journal.records.items ≡ items
       → (after : List ℕ) → AreWeights owner.members.weights
       → bytes ≡ header_bytes owner ++ after → AreNext bytes batch after
-  unfolding Says
+  unfolding DecodesTo
   next_by [] none after are is = by said
     where
-      by : Says owner bytes (Ok journal.records.items) → AreNext bytes batch after
+      by : DecodesTo owner bytes (Ok journal.records.items) → AreNext bytes batch after
       by (inl (e, new)) =
           absurd (new_not_headed owner bytes new (inr (has_own owner bytes after is are)))
       by (inr j) =
@@ -154,13 +155,13 @@ module _ (owner : Owner) (bytes : List ℕ) (journal : Journal) (batch : Batch)
 -- ---- damage
 
 module _ (owner : Owner) (bytes : List ℕ) (place : ℕ) (batch : Batch)
-    (said : Says owner bytes (Err (faults.Damaged place)))
+    (said : DecodesTo owner bytes (Err (faults.Damaged place)))
     (end_is : batch.end ≡ min place (length bytes))
     (read : AreRecordsRead owner (take batch.end bytes) batch.records.items)
     (damaged : batch.is_damaged ≡ true) where
   next_damaged : (after : List ℕ) → AreWeights owner.members.weights
       → bytes ≡ header_bytes owner ++ after → AreNext bytes batch after
-  unfolding Says
+  unfolding DecodesTo
   next_damaged after are is = by said
     where
       by : IsDamagedAt owner place bytes → AreNext bytes batch after

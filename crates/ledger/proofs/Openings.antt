@@ -6,7 +6,7 @@ use Rattle.records.specs.declared.fault.JournalFault.TheVariants as faults
 use Rattle.records.specs.declared.owner.Owner.{Owner}
 use Rattle.records.specs.declared.record.Record.{Record}
 use Rattle.records.specs.Starts.{Start, text_bytes}
-use Rattle.records.specs.Journals.{IsEnd, IsDamagedAt, Says}
+use Rattle.records.specs.Journals.{IsEnd, IsDamagedAt, DecodesTo}
 use Rattle.ledger.specs.declared.contents.Contents.{Contents}
 use Rattle.ledger.specs.declared.ending.Ending.{Ending}
 use Rattle.ledger.specs.declared.ending.Ending.TheVariants.{Whole, Torn, Damaged}
@@ -23,22 +23,22 @@ end_of owner bytes start rest (Damaged place) h whole = absurd (whole place refl
 
 pub opens : (bytes : List ℕ) (contents : Contents) → IsCell bytes contents
     → ((place : ℕ) → contents.ending ≢ Damaged place)
-    → Says contents.owner bytes (Ok contents.records.items)
+    → DecodesTo contents.owner bytes (Ok contents.records.items)
 opens bytes contents is whole =
-    subst (λ (rs : List Record). Says contents.owner bytes (Ok rs)) (sym is.records_are)
+    subst (λ (rs : List Record). DecodesTo contents.owner bytes (Ok rs)) (sym is.records_are)
     (says_all contents.owner bytes is.start is.records is.rest is.reaches
     (end_of contents.owner bytes is.start is.rest contents.ending is.ends whole)
     (weights_of is.start contents.owner.members.weights contents.names_weights is.weights_are))
 
 says_damage : (owner : Owner) (bytes : List ℕ) (place : ℕ) → IsDamagedAt owner place bytes
-    → Says owner bytes (Err (faults.Damaged place))
-unfolding Says
+    → DecodesTo owner bytes (Err (faults.Damaged place))
+unfolding DecodesTo
 says_damage owner bytes place h = h
 
 pub damaged : (bytes : List ℕ) (contents : Contents) (place : ℕ) → IsCell bytes contents
     → contents.ending ≡ Damaged place
-    → Says contents.owner bytes (Err (faults.Damaged place))
-    × Says contents.owner (take place bytes) (Ok contents.records.items)
+    → DecodesTo contents.owner bytes (Err (faults.Damaged place))
+    × DecodesTo contents.owner (take place bytes) (Ok contents.records.items)
 damaged bytes contents place is at =
     let owner = contents.owner in
     let text = text_bytes owner is.start is.records in
@@ -58,7 +58,7 @@ damaged bytes contents place is at =
         damage = ends.0;
         place_is = size;
       })),
-      subst (λ (rs : List Record). Says owner (take place bytes) (Ok rs)) (sym is.records_are)
+      subst (λ (rs : List Record). DecodesTo owner (take place bytes) (Ok rs)) (sym is.records_are)
           (says_all owner (take place bytes) is.start is.records []
           (record {
             is_start = is.reaches.is_start;

@@ -11,7 +11,7 @@ use Rattle.records.specs.declared.record.Record.{Record}
 use Rattle.records.specs.Answers.{IsReading}
 use Rattle.records.specs.Faults.{IsOrMemory}
 use Rattle.records.specs.Starts.{Start, HasWeights, records_of, text_bytes}
-use Rattle.records.specs.Journals.{HasNoHeader, Reaches, IsEnd, HasEnd, IsDamagedAt, Says}
+use Rattle.records.specs.Journals.{HasNoHeader, Reaches, IsEnd, HasEnd, IsDamagedAt, DecodesTo}
 use Rattle.records.proofs.Apart.{old_header_magic}
 use Rattle.records.proofs.OneReading.{new_not_headed}
 use Rattle.records.proofs.Texts.{magics_differ}
@@ -20,8 +20,8 @@ use Rattle.ledger.specs.inner.Found.{HasDamage, IsDamageIn, IsDamageFound}
 use Rattle.ledger.proofs.Headers.{headed_owner, headed_names}
 
 pub says_end : (owner : Owner) (bytes : List ℕ) (records : List Record) → IsHeaded owner bytes
-    → Says owner bytes (Ok records) → HasEnd owner bytes
-unfolding Says
+    → DecodesTo owner bytes (Ok records) → HasEnd owner bytes
+unfolding DecodesTo
 says_end owner bytes records headed (inl (none, new)) =
     absurd (new_not_headed owner bytes new headed)
 says_end owner bytes records headed (inr j) = j.text
@@ -59,7 +59,7 @@ memory (Err e) P h = tt
 pub found_damage : (owner : Owner) (bytes : List ℕ) (fault : JournalFault)
     (r : Result (Option ℕ) AllocError) → IsHeaded owner bytes → IsReading owner bytes (Err fault)
     → IsDamageIn fault r → IfOk r (IsDamageFound owner bytes)
-unfolding Says
+unfolding DecodesTo
 found_damage owner bytes faults.OtherFederation r headed said e =
     absurd (said.1 (headed_owner owner bytes headed).0)
 found_damage owner bytes faults.OtherSite r headed said e =
@@ -74,8 +74,8 @@ found_damage owner bytes faults.Memory r headed said e = memory r (IsDamageFound
 
 pub says_all : (owner : Owner) (bytes : List ℕ) (start : Start) (rs : List Record) (rest : List ℕ)
     → Reaches owner bytes start rs rest → IsEnd owner start rest
-    → HasWeights owner.members.weights start → Says owner bytes (Ok (records_of start rs))
-unfolding Says
+    → HasWeights owner.members.weights start → DecodesTo owner bytes (Ok (records_of start rs))
+unfolding DecodesTo
 says_all owner bytes start rs rest reaches ends has = inr (record {
   text = record { start = start; records = rs; end = rest; reaches = reaches; ends = ends };
   all_are = refl;

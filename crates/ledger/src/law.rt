@@ -1,5 +1,5 @@
 ghost use Rattle.std.specs.Prelude.{◌≡◌, ◌≢◌, ℕ, List, take, Ok, Err};
-ghost use Rattle.records.specs.Journals.{Says};
+ghost use Rattle.records.specs.Journals.{DecodesTo};
 ghost use Rattle.records.specs.declared.fault.JournalFault.TheVariants as faults;
 ghost use Rattle.ledger.specs.declared.contents.Contents.{Contents};
 ghost use Rattle.ledger.specs.declared.ending.Ending.TheVariants as endings;
@@ -11,9 +11,9 @@ ghost use Rattle.ledger.specs.Cells.{IsCell};
 pub fn contents_are_what_opening_gives()
     ensures records { (bytes : List ℕ) (contents : Contents) → IsCell bytes contents
         → ((place : ℕ) → contents.ending ≢ endings.Damaged place)
-        → Says contents.owner bytes (Ok contents.records.items) }
+        → DecodesTo contents.owner bytes (Ok contents.records.items) }
     ensures damage { (bytes : List ℕ) (contents : Contents) (place : ℕ) → IsCell bytes contents
         → contents.ending ≡ endings.Damaged place
-        → Says contents.owner bytes (Err (faults.Damaged place))
-        × Says contents.owner (take place bytes) (Ok contents.records.items) }
+        → DecodesTo contents.owner bytes (Err (faults.Damaged place))
+        × DecodesTo contents.owner (take place bytes) (Ok contents.records.items) }
 {}

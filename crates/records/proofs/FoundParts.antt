@@ -27,7 +27,7 @@ use Rattle.records.specs.Records.{AreRecords}
 use Rattle.records.specs.Starts.{Start, Old, New, Carried, IsStart, layout_after}
 use Rattle.records.specs.Starts.{HasWeights, text_bytes, records_of, is_current}
 use Rattle.records.specs.Journals.{Reaches, IsEnd, HasEnd, IsHeaderPart, HasHeader}
-use Rattle.records.specs.Journals.{Says}
+use Rattle.records.specs.Journals.{DecodesTo}
 use Rattle.records.specs.inner.Parts.{IsRun, IsParts, first_records, second_records, weights_in}
 use Rattle.records.specs.inner.Steps.{IsShort, Follows, Passes, IsHeaderAt, HasRead}
 use Rattle.records.proofs.Prefixes.{record_size}
@@ -123,8 +123,8 @@ module _ (owner : Owner) (bytes new : List ℕ) (count end : ℕ) (damaged : Boo
     new_is = r.run_is;
   }
 
-  pub new_damage : damaged ≡ true → Says owner bytes (Err (faults.Damaged end))
-  unfolding Says
+  pub new_damage : damaged ≡ true → DecodesTo owner bytes (Err (faults.Damaged end))
+  unfolding DecodesTo
   new_damage bad = inr (record {
     start = New h.weights;
     records = r.records;
@@ -177,8 +177,8 @@ module _ (owner : Owner) (bytes old : List ℕ) (mid : ℕ) (damaged : Bool)
 
   pub old_damage : damaged ≡ true
       → ¬ IsHeaderPart owner (drop mid bytes) × ¬ HasHeader owner (drop mid bytes)
-      → Says owner bytes (Err (faults.Damaged mid))
-  unfolding Says
+      → DecodesTo owner bytes (Err (faults.Damaged mid))
+  unfolding DecodesTo
   old_damage bad other = inr (record {
     start = Old;
     records = o.records;
@@ -225,8 +225,8 @@ module _ (owner : Owner) (bytes old : List ℕ) (mid : ℕ) (damaged : Bool)
       new_is = r.run_is;
     }
 
-    pub carried_damage : torn ≡ true → Says owner bytes (Err (faults.Damaged end))
-    unfolding Says
+    pub carried_damage : torn ≡ true → DecodesTo owner bytes (Err (faults.Damaged end))
+    unfolding DecodesTo
     carried_damage bad = inr (record {
       start = Carried o.records h.weights;
       records = r.records;
@@ -314,15 +314,15 @@ module _ (owner : Owner) (bytes old weights new : List ℕ) (end : ℕ)
 
   -- what the parts say, by whether the weights are the owner's
   pub parts_say : (all : List Record) → all ≡ records_of p.start p.records
-      → (all ≡ []) ⊎ HasWeights owner.members.weights p.start → Says owner bytes (Ok all)
-  unfolding Says
+      → (all ≡ []) ⊎ HasWeights owner.members.weights p.start → DecodesTo owner bytes (Ok all)
+  unfolding DecodesTo
   parts_say all is weights =
       inr (record { text = parts_text; all_are = is; weights = weights })
 
   pub parts_refuse : records_of p.start p.records ≢ []
       → ¬ HasWeights owner.members.weights p.start
-      → Says owner bytes (Err faults.OtherWeights)
-  unfolding Says
+      → DecodesTo owner bytes (Err faults.OtherWeights)
+  unfolding DecodesTo
   parts_refuse some other = record { text = parts_text; some = some; weights = other }
 
   pub parts_end : (all : List Record) (current : Bool) → all ≡ records_of p.start p.records
@@ -361,14 +361,14 @@ old_whole owner bytes long m (f, s) =
 
 -- no header at all
 pub unnamed : (owner : Owner) (bytes : List ℕ) → ¬ IsNew owner bytes → ¬ NamesOwner bytes
-    → Says owner bytes (Err (faults.Damaged 0))
-unfolding Says
+    → DecodesTo owner bytes (Err (faults.Damaged 0))
+unfolding DecodesTo
 unnamed owner bytes new other = inl (refl, (new, inl other))
 
 pub out_of_range : (owner : Owner) (bytes : List ℕ) → ¬ IsNew owner bytes
     → ¬ HasHeader owner bytes → take 4 bytes ≡ magic → IsOfOwner owner bytes
-    → Says owner bytes (Err (faults.Damaged 0))
-unfolding Says
+    → DecodesTo owner bytes (Err (faults.Damaged 0))
+unfolding DecodesTo
 out_of_range owner bytes new none m its = inl (refl, (new, inr (m, its, none)))
 
 pub short_unnamed : (bytes : List ℕ) → length bytes < 13 → ¬ NamesOwner bytes
@@ -377,10 +377,10 @@ short_unnamed bytes short (inr n) = omega (arith, short, n.0)
 
 pub old_checked : (owner : Owner) (bytes : List ℕ) (result : Result (Unit {0}) JournalFault)
     → 13 ≤ length bytes → take 4 bytes ≡ old_magic
-    → MatchResult result (λ u. IsOfOwner owner bytes) (λ f. Says owner bytes (Err f))
+    → MatchResult result (λ u. IsOfOwner owner bytes) (λ f. DecodesTo owner bytes (Err f))
     → MatchResult result (λ u. bytes ≡ old_header owner ++ drop 13 bytes)
-    (λ f. Says owner bytes (Err f))
-unfolding Says
+    (λ f. DecodesTo owner bytes (Err f))
+unfolding DecodesTo
 old_checked owner bytes (Ok u) long m its = old_whole owner bytes long m its
 old_checked owner bytes (Err f) long m said = said
 
@@ -437,7 +437,7 @@ part_decided owner bytes header b short is test =
 pub first_found : (owner : Owner) (bytes : List ℕ) (count : ℕ) (result : Result Parts JournalFault)
     → IsHeaderAt owner bytes (headers.Whole count) → IsFoundPart bytes [] 0 count result
     → IsFoundParts owner bytes result
-unfolding Says
+unfolding DecodesTo
 first_found owner bytes count (Ok p) h (old, ws, run) =
     let sum : 0 + 14 + count ≡ 14 + count = omega arith in
     let none : 0 + 14 ≡ 14 = omega arith in
@@ -461,7 +461,7 @@ pub next_found : (owner : Owner) (bytes old : List ℕ) (mid count : ℕ) (damag
     → IsRun First bytes 13 old mid damaged
     → IsHeaderAt owner (drop mid bytes) (headers.Whole count)
     → IsFoundPart bytes old mid count result → IsFoundParts owner bytes result
-unfolding Says
+unfolding DecodesTo
 next_found owner bytes old mid count damaged (Ok p) front o h (same, ws, run) =
     let parts = carried_parts owner bytes old mid damaged front o p.new.now count p.end false
     (header_here owner bytes mid count h) run refl in
@@ -519,8 +519,8 @@ at_start owner bytes mid count le h = omega (
 )
 
 pub found_in : (owner : Owner) (bytes : List ℕ) (fault : JournalFault)
-    → IsFoundParts owner bytes (Err fault) → Says owner bytes (Err fault)
-unfolding Says
+    → IsFoundParts owner bytes (Err fault) → DecodesTo owner bytes (Err fault)
+unfolding DecodesTo
 found_in owner bytes fault h = h
 
 pub has_of : (owner : Owner) (bytes : List ℕ) (count : ℕ)
@@ -562,8 +562,8 @@ module _ (owner : Owner) (bytes : List ℕ) (p : Parts) (is : ArePartsOf owner b
     read_is = all_read owner bytes p.old.now p.weights.now p.new.now p.end is none mid all nil first
         second
 
-    pub reading_says : Says owner bytes (Ok all)
-    unfolding Says
+    pub reading_says : DecodesTo owner bytes (Ok all)
+    unfolding DecodesTo
     reading_says = parts_say owner bytes p.old.now p.weights.now p.new.now p.end is all read_is
         (subst (λ (rs : List Record). (rs ≡ []) ⊎ HasWeights owner.members.weights is.start)
         (sym read_is) allowed)
@@ -592,7 +592,7 @@ module _ (owner : Owner) (bytes : List ℕ) (p : Parts) (is : ArePartsOf owner b
 pub says_some : (owner : Owner) (bytes : List ℕ) (p : Parts) (is : ArePartsOf owner bytes p)
     → (records_of is.start is.records ≡ []) ⊎ HasWeights owner.members.weights is.start
     → SaysRecords owner bytes
-unfolding Says
+unfolding DecodesTo
 says_some owner bytes p is allowed = (
   records_of is.start is.records,
   parts_say owner bytes p.old.now p.weights.now p.new.now p.end
@@ -601,8 +601,8 @@ says_some owner bytes p is allowed = (
 
 pub says_other : (owner : Owner) (bytes : List ℕ) (p : Parts) (is : ArePartsOf owner bytes p)
     → (records_of is.start is.records ≢ []) × ¬ HasWeights owner.members.weights is.start
-    → Says owner bytes (Err faults.OtherWeights)
-unfolding Says
+    → DecodesTo owner bytes (Err faults.OtherWeights)
+unfolding DecodesTo
 says_other owner bytes p is h = parts_refuse owner bytes p.old.now p.weights.now p.new.now p.end is
     h.0 h.1
 

@@ -40,7 +40,7 @@ fn read_entry(kind: u8, reader: &mut Reader) -> Result<Entry, FieldFault>
 // What the bytes after its length say as a record's, its object still among them. It takes no
 // memory.
 #[tactic(auto, unfolding(crate::specs::inner::Decoders::content_at))]
-fn read_parts<'a>(bytes: &'a [u8]) -> Result<(SlotRef<'a>, Entry), FieldFault>
+fn read_content<'a>(bytes: &'a [u8]) -> Result<(SlotRef<'a>, Entry), FieldFault>
     ensures gives { Gives (λ x. record { slot = x.0; body = x.1 }) result (content_at bytes.now) }
     ensures no_memory { IsOkUnless result FieldFault.Malformed }
 {
@@ -86,7 +86,7 @@ fn read_whole<'a>(layout: Layout, bytes: &'a [u8]) -> Result<(SlotRef<'a>, Entry
     ensures no_memory { IsOkUnless result FieldFault.Malformed }
 {
     let front = read_unsealed(layout, bytes)?;
-    read_parts(after_length(front))
+    read_content(after_length(front))
 }
 
 /// Whether these are the bytes of a record. It takes no memory.
@@ -112,7 +112,7 @@ pub(crate) fn read_record(alloc: Global, layout: Layout, bytes: &[u8]) -> Result
     ensures { Gives (λ x. x) result (record_before layout bytes.now) }
 {
     let front = before_checksum(layout, bytes);
-    let (slot, body) = read_parts(after_length(front))?;
+    let (slot, body) = read_content(after_length(front))?;
     Ok(Record {
         slot: slot.to_slot(alloc)?,
         body,

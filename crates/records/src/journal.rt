@@ -4,7 +4,7 @@ ghost use Rattle.records.specs.declared.fault.JournalFault.{JournalFault as decl
 ghost use Rattle.records.specs.Records.{Records};
 ghost use Rattle.records.specs.Answers.{IsReading, HasTextEnd, records_read};
 ghost use Rattle.records.specs.Faults.{IsOrMemory};
-ghost use Rattle.records.specs.Journals.{Says};
+ghost use Rattle.records.specs.Journals.{DecodesTo};
 ghost use Rattle.records.specs.inner.Parts.{IsRun};
 ghost use Rattle.records.specs.inner.Found.{ArePartsOf, Allows};
 ghost use Rattle.records.specs.inner.Steps.{IsSized, IsFound, Passes, IsNext, HasRead, HasReadBoth};
@@ -210,7 +210,7 @@ fn read_both(alloc: Global, old: &[u8], new: &[u8]) -> Result<Vec<Record>, Alloc
 }
 
 // What the bytes say, and where their text ends.
-#[tactic(auto, unfolding(crate::specs::Journals::Says))]
+#[tactic(auto, unfolding(crate::specs::Journals::DecodesTo))]
 fn read_text(alloc: Global, owner: Owner, bytes: &[u8]) -> Result<Journal, JournalFault>
     ensures said { IsReading owner bytes.now result }
     ensures text { IfOk result (HasTextEnd owner bytes.now) }
@@ -244,7 +244,7 @@ pub fn read_journal(alloc: Global, owner: Owner, bytes: &[u8]) -> Result<Journal
     ensures said { IsReading owner bytes.now result }
     // What the bytes say is answered, unless memory runs out.
     ensures only { (said : Result Records declared_fault)
-        → Says owner bytes.now said → IsOrMemory (records_read result) said }
+        → DecodesTo owner bytes.now said → IsOrMemory (records_read result) said }
     ensures text { IfOk result (HasTextEnd owner bytes.now) }
 {
     read_text(alloc, owner, bytes)

@@ -19,7 +19,7 @@ use Rattle.records.specs.declared.owner.Owner.{Owner}
 use Rattle.records.specs.declared.record.Record.{Record}
 use Rattle.records.specs.Bounds.{HasEntry}
 use Rattle.records.specs.Records.{IsRecord}
-use Rattle.book.specs.Volumes.{RecoversTo}
+use Rattle.book.specs.OpenBooks.{RecoversTo}
 use Rattle.proposer.specs.Sessions.{Session, new_session}
 use Rattle.site.specs.declared.answer.Answer.{Answer}
 use Rattle.site.specs.declared.answer.Line.{Line}

@@ -8,7 +8,7 @@ use Rattle.fed_types.specs.Sites.{AreWeights}
 use Rattle.cell_device.specs.Images.{Image, Leaves, at_rest}
 use Rattle.records.specs.declared.owner.Owner.{Owner}
 use Rattle.records.specs.declared.record.Record.{Record}
-use Rattle.records.specs.Journals.{Says}
+use Rattle.records.specs.Journals.{DecodesTo}
 use Rattle.records.specs.Layout.{header_bytes, all_encoded}
 use Rattle.records.specs.Records.{IsRecord, AreRecords}
 use Rattle.records.specs.Starts.{New}
@@ -16,7 +16,7 @@ use Rattle.records.specs.Texts.{IsTextOf}
 use Rattle.records.proofs.Texts.{text_says, nothing_says, whole-push}
 use Rattle.records.proofs.OneReading.{one_saying}
 use Rattle.book.specs.Opened.{said_as_answer}
-use Rattle.book.specs.Volumes.{Volume, LeavesText, RecoversTo}
+use Rattle.book.specs.OpenBooks.{OpenBook, LeavesText, RecoversTo}
 use Rattle.book.proofs.AtRest.{keeps_same}
 use Rattle.book.specs.Committed.{Commits}
 use Rattle.book.specs.Opened.{Opens}
@@ -28,11 +28,11 @@ at_rest_leaves : (bytes c : List ℕ) → Leaves (at_rest bytes) c → c ≡ byt
 at_rest_leaves bytes c l = l.1 ∙ keeps_same l.0 bytes
 
 -- a book over a disk
-abbrev pub book : Owner → Disk → List Record → Volume Disk
+abbrev pub book : Owner → Disk → List Record → OpenBook Disk
 book owner disk records =
     record { cell = disk; records = records; needs_opening = false; owner = owner }
 
-abbrev pub holds : Owner → List Record → Volume Disk
+abbrev pub holds : Owner → List Record → OpenBook Disk
 holds owner records = book owner (Holds owner records) records
 
 of_none : (owner : Owner) (records : List Record) → records ≡ []
@@ -102,7 +102,7 @@ module _ (owner : Owner) (are_weights : AreWeights owner.members.weights) where
   }
 
   pub says : (records : List Record) → AreRecords records
-      → Says owner (journal owner records) (Ok records)
+      → DecodesTo owner (journal owner records) (Ok records)
   says records are = text_says owner records (journal owner records) (text records are)
 
   leaves_text : (records : List Record) → AreRecords records
@@ -115,7 +115,7 @@ module _ (owner : Owner) (are_weights : AreWeights owner.members.weights) where
   recovers records are = (
     says records are,
     λ c l.
-        subst (λ (b : List ℕ). Says owner b (Ok records))
+        subst (λ (b : List ℕ). DecodesTo owner b (Ok records))
         (sym (at_rest_leaves (journal owner records) c l)) (says records are),
   )
 
@@ -141,16 +141,17 @@ module _ (owner : Owner) (are_weights : AreWeights owner.members.weights) where
   }
     where
       alike : (c : List ℕ) (k : ℕ) → k ≤ 1 → c ≡ bytes_at (Holds owner []) k
-          → (records : List Record) × Says owner [] (Ok records) × Says owner c (Ok records)
+          → (records : List Record) × DecodesTo owner [] (Ok records) × DecodesTo owner c
+          (Ok records)
       alike c zero le e = (
         [],
         nothing_says owner,
-        subst (λ (b : List ℕ). Says owner b (Ok [])) (sym e) (nothing_says owner),
+        subst (λ (b : List ℕ). DecodesTo owner b (Ok [])) (sym e) (nothing_says owner),
       )
       alike c (suc j) le e = (
         [],
         nothing_says owner,
-        subst (λ (b : List ℕ). Says owner b (Ok []))
+        subst (λ (b : List ℕ). DecodesTo owner b (Ok []))
             (sym (e ∙ at_end owner [] (suc j) (omega arith))) (says [] tt),
       )
 
@@ -171,7 +172,7 @@ module _ (owner : Owner) (are_weights : AreWeights owner.members.weights) where
       each = λ c left. inr (
         records,
         says records are,
-        subst (λ (b : List ℕ). Says owner b (Ok records))
+        subst (λ (b : List ℕ). DecodesTo owner b (Ok records))
             (sym (left.3 ∙ at_end owner records left.0 left.1)) (says records are),
       );
       before = λ t c within left. inl left;
@@ -190,14 +191,14 @@ module _ (owner : Owner) (are_weights : AreWeights owner.members.weights) where
 
     with_or_without : (c : List ℕ) (k : ℕ) → suc (length records) ≤ k
         → c ≡ bytes_at (Holds owner more) k
-        → Says owner c (Ok records) ⊎ Says owner c (Ok more)
+        → DecodesTo owner c (Ok records) ⊎ DecodesTo owner c (Ok more)
     with_or_without c k ge e = elim (cases_lt k (suc (suc (length records)))) [
       | inl lt ↦
-          inl (subst (λ (b : List ℕ). Says owner b (Ok records))
+          inl (subst (λ (b : List ℕ). DecodesTo owner b (Ok records))
           (sym (e ∙ at_before owner records r k (omega arith)
           ∙ at_end owner records k ge)) (says records are))
       | inr le ↦
-          inr (subst (λ (b : List ℕ). Says owner b (Ok more))
+          inr (subst (λ (b : List ℕ). DecodesTo owner b (Ok more))
           (sym (e ∙ at_end owner more k (omega (arith, le, length-append records (r ∷ [])))))
           (says more (whole-push records r are is)))
     ]
@@ -205,7 +206,7 @@ module _ (owner : Owner) (are_weights : AreWeights owner.members.weights) where
     since_then : (t : ℕ) (c : List ℕ) → t ≤ suc (length records)
         → left_on (Holds owner more) t c
         → left_on (Holds owner records) t c
-        ⊎ (Says owner c (Ok records) ⊎ Says owner c (Ok more))
+        ⊎ (DecodesTo owner c (Ok records) ⊎ DecodesTo owner c (Ok more))
     since_then t c within left = elim (cases_lt left.0 (suc (suc (length records)))) [
       | inl lt ↦
           inl (

@@ -26,7 +26,7 @@ use Rattle.records.specs.declared.entry.Entry.TheVariants as entry
 use Rattle.records.specs.declared.record.Record.{Record}
 use Rattle.records.specs.Bounds.{HasEntry}
 use Rattle.records.proofs.OneReading.{same_records_said}
-use Rattle.book.specs.Volumes.{RecoversTo, ReadSays}
+use Rattle.book.specs.OpenBooks.{RecoversTo, ReadSays}
 use Rattle.dgram.specs.declared.answers.DepositAnswer.TheVariants as deposit
 use Rattle.dgram.specs.declared.body.Body.{Body}
 use Rattle.dgram.specs.declared.body.Body.TheVariants.{DepositReply}

@@ -10,7 +10,7 @@ use Rattle.fed_types.specs.Slots.{SlotName}
 use Rattle.cell_device.specs.Devices.{Device}
 use Rattle.records.specs.declared.entry.Entry.TheVariants as entry
 use Rattle.records.specs.declared.record.Record.{Record}
-use Rattle.book.specs.Volumes.{RecoversTo}
+use Rattle.book.specs.OpenBooks.{RecoversTo}
 use Rattle.dgram.specs.declared.answers.DepositAnswer.TheVariants as deposit
 use Rattle.dgram.specs.declared.body.Body.{Body}
 use Rattle.dgram.specs.declared.body.Body.TheVariants.{DepositReply, QueryReply}

@@ -7,11 +7,11 @@ use Rattle.cell_device.specs.Devices.{Device}
 use Rattle.cell_device.specs.Images.{Image, IfKnown, MayLeave}
 use Rattle.records.specs.declared.owner.Owner.{Owner}
 use Rattle.records.specs.declared.record.Record.{Record}
-use Rattle.records.specs.Journals.{Says}
+use Rattle.records.specs.Journals.{DecodesTo}
 use Rattle.records.proofs.OneReading.{same_records_said}
 use Rattle.book.specs.declared.fault.CommitFault.TheVariants as commits
 use Rattle.book.specs.Committed.{SaysWithOrWithout}
-use Rattle.book.specs.Volumes.{Volume, RecoversTo}
+use Rattle.book.specs.OpenBooks.{OpenBook, RecoversTo}
 use Rattle.site.specs.declared.answer.Answer.{Answer}
 use Rattle.site.specs.declared.fault.SiteFault.{SiteFault}
 use Rattle.site.specs.declared.fault.SiteFault.TheVariants as faults
@@ -27,14 +27,14 @@ Recovered before o records =
 
 module _ {C : Type 0} (device : C → Device) (owner : Owner) where
   -- an open book has these records, with one more if there is one, and so has its cell
-  pub record IsKept (before : List Record) (o : Option Record) (new : Volume C) : Type 0 where
+  pub record IsKept (before : List Record) (o : Option Record) (new : OpenBook C) : Type 0 where
     pub records : new.records ≡ before ++ option_to_list o
     pub opened : new.needs_opening ≡ false
     pub whose : new.owner ≡ owner
     pub recovers : RecoversTo owner new.records (device new.cell).image
 
   -- the book before a call
-  module _ (old : Volume C) (whose : old.owner ≡ owner) (opened : old.needs_opening ≡ false)
+  module _ (old : OpenBook C) (whose : old.owner ≡ owner) (opened : old.needs_opening ≡ false)
       (recovers : RecoversTo owner old.records (device old.cell).image) where
     pub as_it_was : IsKept old.records None old
     as_it_was = record {
@@ -44,10 +44,10 @@ module _ {C : Type 0} (device : C → Device) (owner : Owner) where
       recovers = recovers;
     }
 
-    as_before : (new : Volume C) → new ≡ old → IsKept old.records None new
+    as_before : (new : OpenBook C) → new ≡ old → IsKept old.records None new
     as_before new e = subst (IsKept old.records None) (sym e) as_it_was
 
-    unchanged : (r : Record) (new : Volume C) → Commits device old r (Err commits.Memory) new
+    unchanged : (r : Record) (new : OpenBook C) → Commits device old r (Err commits.Memory) new
         → IsKept old.records None new
     unchanged r new c =
         let u = c.memory refl in
@@ -62,7 +62,7 @@ module _ {C : Type 0} (device : C → Device) (owner : Owner) where
         }
 
     -- after an answer
-    pub kept_ok : (o : Option Record) (answer : Answer) (new : Volume C)
+    pub kept_ok : (o : Option Record) (answer : Answer) (new : OpenBook C)
         → Keeps device o (Ok answer) old new → IsKept old.records o new
     kept_ok None answer new e = as_before new e
     kept_ok (Some r) answer new (inl p) = absurd (cc p.0)
@@ -76,7 +76,7 @@ module _ {C : Type 0} (device : C → Device) (owner : Owner) where
     }
 
     -- after a refusal, but where the device failed
-    pub kept_err : (o : Option Record) (fault : SiteFault) (new : Volume C)
+    pub kept_err : (o : Option Record) (fault : SiteFault) (new : OpenBook C)
         → Keeps device o (Err fault) old new
         → IsKept old.records None new ⊎ (fault ≡ faults.Device) ⊎ (fault ≡ faults.NeedsOpen)
     kept_err None fault new e = inl (as_before new e)
@@ -92,7 +92,7 @@ module _ {C : Type 0} (device : C → Device) (owner : Owner) where
     kept_err (Some r) faults.AlreadyKnown new (inr c) = inl (unchanged r new c)
 
     -- where the device failed, the book needs opening
-    pub device_needs : (o : Option Record) (new : Volume C) → IsSome o
+    pub device_needs : (o : Option Record) (new : OpenBook C) → IsSome o
         → Keeps device o (Err faults.Device) old new → new.needs_opening ≡ true
     device_needs None new some k = absurd (cc some)
     device_needs (Some r) new some (inl p) = absurd (cc p.0)
@@ -116,17 +116,17 @@ module _ {C : Type 0} (device : C → Device) (owner : Owner) where
               same_records_said owner records old.records m.bytes m.says (rec.1 m.bytes leaves)
 
       -- a crash since the call began, where the book is as it was
-      as_was : (new : Volume C) (records : List Record) → new ≡ old
+      as_was : (new : OpenBook C) (records : List Record) → new ≡ old
           → MayRecoverTo owner (device old.cell) (device new.cell) records
           → records ≡ old.records
       as_was new records e m =
           recovered_now records
-          (subst (λ (v : Volume C). MayRecoverTo owner (device old.cell) (device v.cell) records)
+          (subst (λ (v : OpenBook C). MayRecoverTo owner (device old.cell) (device v.cell) records)
           e m)
 
       -- and where a record was to be committed
       with_or_without : (r : Record) (bytes : List ℕ) (records : List Record)
-          → Says owner bytes (Ok records) → (o : Option Image) → IsSome o
+          → DecodesTo owner bytes (Ok records) → (o : Option Image) → IsSome o
           → IfKnown o (λ i. SaysWithOrWithout old.owner old.records r bytes)
           → Recovered old.records (Some r) records
       with_or_without r bytes records says None some h = absurd (cc some)
@@ -140,7 +140,7 @@ module _ {C : Type 0} (device : C → Device) (owner : Owner) where
               inr (r, refl, same_records_said owner records (old.records ++ r ∷ []) bytes says with)
 
       pub recovered_within : (o : Option Record) (result : Result Answer SiteFault)
-          (new : Volume C) → Keeps device o result old new → (records : List Record)
+          (new : OpenBook C) → Keeps device o result old new → (records : List Record)
           → MayRecoverTo owner (device old.cell) (device new.cell) records
           → Recovered old.records o records
       recovered_within None result new e records m = inl (as_was new records e m)

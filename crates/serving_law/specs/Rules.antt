@@ -7,7 +7,7 @@ use Rattle.cell_device.specs.Devices.{Device}
 use Rattle.cell_device.specs.Images.{Image}
 use Rattle.records.specs.declared.owner.Owner.{Owner}
 use Rattle.records.specs.declared.record.Record.{Record}
-use Rattle.records.specs.Journals.{Says as JournalSays}
+use Rattle.records.specs.Journals.{DecodesTo}
 use Rattle.dgram.specs.declared.message.Message.{Message}
 use Rattle.book.specs.Opened.{Opens}
 use Rattle.udp_site.specs.Traffic.{Post, Taken, Nothing, From}
@@ -45,13 +45,13 @@ pub record MayRecoverTo (owner : Owner) (old now : Device) (records : List Recor
   pub told : IsSome old.image
   pub bytes : List ℕ
   pub left : now.left_since old.moment bytes
-  pub says : JournalSays owner bytes (Ok records)
+  pub says : DecodesTo owner bytes (Ok records)
 
 -- it is known what a read gives: bytes that say these records
 pub record ReadGives (owner : Owner) (device : Device) (records : List Record) : Type 0 where
   pub image : Image
   pub told : device.image ≡ Some image
-  pub says : JournalSays owner image.seen (Ok records)
+  pub says : DecodesTo owner image.seen (Ok records)
 
 -- ---- what may happen
 

@@ -6,7 +6,7 @@ use Rattle.cell_device.specs.Devices.{Device}
 use Rattle.records.specs.declared.record.Record.{Record}
 use Rattle.book.specs.declared.fault.CommitFault.{CommitFault}
 use Rattle.book.specs.declared.fault.CommitFault.TheVariants as commits
-use Rattle.book.specs.Volumes.{Volume}
+use Rattle.book.specs.OpenBooks.{OpenBook}
 use Rattle.proposer.specs.Sessions.{Session}
 use Rattle.proposer.specs.UnderWay.{UnderWay}
 use Rattle.site_tables.specs.Contents.{Contents, IsOf, RepresentsSame}
@@ -54,11 +54,11 @@ module _ {C : Type 0} (device : C → Device) (old new : OpenSite C) (r : Record
       subst (λ (x : Result (Unit {0}) SiteFault). IsCommitted device old new r x) (sym is) (record {
         book = inl (refl, book);
         stands = tt;
-        same = same_stands (ap (λ (b : Volume C). b.records) book)
-            (ap (λ (b : Volume C). b.owner) book) same;
+        same = same_stands (ap (λ (b : OpenBook C). b.records) book)
+            (ap (λ (b : OpenBook C). b.owner) book) same;
         faults = inl refl;
-        order = same_order (ap (λ (b : Volume C). b.records) book)
-            (ap (λ (b : Volume C). b.owner) book) same;
+        order = same_order (ap (λ (b : OpenBook C). b.records) book)
+            (ap (λ (b : OpenBook C). b.owner) book) same;
       })
 
   -- the commit was refused

@@ -11,7 +11,7 @@ use Rattle.cell_device.specs.Devices.{Device}
 use Rattle.records.specs.declared.entry.Entry.{Entry}
 use Rattle.records.specs.declared.record.Record.{Record}
 use Rattle.records.specs.SlotStates.{promised_of, vote_of}
-use Rattle.book.specs.Volumes.{Volume}
+use Rattle.book.specs.OpenBooks.{OpenBook}
 use Rattle.acceptor.specs.Decisions.{prepare_decision, accept_decision, promises, votes}
 use Rattle.acceptor.specs.Decisions.{votes_again}
 use Rattle.acceptor.specs.Decisions.{refuses, on_prepare, is_vote, is_in_ballot, on_new_accept}
@@ -116,7 +116,7 @@ module _ {C : Type 0} (device : C → Device) (old mid new : OpenSite C)
       → Represents new e.session)
       → IsAnswered device old new session e result
   concluded result c book stands says sends after = record {
-    keeps = subst (λ (b : Volume C). Keeps device e.commits result b new.book) book c.keeps;
+    keeps = subst (λ (b : OpenBook C). Keeps device e.commits result b new.book) book c.keeps;
     gives = gives result c stands says sends after;
   }
 

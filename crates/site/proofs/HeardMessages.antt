@@ -16,7 +16,7 @@ use Rattle.records.specs.declared.owner.Owner.{Owner}
 use Rattle.records.specs.declared.record.Record.{Record}
 use Rattle.records.specs.SlotStates.{deposit_of, known_of, with_one, earlier, known_in, if_some}
 use Rattle.records.proofs.SlotStates.{known-push}
-use Rattle.book.specs.Volumes.{Volume}
+use Rattle.book.specs.OpenBooks.{OpenBook}
 use Rattle.dgram.specs.declared.body.Body.{Body}
 use Rattle.dgram.specs.declared.body.Body.TheVariants as bodies
 use Rattle.dgram.specs.declared.message.Message.{Message}
@@ -140,7 +140,7 @@ module _ {C : Type 0} (device : C → Device) (old new : OpenSite C) (slot : Slo
       (accept_starts_none slot old.book.records vote)
 
 -- ---- a site whose tables hear something, and whose book stays
-module _ {C : Type 0} (book : Volume C) (old new : Contents)
+module _ {C : Type 0} (book : OpenBook C) (old new : Contents)
     (of : (owner : Owner) (records : List Record) → IsOf old owner records
     → IsOf new owner records) where
   -- it stays in order, whatever session it represents then
@@ -409,7 +409,7 @@ module _ {C : Type 0} (device : C → Device) (old new : OpenSite C) (slot : Slo
         gives = (
           ap (λ (l : Option Line). Ok l) (sym (i.says a refl).0),
           (i.says a refl).1
-              ∙ ap (λ (b : Volume C). map (datagram b.owner.members.federation)
+              ∙ ap (λ (b : OpenBook C). map (datagram b.owner.members.federation)
               (to_each slot (bodies.Accept (vote_for bag)) (members_of b.owner.members))) book,
           (
             waits (waits under slot (Some promise)) slot None,

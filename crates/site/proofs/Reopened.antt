@@ -9,7 +9,7 @@ use Rattle.records.specs.declared.record.Record.{Record}
 use Rattle.book.specs.declared.fault.OpenFault.{OpenFault}
 use Rattle.book.specs.declared.fault.OpenFault.TheVariants as faults
 use Rattle.book.specs.Opened.{LeavesAlike}
-use Rattle.book.specs.Volumes.{Volume, ReadSays, RecoversTo}
+use Rattle.book.specs.OpenBooks.{OpenBook, ReadSays, RecoversTo}
 use Rattle.book.specs.Opened.{Opens}
 
 -- the result of a `?`
@@ -32,7 +32,7 @@ says_alike owner records (Some o) (Some i) read recovers = inr (records, read, r
 
 -- the book was opened, and is closed again
 pub closed_again : {C : Type 0} (device : C → Device) (owner : Owner) (cell after : C)
-    (book : Volume C) → after ≡ book.cell → Opens device owner cell (Ok book)
+    (book : OpenBook C) → after ≡ book.cell → Opens device owner cell (Ok book)
     → Opens device owner cell (Err (after, faults.Memory))
 closed_again device owner cell after book same o = record {
   records = tt;

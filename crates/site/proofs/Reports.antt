@@ -26,7 +26,7 @@ use Rattle.proposer.specs.Proposals.{ready, next_ballot}
 use Rattle.proposer.specs.Sessions.{Session, hears}
 use Rattle.learner.specs.LearnedBags.{unless_known, chosen_by, with_vote}
 use Rattle.cell_device.specs.Devices.{Device}
-use Rattle.book.specs.Volumes.{Volume}
+use Rattle.book.specs.OpenBooks.{OpenBook}
 use Rattle.fed_types.specs.Quorums.{quorums_of}
 use Rattle.site.specs.declared.answer.Answer.{Answer}
 use Rattle.site.specs.declared.answer.Line.{Line}
@@ -326,7 +326,7 @@ module _ {C : Type 0} (device : C → Device) (old new : OpenSite C) (session : 
     (answer : IsAnswered device old new session (effect old session input) (Ok a)) where
   grown : (commits : Option Record) → Keeps device commits (Ok a) old.book new.book
       → new.book.records ≡ old.book.records ++ option_to_list commits
-  grown None keeps = ap (λ (v : Volume C). v.records) keeps ∙ sym (append-nil old.book.records)
+  grown None keeps = ap (λ (v : OpenBook C). v.records) keeps ∙ sym (append-nil old.book.records)
   grown (Some r) (inl (memory, same)) = absurd (differ memory)
     where
       differ : ◌≡◌ {A = Result Answer SiteFault} (Ok a) (Err faults.Memory) → ⊥

@@ -8,7 +8,7 @@ use Rattle.records.specs.SlotStates.{known_of}
 use Rattle.book.specs.declared.fault.CommitFault.{CommitFault}
 use Rattle.book.specs.declared.fault.CommitFault.TheVariants as commits
 use Rattle.book.specs.Committed.{Commits}
-use Rattle.book.specs.Volumes.{Volume}
+use Rattle.book.specs.OpenBooks.{OpenBook}
 use Rattle.proposer.specs.Sessions.{Session}
 use Rattle.site.specs.declared.answer.Answer.{Answer}
 use Rattle.site.specs.declared.answer.Line.{Line}
@@ -32,7 +32,7 @@ commit_of (Err fault) = Err commits.Memory
 -- without a record the book is as it was; with one it is as the commit left it, or memory ran out
 -- before the commit
 abbrev pub Keeps :
-    {C : Type 0} → (C → Device) → Option Record → Result Answer SiteFault → (old new : Volume C)
+    {C : Type 0} → (C → Device) → Option Record → Result Answer SiteFault → (old new : OpenBook C)
     → Type 0
 Keeps device None result old new = new ≡ old
 Keeps device (Some r) result old new =

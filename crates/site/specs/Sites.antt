@@ -1,6 +1,6 @@
 -- A site that is open, as a clause sees it, and what it represents.
 use Rattle.fed_types.specs.Quorums.{quorums_of}
-use Rattle.book.specs.Volumes.{Volume}
+use Rattle.book.specs.OpenBooks.{OpenBook}
 use Rattle.proposer.specs.Sessions.{Session}
 use Rattle.proposer.specs.UnderWay.{UnderWay}
 use Rattle.site_tables.specs.Contents.{Contents, IsOf}
@@ -10,7 +10,7 @@ use Rattle.site.specs.Calls.{Input, effect_of}
 
 -- its book, and what its tables hold
 pub record OpenSite (C : Type 0) : Type 0 where
-  pub book : Volume C
+  pub book : OpenBook C
   pub tables : Contents
 
 -- The site represents a session: what its tables count is what the definitions find in its records

@@ -3,7 +3,7 @@ ghost use Rattle.std.specs.Prelude.{Result, IfOk, IsErrOf};
 ghost use Rattle.std.specs.Option.{option_copied};
 ghost use Rattle.site_tables.specs.Contents.{deposits_of, slot_at};
 ghost use Rattle.bag_check.specs.Check.{check_of};
-ghost use Rattle.book.specs.Volumes.{HoldsText, RecoversTo};
+ghost use Rattle.book.specs.OpenBooks.{HoldsText, RecoversTo};
 ghost use Rattle.cell_device.specs.Memory.{fuse_of, failures_of, fuse_after_set, IsSameMedium};
 ghost use Rattle.proposer.specs.Sessions.{Session, new_session};
 ghost use Rattle.site.specs.Answered.{IsAnswered, IsRefused};

@@ -8,9 +8,9 @@ use Rattle.cell_device.specs.declared.memory_cell.MemoryCell.{MemoryCell}
 use Rattle.cell_device.specs.Memory.{image_of, fuse_of, device_of, IsSameMedium}
 use Rattle.records.specs.declared.owner.Owner.{Owner}
 use Rattle.records.specs.declared.record.Record.{Record}
-use Rattle.records.specs.Journals.{Says}
+use Rattle.records.specs.Journals.{DecodesTo}
 use Rattle.book.specs.Committed.{fires_within_two, records_kept}
-use Rattle.book.specs.Volumes.{Volume}
+use Rattle.book.specs.OpenBooks.{OpenBook}
 use Rattle.proposer.specs.Sessions.{Session}
 use Rattle.site.specs.declared.answer.Answer.{Answer}
 use Rattle.site.specs.declared.answer.Line.{Line}
@@ -87,15 +87,15 @@ module _ (old new : OpenSite MemoryCell) (input : Input) (told : Told) (session 
       so : new.book ≡ old.book → CameOf (refuses fault session)
       so same = inl (
         record {
-          records = ap (λ (b : Volume MemoryCell). b.records) same
+          records = ap (λ (b : OpenBook MemoryCell). b.records) same
               ∙ sym (append-nil old.book.records);
           opened = rw same opened;
-          whose = ap (λ (b : Volume MemoryCell). b.owner) same;
+          whose = ap (λ (b : OpenBook MemoryCell). b.owner) same;
           session = gives.1;
           sends = rw tells.2 refl;
           notice = rw tells.1 refl;
         },
-        ap (λ (b : Volume MemoryCell). fuse_of b.cell) same,
+        ap (λ (b : OpenBook MemoryCell). fuse_of b.cell) same,
       )
 
   device : (commits : Option Record) → IsSome commits
@@ -115,7 +115,7 @@ module _ (old new : OpenSite MemoryCell) (input : Input) (told : Told) (session 
     where
       is : (new.book.needs_opening ≡ true) × (new.book.owner ≡ old.book.owner)
           × (fires_within_two (fuse_of old.book.cell) ≡ true)
-          × Says old.book.owner (image_of new.book.cell).seen
+          × DecodesTo old.book.owner (image_of new.book.cell).seen
           (Ok (records_kept (fuse_of old.book.cell) old.book.records r))
       is = failed old.book new.book r keeps
 

@@ -8,9 +8,9 @@ use Rattle.cell_device.specs.declared.memory_cell.MemoryCell.{MemoryCell}
 use Rattle.cell_device.specs.Fuses.{next_fuse}
 use Rattle.cell_device.specs.Memory.{image_of, fuse_of, device_of}
 use Rattle.records.specs.declared.record.Record.{Record}
-use Rattle.records.specs.Journals.{Says}
+use Rattle.records.specs.Journals.{DecodesTo}
 use Rattle.book.specs.Committed.{fires_within_two, records_kept}
-use Rattle.book.specs.Volumes.{Volume}
+use Rattle.book.specs.OpenBooks.{OpenBook}
 use Rattle.site.specs.declared.answer.Answer.{Answer}
 use Rattle.site.specs.declared.fault.SiteFault.{SiteFault}
 use Rattle.site.specs.declared.fault.SiteFault.TheVariants as faults
@@ -39,7 +39,7 @@ FuseAfter None before after = after ≡ before
 FuseAfter (Some r) before after =
     (fires_within_two before ≡ false) × (after ≡ next_fuse (next_fuse before))
 
-module _ (old new : Volume MemoryCell) where
+module _ (old new : OpenBook MemoryCell) where
   -- the records with the new one, if there is one
   pub done : (answer : Answer) (commits : Option Record)
       → answered.Keeps device_of commits (Ok answer) old new → old.needs_opening ≡ false
@@ -49,8 +49,8 @@ module _ (old new : Volume MemoryCell) where
   done answer None same opened = (
     rw same (sym (append-nil old.records)),
     rw same opened,
-    ap (λ (b : Volume MemoryCell). b.owner) same,
-    ap (λ (b : Volume MemoryCell). fuse_of b.cell) same,
+    ap (λ (b : OpenBook MemoryCell). b.owner) same,
+    ap (λ (b : OpenBook MemoryCell). fuse_of b.cell) same,
   )
   done answer (Some r) (inl (is, same)) opened = ok_is_no_err is
   done answer (Some r) (inr c) opened = (
@@ -64,7 +64,7 @@ module _ (old new : Volume MemoryCell) where
   pub failed : (r : Record) → answered.Keeps device_of (Some r) (Err faults.Device) old new
       → (new.needs_opening ≡ true) × (new.owner ≡ old.owner)
       × (fires_within_two (fuse_of old.cell) ≡ true)
-      × Says old.owner (image_of new.cell).seen
+      × DecodesTo old.owner (image_of new.cell).seen
       (Ok (records_kept (fuse_of old.cell) old.records r))
   failed r (inl (is, same)) = absurd (device_is_no_memory is)
   failed r (inr c) = (

@@ -8,12 +8,12 @@ use Rattle.cell_device.specs.Images.{Image, all_synced, at_rest}
 use Rattle.cell_device.specs.Memory.{image_of, fuse_of, device_of}
 use Rattle.records.specs.declared.owner.Owner.{Owner}
 use Rattle.records.specs.declared.record.Record.{Record}
-use Rattle.records.specs.Journals.{Says}
+use Rattle.records.specs.Journals.{DecodesTo}
 use Rattle.records.proofs.Texts.{nothing_says}
 use Rattle.book.specs.declared.fault.OpenFault.{OpenFault}
 use Rattle.book.specs.declared.fault.OpenFault.TheVariants as faults
 use Rattle.book.specs.Faults.{IsOrDeviceOrMemory}
-use Rattle.book.specs.Volumes.{RecoversTo}
+use Rattle.book.specs.OpenBooks.{RecoversTo}
 use Rattle.proposer.specs.Sessions.{Session, new_session}
 use Rattle.book.specs.Opened.{Opens}
 use Rattle.site.specs.Sites as sites
@@ -51,7 +51,7 @@ opened owner cell after site image fuse opens stands records keeps = record {
   up = record {
     opened = opens.whose.1;
     records = found site.book.records records (opens.only (Ok records)
-        (subst (λ (i : Image). Says owner i.seen (Ok records)) (sym image) keeps));
+        (subst (λ (i : Image). DecodesTo owner i.seen (Ok records)) (sym image) keeps));
     session = stands;
     clear = fuse_is (opens.clear (ap (λ (f : FuseState). Some f) fuse)).0;
   };
@@ -100,4 +100,4 @@ rests owner cell s stands = go s.records s.session s.mode stands
 pub empty_keeps_none : (owner : Owner) (cell : MemoryCell) → image_of cell ≡ at_rest []
     → Keeps owner cell []
 empty_keeps_none owner cell empty =
-    subst (λ (i : Image). Says owner i.seen (Ok [])) (sym empty) (nothing_says owner)
+    subst (λ (i : Image). DecodesTo owner i.seen (Ok [])) (sym empty) (nothing_says owner)

@@ -9,7 +9,7 @@ use Rattle.cell_device.specs.declared.memory_cell.MemoryCell.{MemoryCell}
 use Rattle.cell_device.specs.Memory.{image_of, fuse_of}
 use Rattle.records.specs.declared.owner.Owner.{Owner}
 use Rattle.records.specs.declared.record.Record.{Record}
-use Rattle.records.specs.Journals.{Says}
+use Rattle.records.specs.Journals.{DecodesTo}
 use Rattle.proposer.specs.Sessions.{new_session}
 use Rattle.schedule.specs.declared.fate.Fate.{Fate}
 use Rattle.site.specs.declared.answer.Reply.{Reply}
@@ -34,7 +34,7 @@ use Rattle.stations.specs.declared.told.Told.{Told}
 
 -- a read of the cell says these records
 abbrev pub Keeps : Owner → MemoryCell → List Record → Type 0
-Keeps owner cell records = Says owner (image_of cell).seen (Ok records)
+Keeps owner cell records = DecodesTo owner (image_of cell).seen (Ok records)
 
 -- a site that is up: it has the state's records, and represents its session; no fuse is set
 pub record IsUp (site : OpenSite MemoryCell) (s : SiteState) : Type 0 where

@@ -8,7 +8,7 @@ use Rattle.bag_tree.specs.declared.fault.TreeFault.{TreeFault}
 use Rattle.bag_tree.specs.Facts.{TreeFacts}
 use Rattle.bag_check.specs.Check.{check_of}
 use Rattle.records.specs.declared.record.Record.{Record}
-use Rattle.book.specs.Volumes.{Volume}
+use Rattle.book.specs.OpenBooks.{OpenBook}
 use Rattle.proposer.specs.Sessions.{Session}
 use Rattle.site.specs.declared.answer.Answer.{Answer}
 use Rattle.site.specs.declared.fault.SiteFault.{SiteFault}
@@ -45,9 +45,9 @@ module _ {C : Type 0} (device : C → Device) where
       (result : Result Answer SiteFault) (r : Option Record)
       → Keeps device r result old.book new.book → Gives old new session e result → GoesOn old new
   answered_on old new session e result None kept gives =
-      same_on old new (ap (λ (v : Volume C). v.records) kept)
+      same_on old new (ap (λ (v : OpenBook C). v.records) kept)
   answered_on old new session e result (Some r) (inl (is, same)) gives =
-      same_on old new (ap (λ (v : Volume C). v.records) same)
+      same_on old new (ap (λ (v : OpenBook C). v.records) same)
   answered_on old new session e (Ok answer) (Some r) (inr c) gives = (r ∷ [], c.committed.0)
   answered_on old new session e (Err faults.Device) (Some r) (inr c) gives =
       same_on old new (c.device_failed refl).0

@@ -10,7 +10,7 @@ use Rattle.bag_tree.specs.declared.fault.TreeFault.{TreeFault}
 use Rattle.bag_tree.specs.Facts.{TreeFacts}
 use Rattle.bag_check.specs.Check.{check_of}
 use Rattle.records.specs.declared.record.Record.{Record}
-use Rattle.book.specs.Volumes.{Volume}
+use Rattle.book.specs.OpenBooks.{OpenBook}
 use Rattle.site.specs.declared.answer.Answer.{Answer}
 use Rattle.site.specs.declared.answer.Line.{Line}
 use Rattle.site.specs.declared.answer.Line.TheVariants as lines
@@ -72,7 +72,7 @@ module _ {C : Type 0} (ports : List ℕ) (s : Serving C) (slot : SlotName) where
       ap (λ (d : Done). or_one d.notices) is ∙ asks_say_no others rest asks
 
 module _ {C : Type 0} (device : C → Device) where
-  failed : (commits : Option Record) (old new : Volume C)
+  failed : (commits : Option Record) (old new : OpenBook C)
       → Keeps device commits (Err faults.Device) old new → IsSome commits
       → new.needs_opening ≡ true
   failed None old new keeps some = absurd (impossible some)

@@ -1,9 +1,9 @@
 use Rattle.std.proofs.Common.{List, ℕ, Ok, sym, subst}
 use Rattle.cell_device.specs.Time.{LeavesOnly}
-use Rattle.records.specs.Journals.{Says}
+use Rattle.records.specs.Journals.{DecodesTo}
 use Rattle.book.proofs.Commits.{leaves_text, recovers}
 use Rattle.book.specs.Opened.{LeavesAlike}
-use Rattle.book.specs.Volumes.{ReadSays}
+use Rattle.book.specs.OpenBooks.{ReadSays}
 use Rattle.book.proofs.Alike.{said_seen, answered, synced, repaired}
 use Rattle.book.proofs.cell_repair.read_cell.Given.{Over}
 use Rattle.book.proofs.cell_repair.read_cell.Goals.{After-header, After-repair}
@@ -15,7 +15,7 @@ returns-in_err-journal-clause-only g c = λ said.
     answered c.args.owner (g.C.Cell.device c.args.cell.now).image read.bytes.items
     c.in_err-journal.field-0.0 c.from_residual-in_err-journal.result read.ensures.read
     (λ other says. c.in_err-journal.ensures.only other
-    (subst (λ (b : List ℕ). Says c.args.owner b other) (sym c.deref.ensures.value) says))
+    (subst (λ (b : List ℕ). DecodesTo c.args.owner b other) (sym c.deref.ensures.value) says))
     c.from_residual-in_err-journal.ensures.1 said
 
 -- what was read says the journal's records

@@ -1,7 +1,7 @@
 use Rattle.std.proofs.Common.{Option, ◌≡◌, ◌++◌, List, ℕ, take, drop, sym, ap, subst, ◌∙◌}
 use Rattle.cell_device.specs.Images.{Image, IfKnown}
 use Rattle.records.specs.Layout.{header_bytes}
-use Rattle.records.specs.Journals.{Says}
+use Rattle.records.specs.Journals.{DecodesTo}
 use Rattle.records.specs.Texts.{IsTextOf}
 use Rattle.std.proofs.Common.{Ok}
 use Rattle.records.proofs.Walk.{from, from_is}
@@ -55,7 +55,7 @@ returns-clause-any_moment g c =
     let more = from c.args.header.now mend.result.from in
     let same : more ≡ drop mend.result.from (header_bytes owner) =
     from_is c.args.header.now mend.result.from ∙ ap (drop mend.result.from) c.requires.header in
-    let P : List ℕ → Type 0 = λ b. IfKnown (image old) (λ i. Says owner b (Ok rs)) in
+    let P : List ℕ → Type 0 = λ b. IfKnown (image old) (λ i. DecodesTo owner b (Ok rs)) in
     let first = cutting owner bytes rs mend.result mend.ensures device only old mid
     c.cut_synced.ensures.any_moment in
     let rest = still_rests text (image old) (image mid) c.in_ok-cut_synced.ensures.kept in
