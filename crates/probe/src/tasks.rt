@@ -14,7 +14,7 @@ use crate::task::{
     CountedFile, SiteFile, Task, last_count, last_counted_file, last_site_file, last_word, no_more,
 };
 use crate::turns::answer_turns;
-use site_tools::Tries;
+use probe_tools::Tries;
 use std::env::Args;
 use std::io;
 
@@ -116,7 +116,7 @@ fn decide(rt: &HostRuntime, words: &mut Args) -> Result<String, Fault> {
 }
 
 fn arrive(rt: &HostRuntime, words: &mut Args) -> Result<String, Fault> {
-    Ok(site_tools::arrivals_text(rt, last_count(words)?)?)
+    Ok(probe_tools::arrivals_text(rt, last_count(words)?)?)
 }
 
 fn serving(rt: &HostRuntime, words: &mut Args) -> Result<String, Fault> {
@@ -128,7 +128,7 @@ fn serving(rt: &HostRuntime, words: &mut Args) -> Result<String, Fault> {
 fn sites(rt: &HostRuntime, words: &mut Args, tries: Tries) -> Result<String, Fault> {
     no_more(words)?;
     let script = input(rt)?;
-    Ok(site_tools::answers(rt.alloc(), script.as_str(), tries)?)
+    Ok(probe_tools::answers(rt.alloc(), script.as_str(), tries)?)
 }
 
 fn schedule(rt: &HostRuntime, words: &mut Args) -> Result<String, Fault> {

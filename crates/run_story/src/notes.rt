@@ -8,13 +8,13 @@ use crate::said_numbers::{
 use crate::story::{Passage, Story, passage_after};
 use dgram::{Message, decode};
 use fed_types::{BagId, Members, Slot};
-use federation::Federation;
 use indexmap::IndexSet;
 use lines::Line;
 use records::{Entry, Owner, Record, read_journal};
-use stations::{Place, Station};
+use sim_federation::Federation;
+use sim_stations::{Place, Station};
+use sim_tables::{Datagrams, SeenBags};
 use std::alloc::{AllocError, Global};
-use world_tables::{Datagrams, SeenBags};
 
 /// What was noted so far.
 #[derive(Drop)]

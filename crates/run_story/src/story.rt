@@ -3,7 +3,7 @@ use crate::event::{Deed, Event, Outcome};
 use fed_types::{Ballot, Members, Slot};
 use indexmap::IndexSet;
 use lines::{Line, Reason};
-use world_tables::Datagrams;
+use sim_tables::Datagrams;
 
 /// What became of a datagram.
 #[derive(Clone, Copy)]

@@ -4,9 +4,9 @@ use crate::event::{Deed, Event};
 use crate::notes::Notes;
 use crate::planned::{event_at, event_of, slot_in};
 use crate::story::Story;
-use federation::Federation;
 use records::Entry;
 use schedule::{Command, Schedule};
+use sim_federation::Federation;
 use std::alloc::{AllocError, Global};
 
 /// Runs a schedule, and says what happened. It fails only where memory runs out.

@@ -4,8 +4,8 @@ ghost use Rattle.world_law.specs.Worlds.{run_of};
 
 use crate::fault::RunFault;
 use crate::trace::Trace;
-use federation::Federation;
 use schedule::Schedule;
+use sim_federation::Federation;
 use std::alloc::Global;
 
 /// Runs a schedule: the lines are those of the reference run. No two of them report different bags

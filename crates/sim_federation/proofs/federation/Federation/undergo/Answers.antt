@@ -1,0 +1,26 @@
+use Rattle.std.proofs.Common.{◌≡◌, ℕ, refl, ap, sym, subst, get_or, ◌∙◌, ◌++◌}
+use Rattle.sim_stations.specs.Calls.{input_of}
+use Rattle.sim_stations.specs.declared.station.Station.{Station}
+use Rattle.sim_federation.specs.Said.{lines_said}
+use Rattle.sim_federation.proofs.Answers.{then_all_ok}
+use Rattle.sim_federation.proofs.Called.{undergone}
+use Rattle.sim_federation.proofs.Places.{put_twice}
+use Rattle.sim_federation.proofs.federation.Federation.undergo.Goals as goal
+
+pub returns : goal.returns
+returns c =
+    let stations = c.args.self.now.stations.items in
+    then_all_ok c.send_all.result (λ lines sent named w is up sound.
+    undergone c.args.self.now _ w c.args.place
+    (λ (federation : ℕ). input_of federation c.args.call.now) c.args.fate c.take-station.result
+    c.in_ok-station.station c.in_ok-station.told c.tell.new.lines.items is up sound c.requires
+    (subst (λ (s : Station). s ≡ get_or stations c.args.place s) (sym c.take-station.ensures)
+    c.index_mut.ensures.value)
+    c.in_ok-station.ensures.whose c.in_ok-station.ensures.comes refl
+    (put_twice stations c.args.place c.take-station.new.self c.in_ok-station.station) refl refl
+    (c.in_ok-tell.ensures w.members.federation w.seen is.seen
+    ∙ ap (λ (site : ℕ). c.args.self.now.lines.items ++ lines_said w.seen site
+    (input_of w.members.federation c.args.call.now) c.in_ok-station.told.said)
+    (c.site_at-site.ensures w is))
+    lines sent named)
+    c.send_all.ensures.lines c.send_all.ensures.sent c.send_all.ensures.named

@@ -1,0 +1,26 @@
+use Rattle.std.proofs.Common.{Some, ap, ◌∙◌}
+use Rattle.cell_device.specs.declared.fuse.Fuse.{Fuse}
+use Rattle.cell_device.specs.Memory.{fuse_of, fuse_after_set}
+use Rattle.sim_stations.specs.Calls.{input_of}
+use Rattle.sim_stations.proofs.Came.{with_fuse}
+use Rattle.sim_stations.proofs.Returns.{fails_in}
+use Rattle.sim_stations.proofs.Kept.{if_ok}
+use Rattle.sim_stations.proofs.fates.fails_in.Goals as goal
+
+pub returns : goal.returns
+returns c =
+    let old = c.args.site.now in
+    let armed = c.set_fuse.new.self in
+    let called = c.make.new.site in
+    let new = c.set_fuse-2.new.self in
+    let set = c.set_fuse.ensures in
+    let taken = c.set_fuse-2.ensures in
+    if_ok c.told_of-told.result
+    (λ told tells. fails_in old armed called new c.args.device c.args.how c.args.kept
+    (λ owner. input_of owner.members.federation c.args.call.now) told c.make.result
+    (with_fuse old armed set.medium set.records set.tables)
+    (with_fuse called new taken.medium taken.records taken.tables)
+    (set.fuse ∙ ap (λ (f : Fuse). fuse_after_set (Some f) (fuse_of old.book.cell))
+    c.fuse_in.ensures) taken.fuse c.make.ensures.answer
+    c.make.ensures.needs_open c.make.ensures.untouched tells)
+    c.told_of-told.ensures

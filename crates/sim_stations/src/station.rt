@@ -1,0 +1,216 @@
+ghost use Rattle.std.specs.Prelude.{◌≡◌, [], Some, None, length, take, IfOk};
+ghost use Rattle.cell_device.specs.declared.memory_cell.MemoryCell.{MemoryCell};
+ghost use Rattle.site.specs.Calls.{Input};
+ghost use Rattle.site.specs.Sites.{OpenSite};
+ghost use Rattle.world_law.specs.Networks.{SiteState, new_site, opened, goes_down};
+ghost use Rattle.sim_stations.specs.Calls.{input_of};
+ghost use Rattle.sim_stations.specs.Fates.{before_stop};
+ghost use Rattle.sim_stations.specs.Modes as modes;
+ghost use Rattle.sim_stations.specs.Stations.{Represents, Undergoes, reply_in};
+ghost use Rattle.sim_stations.specs.declared.place.Place.TheVariants.{Running};
+ghost use Rattle.sim_stations.specs.declared.told.Said.TheVariants as said;
+
+use crate::call::Call;
+use crate::fates::undergo;
+use crate::opened_site::open;
+use crate::place::Place;
+use crate::told::{Said, Told, nothing};
+use cell_device::MemoryCell;
+use fed_types::{SiteNo, Slot};
+use records::Owner;
+use schedule::Fate;
+use site::{Reply, SiteFault};
+use std::alloc::{AllocError, Global};
+use std::mem;
+
+/// A site of a federation in a simulator: whose it is, and where it is.
+#[derive(Drop)]
+pub struct Station {
+    alloc: Global,
+    owner: Owner,
+    place: Place,
+}
+
+impl Station {
+    /// A new site, which is up: it has no records. `Err`: out of memory.
+    pub fn new(alloc: Global, owner: Owner) -> Result<Station, AllocError>
+        ensures whose { IfOk result (λ station. station.owner ≡ owner) }
+        ensures is_new { IfOk result (λ station. Represents owner station.place new_site) }
+    {
+        let Owner { members, site } = owner;
+        let empty = MemoryCell::new(alloc, Vec::new(alloc));
+        let opened = open(alloc, empty, Owner { members, site })?;
+        Ok(Station {
+            alloc,
+            owner: Owner { members, site },
+            place: Place::Running(opened),
+        })
+    }
+
+    /// The site's number.
+    pub fn number(&self) -> SiteNo
+        ensures { result ≡ self.now.owner.site }
+    {
+        self.owner.site
+    }
+
+    /// Where it is.
+    pub fn place(&self) -> &Place
+        ensures { result.now ≡ self.now.place }
+    {
+        &self.place
+    }
+
+    /// It isn't running.
+    pub fn is_down(&self) -> bool
+        ensures { (s : SiteState) → Represents self.now.owner self.now.place s
+            → result ≡ modes.is_down s.mode }
+    {
+        matches!(self.place, Place::AtRest(_))
+    }
+
+    /// It runs, and its device hasn't failed since it was opened.
+    pub fn is_up(&self) -> bool
+        ensures { (s : SiteState) → Represents self.now.owner self.now.place s
+            → result ≡ modes.is_up s.mode }
+    {
+        match &self.place {
+            Place::Running(site) => !site.needs_opening(),
+            Place::AtRest(_) => false,
+        }
+    }
+
+    /// Moves the station out of its place among others, until it is put back, and leaves an empty
+    /// one there: at rest, over a cell with no bytes.
+    pub fn take(&mut self) -> Station
+        ensures { result ≡ self.old }
+    {
+        let Owner { members, site } = self.owner;
+        let left = Station {
+            alloc: self.alloc,
+            owner: Owner { members, site },
+            place: Place::AtRest(MemoryCell::new(self.alloc, Vec::new(self.alloc))),
+        };
+        mem::replace(self, left)
+    }
+
+    /// The site is called, under a fate. `Err`: out of memory, and the station is given up.
+    pub fn call(self, call: &Call, fate: Fate) -> Result<(Station, Told), AllocError>
+        ensures whose { IfOk result (λ done. done.0.owner ≡ self.owner) }
+        ensures comes { IfOk result (λ done. Undergoes self.owner
+            (input_of self.owner.members.federation call.now) fate self.place done.0.place
+            done.1) }
+    {
+        let Station {
+            alloc,
+            owner,
+            place,
+        } = self;
+        match place {
+            Place::Running(mut site) => {
+                let told = undergo(alloc, &mut site, call, fate)?;
+                let place = Place::Running(site);
+                let station = Station {
+                    alloc,
+                    owner,
+                    place,
+                };
+                Ok(station.ended(fate, told))
+            }
+            Place::AtRest(cell) => {
+                let place = Place::AtRest(cell);
+                let station = Station {
+                    alloc,
+                    owner,
+                    place,
+                };
+                Ok((station, nothing(alloc)))
+            }
+        }
+    }
+
+    /// What the site knows of the slot, unless it is down.
+    pub fn query(&self, slot: &Slot) -> Option<Result<Reply, SiteFault>>
+        ensures { (s : SiteState) → Represents self.now.owner self.now.place s
+            → result ≡ reply_in slot.now s s.mode }
+    {
+        match &self.place {
+            Place::Running(site) => Some(site.query(slot)),
+            Place::AtRest(_) => None,
+        }
+    }
+
+    /// The site stops between calls.
+    pub fn stop(self) -> Station
+        ensures whose { result.owner ≡ self.owner }
+        ensures stops { (s : SiteState) → Represents self.owner self.place s
+            → Represents self.owner result.place (goes_down self.owner.site s None []).site }
+    {
+        let Station {
+            alloc,
+            owner,
+            place,
+        } = self;
+        Station {
+            alloc,
+            owner,
+            place: Place::AtRest(place.closed()),
+        }
+    }
+
+    /// The site is opened, with so many records. `Err`: out of memory, and the station is given up.
+    pub fn start(self) -> Result<(Station, usize), AllocError>
+        ensures whose { IfOk result (λ done. done.0.owner ≡ self.owner) }
+        ensures starts { IfOk result (λ done. (s : SiteState)
+            → Represents self.owner self.place s
+            → (Represents self.owner done.0.place (opened self.owner.site s).site)
+            × (done.1 ≡ length s.records)) }
+    {
+        let Station {
+            alloc,
+            owner,
+            place,
+        } = self;
+        let Owner { members, site } = owner;
+        let running = open(alloc, place.closed(), Owner { members, site })?;
+        let count = running.records().len();
+        let station = Station {
+            alloc,
+            owner: Owner { members, site },
+            place: Place::Running(running),
+        };
+        Ok((station, count))
+    }
+
+    // The end of a running site's call: the site stops, where that is its fate.
+    fn ended(self, fate: Fate, told: Told) -> (Station, Told)
+        ensures whose { result.0.owner ≡ self.owner }
+        ensures ends { (input : Input) (site : OpenSite MemoryCell)
+            → Undergoes self.owner input (before_stop fate) (Running site) self.place told
+            → Undergoes self.owner input fate (Running site) result.0.place result.1 }
+    {
+        match fate {
+            Fate::Whole | Fate::FailsIn(..) => (self, told),
+            Fate::StopsAfter(first) => self.stopped(told, first as usize),
+            Fate::StopsIn(..) => self.stopped(told, 0),
+        }
+    }
+
+    // The site stops, and the first of the datagrams were sent before that.
+    fn stopped(self, told: Told, first: usize) -> (Station, Told)
+        ensures whose { result.0.owner ≡ self.owner }
+        ensures said { result.1.said ≡ Some said.GoesDown }
+        ensures sends { result.1.sends.items ≡ take first told.sends.items }
+        ensures stops { (s : SiteState) → Represents self.owner self.place s
+            → Represents self.owner result.0.place (goes_down self.owner.site s None []).site }
+    {
+        let station = self.stop();
+        let mut sends = told.sends;
+        sends.truncate(first);
+        let told = Told {
+            said: Some(Said::GoesDown),
+            sends,
+        };
+        (station, told)
+    }
+}
