@@ -8,11 +8,7 @@ use std::alloc::{AllocError, Global};
 
 /// The slot of two words: an object's name, and a version. It fails only where memory runs out.
 #[tactic(auto, unfolding(crate::specs::Slots::slot_of, crate::specs::Slots::object_of))]
-pub fn parse_slot(
-    alloc: Global,
-    object: &[u8],
-    version: &[u8],
-) -> Result<Option<Slot>, AllocError>
+pub fn parse_slot(alloc: Global, object: &[u8], version: &[u8]) -> Result<Option<Slot>, AllocError>
     ensures { IfOk result (λ slot. slot ≡ slot_of object.now version.now) }
 {
     let Some(name) = parse_text(alloc, object)? else {
