@@ -21,4 +21,4 @@ mod said_lines;
 mod sends;
 mod stops;
 
-pub use sim_federation::Federation;
+pub use federation::Federation;
