@@ -23,8 +23,8 @@ mod send_arguments;
 mod server_command;
 mod service;
 mod site_arguments;
-mod socket;
 mod stop;
+mod udp_socket;
 mod until_known;
 
 pub use client::{ask_for_bag, send_on};
@@ -40,6 +40,6 @@ pub use service::{Service, open_and_serve};
 pub use site_arguments::{
     SiteTask, Turns, members_argument, site_command, site_task, wait_argument,
 };
-pub use socket::socket;
 pub use stop::{Stop, write_numbered, write_stop};
+pub use udp_socket::socket;
 pub use until_known::send_until_known;
