@@ -254,7 +254,7 @@ class History:
     def propose(self, site, number):
         n, old, site.issued = site.number, site.state, True
         k = self.call(
-            site, "calls.Proposes a", f"issuing {old} {number} {n}", [1, 2],
+            site, "calls.Proposes a", f"begins_ballot {old} {number} {n}", [1, 2],
             f"Prepare({number},{n})", f"Round({number})", "None", "refl",
         )
         self.say(
