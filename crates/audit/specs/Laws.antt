@@ -6,7 +6,7 @@ use Rattle.fed_types.specs.Quorums.{QuorumSystem}
 use Rattle.fed_types.specs.Slots.{SlotName}
 use Rattle.records.specs.declared.entry.Entry.TheVariants as entry
 use Rattle.lines.specs.Notices.{Notice}
-use Rattle.world_law.specs.Laws.{IsChosen, OnRecord, report_of}
+use Rattle.world_law.specs.Laws.{IsChosen, OnRecord, notice_report}
 use Rattle.audit.specs.Evidence.{SiteRecord, network_of}
 
 -- these cells show that the bag is chosen
@@ -30,4 +30,4 @@ HaveNoConflict q given =
 abbrev pub ReportNoOther : List Notice → SlotName → BagId → Type 0
 ReportNoOther notices slot bag =
     (m : Notice) (other : BagId) → Has m notices
-    → report_of m ≡ Some (record { slot = slot; bag = other }) → other ≡ bag
+    → notice_report m ≡ Some (record { slot = slot; bag = other }) → other ≡ bag

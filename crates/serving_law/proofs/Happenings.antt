@@ -38,7 +38,7 @@ use Rattle.proposer.specs.Sessions.{new_session}
 use Rattle.book.specs.Opened.{Opens}
 use Rattle.site.specs.Sites.{OpenSite, Represents}
 use Rattle.lines.specs.Notices.{Notice, Registered}
-use Rattle.world_law.specs.Laws.{report_of, IsChosen}
+use Rattle.world_law.specs.Laws.{notice_report, IsChosen}
 use Rattle.world_law.specs.Networks.{Network, SiteState, Up}
 use Rattle.world_law.specs.WellFormed.{IsWellFormed}
 use Rattle.world_law.proofs.Deeds.{some_same, nothing_sent}
@@ -148,7 +148,7 @@ module _ {C : Type 0} (device : C → Device) (members : Membership)
 
       printed_chosen : (notice : Notice) → IsPrinted showing notice → (slot : SlotName)
           (bag : BagId)
-          → report_of notice ≡ Some (record { slot = slot; bag = bag }) → IsChosen q w slot bag
+          → notice_report notice ≡ Some (record { slot = slot; bag = bag }) → IsChosen q w slot bag
       printed_chosen notice p slot bag e = (notices notice (printed_among notice p)).known _ e
 
       -- the message that was sent, or the reply

@@ -21,7 +21,7 @@ use Rattle.proposer.specs.Sessions.{Session}
 use Rattle.site.specs.Effects.{Send}
 use Rattle.site_tables.specs.Contents.{Contents}
 use Rattle.lines.specs.Notices.{Notice, Registered}
-use Rattle.world_law.specs.Laws.{IsChosen, Report, report_of}
+use Rattle.world_law.specs.Laws.{IsChosen, Report, notice_report}
 use Rattle.world_law.specs.Laws as laws
 use Rattle.world_law.specs.Networks.{Network, SiteState}
 use Rattle.world_law.specs.WellFormed.{IsWellFormed}
@@ -134,7 +134,7 @@ module _ {C : Type 0} (device : C → Device) (members : Membership) where
   -- ---- lines
 
   pub record IsNotice (w x : Network) (notice : Notice) : Type 0 where
-    pub known : (r : Report) → report_of notice ≡ Some r → IsChosen quorums w r.slot r.bag
+    pub known : (r : Report) → notice_report notice ≡ Some r → IsChosen quorums w r.slot r.bag
     pub registered : (n : ℕ) (slot : SlotName) (bag : BagId) → notice ≡ Registered n slot bag
         → HasDeposit x n slot bag
 

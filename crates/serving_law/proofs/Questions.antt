@@ -20,7 +20,7 @@ use Rattle.site.specs.declared.fault.SiteFault.TheVariants as faults
 use Rattle.site.specs.Calls.{reply_of}
 use Rattle.site.specs.Effects.{to_each}
 use Rattle.lines.specs.Notices.{Notice, Replied, Refused}
-use Rattle.world_law.specs.Laws.{Report, report_of, IsChosen}
+use Rattle.world_law.specs.Laws.{Report, notice_report, IsChosen}
 use Rattle.world_law.specs.Networks.{Network, Up}
 use Rattle.world_law.proofs.Deeds.{some_same, only_sends, carries_each, same_recalls, not_new}
 use Rattle.world_law.proofs.Step.{moved, kept_moved, Next, reports_nothing}
@@ -59,7 +59,7 @@ named n (replies.Pending b) bag e = absurd (cc e)
 named n replies.Nothing bag e = absurd (cc e)
 
 reported : (n : ℕ) (slot : SlotName) (reply : Reply) (r : Report)
-    → report_of (Replied n slot reply) ≡ Some r
+    → notice_report (Replied n slot reply) ≡ Some r
     → (reply ≡ replies.Known r.bag) × (slot ≡ r.slot)
 reported n slot (replies.Known b) r e =
     let same : record { slot = slot; bag = b } ≡ r = some_same e in

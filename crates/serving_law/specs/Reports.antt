@@ -18,7 +18,7 @@ use Rattle.dgram.specs.declared.body.Body.TheVariants.{DepositReply, QueryReply}
 use Rattle.dgram.specs.declared.message.Message.{Message}
 use Rattle.dgram.specs.Decoded.{message_of}
 use Rattle.lines.specs.Notices.{Notice, Registered}
-use Rattle.world_law.specs.Laws.{report_of}
+use Rattle.world_law.specs.Laws.{notice_report}
 use Rattle.udp_site.specs.Requests.{Deposits, request_of}
 use Rattle.udp_site.specs.Served.{Turned, notice_text}
 use Rattle.serving_law.specs.Federations.{Member, Serves, Down, Federation, Step, Happening}
@@ -76,7 +76,7 @@ known_told _ = None
 abbrev pub Reports : {C : Type 0} → (federation : ℕ) → Happening C → SlotName → BagId → Type 0
 Reports federation h slot bag =
     ((notice : Notice) × Prints h notice
-    × (report_of notice ≡ Some (record { slot = slot; bag = bag })))
+    × (notice_report notice ≡ Some (record { slot = slot; bag = bag })))
     ⊎ ((body : Body) × Tells federation h (record { slot = slot; body = body })
     × (known_told body ≡ Some bag))
 

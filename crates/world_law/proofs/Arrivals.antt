@@ -37,7 +37,7 @@ use Rattle.site.specs.Arrivals.{answer_body, addressees, decided, proposing, lea
 use Rattle.site.specs.Arrivals.{on_body, is_member, on_arrival}
 use Rattle.site.specs.Calls.{Input, Arrives}
 use Rattle.site.specs.Effects.{Send, to_each, only_says, quiet}
-use Rattle.world_law.specs.Laws.{OnRecord, WasSent, IsChosen, SatisfiesP2c, Report, report_of}
+use Rattle.world_law.specs.Laws.{OnRecord, WasSent, IsChosen, SatisfiesP2c, Report, notice_report}
 use Rattle.lines.specs.Notices.{Notice, Learned, notice_of}
 use Rattle.world_law.specs.Networks.{Network}
 use Rattle.world_law.proofs.Heard.{gathered_heard, gathered_promise, highest_prior_is, prior_of}
@@ -143,10 +143,10 @@ module _ (q : QuorumSystem) (laws : AreQuorums q) (w : Network) (inv : Kept q w)
         → ReportsChosen q w (Some (Learned n slot bag))
     learned_chosen {bag} c = record { chosen = λ l r e f. go l r (some_same e) f }
       where
-        go : (l : Notice) (r : Report) → Learned n slot bag ≡ l → report_of l ≡ Some r
+        go : (l : Notice) (r : Report) → Learned n slot bag ≡ l → notice_report l ≡ Some r
             → IsChosen q w r.slot r.bag
         go l r e f =
-            let g : Some (record { slot = slot; bag = bag }) ≡ Some r = ap report_of e ∙ f in
+            let g : Some (record { slot = slot; bag = bag }) ≡ Some r = ap notice_report e ∙ f in
             subst (λ (r : Report). IsChosen q w r.slot r.bag) (some_same g) c
 
     learning_deed : (o : Option BagId) → ((bag : BagId) → o ≡ Some bag → IsChosen q w slot bag)

@@ -22,7 +22,7 @@ use Rattle.site.specs.Calls.{effect_of}
 use Rattle.site.specs.Effects.{Effect, Send}
 use Rattle.schedule.specs.declared.fate.Fate.{Fate}
 use Rattle.schedule.specs.declared.fate.Fate.TheVariants.{Whole, StopsIn, StopsAfter, FailsIn}
-use Rattle.world_law.specs.Laws.{IsChosen, Report, report_of}
+use Rattle.world_law.specs.Laws.{IsChosen, Report, notice_report}
 use Rattle.world_law.specs.Networks.{Mode, Up, Down, NeedsOpening, Network, new_site, new_network}
 use Rattle.world_law.specs.Networks.{Event, Deposit, Propose, Query, Deliver, Raw, Stop, Start}
 use Rattle.lines.specs.Notices.{Notice, Replied, Refused, GoesDown, ComesUp, notice_of}
@@ -74,14 +74,14 @@ module _ (q : QuorumSystem) (w : Network) (inv : Kept q w) where
     -- the site loses its session, with what it keeps
     lost_kept : (kept : Option Record) (slot : SlotName) (body : Body) (sends : List Send)
         → Sound q w n D kept slot body sends → (mode : Mode) (notice : Notice)
-        → report_of notice ≡ None → (some : List Send) → ((d : Send) → Has d some → Has d sends)
+        → notice_report notice ≡ None → (some : List Send) → ((d : Send) → Has d some → Has d sends)
         → Next q w (Some n) D (moved w n kept new_session mode some (Some notice))
     lost_kept kept slot body sends s mode notice e some among =
         kept_moved q w n kept new_session mode some (Some notice) D slot body
         (fewer some among s) inv nothing_recalled (reports_plain notice e)
 
     -- it keeps nothing
-    idle_kept : (mode : Mode) (notice : Notice) → report_of notice ≡ None
+    idle_kept : (mode : Mode) (notice : Notice) → notice_report notice ≡ None
         → Next q w (Some n) D (moved w n None new_session mode [] (Some notice))
     idle_kept mode notice e =
         lost_kept None any_slot (Ask n) [] (nothing_sent q w n D any_slot) mode notice e []
@@ -90,7 +90,7 @@ module _ (q : QuorumSystem) (w : Network) (inv : Kept q w) where
     -- it keeps the record, or it doesn't
     left_kept : (r : Record) (slot : SlotName) (body : Body) (sends : List Send)
         → Sound q w n D (Some r) slot body sends → (mode : Mode) (notice : Notice)
-        → report_of notice ≡ None → (t : Bool)
+        → notice_report notice ≡ None → (t : Bool)
         → Next q w (Some n) D
         (moved w n (cond t (Some r) None) new_session mode [] (Some notice))
     left_kept r slot body sends s mode notice e true =
@@ -122,7 +122,7 @@ module _ (q : QuorumSystem) (w : Network) (inv : Kept q w) where
         go (Some bag) own e = record {
           chosen = λ m r f g.
               let h : Some (record { slot = slot; bag = bag }) ≡ Some r =
-              ap report_of (some_same f) ∙ g in
+              ap notice_report (some_same f) ∙ g in
               subst (λ (r : Report). IsChosen q w r.slot r.bag) (some_same h) (known bag e);
         }
         go None (Some bag) e = reports_plain _ refl

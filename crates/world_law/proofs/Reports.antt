@@ -7,7 +7,7 @@ use Rattle.fed_types.specs.Lists.{Has}
 use Rattle.fed_types.specs.Quorums.{QuorumSystem, AreQuorums}
 use Rattle.fed_types.specs.Slots.{SlotName}
 use Rattle.fed_types.specs.Laws.Lists.{has_cases, has_one, has_none}
-use Rattle.world_law.specs.Laws.{IsChosen, Report, report_of, notices_of, ReportsAgree}
+use Rattle.world_law.specs.Laws.{IsChosen, Report, notice_report, notices_of, ReportsAgree}
 use Rattle.lines.specs.Notices.{Notice}
 use Rattle.world_law.specs.Networks.{Network, new_network, Event, happens, run}
 use Rattle.world_law.proofs.Grows.{chosen_grows}
@@ -31,7 +31,7 @@ module _ (q : QuorumSystem) (laws : AreQuorums q) where
 
   -- what is reported was chosen
   pub reported_from : (events : List Event) (w : Network) → Kept q w → (m : Notice) (r : Report)
-      → Has m (notices_of q w events) → report_of m ≡ Some r
+      → Has m (notices_of q w events) → notice_report m ≡ Some r
       → IsChosen q (run q w events) r.slot r.bag
   unfolding run notices_of
   reported_from [] w inv m r h is = absurd (has_none h)

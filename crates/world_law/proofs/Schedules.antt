@@ -18,7 +18,7 @@ use Rattle.lines.specs.declared.line.Line.{Line}
 use Rattle.lines.specs.declared.line.Line.TheVariants as lines
 use Rattle.lines.specs.declared.line.Reason.{Reason}
 use Rattle.world_law.specs.Headline.{reported, IsValidDeposit, DepositedBy}
-use Rattle.world_law.specs.Laws.{OnRecord, IsChosen, Report, report_of, site_of}
+use Rattle.world_law.specs.Laws.{OnRecord, IsChosen, Report, notice_report, site_of}
 use Rattle.world_law.specs.Networks.{Network, new_network, new_site, Event, Deposit, Propose, Ask}
 use Rattle.lines.specs.Notices.{Notice, Registered, Learned}
 use Rattle.world_law.specs.Networks.{Query, Deliver, Raw, Stop, Start}
@@ -41,7 +41,7 @@ use Rattle.world_law.proofs.Step.{Next}
 -- ---- what lines report
 
 -- a notice's line reports what the notice does
-notice_reports : (seen : List SeenBag) (n : Notice) → reported (line_of seen n) ≡ report_of n
+notice_reports : (seen : List SeenBag) (n : Notice) → reported (line_of seen n) ≡ notice_report n
 notice_reports seen (Registered site slot bag) = refl
 notice_reports seen (Learned site slot bag) = refl
 notice_reports seen (Replied site slot (replies.Known bag)) = refl
@@ -67,7 +67,7 @@ sent_reports federation number (d ∷ sends) l r (there h) e =
 record ByNotice (o : Option Notice) (r : Report) : Type 0 where
   notice : Notice
   is : o ≡ Some notice
-  reports : report_of notice ≡ Some r
+  reports : notice_report notice ≡ Some r
 
 by_notice : (seen : List SeenBag) (o : Option Notice) (l : Line) (r : Report)
     → Has l (own_lines seen o) → reported l ≡ Some r → ByNotice o r

@@ -23,7 +23,7 @@ use Rattle.dgram.specs.Heard.{promisers}
 use Rattle.proposer.specs.Proposals.{Current, gathered}
 use Rattle.proposer.specs.Sessions.{Session, new_session}
 use Rattle.site.specs.Effects.{Send}
-use Rattle.world_law.specs.Laws.{OnRecord, WasSent, IsChosen, Report, report_of}
+use Rattle.world_law.specs.Laws.{OnRecord, WasSent, IsChosen, Report, notice_report}
 use Rattle.lines.specs.Notices.{Notice}
 use Rattle.world_law.specs.Networks.{Mode, SiteState, Network, SiteOutcome, Happening}
 use Rattle.world_law.specs.Networks.{happening}
@@ -50,7 +50,7 @@ moved w n kept session mode sends notice =
 
 -- what the notice reports was chosen before
 pub record ReportsChosen (q : QuorumSystem) (w : Network) (notice : Option Notice) : Type 0 where
-  pub chosen : (m : Notice) (r : Report) → notice ≡ Some m → report_of m ≡ Some r
+  pub chosen : (m : Notice) (r : Report) → notice ≡ Some m → notice_report m ≡ Some r
       → IsChosen q w r.slot r.bag
 
 -- these messages name site n as their sender
@@ -76,14 +76,14 @@ pub record Next (q : QuorumSystem) (w : Network) (place : Option ℕ) (D : Depos
 pub reports_nothing : {q : QuorumSystem} {w : Network} → ReportsChosen q w None
 reports_nothing = record { chosen = λ m r e f. absurd (cc e) }
 
-pub reports_plain : {q : QuorumSystem} {w : Network} (m : Notice) → report_of m ≡ None
+pub reports_plain : {q : QuorumSystem} {w : Network} (m : Notice) → notice_report m ≡ None
     → ReportsChosen q w (Some m)
 reports_plain m e = record { chosen = λ k r f g. absurd (reports_none k r f g) }
   where
-    reports_none : (k : Notice) (r : Report) → Some m ≡ Some k → report_of k ≡ Some r → ⊥
+    reports_none : (k : Notice) (r : Report) → Some m ≡ Some k → notice_report k ≡ Some r → ⊥
     reports_none k r f g =
         let h : m ≡ k = cc in
-        let i : None ≡ Some r = sym e ∙ ap report_of h ∙ g in
+        let i : None ≡ Some r = sym e ∙ ap notice_report h ∙ g in
         cc
 
 -- x has what w has, and n has the record

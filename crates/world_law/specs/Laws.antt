@@ -17,6 +17,7 @@ use Rattle.dgram.specs.Encoding.{body_from}
 use Rattle.dgram.specs.Heard.{PromiseFrom, promisers}
 use Rattle.site.specs.declared.answer.Reply.TheVariants as replies
 use Rattle.site.specs.Effects.{Send}
+pub use Rattle.site.specs.Reported.{Report}
 use Rattle.world_law.specs.Networks.{Network, Event, Deposit, Propose, Ask, Query, Deliver, Raw}
 use Rattle.lines.specs.Notices.{Notice, Learned, Replied}
 use Rattle.world_law.specs.Networks.{Stop, Start, datagram_at, happens}
@@ -104,16 +105,11 @@ pub record IsBacked (q : QuorumSystem) (w : Network) (slot : SlotName) (vote : V
 
 -- ---- reports
 
--- a bag that is reported for a slot
-pub record Report : Type 0 where
-  pub slot : SlotName
-  pub bag : BagId
-
 -- what a notice reports: a bag that a site has learned, or that it replies as known
-abbrev pub report_of : Notice → Option Report
-report_of (Learned site slot bag) = Some (record { slot = slot; bag = bag })
-report_of (Replied site slot (replies.Known bag)) = Some (record { slot = slot; bag = bag })
-report_of _ = None
+abbrev pub notice_report : Notice → Option Report
+notice_report (Learned site slot bag) = Some (record { slot = slot; bag = bag })
+notice_report (Replied site slot (replies.Known bag)) = Some (record { slot = slot; bag = bag })
+notice_report _ = None
 
 -- the notices of these events, in order
 unfoldable pub notices_of : QuorumSystem → Network → List Event → List Notice
@@ -178,7 +174,7 @@ OneBagASlot q w =
 abbrev pub ReportWasChosen : QuorumSystem → Network → Event → Type 0
 ReportWasChosen q w e =
     (notice : Notice) (r : Report) → (happens q w e).notice ≡ Some notice
-    → report_of notice ≡ Some r → IsChosen q w r.slot r.bag
+    → notice_report notice ≡ Some r → IsChosen q w r.slot r.bag
 
 -- the site at which an event happens; that of an arrival is the datagram's addressee
 abbrev pub site_of : Network → Event → Option ℕ
@@ -202,6 +198,6 @@ SendersAreNamed q w e =
 abbrev pub ReportsAgree : List Notice → Type 0
 ReportsAgree notices =
     (m n : Notice) (slot : SlotName) (u v : BagId) → Has m notices → Has n notices
-    → report_of m ≡ Some (record { slot = slot; bag = u })
-    → report_of n ≡ Some (record { slot = slot; bag = v })
+    → notice_report m ≡ Some (record { slot = slot; bag = u })
+    → notice_report n ≡ Some (record { slot = slot; bag = v })
     → u ≡ v
