@@ -272,7 +272,7 @@ class History:
         state, line, why = f"told {site.state} m{b}", "None", "refl"
         if bag:
             site.knows, state = True, f"knowing ({state}) {bag}"
-            line, why = f"(Some (lines.Known a {bag}))", f"rw (itself {bag}) refl"
+            line, why = f"(Some (site_lines.Known a {bag}))", f"rw (itself {bag}) refl"
         elif record:
             state = f"noted ({state}) ({self.entry(record)[0]})"
         if sent.startswith("Refused"):

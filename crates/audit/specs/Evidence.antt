@@ -2,7 +2,6 @@
 use Rattle.std.specs.Prelude.{ℕ, ◌==◌, if◌then◌else◌, List, [], Option, Some, None, filter_map}
 use Rattle.fed_types.specs.Lists.{Has}
 use Rattle.records.specs.declared.record.Record.{Record}
-use Rattle.proposer.specs.Sessions.{new_session}
 use Rattle.world_law.specs.Networks.{Network, Down}
 
 -- a record of a cell, or of a copy of one, and the site whose cell it is
@@ -20,8 +19,7 @@ records_at given site = filter_map (record_at site) given
 -- the network in which each site has these records, and nothing more
 unfoldable pub network_of : List SiteRecord → Network
 network_of given = record {
-  sites = λ site.
-      record { records = records_at given site; session = new_session; mode = Down };
+  sites = λ site. record { records = records_at given site; mode = Down };
   sent = [];
 }
 

@@ -5,7 +5,7 @@ use Rattle.fed_types.specs.Lists.{Has}
 use Rattle.fed_types.specs.Quorums.{QuorumSystem}
 use Rattle.fed_types.specs.Slots.{SlotName}
 use Rattle.records.specs.declared.entry.Entry.TheVariants as entry
-use Rattle.lines.specs.Notices.{Notice}
+use Rattle.lines.specs.declared.notice.Notice.{Notice}
 use Rattle.world_law.specs.Laws.{IsChosen, OnRecord, notice_report}
 use Rattle.audit.specs.Evidence.{SiteRecord, network_of}
 

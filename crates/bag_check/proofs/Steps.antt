@@ -1,6 +1,7 @@
 -- The first fault of a tree, as it is looked for.
 use Rattle.std.proofs.Common.{◌≡◌, ℕ, Bool, true, false, ◌||◌, ◌&&◌, cond, not, List, [], ◌∷◌}
 use Rattle.std.proofs.Common.{Option, Some, None, Result, Ok, Err, refl, sym, ap, subst, ◌∙◌}
+use Rattle.std.proofs.Common.{inl, inr}
 use Rattle.std.specs.Prelude.{codes, is_some, is_err, unwrap_or}
 use Rattle.std.specs.List.{list_any, flat_map}
 use Rattle.std.specs.Result.{IsErrAnd}
@@ -12,6 +13,7 @@ use Rattle.bag_text.specs.Readers.{declaration_of}
 use Rattle.bag_tree.specs.Facts.{FileFact, TreeFacts}
 use Rattle.sha2.specs.Sha512.{sha512}
 use Rattle.fed_types.specs.declared.bag_id.BagId.{BagId}
+use Rattle.fed_types.specs.Faults.{IsOrFault}
 use Rattle.bag_check.specs.declared.fault.BagFault.{BagFault}
 use Rattle.bag_check.specs.declared.fault.BagFault.TheVariants.{NoDeclaration, BadDeclaration}
 use Rattle.bag_check.specs.declared.fault.BagFault.TheVariants.{UnsupportedVersion}
@@ -21,7 +23,6 @@ use Rattle.bag_check.specs.declared.fault.BagFault.TheVariants.{UnknownAlgorithm
 use Rattle.bag_check.specs.declared.fault.BagFault.TheVariants.{UnsafePath, DuplicateEntry}
 use Rattle.bag_check.specs.declared.fault.BagFault.TheVariants.{MissingFile, UnlistedFile}
 use Rattle.bag_check.specs.declared.fault.BagFault.TheVariants.{WrongDigest, Memory}
-use Rattle.bag_check.specs.Fault.{IsOrMemory}
 use Rattle.bag_check.specs.Manifests.{is_unknown, Manifest, file_at, has_file, text_at}
 use Rattle.bag_check.specs.Manifests.{sha512_manifest, is_manifest, is_known_manifest, manifests_of}
 use Rattle.bag_check.specs.Manifests.{passes, is_malformed, entries}
@@ -191,10 +192,9 @@ first_fault-steps facts =
 
 -- an answer of the first fault
 found_fault : (facts : TreeFacts) (fault : BagFault) → first_fault facts ≡ Some fault
-    → IsOrMemory (Err fault) (check_of facts)
+    → IsOrFault Memory (Err fault) (check_of facts)
 unfolding check_of
-found_fault facts Memory h = tt
-found_fault facts fault h = ap (answer facts) h
+found_fault facts fault h = inl (sym (ap (answer facts) h))
 
 pub tag_files_are : (facts : TreeFacts) (files : List FileFact) (payload : Bool)
     (fault : Option BagFault) → files ≡ facts.files → payload ≡ facts.payload
@@ -209,17 +209,17 @@ listings_are facts files found slice fault same sliced h = cc
 
 -- an error that a `?` hands on
 pub handed_on_as : (wanted answer : Result BagId BagFault) (fault : BagFault)
-    → IsErrAnd answer (λ other. other ≡ fault) → IsOrMemory (Err fault) wanted
-    → IsOrMemory answer wanted
+    → IsErrAnd answer (λ other. other ≡ fault) → IsOrFault Memory (Err fault) wanted
+    → IsOrFault Memory answer wanted
 handed_on_as wanted (Ok bag) fault is h = absurd is
 handed_on_as wanted (Err other) fault is h =
-    let P : BagFault → Type 0 = λ f. IsOrMemory {T = BagId} (Err f) wanted in
+    let P : BagFault → Type 0 = λ f. IsOrFault {X = BagId} Memory (Err f) wanted in
     subst P (sym is) h
 
 module _ (facts : TreeFacts) where
   pub faulty_tag_files : (fault : BagFault)
       → fault_of_tag_files facts.files facts.payload ≡ Some fault
-      → IsOrMemory (Err fault) (check_of facts)
+      → IsOrFault Memory (Err fault) (check_of facts)
   faulty_tag_files fault h =
       found_fault facts fault (first_fault-steps facts
       ∙ ap (λ o. option_or o (later_steps facts)) h)
@@ -230,14 +230,14 @@ module _ (facts : TreeFacts) where
         first_fault-steps facts ∙ (ap (λ o. option_or o (later_steps facts)) sound ∙ h)
 
     pub not_read : (files : List FileFact) (fault : BagFault) → files ≡ facts.files
-        → FailsToRead (manifests_of files) fault → IsOrMemory (Err fault) (check_of facts)
+        → FailsToRead (manifests_of files) fault → IsOrFault Memory (Err fault) (check_of facts)
     not_read files fault same h =
         let P : List FileFact → Type 0 = λ fs. FailsToRead (manifests_of fs) fault in
         go fault (subst P same h)
       where
         go : (fault : BagFault) → FailsToRead (manifests_of facts.files) fault
-            → IsOrMemory (Err fault) (check_of facts)
-        go Memory h = tt
+            → IsOrFault Memory (Err fault) (check_of facts)
+        go Memory h = inr refl
         go MalformedLine h = found_fault facts MalformedLine (past (Some MalformedLine) (rw h refl))
         go fault h = absurd h
 
@@ -258,7 +258,8 @@ module _ (facts : TreeFacts) where
 
     pub faulty_listing : (files : List FileFact) (found : List Listed) (fault : BagFault)
         → files ≡ facts.files → Reads (manifests_of files) [] found
-        → fault_of_listings facts.files found ≡ Some fault → IsOrMemory (Err fault) (check_of facts)
+        → fault_of_listings facts.files found ≡ Some fault
+        → IsOrFault Memory (Err fault) (check_of facts)
     faulty_listing files found fault same read h =
         found_fault facts fault (listed files found (Some fault) same read h)
 

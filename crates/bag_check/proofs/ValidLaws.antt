@@ -11,6 +11,7 @@ use Rattle.std.proofs.lemmas.List.Elements.{All-map, All-contains, recursion_fro
 use Rattle.std.proofs.lemmas.List.Folds.{list_any_none}
 use Rattle.std.proofs.lemmas.Slice.Eq.{bytes_eq-Decides}
 use Rattle.fed_types.specs.declared.bag_id.BagId.{BagId}
+use Rattle.fed_types.specs.Faults.{IsOrFault}
 use Rattle.bag_text.specs.declared.algorithm.Algorithm.{Algorithm}
 use Rattle.bag_text.specs.Lines.{lines_of}
 use Rattle.bag_text.specs.Declarations.{IsDeclaration}
@@ -30,7 +31,6 @@ use Rattle.bag_check.specs.declared.fault.BagFault.TheVariants.{UnsafePath, Dupl
 use Rattle.bag_check.specs.declared.fault.BagFault.TheVariants.{MissingFile, UnlistedFile}
 use Rattle.bag_check.specs.declared.fault.BagFault.TheVariants.{WrongDigest, Memory}
 use Rattle.bag_check.specs.declared.manifests.Kind.{Kind}
-use Rattle.bag_check.specs.Fault.{IsOrMemory}
 use Rattle.bag_check.specs.Manifests.{Manifest, file_at, has_file, text_at, sha512_manifest}
 use Rattle.bag_check.specs.Manifests.{manifest_name, is_manifest, is_known_manifest, is_unknown}
 use Rattle.bag_check.specs.Manifests.{manifests_of, passes, is_malformed, entries}
@@ -325,16 +325,17 @@ module _ (facts : TreeFacts) where
   checked_valid bag h = faultless_valid facts (none_holds (no_fault (first_fault facts) bag h))
 
   -- what a check answers of a valid tree, and of any other
-  pub is_valid : (result : Result BagId BagFault) → IsOrMemory result (check_of facts)
+  pub is_valid : (result : Result BagId BagFault) → IsOrFault Memory result (check_of facts)
       → IfOk result (λ bag. IsValid facts × (bag ≡ identity_of facts))
   is_valid (Err fault) h = tt
-  is_valid (Ok bag) h =
-      let valid = checked_valid bag h in
-      (valid, same_bag bag (identity_of facts) (sym h ∙ valid_checked valid))
+  is_valid (Ok bag) (inr h) = absurd (cc h)
+  is_valid (Ok bag) (inl h) =
+      let valid = checked_valid bag (sym h) in
+      (valid, same_bag bag (identity_of facts) (h ∙ valid_checked valid))
 
-  pub is_only : (result : Result BagId BagFault) → IsOrMemory result (check_of facts)
+  pub is_only : (result : Result BagId BagFault) → IsOrFault Memory result (check_of facts)
       → IsValid facts → MatchResult result (λ bag. bag ≡ identity_of facts)
       (λ fault. fault ≡ Memory)
   is_only (Ok bag) h valid = (is_valid (Ok bag) h).1
-  is_only (Err Memory) h valid = refl
-  is_only (Err fault) h valid = absurd (cc (sym h ∙ valid_checked valid))
+  is_only (Err fault) (inr h) valid = cc h
+  is_only (Err fault) (inl h) valid = absurd (cc (h ∙ valid_checked valid))

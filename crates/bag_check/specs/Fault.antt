@@ -1,5 +1,5 @@
--- The numbers of the faults of bags, and when a call answers one.
-use Rattle.std.specs.Prelude.{◌≡◌, ℕ, Result, Ok, Err}
+-- The numbers of the faults of bags.
+use Rattle.std.specs.Prelude.{ℕ}
 use Rattle.bag_check.specs.declared.fault.BagFault.{BagFault}
 use Rattle.bag_check.specs.declared.fault.BagFault.TheVariants.{NoDeclaration, BadDeclaration}
 use Rattle.bag_check.specs.declared.fault.BagFault.TheVariants.{UnsupportedVersion}
@@ -26,9 +26,3 @@ number_of MissingFile = 12
 number_of UnlistedFile = 13
 number_of WrongDigest = 14
 number_of Memory = 15
-
--- the answer is the wanted one, or memory ran out
-abbrev pub IsOrMemory : {T : Type 0} → Result T BagFault → Result T BagFault → Type 0
-IsOrMemory (Ok value) wanted = wanted ≡ Ok value
-IsOrMemory (Err Memory) wanted = Unit {0}
-IsOrMemory (Err fault) wanted = wanted ≡ Err fault

@@ -1,8 +1,8 @@
 ghost use Rattle.std.specs.Prelude.{◌≡◌, [], unwrap_or, IfOk, MatchResult};
 ghost use Rattle.sha2.specs.Sha512.{sha512};
+ghost use Rattle.fed_types.specs.Faults.{IsOrFault};
 ghost use Rattle.bag_check.specs.Manifests.{text_at, sha512_manifest};
 ghost use Rattle.bag_check.specs.Check.{check_of, identity_of};
-ghost use Rattle.bag_check.specs.Fault.{IsOrMemory};
 ghost use Rattle.bag_check.specs.Valid.{IsValid};
 
 use crate::entries::fault_of_listings;
@@ -26,13 +26,13 @@ pub fn check(alloc: Global, facts: &Facts) -> Result<BagId, BagFault>
     ensures only { IsValid facts.now → MatchResult result (λ bag. bag ≡ identity_of facts.now)
         (λ fault. fault ≡ BagFault.Memory) }
     // The same as a function, with the fault where there is one.
-    ensures exact { IsOrMemory result (check_of facts.now) }
+    ensures exact { IsOrFault BagFault.Memory result (check_of facts.now) }
 {
     identity_or_fault(alloc, facts)
 }
 
 fn identity_or_fault(alloc: Global, facts: &Facts) -> Result<BagId, BagFault>
-    ensures { IsOrMemory result (check_of facts.now) }
+    ensures { IsOrFault BagFault.Memory result (check_of facts.now) }
 {
     let files = FilesByPath::new(alloc, facts.files())?;
     if let Some(fault) = fault_of_tag_files(&files, facts.payload_exists()) {

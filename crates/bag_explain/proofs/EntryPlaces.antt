@@ -9,7 +9,7 @@ use Rattle.bag_check.specs.declared.fault.BagFault.TheVariants.{WrongDigest}
 use Rattle.bag_check.specs.Manifests.{Manifest, manifests_of, manifest_name}
 use Rattle.bag_check.specs.Check.{is_astray, is_missing, is_wrong}
 use Rattle.bag_explain.specs.Lines.{NumberedFile}
-use Rattle.bag_explain.specs.Listings.{Listing, listing_of, listings_of}
+use Rattle.bag_explain.specs.Listings.{NumberedListing, listing_of, listings_of}
 use Rattle.bag_explain.specs.Places.{Place, at_entry, at_digest}
 use Rattle.bag_explain.specs.Places.{when, entry_place, digest_place, astray_places}
 use Rattle.bag_explain.specs.Places.{missing_places, wrong_places}
@@ -20,12 +20,12 @@ use Rattle.bag_explain.proofs.ListedEntries.{entry_listed, listed_entry, of_mani
 
 -- ---- the entries that pass a test
 
-module _ (facts : TreeFacts) (test : Listing → NumberedFile → Bool)
-    (at : Listing → NumberedFile → Place) where
-  abbrev each : Listing → NumberedFile → List Place
+module _ (facts : TreeFacts) (test : NumberedListing → NumberedFile → Bool)
+    (at : NumberedListing → NumberedFile → Place) where
+  abbrev each : NumberedListing → NumberedFile → List Place
   each listing entry = when (test listing entry) (at listing entry ∷ [])
 
-  abbrev places : Listing → List Place
+  abbrev places : NumberedListing → List Place
   places listing = flat_map (each listing) listing.files
 
   -- what holds at each entry that passes holds at each place
@@ -59,7 +59,7 @@ module _ (facts : TreeFacts) (test : Listing → NumberedFile → Bool)
 module _ (facts : TreeFacts) where
   -- ---- an entry whose path is astray
 
-  abbrev astray : Listing → NumberedFile → Bool
+  abbrev astray : NumberedListing → NumberedFile → Bool
   astray listing entry = is_astray listing.kind entry.file
 
   pub astray_is : (place : Place)
@@ -80,7 +80,7 @@ module _ (facts : TreeFacts) where
 
   -- ---- an entry whose file is missing
 
-  abbrev missing : Listing → NumberedFile → Bool
+  abbrev missing : NumberedListing → NumberedFile → Bool
   missing listing entry = is_missing facts.files entry.file
 
   pub missing_is : (place : Place)
@@ -101,7 +101,7 @@ module _ (facts : TreeFacts) where
 
   -- ---- an entry whose file has another digest
 
-  abbrev wrong : Listing → NumberedFile → Bool
+  abbrev wrong : NumberedListing → NumberedFile → Bool
   wrong listing entry = is_wrong listing.algorithm facts.files entry.file
 
   pub wrong_is : (place : Place)

@@ -11,7 +11,7 @@ use Rattle.bag_explain.specs.declared.entries.ListingFault.{ListingFault}
 use Rattle.bag_explain.specs.declared.entries.ListingFault.TheVariants.{Malformed, OfEntry}
 use Rattle.bag_explain.specs.declared.entries.ListingFault.TheVariants.{Repeated, Unlisted}
 use Rattle.bag_explain.specs.declared.entry_fault.EntryFault.TheVariants.{Astray, Missing, Wrong}
-use Rattle.bag_explain.specs.Listings.{Listing, listings_of}
+use Rattle.bag_explain.specs.Listings.{NumberedListing, listings_of}
 use Rattle.bag_explain.specs.Places.{Place, places_of}
 use Rattle.bag_explain.specs.Findings.{Finding, findings_by, findings_of, printed_fault}
 use Rattle.bag_explain.specs.Findings.{printed_places, explanation_of}
@@ -82,7 +82,7 @@ explanation-is facts =
     (by_listings facts) listing_faults))
 
 pub explained : (facts : TreeFacts) (files : List FileFact) (payload : Bool)
-    (found : List Listing) (empty first all : List ℕ)
+    (found : List NumberedListing) (empty first all : List ℕ)
     → files ≡ facts.files → payload ≡ facts.payload → found ≡ listings_of files → empty ≡ []
     → first ≡ empty ++ printed_faults (tree_of files payload) first_faults
     → all ≡ first ++ printed_listings files found → all ≡ explanation_of facts

@@ -10,7 +10,7 @@ use Rattle.bag_check.specs.Valid.{IsValid}
 use Rattle.bag_check.proofs.ValidLaws.{valid_checked, checked_valid}
 use Rattle.bag_explain.specs.Places.{Place, places_of}
 use Rattle.bag_explain.specs.Findings.{Finding, findings_by, findings_of, has_some, first_of}
-use Rattle.bag_explain.proofs.PlaceLaws.{placed}
+use Rattle.bag_explain.proofs.FaultTests.{placed}
 
 module _ (facts : TreeFacts) where
   abbrev Holds : Finding → Type 0

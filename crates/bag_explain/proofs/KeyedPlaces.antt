@@ -7,7 +7,7 @@ use Rattle.bag_check.specs.declared.manifests.Kind.{Kind}
 use Rattle.bag_check.specs.declared.manifests.Kind.TheVariants.{Payload, Tag}
 use Rattle.bag_check.specs.Manifests.{Manifest, manifests_of}
 use Rattle.bag_explain.specs.Lines.{NumberedFile}
-use Rattle.bag_explain.specs.Listings.{Listing, listing_of, listings_of}
+use Rattle.bag_explain.specs.Listings.{NumberedListing, listing_of, listings_of}
 use Rattle.bag_explain.specs.Places.{Place, at_file, at_line, at_entry, at_digest, at_unlisted}
 use Rattle.bag_explain.specs.Places.{when, of_payload}
 use Rattle.bag_explain.proofs.Members.{In, in_some, in_when}
@@ -49,7 +49,7 @@ by_key key own R f one is apart xs h =
     (λ a b r x y j k same. apart a b r (sym (is a x j) ∙ (ap key same ∙ is b y k))) xs h
 
 -- so it is of what all manifests give, since they have a name each
-pub of_manifests : (places : Listing → List Place) (files : List FileFact)
+pub of_manifests : (places : NumberedListing → List Place) (files : List FileFact)
     → ((manifest : Manifest) → Once (places (listing_of manifest)))
     → ((manifest : Manifest) (place : Place) → In place (places (listing_of manifest))
     → name_at place ≡ name_in manifest) → Once (flat_map places (listings_of files))

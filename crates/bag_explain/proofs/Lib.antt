@@ -4,7 +4,7 @@ pub mod Repeated
 pub mod Explained
 pub mod LineLaws
 pub mod NumberLaws
-pub mod PlaceLaws
+pub mod FaultTests
 pub mod FindingLaws
 pub mod NamedFindings
 pub mod Members

@@ -10,7 +10,7 @@ use Rattle.bag_tree.specs.Facts.{FileFact}
 use Rattle.bag_check.specs.Manifests.{Manifest, manifests_of, entries}
 use Rattle.bag_explain.specs.Lines.{NumberedFile, numbered_from, malformed_from}
 use Rattle.bag_explain.specs.LineNumbers.{ListsAt, IsMalformedAt}
-use Rattle.bag_explain.specs.Listings.{Listing, listing_of, listings_of, unless_malformed}
+use Rattle.bag_explain.specs.Listings.{NumberedListing, listing_of, listings_of, unless_malformed}
 use Rattle.bag_explain.specs.Places.{Place, files_in}
 use Rattle.bag_explain.specs.Wrong.{ListsNumbered}
 use Rattle.bag_explain.specs.Findings.{has_some}
@@ -107,7 +107,7 @@ module _ (manifest : Manifest) where
 -- ---- all manifests
 
 -- a place among all is one of some manifest's
-pub of_manifest : (places : Listing → List Place) (files : List FileFact) (place : Place)
+pub of_manifest : (places : NumberedListing → List Place) (files : List FileFact) (place : Place)
     → In place (flat_map places (listings_of files))
     → (manifest : Manifest) × Contains (manifests_of files) manifest
     × In place (places (listing_of manifest))
@@ -118,7 +118,7 @@ of_manifest places files place h =
     (subst (In place) (flat_map-map places listing_of (manifests_of files)) h) in
     (manifest, in_contained (manifests_of files) manifest m, here)
 
-pub manifest_of : (places : Listing → List Place) (files : List FileFact) (place : Place)
+pub manifest_of : (places : NumberedListing → List Place) (files : List FileFact) (place : Place)
     (manifest : Manifest) → Contains (manifests_of files) manifest
     → In place (places (listing_of manifest)) → In place (flat_map places (listings_of files))
 unfolding listings_of

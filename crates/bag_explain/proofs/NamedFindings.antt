@@ -21,7 +21,7 @@ use Rattle.bag_check.specs.Named.{with_only, only_named, named_facts_of}
 use Rattle.bag_check.proofs.NamedManifests.{IsNamed, all_named}
 use Rattle.bag_check.proofs.NamedLaws.{flat_same, fewer, same_file, same_manifests, same_wrong}
 use Rattle.bag_check.proofs.NamedLaws.{named, declared_kept, holds_kept, named_facts}
-use Rattle.bag_explain.specs.Listings.{Listing, listing_of, listings_of, unless_malformed}
+use Rattle.bag_explain.specs.Listings.{NumberedListing, listing_of, listings_of, unless_malformed}
 use Rattle.bag_explain.specs.Places.{Place, at_file, at_line, when, of_payload, entry_place}
 use Rattle.bag_explain.specs.Places.{digest_place, malformed_places, astray_places, repeated_places}
 use Rattle.bag_explain.specs.Places.{missing_at, missing_places, unlisted_at, unlisted_places}
@@ -43,14 +43,14 @@ module _ (facts : TreeFacts) where
   unfolding listings_of
   listings_kept = ap (map listing_of) (same_manifests (named facts) facts.files)
 
-  missing_kept : (listing : Listing)
+  missing_kept : (listing : NumberedListing)
       → missing_places files listing ≡ missing_places facts.files listing
   missing_kept listing =
       flat_same (missing_at files listing) (missing_at facts.files listing)
       (λ entry. ap (λ (b : Bool). when (not b) (entry_place listing entry ∷ []))
       (same_file (named facts) entry.file.path facts.files)) listing.files
 
-  unlisted_kept : (listing : Listing)
+  unlisted_kept : (listing : NumberedListing)
       → unlisted_places files listing ≡ unlisted_places facts.files listing
   unlisted_kept listing =
       ap (λ (places : List Place). unless_malformed listing.malformed
@@ -61,7 +61,7 @@ module _ (facts : TreeFacts) where
       → wrong_places files (listing_of manifest) ≡ wrong_places facts.files (listing_of manifest)
   unfolding listing_of
   wrong_of manifest is =
-      let listing : Listing = listing_of manifest in
+      let listing : NumberedListing = listing_of manifest in
       flat_same (wrong_at files listing) (wrong_at facts.files listing)
       (λ entry. ap (λ (b : Bool). when b (digest_place listing entry ∷ []))
       (same_wrong (named facts) manifest.algorithm facts.files is entry.file)) listing.files

@@ -16,7 +16,7 @@ use Rattle.bag_check.specs.Manifests.{Manifest, text_at, manifest_name, manifest
 use Rattle.bag_check.specs.Manifests.{manifests_of_kind, manifests_of}
 use Rattle.bag_explain.specs.Lines.{NumberedFile, numbered, if_malformed, numbered_from}
 use Rattle.bag_explain.specs.Lines.{malformed_from}
-use Rattle.bag_explain.specs.Listings.{Listing, listing_by, listing_of, listings_of}
+use Rattle.bag_explain.specs.Listings.{NumberedListing, listing_by, listing_of, listings_of}
 
 -- one line more: `at` gives what a line and its number say, and `from` what lines say
 from-snoc : {X : Type 0} (at : ℕ → List ℕ → List X) (from : ℕ → List (List ℕ) → List X)
@@ -93,7 +93,8 @@ module _ (algorithm : Algorithm) (items : List (Bor (List ℕ))) (place number :
 
 -- after the last line
 pub all_read : (manifest : Manifest) (items : List (Bor (List ℕ))) (place : ℕ)
-    (malformed : List ℕ) (files : List NumberedFile) (result : Listing) → length items ≤ place
+    (malformed : List ℕ) (files : List NumberedFile) (result : NumberedListing)
+    → length items ≤ place
     → texts_of items ≡ lines_of manifest.text
     → malformed ≡ malformed_from manifest.algorithm 1 (texts_of (take place items))
     → files ≡ numbered_from manifest.algorithm 1 (texts_of (take place items))
@@ -108,13 +109,14 @@ all_read manifest items place malformed files result past lines e f is =
 
 -- ---- the manifests
 
-module _ (kind : Kind) (algorithm : Algorithm) (files : List FileFact) (found : List Listing) where
+module _ (kind : Kind) (algorithm : Algorithm) (files : List FileFact)
+    (found : List NumberedListing) where
   pub no_manifest : text_at (manifest_name kind algorithm) files ≡ None
       → found ≡ found ++ map listing_of (manifest_at kind algorithm files)
   unfolding manifest_at
   no_manifest h = rw h (sym (append-nil found))
 
-  pub one_manifest : (text : List ℕ) (listing : Listing) (after : List Listing)
+  pub one_manifest : (text : List ℕ) (listing : NumberedListing) (after : List NumberedListing)
       → text_at (manifest_name kind algorithm) files ≡ Some text
       → listing ≡ listing_of (record { kind = kind; algorithm = algorithm; text = text })
       → after ≡ found ++ listing ∷ []
@@ -122,8 +124,8 @@ module _ (kind : Kind) (algorithm : Algorithm) (files : List FileFact) (found : 
   unfolding manifest_at
   one_manifest text listing after h is now = rw h (now ∙ ap (λ l. found ++ l ∷ []) is)
 
-module _ (kind : Kind) (files : List FileFact) (f0 f1 f2 f3 f4 : List Listing) where
-  abbrev listed : Algorithm → List Listing
+module _ (kind : Kind) (files : List FileFact) (f0 f1 f2 f3 f4 : List NumberedListing) where
+  abbrev listed : Algorithm → List NumberedListing
   listed algorithm = map listing_of (manifest_at kind algorithm files)
 
   all_four : (a b c d : List Manifest)
@@ -149,7 +151,7 @@ module _ (kind : Kind) (files : List FileFact) (f0 f1 f2 f3 f4 : List Listing) w
       ∙ ap (λ t. f0 ++ t) (sym (all_four (manifest_at kind Md5 files) (manifest_at kind Sha1 files)
       (manifest_at kind Sha256 files) (manifest_at kind Sha512 files)))))))
 
-pub kinds_read : (files : List FileFact) (empty between after : List Listing) → empty ≡ []
+pub kinds_read : (files : List FileFact) (empty between after : List NumberedListing) → empty ≡ []
     → between ≡ empty ++ map listing_of (manifests_of_kind Payload files)
     → after ≡ between ++ map listing_of (manifests_of_kind Tag files)
     → after ≡ listings_of files

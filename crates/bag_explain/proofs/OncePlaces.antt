@@ -19,7 +19,7 @@ use Rattle.bag_check.specs.Manifests.{Manifest, is_unknown}
 use Rattle.bag_check.specs.Check.{holds, declaration_in, is_astray, is_missing, is_wrong}
 use Rattle.bag_check.specs.Check.{is_unlisted}
 use Rattle.bag_explain.specs.Lines.{NumberedFile}
-use Rattle.bag_explain.specs.Listings.{Listing, listing_of, listings_of}
+use Rattle.bag_explain.specs.Listings.{NumberedListing, listing_of, listings_of}
 use Rattle.bag_explain.specs.Places.{Place, at_file, at_line, at_unlisted}
 use Rattle.bag_explain.specs.Places.{places_of, when, of_payload, files_in, name_of}
 use Rattle.bag_explain.specs.Places.{faulty_line, faulty_lines, unknown_at, repeated_after}
@@ -117,9 +117,12 @@ module _ (facts : TreeFacts) (apart : Pairs HaveOtherPaths facts.files) where
   -- ---- in all manifests
 
   -- the entries that pass a test
-  entries_once : (test : Listing → NumberedFile → Bool) (at : Listing → NumberedFile → Place)
-      → ((listing : Listing) (entry : NumberedFile) → line_at (at listing entry) ≡ entry.line)
-      → ((listing : Listing) (entry : NumberedFile) → name_at (at listing entry) ≡ name_of listing)
+  entries_once : (test : NumberedListing → NumberedFile → Bool)
+      (at : NumberedListing → NumberedFile → Place)
+      → ((listing : NumberedListing) (entry : NumberedFile)
+      → line_at (at listing entry) ≡ entry.line)
+      → ((listing : NumberedListing) (entry : NumberedFile)
+      → name_at (at listing entry) ≡ name_of listing)
       → Once (flat_map (λ listing. flat_map (each (test listing) (at listing)) listing.files)
       (listings_of facts.files))
   unfolding listing_of

@@ -13,7 +13,7 @@ use Rattle.bag_check.specs.Manifests.{is_listed}
 use Rattle.bag_check.specs.Check.{repeats}
 use Rattle.bag_check.proofs.Repeats.{listed-more, repeats-snoc}
 use Rattle.bag_explain.specs.Lines.{NumberedFile}
-use Rattle.bag_explain.specs.Listings.{Listing}
+use Rattle.bag_explain.specs.Listings.{NumberedListing}
 use Rattle.bag_explain.specs.Places.{Place, when, files_in, repeated_after, repeated_at}
 use Rattle.bag_explain.specs.Findings.{printed_places, has_some}
 use Rattle.bag_explain.proofs.FaultLines.{after_both, printed-append}
@@ -62,7 +62,7 @@ module _ (entries : List NumberedFile) (place : ℕ) (entry : NumberedFile)
   repeated_next = ap (repeated_after []) next
       ∙ repeated_after-snoc [] (take place entries) entry
 
-places_when : (listing : Listing) (entry : NumberedFile) (test : Bool)
+places_when : (listing : NumberedListing) (entry : NumberedFile) (test : Bool)
     → flat_map (repeated_at listing) (when test (entry ∷ []))
     ≡ when test (repeated_at listing entry)
 places_when listing entry true = refl
@@ -74,7 +74,7 @@ pub by_negation : (added there listed : Bool) → added ≡ not there → there 
 by_negation added true listed e h = ap not e ∙ h
 by_negation added false listed e h = ap not e ∙ h
 
-module _ (listing : Listing) (items : List NumberedFile) (place : ℕ)
+module _ (listing : NumberedListing) (items : List NumberedFile) (place : ℕ)
     (same : items ≡ listing.files) (start before : List ℕ)
     (so_far : before ≡ start ++ printed_places DuplicateEntry (flat_map (repeated_at listing)
     (repeated_after [] (take place listing.files)))) where

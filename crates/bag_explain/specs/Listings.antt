@@ -8,7 +8,7 @@ use Rattle.bag_check.specs.Manifests.{Manifest, manifests_of}
 use Rattle.bag_explain.specs.Lines.{NumberedFile, numbered_from, malformed_from}
 
 -- a manifest: the numbers of its malformed lines, and what its lines list where none is malformed
-pub record Listing : Type 0 where
+pub record NumberedListing : Type 0 where
   pub kind : Kind
   pub algorithm : Algorithm
   pub malformed : List ℕ
@@ -19,7 +19,7 @@ abbrev pub unless_malformed : {X : Type 0} → List ℕ → List X → List X
 unless_malformed [] xs = xs
 unless_malformed (line ∷ lines) xs = []
 
-abbrev pub listing_by : Manifest → List ℕ → List NumberedFile → Listing
+abbrev pub listing_by : Manifest → List ℕ → List NumberedFile → NumberedListing
 listing_by manifest malformed files = record {
   kind = manifest.kind;
   algorithm = manifest.algorithm;
@@ -27,11 +27,11 @@ listing_by manifest malformed files = record {
   files = unless_malformed malformed files;
 }
 
-unfoldable pub listing_of : Manifest → Listing
+unfoldable pub listing_of : Manifest → NumberedListing
 listing_of manifest =
     listing_by manifest (malformed_from manifest.algorithm 1 (lines_of manifest.text))
     (numbered_from manifest.algorithm 1 (lines_of manifest.text))
 
 -- what the manifests among these files list, payload manifests first
-unfoldable pub listings_of : List FileFact → List Listing
+unfoldable pub listings_of : List FileFact → List NumberedListing
 listings_of files = map listing_of (manifests_of files)

@@ -22,7 +22,7 @@ use Rattle.bag_check.specs.Manifests.{manifest_name, sha512_manifest, is_listed,
 use Rattle.bag_check.specs.Check.{holds, declaration_in, is_astray, is_missing, is_wrong}
 use Rattle.bag_check.specs.Check.{is_unlisted}
 use Rattle.bag_explain.specs.Lines.{NumberedFile}
-use Rattle.bag_explain.specs.Listings.{Listing, listings_of, unless_malformed}
+use Rattle.bag_explain.specs.Listings.{NumberedListing, listings_of, unless_malformed}
 
 -- a place in a tree
 pub data Place : Type 0 where
@@ -44,13 +44,13 @@ when false xs = []
 
 -- ---- what a manifest lists
 
-abbrev pub name_of : Listing → List ℕ
+abbrev pub name_of : NumberedListing → List ℕ
 name_of listing = manifest_name listing.kind listing.algorithm
 
-abbrev pub entry_place : Listing → NumberedFile → Place
+abbrev pub entry_place : NumberedListing → NumberedFile → Place
 entry_place listing entry = at_entry entry.file.path (name_of listing) entry.line
 
-abbrev pub digest_place : Listing → NumberedFile → Place
+abbrev pub digest_place : NumberedListing → NumberedFile → Place
 digest_place listing entry =
     at_digest entry.file.path listing.algorithm (name_of listing) entry.line
 
@@ -74,53 +74,53 @@ of_payload Tag xs = []
 -- ---- the places in one manifest of faults 9 to 14
 
 -- a malformed line
-abbrev pub malformed_at : Listing → ℕ → List Place
+abbrev pub malformed_at : NumberedListing → ℕ → List Place
 malformed_at listing line = at_line (name_of listing) line ∷ []
 
-abbrev pub malformed_places : Listing → List Place
+abbrev pub malformed_places : NumberedListing → List Place
 malformed_places listing = flat_map (malformed_at listing) listing.malformed
 
 -- an entry, where its path is unsafe or on the wrong side of the payload's folder
-abbrev pub astray_at : Listing → NumberedFile → List Place
+abbrev pub astray_at : NumberedListing → NumberedFile → List Place
 astray_at listing entry =
     when (is_astray listing.kind entry.file) (entry_place listing entry ∷ [])
 
-abbrev pub astray_places : Listing → List Place
+abbrev pub astray_places : NumberedListing → List Place
 astray_places listing = flat_map (astray_at listing) listing.files
 
 -- an entry of a payload manifest, where an entry before it has its path
-abbrev pub repeated_at : Listing → NumberedFile → List Place
+abbrev pub repeated_at : NumberedListing → NumberedFile → List Place
 repeated_at listing entry = entry_place listing entry ∷ []
 
-abbrev pub repeated_places : Listing → List Place
+abbrev pub repeated_places : NumberedListing → List Place
 repeated_places listing =
     of_payload listing.kind (flat_map (repeated_at listing) (repeated_after [] listing.files))
 
 -- an entry, where its file isn't there
-abbrev pub missing_at : List FileFact → Listing → NumberedFile → List Place
+abbrev pub missing_at : List FileFact → NumberedListing → NumberedFile → List Place
 missing_at files listing entry =
     when (is_missing files entry.file) (entry_place listing entry ∷ [])
 
-abbrev pub missing_places : List FileFact → Listing → List Place
+abbrev pub missing_places : List FileFact → NumberedListing → List Place
 missing_places files listing = flat_map (missing_at files listing) listing.files
 
 -- a payload file, where a payload manifest doesn't list it
-abbrev pub unlisted_at : Listing → FileFact → List Place
+abbrev pub unlisted_at : NumberedListing → FileFact → List Place
 unlisted_at listing file =
     when (is_unlisted (files_in listing.files) file)
     (at_unlisted file.path (name_of listing) ∷ [])
 
-abbrev pub unlisted_places : List FileFact → Listing → List Place
+abbrev pub unlisted_places : List FileFact → NumberedListing → List Place
 unlisted_places files listing =
     unless_malformed listing.malformed
     (of_payload listing.kind (flat_map (unlisted_at listing) files))
 
 -- an entry, where its file is there and has another digest
-abbrev pub wrong_at : List FileFact → Listing → NumberedFile → List Place
+abbrev pub wrong_at : List FileFact → NumberedListing → NumberedFile → List Place
 wrong_at files listing entry =
     when (is_wrong listing.algorithm files entry.file) (digest_place listing entry ∷ [])
 
-abbrev pub wrong_places : List FileFact → Listing → List Place
+abbrev pub wrong_places : List FileFact → NumberedListing → List Place
 wrong_places files listing = flat_map (wrong_at files listing) listing.files
 
 -- a manifest of an algorithm that isn't read

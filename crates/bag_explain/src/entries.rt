@@ -14,7 +14,7 @@ ghost use Rattle.bag_explain.specs.declared.entries.ListingFault.TheVariants.{Of
 ghost use Rattle.bag_explain.specs.inner.Stages.{fault_of, places_in, printed_in, printed_listings};
 
 use crate::entry_fault::{EntryFault, push_if_faulty, push_path_if};
-use crate::listing::{Listing, NumberedEntry};
+use crate::numbered_listing::{NumberedEntry, NumberedListing};
 use crate::print::{push_line, push_unlisted};
 use bag_check::{BagFault, FilesByPath, Kind};
 use bag_tree::{FileFacts, is_payload};
@@ -39,7 +39,7 @@ pub(crate) fn push_listings(
     alloc: Global,
     text: &mut String,
     files: &FilesByPath<'_>,
-    listings: &[Listing],
+    listings: &[NumberedListing],
 ) -> Result<(), AllocError>
     ensures { Pushes result text.old text.new (printed_listings files.now listings.now) }
 {
@@ -75,7 +75,7 @@ fn push_fault(
     text: &mut String,
     fault: ListingFault,
     files: &FilesByPath<'_>,
-    listings: &[Listing],
+    listings: &[NumberedListing],
 ) -> Result<(), AllocError>
     ensures { Pushes result text.old text.new (printed_in fault files.now listings.now) }
 {
@@ -91,7 +91,7 @@ fn push_places(
     text: &mut String,
     fault: ListingFault,
     files: &FilesByPath<'_>,
-    listing: &Listing,
+    listing: &NumberedListing,
 ) -> Result<(), AllocError>
     ensures { Pushes result text.old text.new
         (printed_places (fault_of fault) (places_in fault files.now listing.now)) }
@@ -106,7 +106,7 @@ fn push_places(
 
 // ---- malformed lines
 
-fn push_malformed(text: &mut String, listing: &Listing) -> Result<(), AllocError>
+fn push_malformed(text: &mut String, listing: &NumberedListing) -> Result<(), AllocError>
     ensures { Pushes result text.old text.new
         (printed_places BagFault.MalformedLine (malformed_places listing.now)) }
 {
@@ -123,7 +123,7 @@ fn push_entries(
     text: &mut String,
     fault: EntryFault,
     files: &FilesByPath<'_>,
-    listing: &Listing,
+    listing: &NumberedListing,
 ) -> Result<(), AllocError>
     ensures { Pushes result text.old text.new (printed_places (fault_of (OfEntry fault))
         (places_in (OfEntry fault) files.now listing.now)) }
@@ -136,7 +136,11 @@ fn push_entries(
 
 // ---- paths that a payload manifest lists again
 
-fn push_repeated(alloc: Global, text: &mut String, listing: &Listing) -> Result<(), AllocError>
+fn push_repeated(
+    alloc: Global,
+    text: &mut String,
+    listing: &NumberedListing,
+) -> Result<(), AllocError>
     ensures { Pushes result text.old text.new
         (printed_places BagFault.DuplicateEntry (repeated_places listing.now)) }
 {
@@ -146,7 +150,11 @@ fn push_repeated(alloc: Global, text: &mut String, listing: &Listing) -> Result<
     }
 }
 
-fn push_all_repeated(alloc: Global, text: &mut String, listing: &Listing) -> Result<(), AllocError>
+fn push_all_repeated(
+    alloc: Global,
+    text: &mut String,
+    listing: &NumberedListing,
+) -> Result<(), AllocError>
     ensures { Pushes result text.old text.new (printed_places BagFault.DuplicateEntry
         (flat_map (repeated_at listing.now) (repeated_after [] listing.now.files))) }
 {
@@ -164,7 +172,7 @@ fn push_all_unlisted(
     alloc: Global,
     text: &mut String,
     files: &[FileFacts],
-    listing: &Listing,
+    listing: &NumberedListing,
 ) -> Result<(), AllocError>
     ensures { Pushes result text.old text.new
         (printed_places BagFault.UnlistedFile (unlisted_places files.now listing.now)) }
@@ -182,7 +190,7 @@ fn push_left_out(
     alloc: Global,
     text: &mut String,
     files: &[FileFacts],
-    listing: &Listing,
+    listing: &NumberedListing,
 ) -> Result<(), AllocError>
     ensures { Pushes result text.old text.new (printed_places BagFault.UnlistedFile
         (flat_map (unlisted_at listing.now) files.now)) }

@@ -4,7 +4,7 @@ ghost use Rattle.bag_explain.specs.Places.{when, entry_place, digest_place};
 ghost use Rattle.bag_explain.specs.Findings.{printed_places};
 ghost use Rattle.bag_explain.specs.inner.Stages.{entry_fault_of, faulty_at};
 
-use crate::listing::{Listing, NumberedEntry};
+use crate::numbered_listing::{NumberedEntry, NumberedListing};
 use crate::print::{push_digest, push_entry};
 use bag_check::{BagFault, FilesByPath, is_astray, is_wrong};
 use std::alloc::AllocError;
@@ -25,7 +25,7 @@ pub(crate) fn push_if_faulty(
     text: &mut String,
     fault: EntryFault,
     files: &FilesByPath<'_>,
-    listing: &Listing,
+    listing: &NumberedListing,
     entry: &NumberedEntry,
 ) -> Result<(), AllocError>
     ensures { Pushes result text.old text.new (printed_places (entry_fault_of fault)
@@ -52,7 +52,7 @@ pub(crate) fn push_path_if(
     text: &mut String,
     is_faulty: bool,
     fault: BagFault,
-    listing: &Listing,
+    listing: &NumberedListing,
     entry: &NumberedEntry,
 ) -> Result<(), AllocError>
     ensures { Pushes result text.old text.new
@@ -74,7 +74,7 @@ pub(crate) fn push_path_if(
 fn push_digest_if(
     text: &mut String,
     is_faulty: bool,
-    listing: &Listing,
+    listing: &NumberedListing,
     entry: &NumberedEntry,
 ) -> Result<(), AllocError>
     ensures { Pushes result text.old text.new (printed_places BagFault.WrongDigest

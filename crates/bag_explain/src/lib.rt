@@ -12,7 +12,7 @@ mod entries;
 mod entry_fault;
 mod explain_bag;
 mod law;
-mod listing;
+mod numbered_listing;
 mod print;
 mod read_manifests;
 mod tag_files;

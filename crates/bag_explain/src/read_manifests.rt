@@ -5,13 +5,16 @@ ghost use Rattle.bag_check.specs.Manifests.{manifest_at, manifests_of_kind};
 ghost use Rattle.bag_explain.specs.Lines.{numbered, if_malformed};
 ghost use Rattle.bag_explain.specs.Listings.{listing_of, listings_of};
 
-use crate::listing::{Listing, NumberedEntry};
+use crate::numbered_listing::{NumberedEntry, NumberedListing};
 use bag_check::{FilesByPath, Kind};
 use bag_text::{Algorithm, Entry, TextFault, lines, manifest};
 use std::alloc::{AllocError, Global};
 
 /// What each manifest lists.
-pub(crate) fn listings(alloc: Global, files: &FilesByPath<'_>) -> Result<Vec<Listing>, AllocError>
+pub(crate) fn listings(
+    alloc: Global,
+    files: &FilesByPath<'_>,
+) -> Result<Vec<NumberedListing>, AllocError>
     ensures { IfOk result (λ found. found.items ≡ listings_of files.now) }
 {
     let mut found = Vec::new(alloc);
@@ -25,7 +28,7 @@ fn read_kind(
     alloc: Global,
     files: &FilesByPath<'_>,
     kind: Kind,
-    found: &mut Vec<Listing>,
+    found: &mut Vec<NumberedListing>,
 ) -> Result<(), AllocError>
     ensures { OnOk result (found.new.items
         ≡ found.old.items ++ map listing_of (manifests_of_kind kind files.now)) }
@@ -42,7 +45,7 @@ fn read(
     files: &FilesByPath<'_>,
     kind: Kind,
     algorithm: Algorithm,
-    found: &mut Vec<Listing>,
+    found: &mut Vec<NumberedListing>,
 ) -> Result<(), AllocError>
     ensures { OnOk result (found.new.items
         ≡ found.old.items ++ map listing_of (manifest_at kind algorithm files.now)) }
@@ -61,7 +64,7 @@ fn read_text(
     kind: Kind,
     algorithm: Algorithm,
     text: &[u8],
-) -> Result<Listing, AllocError>
+) -> Result<NumberedListing, AllocError>
     ensures { IfOk result (λ listing. listing ≡ listing_of record {
       kind = kind;
       algorithm = algorithm;
@@ -76,7 +79,7 @@ fn read_text(
         number += 1;
         read_line(alloc, algorithm, number, line, &mut malformed, &mut entries)?;
     }
-    Ok(Listing::new(kind, algorithm, malformed, entries))
+    Ok(NumberedListing::new(kind, algorithm, malformed, entries))
 }
 
 fn lines_in(alloc: Global, text: &[u8]) -> Result<Vec<&[u8]>, AllocError>

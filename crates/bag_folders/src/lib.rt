@@ -11,9 +11,9 @@
 
 mod disk_folders;
 mod failure;
+mod folder_listing;
 mod folders;
 mod hash_state;
-mod listing;
 mod memory_folders;
 mod read_file;
 mod walk;

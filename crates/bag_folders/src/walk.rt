@@ -4,7 +4,7 @@ ghost use Rattle.bag_folders.specs.Disk.{IsFactBy, HasNamedDigests};
 ghost use Rattle.bag_folders.specs.Folders.{IsWalkFault};
 
 use crate::failure::Failure;
-use crate::listing::{ListedFile, Listing, fault_of, joined, list_folder};
+use crate::folder_listing::{FolderListing, ListedFile, fault_of, joined, list_folder};
 use crate::read_file::hash_watched;
 use crate::watcher::{Silent, Watcher};
 use bag_check::named_by;

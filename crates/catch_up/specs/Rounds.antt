@@ -8,8 +8,8 @@ use Rattle.dgram.specs.declared.answers.QueryAnswer.{QueryAnswer}
 use Rattle.dgram.specs.declared.answers.QueryAnswer.TheVariants.{Known}
 use Rattle.known_bags.specs.declared.known_bag.KnownBag.{KnownBag}
 use Rattle.udp_site.specs.Traffic.{Move}
-use Rattle.site_commands.specs.declared.reply.Reply.{Reply}
-use Rattle.site_commands.specs.declared.reply.Reply.TheVariants.{ToDeposit, ToQuery}
+use Rattle.site_commands.specs.declared.reply.ClientReply.{ClientReply}
+use Rattle.site_commands.specs.declared.reply.ClientReply.TheVariants.{ToDeposit, ToQuery}
 use Rattle.site_commands.specs.declared.reply.Wanted.TheVariants as wanted
 use Rattle.site_commands.specs.Replies.{Question, datagram_to, first_reply}
 use Rattle.site_commands.specs.Exchanges.{Asks}
@@ -35,7 +35,7 @@ abbrev pub bag_by : QueryAnswer → Answer
 bag_by (Known bag) = Some bag
 bag_by _ = None
 
-abbrev pub bag_in : Option Reply → Answer
+abbrev pub bag_in : Option ClientReply → Answer
 bag_in None = None
 bag_in (Some (ToDeposit answer)) = None
 bag_in (Some (ToQuery answer)) = bag_by answer

@@ -20,10 +20,11 @@ use Rattle.fields.proofs.Fields.{byte_read, slot_read}
 use Rattle.dgram.specs.Numbers.{MAGIC, LAYOUT, FRONT}
 use Rattle.dgram.specs.declared.fault.DgramFault.{DgramFault}
 use Rattle.dgram.specs.declared.fault.DgramFault.TheVariants as faults
+use Rattle.fed_types.specs.Faults.{IsOrFault}
 use Rattle.fed_types.specs.Slots.{SlotName}
 use Rattle.dgram.specs.declared.body.Body.{Body}
 use Rattle.dgram.specs.declared.message.Message.{Message}
-use Rattle.dgram.specs.Faults.{fault_of_field, IsOrMemory}
+use Rattle.dgram.specs.Faults.{fault_of_field}
 use Rattle.dgram.specs.Messages.{IsMessage}
 use Rattle.dgram.specs.Encoding.{kind_of, body_from, from_byte, body_bytes, front_bytes}
 use Rattle.dgram.specs.Encoding.{message_bytes, datagram_of}
@@ -166,7 +167,7 @@ is_read federation bytes m h = ap datagram_at h.1 ∙ datagram_read federation m
 
 -- where a message was read
 pub ok_only : (federation : ℕ) (bytes : List ℕ) (x : Message) → datagram_at bytes ≡ Some x
-    → (m : Message) → IsDatagramOf federation bytes m → IsOrMemory (Ok x) (Ok m)
+    → (m : Message) → IsDatagramOf federation bytes m → IsOrFault faults.Memory (Ok x) (Ok m)
 ok_only federation bytes x given m h =
     let P : Message → Result Message DgramFault = λ y. Ok y in
     inl (ap P (some_is x m (sym given ∙ is_read federation bytes m h)))
@@ -216,7 +217,7 @@ faulted federation bytes f r fits long ours gives memory given =
 
 pub err_only : (federation : ℕ) (bytes : List ℕ) (f : FieldFault) (r : Result Message DgramFault)
     → Faulted federation bytes f r → (m : Message) → IsDatagramOf federation bytes m
-    → IsOrMemory r (Ok m)
+    → IsOrFault faults.Memory r (Ok m)
 err_only federation bytes field_faults.Malformed r h m d =
     absurd (not_some (datagram_at bytes) m h.gives (is_read federation bytes m d))
 err_only federation bytes field_faults.Memory r h m d = inr h.answer

@@ -1,11 +1,11 @@
 ghost use Rattle.std.specs.Prelude.{◌↔◌, ◌≤◌, length, Ok, IsTrue, IsSome, IsErrOf};
 ghost use Rattle.std.specs.Prelude.{IsOkUnless, IfOk};
+ghost use Rattle.fed_types.specs.Faults.{IsOrFault};
 ghost use Rattle.fields.specs.Checksums.{without_checksum};
 ghost use Rattle.fields.specs.Decoders.{Gives};
 ghost use Rattle.dgram.specs.Decoders.{message_at, whole_at, datagram_at};
 ghost use Rattle.dgram.specs.Decoded.{IsOurs, IsAnothers, IsDatagramOf, IsDatagram};
 ghost use Rattle.dgram.specs.Decoded.{IsMalformed, message_of, Decodes};
-ghost use Rattle.dgram.specs.Faults.{IsOrMemory};
 ghost use Rattle.dgram.specs.declared.message.Message as declared;
 
 use crate::decode_body::read_last_body;
@@ -82,7 +82,7 @@ pub fn decode(alloc: Global, federation: u64, bytes: &[u8]) -> Result<Message, D
     ensures found { IfOk result (λ m. IsDatagramOf federation bytes.now m) }
     // What has these bytes is read, unless memory runs out.
     ensures only { (m : declared.Message) → IsDatagramOf federation bytes.now m
-        → IsOrMemory result (Ok m) }
+        → IsOrFault DgramFault.Memory result (Ok m) }
     ensures not_ours { IsErrOf result DgramFault.NotOurs ↔ IsAnothers federation bytes.now }
     ensures malformed { IsErrOf result DgramFault.Malformed ↔ IsMalformed federation bytes.now }
     ensures memory { IsErrOf result DgramFault.Memory → IsDatagram federation bytes.now }

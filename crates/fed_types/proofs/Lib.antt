@@ -1,3 +1,4 @@
+pub mod After
 pub mod Ones
 pub mod SetBits
 pub mod Sums

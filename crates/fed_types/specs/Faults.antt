@@ -1,5 +1,5 @@
--- The numbers of the faults.
-use Rattle.std.specs.Prelude.{ℕ}
+-- The numbers of the faults; and an answer in whose place one fault may come.
+use Rattle.std.specs.Prelude.{◌≡◌, ◌⊎◌, ℕ, Result, Err}
 use Rattle.fed_types.specs.declared.type_fault.TypeFault.{TypeFault}
 use Rattle.fed_types.specs.declared.type_fault.TypeFault.TheVariants.{BadCount, BadSite}
 use Rattle.fed_types.specs.declared.type_fault.TypeFault.TheVariants.{BadObject, ZeroVersion}
@@ -13,3 +13,7 @@ fault_number BadObject = 3
 fault_number ZeroVersion = 4
 fault_number ZeroRound = 5
 fault_number BadWeight = 6
+
+-- the answer is the wanted one, or in its place this fault, such as that memory ran out
+abbrev pub IsOrFault : {X F : Type 0} → (fault : F) → (answer wanted : Result X F) → Type 0
+IsOrFault fault answer wanted = (answer ≡ wanted) ⊎ (answer ≡ Err fault)

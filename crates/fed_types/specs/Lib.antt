@@ -1,3 +1,5 @@
+-- Read Ballots, Sites (members and their weights) and Quorums first. Laws has lemmas over all of
+-- these, with their proofs, that many crates cite.
 pub mod Bags
 pub mod Ballots
 pub mod Faults

@@ -1,4 +1,4 @@
-ghost use Rattle.std.specs.Prelude.{◌≡◌, ◌≤◌, ◌↔◌, ℕ, length, replicate, IsTrue, IsOk, IfOk};
+ghost use Rattle.std.specs.Prelude.{◌≡◌, ◌≤◌, ◌↔◌, length, replicate, IsTrue, IsOk, IfOk};
 ghost use Rattle.std.specs.Prelude.{IsErrOf};
 ghost use Rattle.std.specs.List.{Contains};
 ghost use Rattle.fed_types.specs.Lists.{is_in};
@@ -9,6 +9,7 @@ ghost use Rattle.fed_types.specs.inner.Padded.{total_of};
 
 use crate::limits::MOST_MEMBERS;
 use crate::site_no::SiteNo;
+use crate::sites::Sites;
 use crate::type_fault::TypeFault;
 use std::marker::Model;
 
@@ -99,6 +100,13 @@ impl Members {
         ensures in_range { IsMemberCount result }
     {
         self.count
+    }
+
+    /// The members, ascending.
+    pub fn sites(self) -> Sites
+        ensures { result ≡ members_of self }
+    {
+        Sites::to(self.count)
     }
 
     /// The number of the federation.

@@ -34,6 +34,14 @@ impl SiteNo {
         Ok(SiteNo { number })
     }
 
+    // The site of this number.
+    pub(crate) fn of(number: u8) -> SiteNo
+        requires { IsSiteNumber number }
+        ensures { result ≡ number }
+    {
+        SiteNo { number }
+    }
+
     /// The site's number, 1 to `GREATEST_SITE`.
     pub fn number(self) -> u8
         ensures value { result ≡ self }

@@ -4,12 +4,12 @@ use Rattle.std.proofs.Common.{Option, Result, refl, sym, ap, subst, ◌∙◌, a
 use Rattle.std.proofs.Common.{length-append}
 use Rattle.std.specs.Prelude.{IfOk, IsErr}
 use Rattle.std.specs.declared.alloc.AllocError.{AllocError}
+use Rattle.fed_types.specs.Faults.{IsOrFault}
 use Rattle.records.specs.declared.fault.JournalFault.{JournalFault}
 use Rattle.records.specs.declared.fault.JournalFault.TheVariants as faults
 use Rattle.records.specs.declared.owner.Owner.{Owner}
 use Rattle.records.specs.declared.record.Record.{Record}
 use Rattle.records.specs.Answers.{IsReading}
-use Rattle.records.specs.Faults.{IsOrMemory}
 use Rattle.records.specs.Starts.{Start, HasWeights, records_of, text_bytes}
 use Rattle.records.specs.Journals.{HasNoHeader, Reaches, IsEnd, HasEnd, IsDamagedAt, DecodesTo}
 use Rattle.records.proofs.Apart.{old_header_magic}
@@ -82,6 +82,6 @@ says_all owner bytes start rs rest reaches ends has = inr (record {
   weights = inr has;
 })
 
-pub same_items : (xs ys : List Record) → IsOrMemory (Ok xs) (Ok ys) → xs ≡ ys
+pub same_items : (xs ys : List Record) → IsOrFault faults.Memory (Ok xs) (Ok ys) → xs ≡ ys
 same_items xs ys (inl e) = cc e
 same_items xs ys (inr e) = absurd (cc e)

@@ -9,7 +9,7 @@ use Rattle.std.specs.Option.{option_map}
 use Rattle.fed_types.specs.Slots.{SlotName}
 use Rattle.records.specs.declared.record.Record.{Record}
 use Rattle.slot_table.specs.Rows.{Rows}
-use Rattle.ledger.specs.declared.listing.Listing.{Listing}
+use Rattle.ledger.specs.declared.version_filter.VersionFilter.{VersionFilter}
 use Rattle.ledger.specs.declared.row.Row.{Row}
 use Rattle.ledger.specs.Ledgers.{listed_line, versions_text}
 use Rattle.ledger.specs.Versions.{slots_of, standing_of}
@@ -45,13 +45,13 @@ same_lines f g same (slot ∷ slots) =
     ∙ ap (λ rest. g slot ++ rest) (same_lines f g same slots)
 
 -- the lines of what is kept are those of the records
-pub lines_are : (listing : Listing) (rows : Rows Row) (records : List Record)
+pub lines_are : (wanted : VersionFilter) (rows : Rows Row) (records : List Record)
     → Represents rows records
-    → flat_map (listed_in listing rows) (keys_of rows) ≡ versions_text listing records
+    → flat_map (listed_in wanted rows) (keys_of rows) ≡ versions_text wanted records
 unfolding versions_text
-lines_are listing rows records stands =
-    ap (flat_map (listed_in listing rows)) stands.slots
-    ∙ same_lines (listed_in listing rows)
-    (λ slot. listed_line listing slot (standing_of records slot))
-    (λ slot. ap (λ (row : Row). listed_line listing slot (standing_by row)) (stands.says slot))
+lines_are wanted rows records stands =
+    ap (flat_map (listed_in wanted rows)) stands.slots
+    ∙ same_lines (listed_in wanted rows)
+    (λ slot. listed_line wanted slot (standing_of records slot))
+    (λ slot. ap (λ (row : Row). listed_line wanted slot (standing_by row)) (stands.says slot))
     (slots_of records)

@@ -7,7 +7,7 @@ use Rattle.hex.specs.Hex.{encode_lower}
 use Rattle.fed_types.specs.Slots.{SlotName}
 use Rattle.words.specs.Escapes.{escaped_text}
 use Rattle.records.specs.declared.record.Record.{Record}
-use Rattle.ledger.specs.declared.listing.Listing.{Listing}
+use Rattle.ledger.specs.declared.version_filter.VersionFilter.{VersionFilter}
 use Rattle.ledger.specs.declared.standing.Standing.{Standing}
 use Rattle.ledger.specs.declared.standing.Standing.TheVariants.{Known, Pending, Voted, Asked}
 use Rattle.ledger.specs.Cells.{Said}
@@ -15,11 +15,11 @@ use Rattle.ledger.specs.Lines.{ending_line}
 use Rattle.ledger.specs.Versions.{slots_of, standing_of}
 
 -- whether a version is listed: all are where neither kind is asked for
-abbrev pub is_listed : Listing → Standing → Bool
-is_listed listing (Known bag) = listing.known || not listing.pending
-is_listed listing (Pending bag) = listing.pending || not listing.known
-is_listed listing (Voted bag) = not listing.known && not listing.pending
-is_listed listing Asked = not listing.known && not listing.pending
+abbrev pub is_listed : VersionFilter → Standing → Bool
+is_listed wanted (Known bag) = wanted.known || not wanted.pending
+is_listed wanted (Pending bag) = wanted.pending || not wanted.known
+is_listed wanted (Voted bag) = not wanted.known && not wanted.pending
+is_listed wanted Asked = not wanted.known && not wanted.pending
 
 -- what is said
 abbrev pub word_of : Standing → List ℕ
@@ -42,15 +42,15 @@ version_line slot standing =
     ++ (32 ∷ (decimal slot.version ++ (bag_text standing ++ 10 ∷ []))))
 
 -- the line of a version that is listed
-abbrev pub listed_line : Listing → SlotName → Standing → List ℕ
-listed_line listing slot standing =
-    if is_listed listing standing then version_line slot standing else []
+abbrev pub listed_line : VersionFilter → SlotName → Standing → List ℕ
+listed_line wanted slot standing =
+    if is_listed wanted standing then version_line slot standing else []
 
 -- the lines of the versions of records
-unfoldable pub versions_text : Listing → List Record → List ℕ
-versions_text listing records =
-    flat_map (λ slot. listed_line listing slot (standing_of records slot)) (slots_of records)
+unfoldable pub versions_text : VersionFilter → List Record → List ℕ
+versions_text wanted records =
+    flat_map (λ slot. listed_line wanted slot (standing_of records slot)) (slots_of records)
 
 -- the lines of a cell's versions, and its end
-unfoldable pub ledger_text : Listing → Said → List ℕ
-ledger_text listing said = versions_text listing said.records ++ ending_line said.ending
+unfoldable pub ledger_text : VersionFilter → Said → List ℕ
+ledger_text wanted said = versions_text wanted said.records ++ ending_line said.ending

@@ -1,6 +1,6 @@
 //! The records that follow a header of the second layout, as many as there are bytes of.
 
-ghost use Rattle.std.specs.Prelude.{◌≡◌, ◌≤◌, ◌+◌, IfOk, length};
+ghost use Rattle.std.specs.Prelude.{◌≡◌, ◌+◌, IfOk, length};
 ghost use Rattle.ledger.specs.inner.Batches.{IsBatch, end_by};
 
 use crate::read::read_all;
@@ -21,8 +21,7 @@ pub(crate) struct Batch {
 pub(crate) fn header_size(owner: &Owner) -> usize
     ensures { result ≡ 14 + length owner.now.members.weights }
 {
-    let members = owner.members;
-    FRONT + 1 + members.weights().len()
+    FRONT + 1 + owner.members.weights().len()
 }
 
 // Where the text of a journal ends that has these records: where it has none, after its header.
@@ -41,8 +40,7 @@ fn text_end(owner: &Owner, records: &[Record], end: usize, len: usize) -> usize
 pub(crate) fn read_batch(alloc: Global, owner: &Owner, bytes: &[u8]) -> Result<Batch, AllocError>
     ensures { IfOk result (IsBatch owner.now bytes.now) }
 {
-    let Owner { members, site } = *owner;
-    match read_journal(alloc, Owner { members, site }, bytes) {
+    match read_journal(alloc, owner, bytes) {
         Ok(journal) => Ok(Batch {
             end: text_end(owner, &journal.records, journal.end, bytes.len()),
             records: journal.records,
@@ -51,7 +49,7 @@ pub(crate) fn read_batch(alloc: Global, owner: &Owner, bytes: &[u8]) -> Result<B
         Err(JournalFault::Damaged(place)) => {
             let end = place.min(bytes.len());
             Ok(Batch {
-                records: read_all(alloc, Owner { members, site }, &bytes[..end])?,
+                records: read_all(alloc, owner, &bytes[..end])?,
                 end,
                 is_damaged: true,
             })

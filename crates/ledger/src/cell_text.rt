@@ -24,26 +24,24 @@ fn push_weights(text: &mut String, weights: &[u8]) -> Result<(), AllocError>
 }
 
 // The weights, where a header names them.
-fn push_named(text: &mut String, owner: Owner, named: bool) -> Result<(), AllocError>
-    ensures { Pushes result text.old text.new (weight_words owner named) }
+fn push_named(text: &mut String, owner: &Owner, named: bool) -> Result<(), AllocError>
+    ensures { Pushes result text.old text.new (weight_words owner.now named) }
 {
     if !named {
         return Ok(());
     }
-    let members = owner.members;
-    push_weights(text, members.weights())
+    push_weights(text, owner.members.weights())
 }
 
 /// Appends the line of whose cell it is, with the weights where a header names them.
 #[tactic(auto, unfolding(crate::specs::Lines::owner_line), using(std::proofs::Common::append_assoc))]
-pub(crate) fn push_owner(text: &mut String, owner: Owner, named: bool) -> Result<(), AllocError>
-    ensures { Pushes result text.old text.new (owner_line owner named) }
+pub(crate) fn push_owner(text: &mut String, owner: &Owner, named: bool) -> Result<(), AllocError>
+    ensures { Pushes result text.old text.new (owner_line owner.now named) }
 {
-    let Owner { members, site } = owner;
-    let federation = members.federation();
-    let number = site.number();
+    let federation = owner.members.federation();
+    let number = owner.site.number();
     write!(text, "cell {federation} {number}")?;
-    push_named(text, Owner { members, site }, named)?;
+    push_named(text, owner, named)?;
     text.push('\n')
 }
 
@@ -78,10 +76,7 @@ fn push_head(text: &mut String, head: &Option<Head>) -> Result<(), AllocError>
     ensures { Pushes result text.old text.new (head_line head.now) }
 {
     match head {
-        Some(head) => {
-            let Owner { members, site } = head.owner;
-            push_owner(text, Owner { members, site }, head.names_weights)
-        }
+        Some(head) => push_owner(text, &head.owner, head.names_weights),
         None => Ok(()),
     }
 }

@@ -10,8 +10,8 @@ ghost use Rattle.ledger.specs.inner.Rows.{Represents};
 
 use crate::cell_reader::CellReader;
 use crate::journal_lines::LastLines;
-use crate::listing::Listing;
 use crate::part::{LastPart, Parts};
+use crate::version_filter::VersionFilter;
 use crate::version_line::versions_text;
 use crate::versions::{Versions, note_all};
 use indexmap::IndexMap;
@@ -41,47 +41,47 @@ impl LedgerLines {
     pub fn take(
         &mut self,
         alloc: Global,
-        listing: Listing,
+        wanted: VersionFilter,
         piece: &[u8],
     ) -> Result<Option<LastLines>, AllocError>
         ensures { IfOk result (λ last. (taken : List ℕ) → HasNoted self.old taken
-            → IsNoted listing self.new (taken ++ piece.now) last) }
+            → IsNoted wanted self.new (taken ++ piece.now) last) }
     {
         match self.reader.take(alloc, piece)? {
             Parts::More(part) => {
                 note_all(alloc, &mut self.versions, &part.records)?;
                 Ok(None)
             }
-            Parts::Last(last) => Ok(Some(self.last_lines(alloc, listing, last)?)),
+            Parts::Last(last) => Ok(Some(self.last_lines(alloc, wanted, last)?)),
         }
     }
 
     /// The lines of all versions that are listed, where the cell ends. After these it is of no
     /// further use.
-    pub fn end(&mut self, alloc: Global, listing: Listing) -> Result<LastLines, AllocError>
+    pub fn end(&mut self, alloc: Global, wanted: VersionFilter) -> Result<LastLines, AllocError>
         ensures { IfOk result (λ last. (taken : List ℕ) → HasNoted self.old taken
-            → IsLedgerText listing taken last.ending (string_bytes last.text)) }
+            → IsLedgerText wanted taken last.ending (string_bytes last.text)) }
     {
         let last = self.reader.end(alloc)?;
-        self.last_lines(alloc, listing, last)
+        self.last_lines(alloc, wanted, last)
     }
 
     // The lines after the last part.
     fn last_lines(
         &mut self,
         alloc: Global,
-        listing: Listing,
+        wanted: VersionFilter,
         last: LastPart,
     ) -> Result<LastLines, AllocError>
         ensures ending { IfOk result (λ lines. lines.ending ≡ last.ending) }
         ensures text { IfOk result (λ lines. (before : List Record)
             → Represents self.old.versions.entries before
-            → string_bytes lines.text ≡ versions_text listing (before ++ last.part.records.items)
+            → string_bytes lines.text ≡ versions_text wanted (before ++ last.part.records.items)
             ++ ending_line last.ending) }
     {
         note_all(alloc, &mut self.versions, &last.part.records)?;
         Ok(LastLines {
-            text: versions_text(alloc, &self.versions, listing, last.ending)?,
+            text: versions_text(alloc, &self.versions, wanted, last.ending)?,
             ending: last.ending,
         })
     }

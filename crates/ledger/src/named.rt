@@ -33,13 +33,12 @@ fn named_owner(bytes: &[u8]) -> Option<Owner>
 /// bytes begin with one.
 pub(crate) fn header_members(
     alloc: Global,
-    owner: Owner,
+    owner: &Owner,
     bytes: &[u8],
 ) -> Result<Option<Members>, AllocError>
-    ensures { IfOk result (λ members. MatchOption members (¬ HasHeader owner bytes.now)
-        (λ m. HasHeaderOf owner m bytes.now)) }
+    ensures { IfOk result (λ members. MatchOption members (¬ HasHeader owner.now bytes.now)
+        (λ m. HasHeaderOf owner.now m bytes.now)) }
 {
-    let Owner { members, site } = owner;
     if bytes.len() <= FRONT {
         return Ok(None);
     }
@@ -47,10 +46,14 @@ pub(crate) fn header_members(
     if bytes.len() < end {
         return Ok(None);
     }
-    let Ok(members) = Members::weighted(members.federation(), &bytes[FRONT + 1..end]) else {
+    let Ok(members) = Members::weighted(owner.members.federation(), &bytes[FRONT + 1..end]) else {
         return Ok(None);
     };
-    let header = header(alloc, Owner { members, site })?;
+    let named = Owner {
+        members,
+        site: owner.site,
+    };
+    let header = header(alloc, &named)?;
     if begins_with(bytes, header.as_slice()) {
         return Ok(Some(members));
     }
@@ -84,12 +87,11 @@ pub(crate) fn owner_of(alloc: Global, bytes: &[u8]) -> Result<Option<Owner>, All
     let Some(owner) = named_owner(bytes) else {
         return Ok(None);
     };
-    let Owner { members, site } = owner;
     if has_old_magic(bytes) {
-        return Ok(Some(Owner { members, site }));
+        return Ok(Some(owner));
     }
-    match header_members(alloc, Owner { members, site }, bytes)? {
-        Some(_) => Ok(Some(Owner { members, site })),
+    match header_members(alloc, &owner, bytes)? {
+        Some(_) => Ok(Some(owner)),
         None => Ok(None),
     }
 }

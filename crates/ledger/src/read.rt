@@ -27,9 +27,9 @@ pub(crate) struct Found {
 }
 
 // From where on the bytes are damaged, if they are.
-fn find_damage(alloc: Global, owner: Owner, bytes: &[u8]) -> Result<Option<usize>, AllocError>
-    requires { IsHeadedBy owner bytes.now }
-    ensures { IfOk result (IsDamageFound owner bytes.now) }
+fn find_damage(alloc: Global, owner: &Owner, bytes: &[u8]) -> Result<Option<usize>, AllocError>
+    requires { IsHeadedBy owner.now bytes.now }
+    ensures { IfOk result (IsDamageFound owner.now bytes.now) }
 {
     match read_journal(alloc, owner, bytes) {
         Ok(_) => Ok(None),
@@ -63,18 +63,17 @@ fn found_after(bytes: &[u8], members: Members, place: usize) -> Found
 }
 
 // The same, where a header of the first layout comes first.
-fn find_second(alloc: Global, owner: Owner, bytes: &[u8]) -> Result<Found, AllocError>
-    requires headed { IsHeadedBy owner bytes.now }
+fn find_second(alloc: Global, owner: &Owner, bytes: &[u8]) -> Result<Found, AllocError>
+    requires headed { IsHeadedBy owner.now bytes.now }
     requires long { FRONT ≤ length bytes.now }
-    requires not_second { ¬ HasHeader owner bytes.now }
-    ensures { IfOk result (IsAllFound owner bytes.now) }
+    requires not_second { ¬ HasHeader owner.now bytes.now }
+    ensures { IfOk result (IsAllFound owner.now bytes.now) }
 {
-    let Owner { members, site } = owner;
     let place = FRONT + pass_sizes(&bytes[FRONT..]);
-    match header_members(alloc, Owner { members, site }, &bytes[place..])? {
+    match header_members(alloc, owner, &bytes[place..])? {
         Some(named) => Ok(found_after(bytes, named, place + header_size(named))),
         None => Ok(Found {
-            members,
+            members: owner.members,
             named: false,
             end: place,
         }),
@@ -89,21 +88,24 @@ fn header_size(members: Members) -> usize
 }
 
 // Which members the bytes of a cell that isn't damaged name, and where its text ends.
-fn find_all(alloc: Global, owner: Owner, bytes: &[u8]) -> Result<Found, AllocError>
-    requires { IsHeadedBy owner bytes.now }
-    ensures { IfOk result (IsAllFound owner bytes.now) }
+fn find_all(alloc: Global, owner: &Owner, bytes: &[u8]) -> Result<Found, AllocError>
+    requires { IsHeadedBy owner.now bytes.now }
+    ensures { IfOk result (IsAllFound owner.now bytes.now) }
 {
-    let Owner { members, site } = owner;
-    match header_members(alloc, Owner { members, site }, bytes)? {
+    match header_members(alloc, owner, bytes)? {
         Some(named) => Ok(found_after(bytes, named, header_size(named))),
-        None => find_second(alloc, Owner { members, site }, bytes),
+        None => find_second(alloc, owner, bytes),
     }
 }
 
 /// The records of a cell that isn't damaged. Under the weights that it names it says records, so
 /// this fails only where memory runs out.
-pub(crate) fn read_all(alloc: Global, owner: Owner, bytes: &[u8]) -> Result<Vec<Record>, AllocError>
-    ensures { IfOk result (λ records. AreRecordsRead owner bytes.now records.items) }
+pub(crate) fn read_all(
+    alloc: Global,
+    owner: &Owner,
+    bytes: &[u8],
+) -> Result<Vec<Record>, AllocError>
+    ensures { IfOk result (λ records. AreRecordsRead owner.now bytes.now records.items) }
 {
     match read_journal(alloc, owner, bytes) {
         Ok(journal) => Ok(journal.records),
@@ -124,17 +126,19 @@ pub(crate) fn ending_at(end: usize, len: usize) -> Ending
 }
 
 // The contents of a cell that isn't damaged.
-fn text_contents(alloc: Global, owner: Owner, bytes: &[u8]) -> Result<Contents, AllocError>
-    requires headed { IsHeadedBy owner bytes.now }
-    requires ended { HasEnd owner bytes.now }
-    ensures { IfOk result (IsTextRead owner bytes.now) }
+fn text_contents(alloc: Global, owner: &Owner, bytes: &[u8]) -> Result<Contents, AllocError>
+    requires headed { IsHeadedBy owner.now bytes.now }
+    requires ended { HasEnd owner.now bytes.now }
+    ensures { IfOk result (IsTextRead owner.now bytes.now) }
 {
-    let Owner { members, site } = owner;
-    let found = find_all(alloc, Owner { members, site }, bytes)?;
-    let members = found.members;
-    let records = read_all(alloc, Owner { members, site }, bytes)?;
+    let found = find_all(alloc, owner, bytes)?;
+    let named = Owner {
+        members: found.members,
+        site: owner.site,
+    };
+    let records = read_all(alloc, &named, bytes)?;
     Ok(Contents {
-        owner: Owner { members, site },
+        owner: named,
         names_weights: found.named,
         records,
         ending: ending_at(found.end, bytes.len()),
@@ -142,15 +146,14 @@ fn text_contents(alloc: Global, owner: Owner, bytes: &[u8]) -> Result<Contents, 
 }
 
 // The contents of a cell of this federation and site.
-fn contents_of(alloc: Global, owner: Owner, bytes: &[u8]) -> Result<Contents, AllocError>
-    requires { IsHeadedBy owner bytes.now }
+fn contents_of(alloc: Global, owner: &Owner, bytes: &[u8]) -> Result<Contents, AllocError>
+    requires { IsHeadedBy owner.now bytes.now }
     ensures { IfOk result (IsCell bytes.now) }
 {
-    let Owner { members, site } = owner;
-    match find_damage(alloc, Owner { members, site }, bytes)? {
-        None => text_contents(alloc, Owner { members, site }, bytes),
+    match find_damage(alloc, owner, bytes)? {
+        None => text_contents(alloc, owner, bytes),
         Some(place) => {
-            let text = text_contents(alloc, Owner { members, site }, &bytes[..place])?;
+            let text = text_contents(alloc, owner, &bytes[..place])?;
             Ok(Contents {
                 owner: text.owner,
                 names_weights: text.names_weights,
@@ -168,7 +171,7 @@ pub fn read_contents(alloc: Global, bytes: &[u8]) -> Result<Option<Contents>, Al
         (IsCell bytes.now)) }
 {
     match owner_of(alloc, bytes)? {
-        Some(owner) => Ok(Some(contents_of(alloc, owner, bytes)?)),
+        Some(owner) => Ok(Some(contents_of(alloc, &owner, bytes)?)),
         None => Ok(None),
     }
 }

@@ -2,7 +2,7 @@
 
 ghost use Rattle.std.specs.Prelude.{◌≡◌, ◌≤◌, ◌+◌, ◌++◌, ℕ, List, IfOk, IfSome, length, drop};
 ghost use Rattle.records.specs.Layout.{header_bytes};
-ghost use Rattle.ledger.specs.Cells.{HasNoOwner, IsCell};
+ghost use Rattle.ledger.specs.Cells.{HasNoOwner};
 ghost use Rattle.ledger.specs.Parts.{Told, nothing, IsTold, TellsLast};
 ghost use Rattle.ledger.specs.inner.Batches.{text_end, KeepsFirst, KeepsNext, ending_after};
 ghost use Rattle.ledger.specs.inner.Batches.{batch_size, IsEndOfBatch, IsNextPart, IsPartOf, IsStep};
@@ -42,8 +42,7 @@ pub(crate) enum Step {
 fn after_header(alloc: Global, owner: &Owner, rest: &[u8]) -> Result<Vec<u8>, AllocError>
     ensures { IfOk result (λ bytes. bytes.items ≡ header_bytes owner.now ++ rest.now) }
 {
-    let Owner { members, site } = *owner;
-    let mut bytes = header(alloc, Owner { members, site })?;
+    let mut bytes = header(alloc, owner)?;
     bytes.extend_from_slice(rest)?;
     Ok(bytes)
 }
@@ -63,10 +62,9 @@ fn text_end(ending: Ending, len: usize) -> Option<usize>
 fn part_of(contents: Contents) -> Part
     ensures { IsPartOf contents result }
 {
-    let Owner { members, site } = contents.owner;
     Part {
         head: Some(Head {
-            owner: Owner { members, site },
+            owner: contents.owner,
             names_weights: contents.names_weights,
         }),
         records: contents.records,
@@ -94,12 +92,11 @@ fn begin_with(
     requires { end ≤ length bytes.now }
     ensures { IfOk result (KeepsFirst contents end (drop end bytes.now)) }
 {
-    let owner = &contents.owner;
-    let bytes = after_header(alloc, owner, &bytes[end..])?;
-    let Owner { members, site } = *owner;
+    let owner = contents.owner;
+    let bytes = after_header(alloc, &owner, &bytes[end..])?;
     Ok(Kept {
         part: part_of(contents),
-        owner: Owner { members, site },
+        owner,
         passed: end,
         bytes,
     })
@@ -213,10 +210,9 @@ fn after_batch(
         return Err(AllocError);
     };
     let bytes = after_header(alloc, owner, &bytes[batch.end..])?;
-    let Owner { members, site } = *owner;
     Ok(Kept {
         part: next_part(batch),
-        owner: Owner { members, site },
+        owner: *owner,
         passed,
         bytes,
     })

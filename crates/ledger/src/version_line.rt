@@ -13,9 +13,9 @@ ghost use Rattle.ledger.specs.inner.Rows.{listed_in, slot_at, text_if, Represent
 
 use crate::cell_text::push_ending;
 use crate::ending::Ending;
-use crate::listing::Listing;
 use crate::record_line::push_bag;
 use crate::standing::Standing;
+use crate::version_filter::VersionFilter;
 use crate::versions::{Versions, slot_at, standing_in};
 use fed_types::{BagId, Slot};
 use std::alloc::{AllocError, Global};
@@ -75,13 +75,13 @@ fn push_version(
 fn push_listed(
     alloc: Global,
     text: &mut String,
-    listing: Listing,
+    wanted: VersionFilter,
     slot: &Slot,
     standing: Standing,
 ) -> Result<(), AllocError>
-    ensures { Pushes result text.old text.new (listed_line listing slot.now standing) }
+    ensures { Pushes result text.old text.new (listed_line wanted slot.now standing) }
 {
-    if listing.has(standing) {
+    if wanted.has(standing) {
         push_version(alloc, text, slot, standing)
     } else {
         Ok(())
@@ -92,15 +92,15 @@ fn push_listed(
 fn push_at(
     alloc: Global,
     text: &mut String,
-    listing: Listing,
+    wanted: VersionFilter,
     versions: &Versions,
     place: usize,
 ) -> Result<(), AllocError>
     ensures { Pushes result text.old text.new
-        (text_if (listed_in listing versions.now.entries) (slot_at versions.now.entries place)) }
+        (text_if (listed_in wanted versions.now.entries) (slot_at versions.now.entries place)) }
 {
     match slot_at(versions, place) {
-        Some(slot) => push_listed(alloc, text, listing, slot, standing_in(versions, slot)),
+        Some(slot) => push_listed(alloc, text, wanted, slot, standing_in(versions, slot)),
         None => Ok(()),
     }
 }
@@ -109,14 +109,14 @@ fn push_at(
 fn push_versions(
     alloc: Global,
     text: &mut String,
-    listing: Listing,
+    wanted: VersionFilter,
     versions: &Versions,
 ) -> Result<(), AllocError>
     ensures { Pushes result text.old text.new
-        (flat_map (listed_in listing versions.now.entries) (keys_of versions.now.entries)) }
+        (flat_map (listed_in wanted versions.now.entries) (keys_of versions.now.entries)) }
 {
     for place in 0..versions.len() {
-        push_at(alloc, text, listing, versions, place)?;
+        push_at(alloc, text, wanted, versions, place)?;
     }
     Ok(())
 }
@@ -126,15 +126,15 @@ fn push_versions(
 pub(crate) fn versions_text(
     alloc: Global,
     versions: &Versions,
-    listing: Listing,
+    wanted: VersionFilter,
     ending: Ending,
 ) -> Result<String, AllocError>
     ensures { IfOk result (λ text. (records : List Record)
         → Represents versions.now.entries records
-        → string_bytes text ≡ versions_text listing records ++ ending_line ending) }
+        → string_bytes text ≡ versions_text wanted records ++ ending_line ending) }
 {
     let mut text = String::new(alloc);
-    push_versions(alloc, &mut text, listing, versions)?;
+    push_versions(alloc, &mut text, wanted, versions)?;
     push_ending(&mut text, ending)?;
     Ok(text)
 }

@@ -7,7 +7,7 @@ use Rattle.outcomes.specs.Outcomes.{Outcome, Writes, WritesPrefix}
 use Rattle.outcomes.specs.declared.fault.ProgramFault.{ProgramFault}
 use Rattle.outcomes.specs.declared.fault.ProgramFault.TheVariants as ProgramFaults
 use Rattle.ledger.specs.declared.ending.Ending.{Ending}
-use Rattle.ledger.specs.declared.listing.Listing.{Listing}
+use Rattle.ledger.specs.declared.version_filter.VersionFilter.{VersionFilter}
 use Rattle.ledger.specs.LedgerPieces.{IsLedgerText}
 use Rattle.ledger_commands.specs.Answers.{AnswersTo, status_of}
 use Rattle.ledger_commands.specs.Ledgers.{IsLedger}
@@ -42,9 +42,9 @@ module _ (Is : List ℕ → Outcome → Type 0) (left : Option (List ℕ)) (outc
       × ((n : ℕ) × Appends old new (take n outcome.text)))) err stops).1
 
 -- lines that were read, with their status
-pub is_ledger : (listing : Listing) (left : Option (List ℕ)) (ending : Ending) (status : ℕ)
+pub is_ledger : (wanted : VersionFilter) (left : Option (List ℕ)) (ending : Ending) (status : ℕ)
     (text : List ℕ) → status ≡ status_of ending
-    → IfSome left (λ bytes. IsLedgerText listing bytes ending text)
-    → IfSome left (λ bytes. IsLedger listing bytes (record { status = status; text = text }))
-is_ledger listing None ending status text e lines = tt
-is_ledger listing (Some bytes) ending status text e lines = (ending, lines, e)
+    → IfSome left (λ bytes. IsLedgerText wanted bytes ending text)
+    → IfSome left (λ bytes. IsLedger wanted bytes (record { status = status; text = text }))
+is_ledger wanted None ending status text e lines = tt
+is_ledger wanted (Some bytes) ending status text e lines = (ending, lines, e)

@@ -1,7 +1,7 @@
 //! The arguments of the command `ledger`.
 
 use clap::{Arg, ArgAction, ArgMatches, Command};
-use ledger::Listing;
+use ledger::VersionFilter;
 use std::alloc::{AllocError, Global};
 
 const ABOUT: &str = "Prints what a site's cell says of each version: which bag is known";
@@ -32,14 +32,14 @@ pub struct LedgerTask<'a> {
     /// The path of its file.
     pub cell: &'a str,
     /// Which of them.
-    pub listing: Listing,
+    pub wanted: VersionFilter,
 }
 
 /// What these arguments of the command ask for.
 pub fn ledger_task<'a>(matches: &ArgMatches<'a>) -> Option<LedgerTask<'a>> {
     Some(LedgerTask {
         cell: matches.get_str("CELL")?,
-        listing: Listing {
+        wanted: VersionFilter {
             known: matches.get_flag("known"),
             pending: matches.get_flag("pending"),
         },

@@ -14,7 +14,7 @@ const UNREAD: &str = "open 4\n";
 pub fn print_ledger(rt: &HostRuntime, task: &LedgerTask<'_>) -> Result<u8, ProgramFault> {
     let mut output = io::writer(rt);
     match open_cell(rt, task.cell) {
-        Ok(mut cell) => match ledger_on(rt.alloc(), &mut cell, &mut output, task.listing) {
+        Ok(mut cell) => match ledger_on(rt.alloc(), &mut cell, &mut output, task.wanted) {
             Err(ProgramFault::Input) => write_output(&mut output, 1, UNREAD),
             answer => answer,
         },

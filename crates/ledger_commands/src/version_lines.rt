@@ -1,6 +1,6 @@
 //! The lines of a cell's versions.
 
-ghost use Rattle.std.specs.Prelude.{◌≡◌, IfOk, IfSome, IsErrOf, string_bytes};
+ghost use Rattle.std.specs.Prelude.{IfOk, IfSome, IsErrOf, string_bytes};
 ghost use Rattle.std.specs.Io.KnownBytes.{Keeps};
 ghost use Rattle.outcomes.specs.Outcomes.{Writes, WritesPrefix};
 ghost use Rattle.ledger.specs.LedgerPieces.{IsLedgerText};
@@ -8,7 +8,7 @@ ghost use Rattle.ledger_commands.specs.Answers.{AnswersTo};
 ghost use Rattle.ledger_commands.specs.Ledgers.{IsLedger};
 
 use crate::status::status_of;
-use ledger::{LastLines, LedgerLines, Listing};
+use ledger::{LastLines, LedgerLines, VersionFilter};
 use outcomes::{MOST_READS, ProgramFault, ReadFault, write_output};
 use std::alloc::Global;
 use std::io::{ErrorKind, Read, Write};
@@ -25,18 +25,18 @@ pub fn ledger_on<R: Read, W: Write>(
     alloc: Global,
     cell: &mut R,
     output: &mut W,
-    listing: Listing,
+    wanted: VersionFilter,
 ) -> Result<u8, ProgramFault>
     ensures ok { IfOk result (λ status. IfSome (R.remaining cell.old) (λ bytes.
-        AnswersTo (IsLedger listing) bytes
+        AnswersTo (IsLedger wanted) bytes
         (Writes (W.contents output.old) (W.contents output.new) status))) }
     ensures input { IsErrOf result ProgramFault.Input
         → Keeps (W.contents output.old) (W.contents output.new) }
     ensures output { IsErrOf result ProgramFault.Output
-        → IfSome (R.remaining cell.old) (λ bytes. AnswersTo (IsLedger listing) bytes
+        → IfSome (R.remaining cell.old) (λ bytes. AnswersTo (IsLedger wanted) bytes
         (WritesPrefix (W.contents output.old) (W.contents output.new))) }
 {
-    match read_lines(alloc, cell, listing) {
+    match read_lines(alloc, cell, wanted) {
         Ok(last) => write_output(output, status_of(last.ending), last.text.as_str()),
         Err(ReadFault::Input) => Err(ProgramFault::Input),
         Err(ReadFault::Memory) => write_output(output, 1, "memory\n"),
@@ -47,17 +47,17 @@ pub fn ledger_on<R: Read, W: Write>(
 fn read_lines<R: Read>(
     alloc: Global,
     cell: &mut R,
-    listing: Listing,
+    wanted: VersionFilter,
 ) -> Result<LastLines, ReadFault>
     ensures { IfOk result (λ last. IfSome (R.remaining cell.old) (λ bytes.
-        IsLedgerText listing bytes last.ending (string_bytes last.text))) }
+        IsLedgerText wanted bytes last.ending (string_bytes last.text))) }
 {
     let mut lines = LedgerLines::new(alloc);
     let mut piece = [0u8; PIECE];
     'reads: for _ in 0..MOST_READS {
         match cell.read(&mut piece) {
-            Ok(0) => return Ok(lines.end(alloc, listing)?),
-            Ok(count) => match lines.take(alloc, listing, &piece[..count])? {
+            Ok(0) => return Ok(lines.end(alloc, wanted)?),
+            Ok(count) => match lines.take(alloc, wanted, &piece[..count])? {
                 Some(last) => return Ok(last),
                 None => {}
             },

@@ -1,5 +1,5 @@
 -- The line of what is said: each bag by its identity, and by the tree that held it first.
-use Rattle.std.specs.Prelude.{ℕ, if◌then◌else◌, List, [], ◌∷◌}
+use Rattle.std.specs.Prelude.{ℕ, if◌then◌else◌, List, [], ◌∷◌, Option, Some, None}
 use Rattle.fed_types.specs.declared.bag_id.BagId.{BagId}
 use Rattle.fed_types.specs.Bags.{same_bag}
 use Rattle.site.specs.declared.answer.Reply.{Reply}
@@ -7,10 +7,11 @@ use Rattle.site.specs.declared.answer.Reply.TheVariants as replies
 use Rattle.lines.specs.declared.line.Line.{Line}
 use Rattle.lines.specs.declared.line.Line.TheVariants as lines
 use Rattle.lines.specs.declared.line.NamedBag.{NamedBag}
-use Rattle.lines.specs.declared.line.NamedReply.{NamedReply}
-use Rattle.lines.specs.declared.line.NamedReply.TheVariants as named
-use Rattle.lines.specs.Notices.{Notice, Registered, Learned, Replied, Refused, Dropped}
-use Rattle.lines.specs.Notices.{GoesDown, ComesUp}
+use Rattle.lines.specs.declared.notice.Notice.{Notice}
+use Rattle.lines.specs.declared.notice.Notice.TheVariants.{Registered, Learned, Replied, Refused}
+use Rattle.lines.specs.declared.notice.Notice.TheVariants.{Dropped}
+use Rattle.lines.specs.declared.notice.Notice.TheVariants.{GoesDown, ComesUp}
+use Rattle.lines.specs.Notices.{bag_in}
 
 -- a valid bag that was deposited, and the number of the tree that held it then
 pub record SeenBag : Type 0 where
@@ -27,10 +28,19 @@ first_tree bag (seen ∷ others) = if same_bag seen.bag bag then seen.tree else 
 abbrev pub named_bag : List SeenBag → BagId → NamedBag
 named_bag seen bag = record { bag = bag; tree = first_tree bag seen }
 
-abbrev pub named_reply : List SeenBag → Reply → NamedReply
-named_reply seen (replies.Known bag) = named.Known (named_bag seen bag)
-named_reply seen (replies.Pending bag) = named.Pending (named_bag seen bag)
-named_reply seen replies.Nothing = named.Nothing
+-- the tree in which a bag was seen first, and 0 where there is none
+abbrev pub tree_of : List SeenBag → Option BagId → ℕ
+tree_of seen None = 0
+tree_of seen (Some bag) = first_tree bag seen
+
+-- that of the bag that a notice names
+abbrev pub tree_in : List SeenBag → Notice → ℕ
+tree_in seen notice = tree_of seen (bag_in notice)
+
+abbrev pub named_reply : List SeenBag → Reply BagId → Reply NamedBag
+named_reply seen (replies.Known bag) = replies.Known (named_bag seen bag)
+named_reply seen (replies.Pending bag) = replies.Pending (named_bag seen bag)
+named_reply seen replies.Nothing = replies.Nothing
 
 abbrev pub line_of : List SeenBag → Notice → Line
 line_of seen (Registered site slot bag) = lines.Registered site slot (named_bag seen bag)

@@ -7,6 +7,8 @@ use Rattle.hex.specs.Hex.{encode_lower}
 use Rattle.fed_types.specs.Slots.{SlotName}
 use Rattle.words.specs.Escapes.{escaped_text}
 use Rattle.bag_check.specs.Fault as bag_faults
+use Rattle.site.specs.declared.answer.Reply.{Reply}
+use Rattle.site.specs.declared.answer.Reply.TheVariants as replies
 use Rattle.site.specs.declared.fault.SiteFault.{SiteFault}
 use Rattle.site.specs.declared.fault.SiteFault.TheVariants.{InvalidBag}
 use Rattle.site.specs.Faults as site_faults
@@ -14,8 +16,6 @@ use Rattle.lines.specs.declared.line.Line.{Line}
 use Rattle.lines.specs.declared.line.Line.TheVariants.{Registered, Known, Replied, Refused}
 use Rattle.lines.specs.declared.line.Line.TheVariants.{Dropped, Skip, Down, Up, Sent}
 use Rattle.lines.specs.declared.line.NamedBag.{NamedBag}
-use Rattle.lines.specs.declared.line.NamedReply.{NamedReply}
-use Rattle.lines.specs.declared.line.NamedReply.TheVariants as replies
 use Rattle.lines.specs.declared.line.Reason.{Reason}
 use Rattle.lines.specs.declared.line.Reason.TheVariants as reasons
 use Rattle.lines.specs.declared.print_line.Options.{Options}
@@ -30,7 +30,7 @@ abbrev pub slot_words : ℕ → SlotName → List (List ℕ) → List (List ℕ)
 slot_words site slot words =
     decimal site ∷ escaped_text slot.object ∷ decimal slot.version ∷ words
 
-abbrev pub reply_words : Options → NamedReply → List (List ℕ)
+abbrev pub reply_words : Options → Reply NamedBag → List (List ℕ)
 reply_words options (replies.Known bag) = codes "known" ∷ bag_word options bag ∷ []
 reply_words options (replies.Pending bag) = codes "pending" ∷ bag_word options bag ∷ []
 reply_words options replies.Nothing = codes "nothing" ∷ []

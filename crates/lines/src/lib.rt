@@ -1,4 +1,4 @@
-//! The lines that a run of sites prints, and the text of each.
+//! What is said of sites: notices, the lines that a run prints of them, and the text of each.
 //!
 //! ```
 //! let mut text = String::new(alloc);
@@ -10,10 +10,12 @@
 #![tactic(auto)]
 
 mod line;
+mod notice;
 mod print_line;
 mod print_words;
 mod sent_bytes;
 
-pub use line::{Line, NamedBag, NamedReply, Reason};
+pub use line::{Line, NamedBag, Reason};
+pub use notice::{Notice, line_by_identity, line_of, notice_of, reply_notice};
 pub use print_line::{Options, push_line, push_printed};
 pub use sent_bytes::SentBytes;

@@ -1,6 +1,6 @@
 use crate::sent_bytes::SentBytes;
 use fed_types::{BagId, Slot};
-use site::SiteFault;
+use site::{Reply, SiteFault};
 
 /// A bag as a line names it: by its identity, and by the number of a tree. That is the tree of the
 /// earliest deposit so far that wasn't skipped and whose tree was then a valid bag of this
@@ -9,17 +9,6 @@ use site::SiteFault;
 pub struct NamedBag {
     pub bag: BagId,
     pub tree: u32,
-}
-
-/// What a site replies to a query.
-#[derive(Clone, Copy, Debug)]
-pub enum NamedReply {
-    /// This bag is known for the slot.
-    Known(NamedBag),
-    /// No bag is known; this one is the site's own deposit.
-    Pending(NamedBag),
-    /// No bag is known, and the site has no deposit.
-    Nothing,
 }
 
 /// Why a command of a schedule was skipped.
@@ -60,7 +49,7 @@ pub enum Line {
     Replied {
         site: u8,
         slot: Slot,
-        reply: NamedReply,
+        reply: Reply<NamedBag>,
     },
     /// The site refused a call, or its device failed in one.
     Refused {

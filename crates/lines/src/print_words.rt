@@ -5,11 +5,11 @@ ghost use Rattle.words.specs.Pushes.{Pushes};
 ghost use Rattle.lines.specs.Texts.{words_of, slot_words, bag_word, reply_words};
 ghost use Rattle.lines.specs.Texts.{fault_words, reason_word};
 
-use crate::line::{Line, NamedBag, NamedReply, Reason};
+use crate::line::{Line, NamedBag, Reason};
 use crate::print_line::Options;
 use crate::sent_bytes::SentBytes;
 use fed_types::Slot;
-use site::SiteFault;
+use site::{Reply, SiteFault};
 use std::alloc::{AllocError, Global};
 use words::push_escaped;
 
@@ -80,7 +80,7 @@ fn push_slot_and_reply(
     options: Options,
     site: u8,
     slot: &Slot,
-    reply: NamedReply,
+    reply: Reply<NamedBag>,
 ) -> Result<(), AllocError>
     ensures { Pushes result text.old text.new
         (join_with_byte 32 (slot_words site slot.now (reply_words options reply))) }
@@ -121,20 +121,20 @@ fn push_reply(
     alloc: Global,
     text: &mut String,
     options: Options,
-    reply: NamedReply,
+    reply: Reply<NamedBag>,
 ) -> Result<(), AllocError>
     ensures { Pushes result text.old text.new (join_with_byte 32 (reply_words options reply)) }
 {
     match reply {
-        NamedReply::Known(named) => {
+        Reply::Known(named) => {
             text.push_str("known ")?;
             push_bag(alloc, text, options, named)
         }
-        NamedReply::Pending(named) => {
+        Reply::Pending(named) => {
             text.push_str("pending ")?;
             push_bag(alloc, text, options, named)
         }
-        NamedReply::Nothing => text.push_str("nothing"),
+        Reply::Nothing => text.push_str("nothing"),
     }
 }
 

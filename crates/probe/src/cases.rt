@@ -45,7 +45,7 @@ fn push_cell(alloc: Global, text: &mut String, owner: &str, rest: &str) -> Resul
     match rest.split_once(" | ") {
         Some((words, digits)) => {
             let fuse = fuse_of(words)?;
-            push_crash(alloc, text, cell(alloc, digits)?, owner, fuse)
+            push_crash(alloc, text, cell(alloc, digits)?, &owner, fuse)
         }
         None => push_opening(alloc, text, cell(alloc, rest)?, owner),
     }

@@ -36,14 +36,13 @@ pub fn push_crash(
     alloc: Global,
     text: &mut String,
     cell: MemoryCell,
-    owner: Owner,
+    owner: &Owner,
     fuse: Fuse,
 ) -> Result<(), Fault> {
     let mut cell = cell;
     cell.set_fuse(Some(fuse));
-    let Owner { members, site } = owner;
-    match push_failing(alloc, text, cell, Owner { members, site }) {
-        Ok(cell) => push_next(alloc, text, cell, Owner { members, site }),
+    match push_failing(alloc, text, cell, owner) {
+        Ok(cell) => push_next(alloc, text, cell, owner),
         Err(fault) => Err(fault),
     }
 }
@@ -53,9 +52,9 @@ fn push_failing(
     alloc: Global,
     text: &mut String,
     cell: MemoryCell,
-    owner: Owner,
+    owner: &Owner,
 ) -> Result<MemoryCell, Fault> {
-    match Book::open(alloc, cell, owner) {
+    match Book::open(alloc, cell, *owner) {
         Ok(book) => {
             let said = push_records(text, book.records());
             keep(book.close(), said.or(Err(Fault::Memory)))
@@ -79,13 +78,13 @@ fn push_next(
     alloc: Global,
     text: &mut String,
     cell: MemoryCell,
-    owner: Owner,
+    owner: &Owner,
 ) -> Result<(), Fault> {
     let mut cell = cell;
     cell.set_fuse(None);
     cell.restart();
     match push_left(alloc, text, cell.bytes()) {
-        Ok(()) => push_opening(alloc, text, cell, owner),
+        Ok(()) => push_opening(alloc, text, cell, *owner),
         Err(fault) => {
             drop(cell);
             Err(fault)

@@ -60,7 +60,7 @@ pub fn filled_line(rt: &HostRuntime, path: &str, count: u32) -> Result<String, F
 }
 
 fn write_journal(rt: &HostRuntime, path: &str, records: &[u8]) -> Result<(), Fault> {
-    let header = header(rt.alloc(), owner(site()?)?)?;
+    let header = header(rt.alloc(), &owner(site()?)?)?;
     let mut cell = FileCell::open(rt, path)?;
     let written = append_all(&mut cell, &header, records);
     drop(cell);

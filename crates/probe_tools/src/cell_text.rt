@@ -6,13 +6,11 @@ use std::alloc::Global;
 
 /// The bytes of the site's cell, by its records; none of its calls has failed.
 pub(crate) fn text_of(alloc: Global, site: &Site<MemoryCell>) -> Result<Vec<u8>, ToolFault> {
-    let mut text = header(
-        alloc,
-        Owner {
-            members: site.members(),
-            site: site.number(),
-        },
-    )?;
+    let owner = Owner {
+        members: site.members(),
+        site: site.number(),
+    };
+    let mut text = header(alloc, &owner)?;
     match push_records(alloc, site.records(), &mut text) {
         Ok(()) => Ok(text),
         Err(fault) => Err(fault),

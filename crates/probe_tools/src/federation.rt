@@ -43,8 +43,8 @@ impl Federation {
         self.members = Some(members);
         self.places.clear();
         self.trees.clear();
-        for number in 1..=members.count() {
-            self.add_site(members, SiteNo::new(number)?)?;
+        for site in members.sites() {
+            self.add_site(members, site)?;
         }
         Ok(())
     }

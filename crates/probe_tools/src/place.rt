@@ -129,15 +129,16 @@ impl Place {
         site: SiteNo,
     ) -> Result<(), OpenFault> {
         self.close();
-        match self.open_once(alloc, Owner { members, site }) {
-            Err(OpenFault::Memory) => self.open_once(alloc, Owner { members, site }),
+        let owner = Owner { members, site };
+        match self.open_once(alloc, &owner) {
+            Err(OpenFault::Memory) => self.open_once(alloc, &owner),
             opened => opened,
         }
     }
 
-    fn open_once(&mut self, alloc: Global, owner: Owner) -> Result<(), OpenFault> {
+    fn open_once(&mut self, alloc: Global, owner: &Owner) -> Result<(), OpenFault> {
         let cell = mem::replace(&mut self.cell, empty_cell(alloc));
-        match Site::open(alloc, cell, owner) {
+        match Site::open(alloc, cell, *owner) {
             Ok(site) => self.keep_site(site),
             Err((cell, fault)) => self.refuse(cell, fault),
         }

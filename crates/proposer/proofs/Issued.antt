@@ -1,4 +1,4 @@
--- What waits is counted, and what a record makes of a session.
+-- What waits is counted, and what a record makes of a volatile state.
 use Rattle.std.proofs.Common.{◌≡◌, ℕ, max, Bool, true, false, cond, refl, sym, ap, subst}
 use Rattle.std.proofs.Common.{◌∙◌, List, [], ◌∷◌, ◌++◌, length, Option, None, Some, IsSome}
 use Rattle.std.specs.Prelude.{◌==◌, option_map}
@@ -14,18 +14,18 @@ use Rattle.records.specs.SlotStates.{with_one, if_some, entry_of, round_in}
 use Rattle.dgram.specs.declared.message.Message.{Message}
 use Rattle.dgram.specs.Heard.{bodies_of, refused_round, floor_of}
 use Rattle.slot_table.specs.Rows.{Rows, row_at, row_or, IsWith}
-use Rattle.proposer.specs.declared.round.Promise.{Promise}
-use Rattle.proposer.specs.Rounds.{Round}
+use Rattle.proposer.specs.declared.ballot_state.Promise.{Promise}
+use Rattle.proposer.specs.BallotStates.{BallotState}
 use Rattle.proposer.specs.declared.row.Row.{Row}
 use Rattle.proposer.specs.Proposals.{Current}
-use Rattle.proposer.specs.Sessions.{Session, at_slot, hears, with_current}
+use Rattle.proposer.specs.VolatileStates.{VolatileState, at_slot, hears, with_current}
 use Rattle.proposer.specs.UnderWay.{UnderWay, waits}
-use Rattle.proposer.specs.Sessions.{promise_message}
+use Rattle.proposer.specs.VolatileStates.{promise_message}
 use Rattle.proposer.specs.UnderWay.{heard_if, of_round, current_by, current_if}
 use Rattle.proposer.specs.UnderWay.{under_way_if}
 use Rattle.proposer.specs.Rows.{empty_row, BeginsFor, Counts, CountsFor, Knows, Represents, row_of}
 use Rattle.proposer.specs.Rows.{begun_in, current_in, waiting_as, waiting_in}
-use Rattle.proposer.specs.inner.Rounds.{issued, issued_with}
+use Rattle.proposer.specs.inner.BallotStates.{issued, issued_with}
 use Rattle.proposer.specs.inner.Rows.{IssuesWaiting, IssuesAt, is_of_round, noted_row}
 use Rattle.proposer.proofs.Gathered.{floor-push}
 use Rattle.proposer.proofs.Known.{other_knows}
@@ -58,20 +58,20 @@ issued_nowhere old new slot is e =
     )
 
 module _ (slot : SlotName) (own : Option BagId) (heard : List Message) where
-  -- a round from which nothing waits any more
-  waits_no_more : (c : Current) (round : Round) → Counts slot own heard c round
+  -- a ballot of which nothing waits any more
+  waits_no_more : (c : Current) (state : BallotState) → Counts slot own heard c state
       → Counts slot own heard c
       (record {
-        ballot = round.ballot;
-        own = round.own;
-        voters = round.voters;
+        ballot = state.ballot;
+        own = state.own;
+        promised_by = state.promised_by;
         best =
-            round.best;
+            state.best;
         waiting = None;
       })
-  waits_no_more c round h = record {
+  waits_no_more c state h = record {
     ballot = h.ballot;
-    voters = h.voters;
+    promised_by = h.promised_by;
     best = h.best;
     own = h.own;
     within = h.within;
@@ -85,47 +85,47 @@ module _ (slot : SlotName) (own : Option BagId) (heard : List Message) where
   same_itself : (b : BallotNumber) → same_ballot b b ≡ true
   same_itself b = (same_ballot_decides b b).1 refl
 
-  issued_counts : (c : Current) (round : Round) (w : Option Promise) → round.waiting ≡ w
-      → Counts slot own heard c round
-      → Counts slot own (heard_with (waiting_as slot round.ballot w)) c (issued_with round w)
-  issued_counts c round None e h = h
-  issued_counts c round (Some p) e h =
-      let more = counts_more slot p.site round.ballot p.prior own heard c round h
-      (same_itself round.ballot) in
+  issued_counts : (c : Current) (state : BallotState) (w : Option Promise) → state.waiting ≡ w
+      → Counts slot own heard c state
+      → Counts slot own (heard_with (waiting_as slot state.ballot w)) c (issued_with state w)
+  issued_counts c state None e h = h
+  issued_counts c state (Some p) e h =
+      let more = counts_more slot p.site state.ballot p.prior own heard c state h
+      (same_itself state.ballot) in
       record {
         ballot = more.ballot;
-        voters = more.voters;
+        promised_by = more.promised_by;
         best = more.best;
         own = more.own;
         within = more.within;
       }
 
-  issued_waits : (round : Round) (w : Option Promise) → round.waiting ≡ w
-      → waiting_as slot (issued_with round w).ballot (issued_with round w).waiting ≡ None
-  issued_waits round None e = ap (waiting_as slot round.ballot) e
-  issued_waits round (Some p) e = refl
+  issued_waits : (state : BallotState) (w : Option Promise) → state.waiting ≡ w
+      → waiting_as slot (issued_with state w).ballot (issued_with state w).waiting ≡ None
+  issued_waits state None e = ap (waiting_as slot state.ballot) e
+  issued_waits state (Some p) e = refl
 
-  pub issued_current : (c : Option Current) (o : Option Round) → CountsFor slot own heard c o
+  pub issued_current : (c : Option Current) (o : Option BallotState) → CountsFor slot own heard c o
       → CountsFor slot own (heard_with (waiting_in slot o)) c (option_map issued o)
   issued_current None None h = h
-  issued_current None (Some round) h = absurd h
+  issued_current None (Some state) h = absurd h
   issued_current (Some c) None h = absurd h
-  issued_current (Some c) (Some round) h = issued_counts c round round.waiting refl h
+  issued_current (Some c) (Some state) h = issued_counts c state state.waiting refl h
 
-  pub issued_none : (o : Option Round) → waiting_in slot (option_map issued o) ≡ None
+  pub issued_none : (o : Option BallotState) → waiting_in slot (option_map issued o) ≡ None
   issued_none None = refl
-  issued_none (Some round) = issued_waits round round.waiting refl
+  issued_none (Some state) = issued_waits state state.waiting refl
 
 pub issued_stands : (old new : Rows Row) (slot : SlotName)
-    (records : List Record) (session : Session) (under : UnderWay) → IssuesAt old new slot
-    → Represents old records session under
-    → Represents new records (heard_if session (under.waiting slot)) (waits under slot None)
-issued_stands old new slot records session under at stands =
+    (records : List Record) (volatile : VolatileState) (under : UnderWay) → IssuesAt old new slot
+    → Represents old records volatile under
+    → Represents new records (heard_if volatile (under.waiting slot)) (waits under slot None)
+issued_stands old new slot records volatile under at stands =
     let h = stands slot in
-    subst (λ (w : Option Message). Represents new records (heard_if session w)
+    subst (λ (w : Option Message). Represents new records (heard_if volatile w)
     (waits under slot None)) h.waiting
-    (by_round (current_in (row_of old slot)) (sym now.current)
-    (issued_current slot (under.current_bag slot) session.heard (session.current slot)
+    (by_state (current_in (row_of old slot)) (sym now.current)
+    (issued_current slot (under.current_bag slot) volatile.heard (volatile.current slot)
     (current_in (row_of old slot)) h.current))
   where
     now : IssuesWaiting (row_of old slot) (row_of new slot)
@@ -133,15 +133,15 @@ issued_stands old new slot records session under at stands =
 
     -- the row from which nothing waits
     row_knows : (heard : List Message)
-        → floor_of (bodies_of slot heard) ≡ floor_of (bodies_of slot session.heard)
-        → CountsFor slot (under.current_bag slot) heard (session.current slot)
+        → floor_of (bodies_of slot heard) ≡ floor_of (bodies_of slot volatile.heard)
+        → CountsFor slot (under.current_bag slot) heard (volatile.current slot)
         (current_in (row_of new slot))
-        → Knows slot records heard (session.current slot) (under.begun slot)
+        → Knows slot records heard (volatile.current slot) (under.begun slot)
         (under.begun_bag slot) (under.current_bag slot)
         (at_slot slot None under.waiting slot) (row_of new slot)
     row_knows heard floor counts =
         let h = stands slot in
-        subst (λ (w : Option Message). Knows slot records heard (session.current slot)
+        subst (λ (w : Option Message). Knows slot records heard (volatile.current slot)
         (under.begun slot) (under.begun_bag slot) (under.current_bag slot) w (row_of new slot))
         (sym (at_here slot None under.waiting))
         (record {
@@ -154,86 +154,87 @@ issued_stands old new slot records session under at stands =
         })
 
     other : (s : SlotName) → same_slot slot s ≡ false → (heard : List Message)
-        → Knows s records heard (session.current s) (under.begun s) (under.begun_bag s)
+        → Knows s records heard (volatile.current s) (under.begun s) (under.begun_bag s)
         (under.current_bag s) (under.waiting s) (row_of old s)
-        → Knows s records heard (session.current s) (under.begun s) (under.begun_bag s)
+        → Knows s records heard (volatile.current s) (under.begun s) (under.begun_bag s)
         (under.current_bag s) (at_slot slot None under.waiting s) (row_of old s)
     other s e heard k =
-        subst (λ (w : Option Message). Knows s records heard (session.current s) (under.begun s)
+        subst (λ (w : Option Message). Knows s records heard (volatile.current s) (under.begun s)
         (under.begun_bag s) (under.current_bag s) w (row_of old s))
         (sym (at_other slot s None under.waiting e)) k
 
     with_message : (from : ℕ) (b : BallotNumber) (p : Promise)
         → CountsFor slot (under.current_bag slot)
-        (session.heard ++ promise_message slot p.site b p.prior ∷ []) (session.current slot)
+        (volatile.heard ++ promise_message slot p.site b p.prior ∷ []) (volatile.current slot)
         (current_in (row_of new slot))
-        → Represents new records (hears session (promise_message slot p.site b p.prior))
+        → Represents new records (hears volatile (promise_message slot p.site b p.prior))
         (waits under slot None)
     with_message from b p counts =
         let m = promise_message slot p.site b p.prior in
-        stands_at old new slot (row_of new slot) records (hears session m) (waits under slot None)
+        stands_at old new slot (row_of new slot) records (hears volatile m) (waits under slot None)
         at.0
-        (row_knows (session.heard ++ m ∷ [])
-        (floor-push slot session.heard m
-        ∙ ap (λ (t : Bool). with_one max (floor_of (bodies_of slot session.heard))
+        (row_knows (volatile.heard ++ m ∷ [])
+        (floor-push slot volatile.heard m
+        ∙ ap (λ (t : Bool). with_one max (floor_of (bodies_of slot volatile.heard))
         (if_some refused_round (cond t (Some m.body) None)))
         ((same_slot_decides slot slot).1 refl))
         counts)
-        (λ s e. other s e (session.heard ++ m ∷ [])
-        (other_knows s records session.heard (session.current s) (under.begun s)
+        (λ s e. other s e (volatile.heard ++ m ∷ [])
+        (other_knows s records volatile.heard (volatile.current s) (under.begun s)
         (under.begun_bag s)
         (under.current_bag s) (under.waiting s) m (row_of old s) (says_nothing slot s m.body e)
         (stands s)))
 
-    without : CountsFor slot (under.current_bag slot) session.heard (session.current slot)
+    without : CountsFor slot (under.current_bag slot) volatile.heard (volatile.current slot)
         (current_in (row_of new slot))
-        → Represents new records session (waits under slot None)
+        → Represents new records volatile (waits under slot None)
     without counts =
-        stands_at old new slot (row_of new slot) records session (waits under slot None) at.0
-        (row_knows session.heard refl counts)
-        (λ s e. other s e session.heard (stands s))
+        stands_at old new slot (row_of new slot) records volatile (waits under slot None) at.0
+        (row_knows volatile.heard refl counts)
+        (λ s e. other s e volatile.heard (stands s))
 
     by_waiting : (b : BallotNumber) (w : Option Promise)
         → CountsFor slot (under.current_bag slot)
-        (heard_with slot (under.current_bag slot) session.heard (waiting_as slot b w))
-        (session.current slot) (current_in (row_of new slot))
-        → Represents new records (heard_if session (waiting_as slot b w)) (waits under slot None)
+        (heard_with slot (under.current_bag slot) volatile.heard (waiting_as slot b w))
+        (volatile.current slot) (current_in (row_of new slot))
+        → Represents new records (heard_if volatile (waiting_as slot b w)) (waits under slot None)
     by_waiting b None counts = without counts
     by_waiting b (Some p) counts = with_message p.site b p counts
 
-    by_round : (o : Option Round) → option_map issued (current_in (row_of old slot)) ≡ current_in
+    by_state : (o : Option BallotState)
+        → option_map issued (current_in (row_of old slot)) ≡ current_in
         (row_of new slot)
         → CountsFor slot (under.current_bag slot)
-        (heard_with slot (under.current_bag slot) session.heard (waiting_in slot o))
-        (session.current slot) (option_map issued (current_in (row_of old slot)))
-        → Represents new records (heard_if session (waiting_in slot o)) (waits under slot None)
-    by_round None e counts =
-        without (subst (CountsFor slot (under.current_bag slot) session.heard
-        (session.current slot)) e counts)
-    by_round (Some round) e counts =
-        by_waiting round.ballot round.waiting
+        (heard_with slot (under.current_bag slot) volatile.heard (waiting_in slot o))
+        (volatile.current slot) (option_map issued (current_in (row_of old slot)))
+        → Represents new records (heard_if volatile (waiting_in slot o)) (waits under slot None)
+    by_state None e counts =
+        without (subst (CountsFor slot (under.current_bag slot) volatile.heard
+        (volatile.current slot)) e counts)
+    by_state (Some state) e counts =
+        by_waiting state.ballot state.waiting
         (subst (CountsFor slot (under.current_bag slot)
-        (heard_with slot (under.current_bag slot) session.heard
-        (waiting_as slot round.ballot round.waiting)) (session.current slot)) e counts)
+        (heard_with slot (under.current_bag slot) volatile.heard
+        (waiting_as slot state.ballot state.waiting)) (volatile.current slot)) e counts)
 
 -- ---- a record noted
--- the round that was begun is of this number where its row says so
-of_round_is : (own : Option BagId) (b : Option BallotNumber) (o : Option Round) (n : ℕ)
+-- the ballot that was begun is of this round where its row says so
+of_round_is : (own : Option BagId) (b : Option BallotNumber) (o : Option BallotState) (n : ℕ)
     → BeginsFor own b o → of_round b n ≡ cond (is_of_round n o) b None
 of_round_is own None None n h = refl
-of_round_is own None (Some round) n h = absurd h
+of_round_is own None (Some state) n h = absurd h
 of_round_is own (Some b) None n h = absurd h
-of_round_is own (Some b) (Some round) n h =
-    ap (λ (x : Round). cond (x.ballot.round == n) (Some b) None) (sym h.is)
+of_round_is own (Some b) (Some state) n h =
+    ap (λ (x : BallotState). cond (x.ballot.round == n) (Some b) None) (sym h.is)
 
-module _ (old new : Rows Row) (r : Record) (records : List Record) (session : Session)
-    (under : UnderWay) (stands : Represents old records session under) where
+module _ (old new : Rows Row) (r : Record) (records : List Record) (volatile : VolatileState)
+    (under : UnderWay) (stands : Represents old records volatile under) where
   -- of another slot the record says nothing
   others_stay : (s : SlotName) → same_slot r.slot s ≡ false
-      → Knows s (records ++ r ∷ []) session.heard (session.current s) (under.begun s)
+      → Knows s (records ++ r ∷ []) volatile.heard (volatile.current s) (under.begun s)
       (under.begun_bag s) (under.current_bag s) (under.waiting s) (row_of old s)
   others_stay s e =
-      raised_knows s records r session.heard (session.current s) (under.begun s)
+      raised_knows s records r volatile.heard (volatile.current s) (under.begun s)
       (under.begun_bag s) (under.current_bag s) (under.waiting s) (row_of old s) (row_of old s)
       (ap (λ (t : Bool). with_one max (row_of old s).used
       (if_some round_in (cond t (Some r.body) None))) (sym e))
@@ -247,10 +248,10 @@ module _ (old new : Rows Row) (r : Record) (records : List Record) (session : Se
   raised : (row : Row) (n : Option ℕ) → round_in r.body ≡ n → PutsAt old new r.slot row
       → row.used ≡ with_one max (row_of old r.slot).used n → row.floor ≡ (row_of old r.slot).floor
       → row.begun ≡ (row_of old r.slot).begun → row.current ≡ (row_of old r.slot).current
-      → Represents new (records ++ r ∷ []) session under
+      → Represents new (records ++ r ∷ []) volatile under
   raised row n is puts used floor begun current =
-      stands_at old new r.slot row (records ++ r ∷ []) session under puts
-      (raised_knows r.slot records r session.heard (session.current r.slot) (under.begun r.slot)
+      stands_at old new r.slot row (records ++ r ∷ []) volatile under puts
+      (raised_knows r.slot records r volatile.heard (volatile.current r.slot) (under.begun r.slot)
       (under.begun_bag r.slot) (under.current_bag r.slot) (under.waiting r.slot)
       (row_of old r.slot) row
       (used ∙ ap (with_one max (row_of old r.slot).used) (sym (says n is))) floor begun current
@@ -261,67 +262,72 @@ module _ (old new : Rows Row) (r : Record) (records : List Record) (session : Se
       → PutsAt old new r.slot row
       → row.used ≡ max (row_of old r.slot).used n → row.floor ≡ (row_of old r.slot).floor
       → row.begun ≡ None → row.current ≡ begun_in (row_of old r.slot) → under.begun r.slot ≡ Some b
-      → Represents new (records ++ r ∷ []) (with_current session r.slot b)
+      → Represents new (records ++ r ∷ []) (with_current volatile r.slot b)
       (under_way_if under r.slot (Some b))
   made_current row n b is puts used floor begun current next =
-      stands_at old new r.slot row (records ++ r ∷ []) (with_current session r.slot b)
+      stands_at old new r.slot row (records ++ r ∷ []) (with_current volatile r.slot b)
       (under_way_if under r.slot (Some b)) puts
-      (subst (λ (c : Option Current). Knows r.slot (records ++ r ∷ []) session.heard c
+      (subst (λ (c : Option Current). Knows r.slot (records ++ r ∷ []) volatile.heard c
       (at_slot r.slot None under.begun r.slot) (at_slot r.slot None under.begun_bag r.slot)
       (at_slot r.slot (under.begun_bag r.slot) under.current_bag r.slot)
       (at_slot r.slot None under.waiting r.slot) row)
-      (sym (at_here r.slot (Some now) session.current))
-      (subst (λ (x : Option BallotNumber). Knows r.slot (records ++ r ∷ []) session.heard (Some now)
+      (sym (at_here r.slot (Some now) volatile.current))
+      (subst (λ (x : Option BallotNumber). Knows r.slot (records ++ r ∷ []) volatile.heard
+      (Some now)
       x (at_slot r.slot None under.begun_bag r.slot)
       (at_slot r.slot (under.begun_bag r.slot) under.current_bag r.slot)
       (at_slot r.slot None under.waiting r.slot) row)
       (sym (at_here r.slot None under.begun))
-      (subst (λ (bag : Option BagId). Knows r.slot (records ++ r ∷ []) session.heard (Some now) None
+      (subst (λ (bag : Option BagId). Knows r.slot (records ++ r ∷ []) volatile.heard
+      (Some now) None
       bag (at_slot r.slot (under.begun_bag r.slot) under.current_bag r.slot)
       (at_slot r.slot None under.waiting r.slot) row)
       (sym (at_here r.slot None under.begun_bag))
-      (subst (λ (own : Option BagId). Knows r.slot (records ++ r ∷ []) session.heard (Some now) None
+      (subst (λ (own : Option BagId). Knows r.slot (records ++ r ∷ []) volatile.heard
+      (Some now) None
       None own (at_slot r.slot None under.waiting r.slot) row)
       (sym (at_here r.slot (under.begun_bag r.slot) under.current_bag))
-      (subst (λ (w : Option Message). Knows r.slot (records ++ r ∷ []) session.heard (Some now) None
+      (subst (λ (w : Option Message). Knows r.slot (records ++ r ∷ []) volatile.heard
+      (Some now) None
       None (under.begun_bag r.slot) w row)
       (sym (at_here r.slot None under.waiting))
-      (issued_knows r.slot records r session.heard (session.current r.slot) b
+      (issued_knows r.slot records r volatile.heard (volatile.current r.slot) b
       (under.begun_bag r.slot) (under.current_bag r.slot) (under.waiting r.slot)
       (row_of old r.slot) row
       (used ∙ ap (with_one max (row_of old r.slot).used) (sym (says (Some n) is))) floor begun
       current
-      (subst (λ (x : Option BallotNumber). Knows r.slot records session.heard
-      (session.current r.slot) x (under.begun_bag r.slot) (under.current_bag r.slot)
+      (subst (λ (x : Option BallotNumber). Knows r.slot records volatile.heard
+      (volatile.current r.slot) x (under.begun_bag r.slot) (under.current_bag r.slot)
       (under.waiting r.slot) (row_of old r.slot)) next
       (stands r.slot))))))))
       (λ s e.
-      subst (λ (c : Option Current). Knows s (records ++ r ∷ []) session.heard c
+      subst (λ (c : Option Current). Knows s (records ++ r ∷ []) volatile.heard c
       (at_slot r.slot None under.begun s) (at_slot r.slot None under.begun_bag s)
       (at_slot r.slot (under.begun_bag r.slot) under.current_bag s)
       (at_slot r.slot None under.waiting s) (row_of old s))
-      (sym (at_other r.slot s (Some now) session.current e))
-      (subst (λ (x : Option BallotNumber). Knows s (records ++ r ∷ []) session.heard
-      (session.current s) x (at_slot r.slot None under.begun_bag s)
+      (sym (at_other r.slot s (Some now) volatile.current e))
+      (subst (λ (x : Option BallotNumber). Knows s (records ++ r ∷ []) volatile.heard
+      (volatile.current s) x (at_slot r.slot None under.begun_bag s)
       (at_slot r.slot (under.begun_bag r.slot) under.current_bag s)
       (at_slot r.slot None under.waiting s) (row_of old s))
       (sym (at_other r.slot s None under.begun e))
-      (subst (λ (bag : Option BagId). Knows s (records ++ r ∷ []) session.heard
-      (session.current s) (under.begun s) bag
+      (subst (λ (bag : Option BagId). Knows s (records ++ r ∷ []) volatile.heard
+      (volatile.current s) (under.begun s) bag
       (at_slot r.slot (under.begun_bag r.slot) under.current_bag s)
       (at_slot r.slot None under.waiting s) (row_of old s))
       (sym (at_other r.slot s None under.begun_bag e))
-      (subst (λ (own : Option BagId). Knows s (records ++ r ∷ []) session.heard
-      (session.current s) (under.begun s) (under.begun_bag s) own
+      (subst (λ (own : Option BagId). Knows s (records ++ r ∷ []) volatile.heard
+      (volatile.current s) (under.begun s) (under.begun_bag s) own
       (at_slot r.slot None under.waiting s) (row_of old s))
       (sym (at_other r.slot s (under.begun_bag r.slot) under.current_bag e))
-      (subst (λ (w : Option Message). Knows s (records ++ r ∷ []) session.heard (session.current s)
+      (subst (λ (w : Option Message). Knows s (records ++ r ∷ []) volatile.heard
+      (volatile.current s)
       (under.begun s) (under.begun_bag s) (under.current_bag s) w (row_of old s))
       (sym (at_other r.slot s None under.waiting e))
       (others_stay s e))))))
     where
       now : Current
-      now = record { ballot = b; heard_before = length session.heard }
+      now = record { ballot = b; heard_before = length volatile.heard }
 
   -- a Round, by whether it is of the ballot that was begun
   round_stands : (n : ℕ) (t : Bool) → round_in r.body ≡ Some n
@@ -343,7 +349,7 @@ module _ (old new : Rows Row) (r : Record) (records : List Record) (session : Se
         current = (row_of old r.slot).current;
       }))
       → Represents new (records ++ r ∷ [])
-      (current_if session r.slot (cond t (under.begun r.slot) None))
+      (current_if volatile r.slot (cond t (under.begun r.slot) None))
       (under_way_if under r.slot (cond t (under.begun r.slot) None))
   round_stands n false is of puts =
       raised (record {
@@ -356,13 +362,13 @@ module _ (old new : Rows Row) (r : Record) (records : List Record) (session : Se
   round_stands n true is of puts = go (under.begun r.slot) (begun_in (row_of old r.slot)) refl of
       (stands r.slot).begun
     where
-      go : (b : Option BallotNumber) (o : Option Round) → under.begun r.slot ≡ b
+      go : (b : Option BallotNumber) (o : Option BallotState) → under.begun r.slot ≡ b
           → is_of_round n o ≡ true
           → BeginsFor (under.begun_bag r.slot) b o
-          → Represents new (records ++ r ∷ []) (current_if session r.slot b)
+          → Represents new (records ++ r ∷ []) (current_if volatile r.slot b)
           (under_way_if under r.slot b)
       go None None e f h = absurd (cc f)
-      go None (Some round) e f h = absurd h
+      go None (Some state) e f h = absurd h
       go (Some b) o e f h =
           made_current (record {
             used = max (row_of old r.slot).used n;
@@ -377,11 +383,11 @@ module _ (old new : Rows Row) (r : Record) (records : List Record) (session : Se
   pub entry_stands : (body : Entry) → r.body ≡ body
       → PutsAt old new r.slot (noted_row (row_of old r.slot) (Some body))
       → Represents new (records ++ r ∷ [])
-      (current_if session r.slot (current_by (under.begun r.slot) body))
+      (current_if volatile r.slot (current_by (under.begun r.slot) body))
       (under_way_if under r.slot (current_by (under.begun r.slot) body))
   entry_stands (entry.Round n) e puts =
       subst (λ (b : Option BallotNumber). Represents new (records ++ r ∷ [])
-      (current_if session r.slot b) (under_way_if under r.slot b))
+      (current_if volatile r.slot b) (under_way_if under r.slot b))
       (sym (of_round_is (under.begun_bag r.slot) (under.begun r.slot)
       (begun_in (row_of old r.slot)) n (stands r.slot).begun))
       (round_stands n (is_of_round n (begun_in (row_of old r.slot))) (ap round_in e) refl puts)
@@ -395,14 +401,14 @@ module _ (old new : Rows Row) (r : Record) (records : List Record) (session : Se
       refl refl refl
 
 pub noted_stands : (old mid new : Rows Row) (r : Record)
-    (records : List Record) (session : Session) (under : UnderWay)
+    (records : List Record) (volatile : VolatileState) (under : UnderWay)
     → ((s : SlotName) → row_of mid s ≡ row_of old s)
     → IsWith mid new r.slot (noted_row (row_of mid r.slot) (Some r.body))
-    → Represents old records session under
+    → Represents old records volatile under
     → Represents new (records ++ r ∷ [])
-    (current_if session r.slot (current_by (under.begun r.slot) r.body))
+    (current_if volatile r.slot (current_by (under.begun r.slot) r.body))
     (under_way_if under r.slot (current_by (under.begun r.slot) r.body))
-noted_stands old mid new r records session under same put stands =
-    entry_stands old new r records session under stands r.body refl
+noted_stands old mid new r records volatile under same put stands =
+    entry_stands old new r records volatile under stands r.body refl
     (puts_at old mid new r.slot (noted_row (row_of old r.slot) (Some r.body)) same
     (subst (λ (row : Row). IsWith mid new r.slot (noted_row row (Some r.body))) (same r.slot) put))

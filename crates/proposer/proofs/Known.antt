@@ -9,7 +9,7 @@ use Rattle.records.specs.declared.record.Record.{Record}
 use Rattle.records.specs.SlotStates.{with_one, if_some}
 use Rattle.dgram.specs.declared.message.Message.{Message}
 use Rattle.dgram.specs.Heard.{body_in, PromiseFrom, promise_in, promisers, refused_round}
-use Rattle.proposer.specs.Rounds.{Round}
+use Rattle.proposer.specs.BallotStates.{BallotState}
 use Rattle.proposer.specs.declared.row.Row.{Row}
 use Rattle.proposer.specs.Proposals.{Current, gathered, highest_prior}
 use Rattle.proposer.specs.Rows.{Counts, CountsFor, Knows, current_in}
@@ -17,11 +17,12 @@ use Rattle.proposer.proofs.Gathered.{one_of, gathered-push, floor-push}
 
 -- the promises gathered are given by an equation
 pub counts_by : (slot : SlotName) (own : Option BagId) (heard more : List Message) (c : Current)
-    (round : Round) → length heard ≤ length more → gathered slot c more ≡ gathered slot c heard
-    → Counts slot own heard c round → Counts slot own more c round
-counts_by slot own heard more c round longer same h = record {
+    (state : BallotState) → length heard ≤ length more
+    → gathered slot c more ≡ gathered slot c heard
+    → Counts slot own heard c state → Counts slot own more c state
+counts_by slot own heard more c state longer same h = record {
   ballot = h.ballot;
-  voters = λ n. h.voters n
+  promised_by = λ n. h.promised_by n
       ∙ ap (λ (ps : List PromiseFrom). is_in (promisers ps) n) (sym same);
   best = h.best ∙ ap highest_prior (sym same);
   own = h.own;
@@ -37,13 +38,13 @@ IsNoPromise slot None m = Unit {0}
 IsNoPromise slot (Some c) m = if_some (promise_in c.ballot) (body_in slot m) ≡ None
 
 pub counts_same : (slot : SlotName) (own : Option BagId) (heard : List Message) (m : Message)
-    (c : Option Current) (round : Option Round) → IsNoPromise slot c m
-    → CountsFor slot own heard c round → CountsFor slot own (heard ++ m ∷ []) c round
+    (c : Option Current) (state : Option BallotState) → IsNoPromise slot c m
+    → CountsFor slot own heard c state → CountsFor slot own (heard ++ m ∷ []) c state
 counts_same slot own heard m None None isnt h = h
-counts_same slot own heard m None (Some round) isnt h = h
+counts_same slot own heard m None (Some state) isnt h = h
 counts_same slot own heard m (Some c) None isnt h = h
-counts_same slot own heard m (Some c) (Some round) isnt h =
-    counts_by slot own heard (heard ++ m ∷ []) c round (longer heard m)
+counts_same slot own heard m (Some c) (Some state) isnt h =
+    counts_by slot own heard (heard ++ m ∷ []) c state (longer heard m)
     (gathered-push slot c heard m h.within
     ∙ ap (λ (o : Option PromiseFrom). gathered slot c heard ++ one_of o) isnt
     ∙ append-nil (gathered slot c heard))

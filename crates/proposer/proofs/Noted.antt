@@ -10,7 +10,7 @@ use Rattle.records.specs.SlotStates.{with_one, if_some, entry_of, round_in}
 use Rattle.records.proofs.SlotStates.{used-push}
 use Rattle.dgram.specs.declared.message.Message.{Message}
 use Rattle.dgram.specs.Heard.{bodies_of, PromiseFrom, promises_for, promisers, priors}
-use Rattle.proposer.specs.Rounds.{Round}
+use Rattle.proposer.specs.BallotStates.{BallotState}
 use Rattle.proposer.specs.declared.row.Row.{Row}
 use Rattle.proposer.specs.Proposals.{Current, gathered, highest_prior}
 use Rattle.proposer.specs.Rows.{Begins, BeginsFor, Counts, CountsFor, Knows, begun_in}
@@ -44,21 +44,21 @@ nothing_gathered slot b heard = rw (drop_all heard)
     drop_all (x ∷ xs) = drop_all xs
 
 fresh_counts : (slot : SlotName) (own : Option BagId) (b : BallotNumber) (heard : List Message)
-    (round : Round) → Begins own b round
-    → Counts slot own heard (record { ballot = b; heard_before = length heard }) round
+    (state : BallotState) → Begins own b state
+    → Counts slot own heard (record { ballot = b; heard_before = length heard }) state
 unfolding highest_prior priors promisers
-fresh_counts slot own b heard round h = record {
-  ballot = ap (λ (x : Round). x.ballot) h.is;
-  voters = λ n. ap (λ (x : Round). is_in x.voters n) h.is
+fresh_counts slot own b heard state h = record {
+  ballot = ap (λ (x : BallotState). x.ballot) h.is;
+  promised_by = λ n. ap (λ (x : BallotState). is_in x.promised_by n) h.is
       ∙ ap (λ (ps : List PromiseFrom). is_in (promisers ps) n)
       (sym (nothing_gathered slot b heard));
-  best = ap (λ (x : Round). x.best) h.is
+  best = ap (λ (x : BallotState). x.best) h.is
       ∙ ap highest_prior (sym (nothing_gathered slot b heard));
   own = h.own;
   within = omega arith;
 }
 
--- a row whose round was begun, and is current now
+-- a row whose ballot was begun, and is current now
 pub issued_knows : (slot : SlotName) (records : List Record) (r : Record) (heard : List Message)
     (c : Option Current) (b : BallotNumber) (bag own : Option BagId) (w : Option Message)
     (row next : Row) → next.used ≡ with_one max row.used (if_some round_in (entry_of slot r))
@@ -77,13 +77,13 @@ issued_knows slot records r heard c b bag own w row next used floor begun curren
   waiting = rw current (none_waits (begun_in row) h.begun);
 }
   where
-    is_current : (o : Option Round) → BeginsFor bag (Some b) o
+    is_current : (o : Option BallotState) → BeginsFor bag (Some b) o
         → CountsFor slot bag heard (Some (record { ballot = b; heard_before = length heard })) o
     is_current None k = absurd k
-    is_current (Some round) k =
-        fresh_counts slot bag b heard round k
+    is_current (Some state) k =
+        fresh_counts slot bag b heard state k
 
-    none_waits : (o : Option Round) → BeginsFor bag (Some b) o
+    none_waits : (o : Option BallotState) → BeginsFor bag (Some b) o
         → waiting_in slot o ≡ None
     none_waits None k = absurd k
-    none_waits (Some round) k = ap (λ (x : Round). waiting_in slot (Some x)) k.is
+    none_waits (Some state) k = ap (λ (x : BallotState). waiting_in slot (Some x)) k.is

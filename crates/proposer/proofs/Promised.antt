@@ -19,14 +19,14 @@ use Rattle.records.specs.SlotStates.{higher, with_one, if_some}
 use Rattle.dgram.specs.declared.message.Message.{Message}
 use Rattle.dgram.specs.Heard.{body_in, PromiseFrom, promise_in, promisers, priors}
 use Rattle.dgram.proofs.Heard.{priors-append}
-use Rattle.proposer.specs.declared.round.Promise.{Promise}
-use Rattle.proposer.specs.Rounds.{Round}
+use Rattle.proposer.specs.declared.ballot_state.Promise.{Promise}
+use Rattle.proposer.specs.BallotStates.{BallotState}
 use Rattle.proposer.specs.Proposals.{Current, gathered, highest_prior, bag_of}
 use Rattle.proposer.specs.Proposals.{proposal, ready}
-use Rattle.proposer.specs.Sessions.{promise_message}
+use Rattle.proposer.specs.VolatileStates.{promise_message}
 use Rattle.proposer.specs.Rows.{Counts, CountsFor, waiting_in}
-use Rattle.proposer.specs.inner.Rounds.{bag_or, higher_prior, counted, is_ready, given_bag}
-use Rattle.proposer.specs.inner.Rounds.{after_promise}
+use Rattle.proposer.specs.inner.BallotStates.{bag_or, higher_prior, counted, is_ready, given_bag}
+use Rattle.proposer.specs.inner.BallotStates.{after_promise}
 use Rattle.proposer.proofs.Gathered.{one_of, gathered-push}
 use Rattle.proposer.proofs.Known.{longer, counts_same}
 
@@ -95,26 +95,26 @@ module _ (slot : SlotName) (from : ℕ) (ballot : BallotNumber) (prior : Option 
   promise_is b = ap (λ (t : Bool). if_some (promise_in b) (cond t (Some m.body) None))
       ((same_slot_decides slot slot).1 refl)
 
-  gathered_more : (c : Current) (round : Round) → Counts slot own heard c round
-      → same_ballot round.ballot ballot ≡ true
+  gathered_more : (c : Current) (state : BallotState) → Counts slot own heard c state
+      → same_ballot state.ballot ballot ≡ true
       → gathered slot c (heard ++ m ∷ []) ≡ gathered slot c heard ++ named ∷ []
-  gathered_more c round h same =
+  gathered_more c state h same =
       gathered-push slot c heard m h.within
       ∙ ap (λ (o : Option PromiseFrom). gathered slot c heard ++ one_of o)
       (promise_is c.ballot ∙ ap (λ (t : Bool). cond t (Some named) None)
       (flip ballot c.ballot ∙ ap (λ (b : BallotNumber). same_ballot b ballot) (sym h.ballot)
       ∙ same))
 
-  pub counts_more : (c : Current) (round : Round) → Counts slot own heard c round
-      → same_ballot round.ballot ballot ≡ true
-      → Counts slot own (heard ++ m ∷ []) c (counted round p)
-  counts_more c round h same =
-      let more = gathered_more c round h same in
+  pub counts_more : (c : Current) (state : BallotState) → Counts slot own heard c state
+      → same_ballot state.ballot ballot ≡ true
+      → Counts slot own (heard ++ m ∷ []) c (counted state p)
+  counts_more c state h same =
+      let more = gathered_more c state h same in
       record {
         ballot = h.ballot;
-        voters = λ n.
-            is_in-with_voter round.voters from n
-            ∙ ap (λ (t : Bool). from == n || t) (h.voters n)
+        promised_by = λ n.
+            is_in-with_voter state.promised_by from n
+            ∙ ap (λ (t : Bool). from == n || t) (h.promised_by n)
             ∙ sym (promisers-push (gathered slot c heard) named n)
             ∙ ap (λ (ps : List PromiseFrom). is_in (promisers ps) n) (sym more);
         best = ap (λ (o : Option Vote). higher_prior o prior) h.best
@@ -124,73 +124,76 @@ module _ (slot : SlotName) (from : ℕ) (ballot : BallotNumber) (prior : Option 
         within = let l = longer heard m in let o = h.within in omega (arith, l);
       }
 
-  -- the proposal, by the round
-  proposal_is : (q : QuorumSystem) → AreQuorums q → (c : Current) (round : Round)
-      → Counts slot own heard c round
+  -- the proposal, by what was gathered
+  proposal_is : (q : QuorumSystem) → AreQuorums q → (c : Current) (state : BallotState)
+      → Counts slot own heard c state
       → proposal q own (gathered slot c heard) named
-      ≡ cond (is_ready q round p) (Some (bag_or (higher_prior round.best prior) round.own)) None
+      ≡ cond (is_ready q state p) (Some (bag_or (higher_prior state.best prior) state.own)) None
   unfolding proposal
-  proposal_is q laws c round h =
+  proposal_is q laws c state h =
       ap (λ (t : Bool). cond (t && not (q.is_quorum (promisers (gathered slot c heard))))
       (bag_of (highest_prior (gathered slot c heard ++ named ∷ [])) own) None)
       (same_quorum q (promisers (gathered slot c heard ++ named ∷ []))
-      (with_voter round.voters from)
+      (with_voter state.promised_by from)
       laws
       (λ n. promisers-push (gathered slot c heard) named n
-      ∙ ap (λ (t : Bool). from == n || t) (sym (h.voters n))
-      ∙ sym (is_in-with_voter round.voters from n)))
-      ∙ ap (λ (t : Bool). cond (q.is_quorum (with_voter round.voters from) && not t)
+      ∙ ap (λ (t : Bool). from == n || t) (sym (h.promised_by n))
+      ∙ sym (is_in-with_voter state.promised_by from n)))
+      ∙ ap (λ (t : Bool). cond (q.is_quorum (with_voter state.promised_by from) && not t)
       (bag_of (highest_prior (gathered slot c heard ++ named ∷ [])) own) None)
-      (same_quorum q (promisers (gathered slot c heard)) round.voters laws (λ n. sym (h.voters n)))
-      ∙ ap (λ (o : Option BagId). cond (is_ready q round p) o None)
+      (same_quorum q (promisers (gathered slot c heard)) state.promised_by laws
+      (λ n. sym (h.promised_by n)))
+      ∙ ap (λ (o : Option BagId). cond (is_ready q state p) o None)
       (ap (λ (o : Option Vote). bag_of o own)
       (highest-push (gathered slot c heard) named
       ∙ ap (λ (o : Option Vote). higher_prior o prior) (sym h.best))
-      ∙ ap (bag_of (higher_prior round.best prior)) h.own
-      ∙ bag_of_own (higher_prior round.best prior) round.own)
+      ∙ ap (bag_of (higher_prior state.best prior)) h.own
+      ∙ bag_of_own (higher_prior state.best prior) state.own)
 
   -- the bag that a row gives is the one to propose
-  pub gives_ready : (q : QuorumSystem) → AreQuorums q → (c : Option Current) (o : Option Round)
+  pub gives_ready : (q : QuorumSystem) → AreQuorums q
+      → (c : Option Current) (o : Option BallotState)
       → CountsFor slot own heard c o
       → given_bag q ballot p o ≡ ready q own slot c heard ballot named
   gives_ready q laws None None h = refl
-  gives_ready q laws None (Some round) h = absurd h
+  gives_ready q laws None (Some state) h = absurd h
   gives_ready q laws (Some c) None h = absurd h
-  gives_ready q laws (Some c) (Some round) h =
-      ap (λ (x : Option BagId). cond (same_ballot round.ballot ballot) x None)
-      (sym (proposal_is q laws c round h))
+  gives_ready q laws (Some c) (Some state) h =
+      ap (λ (x : Option BagId). cond (same_ballot state.ballot ballot) x None)
+      (sym (proposal_is q laws c state h))
       ∙ ap (λ (b : BallotNumber). cond (same_ballot b ballot)
       (proposal q own (gathered slot c heard) named) None) h.ballot
 
   -- what a row becomes, by whether it gives a bag
-  abbrev pub After : Option Current → Option Message → Option Round → Option BagId → Type 0
+  abbrev pub After : Option Current → Option Message → Option BallotState → Option BagId → Type 0
   After c w o None = CountsFor slot own (heard ++ m ∷ []) c o × (waiting_in slot o ≡ w)
   After c w o (Some bag) = CountsFor slot own heard c o × (waiting_in slot o ≡ Some m)
 
-  pub after_is : (q : QuorumSystem) (c : Option Current) (w : Option Message) (o : Option Round)
+  pub after_is : (q : QuorumSystem) (c : Option Current) (w : Option Message)
+      (o : Option BallotState)
       → CountsFor slot own heard c o → waiting_in slot o ≡ w
       → After c w (after_promise q ballot p o) (given_bag q ballot p o)
   after_is q None w None h e = (h, e)
-  after_is q None w (Some round) h e = absurd h
+  after_is q None w (Some state) h e = absurd h
   after_is q (Some c) w None h e = absurd h
-  after_is q (Some c) w (Some round) h e = go (same_ballot round.ballot ballot) (is_ready q round p)
+  after_is q (Some c) w (Some state) h e = go (same_ballot state.ballot ballot) (is_ready q state p)
       refl
     where
-      go : (t u : Bool) → same_ballot round.ballot ballot ≡ t
+      go : (t u : Bool) → same_ballot state.ballot ballot ≡ t
           → After (Some c) w
           (Some (cond t (cond u (record {
-            ballot = round.ballot;
-            own = round.own;
-            voters =
-                round.voters;
-            best = round.best;
+            ballot = state.ballot;
+            own = state.own;
+            promised_by =
+                state.promised_by;
+            best = state.best;
             waiting = Some p;
-          }) (counted round p)) round))
-          (cond t (cond u (Some (bag_or (higher_prior round.best prior) round.own)) None) None)
+          }) (counted state p)) state))
+          (cond t (cond u (Some (bag_or (higher_prior state.best prior) state.own)) None) None)
       go true true same = (
         record {
           ballot = h.ballot;
-          voters = h.voters;
+          promised_by = h.promised_by;
           best = h.best;
           own =
               h.own;
@@ -198,11 +201,11 @@ module _ (slot : SlotName) (from : ℕ) (ballot : BallotNumber) (prior : Option 
         },
         ap
             (λ (b : BallotNumber). Some (promise_message slot from b prior))
-            ((same_ballot_decides round.ballot ballot).0 same),
+            ((same_ballot_decides state.ballot ballot).0 same),
       )
-      go true false same = (counts_more c round h same, e)
+      go true false same = (counts_more c state h same, e)
       go false u differ = (
-        counts_same slot own heard m (Some c) (Some round)
+        counts_same slot own heard m (Some c) (Some state)
             (promise_is c.ballot ∙ ap (λ (t : Bool). cond t (Some named) None)
             (flip ballot c.ballot ∙ ap (λ (b : BallotNumber). same_ballot b ballot)
             (sym h.ballot) ∙ differ))

@@ -15,19 +15,19 @@ use Rattle.dgram.specs.declared.body.Body.{Body}
 use Rattle.dgram.specs.declared.message.Message.{Message}
 use Rattle.dgram.specs.Heard.{body_in, bodies_of, promise_in, refused_round, floor_of}
 use Rattle.slot_table.specs.Rows.{Rows, row_at, row_or, IsWith}
-use Rattle.proposer.specs.declared.round.Promise.{Promise}
-use Rattle.proposer.specs.declared.round.Plan.{Plan}
-use Rattle.proposer.specs.Rounds.{Round, fresh, round_of}
+use Rattle.proposer.specs.declared.ballot_state.Promise.{Promise}
+use Rattle.proposer.specs.declared.ballot_state.Plan.{Plan}
+use Rattle.proposer.specs.BallotStates.{BallotState, fresh, state_of}
 use Rattle.proposer.specs.declared.row.Row.{Row}
 use Rattle.proposer.specs.Proposals.{Current, ballot_after, next_ballot, ready}
-use Rattle.proposer.specs.Sessions.{Session, new_session, at_slot, hears}
+use Rattle.proposer.specs.VolatileStates.{VolatileState, new_volatile, at_slot, hears}
 use Rattle.proposer.specs.UnderWay.{UnderWay, nothing}
-use Rattle.proposer.specs.Sessions.{promise_message, refusal_message}
+use Rattle.proposer.specs.VolatileStates.{promise_message, refusal_message}
 use Rattle.proposer.specs.UnderWay.{begins, waits, heard_after}
 use Rattle.proposer.specs.UnderWay.{waiting_after}
 use Rattle.proposer.specs.Rows.{empty_row, BeginsFor, Knows, Represents, row_of, begun_in}
 use Rattle.proposer.specs.Rows.{current_in, ProposerState}
-use Rattle.proposer.specs.inner.Rounds.{after_promise}
+use Rattle.proposer.specs.inner.BallotStates.{after_promise}
 use Rattle.proposer.specs.inner.Rows.{OnlyAt, HeardPromise, HeardAt}
 use Rattle.proposer.specs.inner.Rows.{BeginsAt, with_begun, with_floor}
 use Rattle.proposer.proofs.Gathered.{floor-push}
@@ -50,7 +50,7 @@ pub says_nothing : (slot s : SlotName) (body : Body) → same_slot slot s ≡ fa
 says_nothing slot s body e = ap (λ (t : Bool). cond t (Some body) None) e
 
 -- ---- a new proposer
-pub nothing_known : (rows : Rows Row) → rows ≡ [] → Represents rows [] new_session nothing
+pub nothing_known : (rows : Rows Row) → rows ≡ [] → Represents rows [] new_volatile nothing
 unfolding used_of floor_of bodies_of
 nothing_known rows e slot =
     subst (λ (r : Rows Row). Knows slot [] [] None None None None None (row_of r slot)) (sym e)
@@ -58,12 +58,12 @@ nothing_known rows e slot =
 
 -- ---- a ballot begun
 pub next_is : (rows : Rows Row) (site : ℕ) (slot : SlotName)
-    (records : List Record) (session : Session) (under : UnderWay)
-    → Represents rows records session under
+    (records : List Record) (volatile : VolatileState) (under : UnderWay)
+    → Represents rows records volatile under
     → ballot_after site (max (row_of rows slot).used (row_of rows slot).floor)
-    ≡ next_ballot site slot records session.heard
+    ≡ next_ballot site slot records volatile.heard
 unfolding next_ballot
-next_is rows site slot records session under stands =
+next_is rows site slot records volatile under stands =
     let used = (stands slot).used in
     let floor = (stands slot).floor in
     λ i. ballot_after site (max (used i) (floor i))
@@ -71,7 +71,7 @@ next_is rows site slot records session under stands =
 pub begins_at : (old mid new : Rows Row) (slot : SlotName) (box : Box Plan Global) (plan : Plan)
     → ((s : SlotName) → row_of mid s ≡ row_of old s)
     → IsWith mid new slot (with_begun (row_of mid slot) box) → box.value ≡ plan
-    → BeginsAt (round_of plan) old new slot
+    → BeginsAt (state_of plan) old new slot
 begins_at old mid new slot box plan same put is =
     let puts = puts_at old mid new slot (with_begun (row_of mid slot) box) same put in
     let there = row_there old new slot (with_begun (row_of mid slot) box) puts in (
@@ -80,23 +80,23 @@ begins_at old mid new slot box plan same put is =
         used = ap (λ (r : Row). r.used) there ∙ ap (λ (r : Row). r.used) (same slot);
         floor = ap (λ (r : Row). r.floor) there ∙ ap (λ (r : Row). r.floor) (same slot);
         current = ap (λ (r : Row). r.current) there ∙ ap (λ (r : Row). r.current) (same slot);
-        begun = ap begun_in there ∙ ap (λ (p : Plan). Some (round_of p)) is;
+        begun = ap begun_in there ∙ ap (λ (p : Plan). Some (state_of p)) is;
       },
     )
 
 pub begun_stands : (old new : Rows Row) (slot : SlotName) (ballot : BallotNumber) (own : BagId)
-    (records : List Record) (session : Session) (under : UnderWay)
-    → BeginsAt (fresh ballot own) old new slot → Represents old records session under
-    → Represents new records session (begins under slot ballot own)
-begun_stands old new slot ballot own records session under at stands =
+    (records : List Record) (volatile : VolatileState) (under : UnderWay)
+    → BeginsAt (fresh ballot own) old new slot → Represents old records volatile under
+    → Represents new records volatile (begins under slot ballot own)
+begun_stands old new slot ballot own records volatile under at stands =
     let h = stands slot in
     let now = at.1 in
-    stands_at old new slot (row_of new slot) records session (begins under slot ballot own) at.0
-    (subst (λ (b : Option BallotNumber). Knows slot records session.heard (session.current slot) b
+    stands_at old new slot (row_of new slot) records volatile (begins under slot ballot own) at.0
+    (subst (λ (b : Option BallotNumber). Knows slot records volatile.heard (volatile.current slot) b
     (at_slot slot (Some own) under.begun_bag slot) (under.current_bag slot)
     (under.waiting slot) (row_of new slot))
     (sym (at_here slot (Some ballot) under.begun))
-    (subst (λ (bag : Option BagId). Knows slot records session.heard (session.current slot)
+    (subst (λ (bag : Option BagId). Knows slot records volatile.heard (volatile.current slot)
     (Some ballot) bag (under.current_bag slot) (under.waiting slot) (row_of new slot))
     (sym (at_here slot (Some own) under.begun_bag))
     (record {
@@ -107,11 +107,12 @@ begun_stands old new slot ballot own records session under at stands =
       current = rw now.current h.current;
       waiting = rw now.current h.waiting;
     })))
-    (λ s e. subst (λ (b : Option BallotNumber). Knows s records session.heard (session.current s) b
+    (λ s e. subst (λ (b : Option BallotNumber). Knows s records volatile.heard
+    (volatile.current s) b
     (at_slot slot (Some own) under.begun_bag s) (under.current_bag s) (under.waiting s)
     (row_of old s))
     (sym (at_other slot s (Some ballot) under.begun e))
-    (subst (λ (bag : Option BagId). Knows s records session.heard (session.current s)
+    (subst (λ (bag : Option BagId). Knows s records volatile.heard (volatile.current s)
     (under.begun s) bag (under.current_bag s) (under.waiting s) (row_of old s))
     (sym (at_other slot s (Some own) under.begun_bag e)) (stands s)))
 
@@ -124,13 +125,14 @@ put_present old new slot row put =
 
 -- ---- a message heard that is neither a promise nor a refusal: the site's other messages
 pub heard_stands : (rows : Rows Row) (m : Message)
-    (records : List Record) (session : Session) (under : UnderWay) → refused_round m.body ≡ None
-    → ((b : BallotNumber) → promise_in b m.body ≡ None) → Represents rows records session under
-    → Represents rows records (hears session m) under
-heard_stands rows m records session under refuses promises stands s =
-    heard_knows s records session.heard (session.current s) (under.begun s) (under.begun_bag s)
+    (records : List Record) (volatile : VolatileState) (under : UnderWay)
+    → refused_round m.body ≡ None
+    → ((b : BallotNumber) → promise_in b m.body ≡ None) → Represents rows records volatile under
+    → Represents rows records (hears volatile m) under
+heard_stands rows m records volatile under refuses promises stands s =
+    heard_knows s records volatile.heard (volatile.current s) (under.begun s) (under.begun_bag s)
     (under.current_bag s) (under.waiting s) m (row_of rows s) (row_of rows s) refl refl refl
-    (floor_same (same_slot m.slot s)) (no_promise (session.current s) (same_slot m.slot s) refl)
+    (floor_same (same_slot m.slot s)) (no_promise (volatile.current s) (same_slot m.slot s) refl)
     (stands s)
   where
     floor_same : (t : Bool) → (row_of rows s).floor ≡ with_one max (row_of rows s).floor
@@ -148,15 +150,16 @@ heard_stands rows m records session under refuses promises stands s =
 
 -- ---- a refusal heard
 pub refused_stands : (old mid new : Rows Row) (slot : SlotName) (n from : ℕ)
-    (asked standing : BallotNumber) (records : List Record) (session : Session) (under : UnderWay)
+    (asked standing : BallotNumber) (records : List Record) (volatile : VolatileState)
+    (under : UnderWay)
     → ((s : SlotName) → row_of mid s ≡ row_of old s)
     → IsWith mid new slot (with_floor (row_of mid slot) n) → n ≡ standing.round
-    → Represents old records session under
-    → Represents new records (hears session (refusal_message slot from asked standing)) under
-refused_stands old mid new slot n from asked standing records session under same put is stands =
-    stands_at old new slot (with_floor (row_of mid slot) n) records (hears session m) under
+    → Represents old records volatile under
+    → Represents new records (hears volatile (refusal_message slot from asked standing)) under
+refused_stands old mid new slot n from asked standing records volatile under same put is stands =
+    stands_at old new slot (with_floor (row_of mid slot) n) records (hears volatile m) under
     (puts_at old mid new slot (with_floor (row_of mid slot) n) same put)
-    (heard_knows slot records session.heard (session.current slot) (under.begun slot)
+    (heard_knows slot records volatile.heard (volatile.current slot) (under.begun slot)
     (under.begun_bag slot) (under.current_bag slot) (under.waiting slot) m (row_of old slot)
     (with_floor (row_of mid slot) n)
     (ap (λ (r : Row). r.used) (same slot)) (ap (λ (r : Row). r.begun) (same slot))
@@ -164,9 +167,9 @@ refused_stands old mid new slot n from asked standing records session under same
     ((λ i. max (same slot i).floor (is i))
     ∙ sym (ap (λ (t : Bool). with_one max (row_of old slot).floor
     (if_some refused_round (cond t (Some m.body) None))) here))
-    (no_promise (session.current slot))
+    (no_promise (volatile.current slot))
     (stands slot))
-    (λ s e. other_knows s records session.heard (session.current s) (under.begun s)
+    (λ s e. other_knows s records volatile.heard (volatile.current s) (under.begun s)
     (under.begun_bag s) (under.current_bag s) (under.waiting s) m (row_of old s)
     (says_nothing slot s m.body e) (stands s))
   where
@@ -216,56 +219,56 @@ heard_nowhere q ballot p old new slot is e =
 
 module _ (q : QuorumSystem) (laws : AreQuorums q) (slot : SlotName) (from : ℕ)
     (ballot : BallotNumber) (prior : Option Vote) (old new : Rows Row) (given : Option BagId)
-    (records : List Record) (session : Session) (under : UnderWay)
+    (records : List Record) (volatile : VolatileState) (under : UnderWay)
     (at : HeardAt q ballot (record { site = from; prior = prior }) old new slot given)
-    (stands : Represents old records session under) where
+    (stands : Represents old records volatile under) where
   pub promise_ready :
-      given ≡ ready q (under.current_bag slot) slot (session.current slot) session.heard ballot
+      given ≡ ready q (under.current_bag slot) slot (volatile.current slot) volatile.heard ballot
       (record { site = from; prior = prior })
   promise_ready =
       (at.1).bag
-      ∙ gives_ready slot from ballot prior (under.current_bag slot) session.heard q laws
-      (session.current slot) (current_in (row_of old slot)) (stands slot).current
+      ∙ gives_ready slot from ballot prior (under.current_bag slot) volatile.heard q laws
+      (volatile.current slot) (current_in (row_of old slot)) (stands slot).current
 
   pub promise_stands :
-      Represents new records (heard_after given session (promise_message slot from ballot prior))
+      Represents new records (heard_after given volatile (promise_message slot from ballot prior))
       (waiting_after given under (promise_message slot from ballot prior))
   promise_stands = go given after
     where
       m : Message
       m = promise_message slot from ballot prior
 
-      after : After slot from ballot prior (under.current_bag slot) session.heard
-          (session.current slot) (under.waiting slot) (current_in (row_of new slot)) given
+      after : After slot from ballot prior (under.current_bag slot) volatile.heard
+          (volatile.current slot) (under.waiting slot) (current_in (row_of new slot)) given
       after =
           let h = stands slot in
-          subst (λ (o : Option Round). After slot from ballot prior (under.current_bag slot)
-          session.heard (session.current slot) (under.waiting slot) o given)
+          subst (λ (o : Option BallotState). After slot from ballot prior (under.current_bag slot)
+          volatile.heard (volatile.current slot) (under.waiting slot) o given)
           (sym (at.1).current)
-          (subst (After slot from ballot prior (under.current_bag slot) session.heard
-          (session.current slot) (under.waiting slot)
+          (subst (After slot from ballot prior (under.current_bag slot) volatile.heard
+          (volatile.current slot) (under.waiting slot)
           (after_promise q ballot (record { site = from; prior = prior })
           (current_in (row_of old slot)))) (sym (at.1).bag)
-          (after_is slot from ballot prior (under.current_bag slot) session.heard q
-          (session.current slot) (under.waiting slot) (current_in (row_of old slot)) h.current
+          (after_is slot from ballot prior (under.current_bag slot) volatile.heard q
+          (volatile.current slot) (under.waiting slot) (current_in (row_of old slot)) h.current
           h.waiting))
 
-      floor_stays : floor_of (bodies_of slot (session.heard ++ m ∷ [])) ≡ floor_of
-          (bodies_of slot session.heard)
+      floor_stays : floor_of (bodies_of slot (volatile.heard ++ m ∷ [])) ≡ floor_of
+          (bodies_of slot volatile.heard)
       floor_stays =
-          floor-push slot session.heard m
-          ∙ ap (λ (t : Bool). with_one max (floor_of (bodies_of slot session.heard))
+          floor-push slot volatile.heard m
+          ∙ ap (λ (t : Bool). with_one max (floor_of (bodies_of slot volatile.heard))
           (if_some refused_round (cond t (Some m.body) None)))
           ((same_slot_decides slot slot).1 refl)
 
       go : (o : Option BagId)
-          → After slot from ballot prior (under.current_bag slot) session.heard
-          (session.current slot) (under.waiting slot) (current_in (row_of new slot)) o
-          → Represents new records (heard_after o session (promise_message slot from ballot prior))
+          → After slot from ballot prior (under.current_bag slot) volatile.heard
+          (volatile.current slot) (under.waiting slot) (current_in (row_of new slot)) o
+          → Represents new records (heard_after o volatile (promise_message slot from ballot prior))
           (waiting_after o under (promise_message slot from ballot prior))
       go None k =
           let h = stands slot in
-          stands_at old new slot (row_of new slot) records (hears session m) under at.0
+          stands_at old new slot (row_of new slot) records (hears volatile m) under at.0
           (record {
             used = (at.1).used ∙ h.used;
             floor = (at.1).floor ∙ h.floor ∙ sym floor_stays;
@@ -273,13 +276,13 @@ module _ (q : QuorumSystem) (laws : AreQuorums q) (slot : SlotName) (from : ℕ)
             current = k.0;
             waiting = k.1;
           })
-          (λ s e. other_knows s records session.heard (session.current s) (under.begun s)
+          (λ s e. other_knows s records volatile.heard (volatile.current s) (under.begun s)
           (under.begun_bag s) (under.current_bag s) (under.waiting s) m (row_of old s)
           (says_nothing slot s m.body e) (stands s))
       go (Some bag) k =
           let h = stands slot in
-          stands_at old new slot (row_of new slot) records session (waits under slot (Some m)) at.0
-          (subst (λ (w : Option Message). Knows slot records session.heard (session.current slot)
+          stands_at old new slot (row_of new slot) records volatile (waits under slot (Some m)) at.0
+          (subst (λ (w : Option Message). Knows slot records volatile.heard (volatile.current slot)
           (under.begun slot) (under.begun_bag slot) (under.current_bag slot) w (row_of new slot))
           (sym (at_here slot (Some m) under.waiting))
           (record {
@@ -289,7 +292,7 @@ module _ (q : QuorumSystem) (laws : AreQuorums q) (slot : SlotName) (from : ℕ)
             current = k.0;
             waiting = k.1;
           }))
-          (λ s e. subst (λ (w : Option Message). Knows s records session.heard (session.current s)
+          (λ s e. subst (λ (w : Option Message). Knows s records volatile.heard (volatile.current s)
           (under.begun s) (under.begun_bag s) (under.current_bag s) w (row_of old s))
           (sym (at_other slot s (Some m) under.waiting e)) (stands s))
 
@@ -297,20 +300,20 @@ module _ (q : QuorumSystem) (laws : AreQuorums q) (slot : SlotName) (from : ℕ)
 pub promise_heard : {Q : Type 0} (system : Q → QuorumSystem)
     → ((members : Q) → AreQuorums (system members)) → {inside now : ProposerState Q} → inside ≡ now
     → (slot : SlotName) (from : ℕ) (ballot : BallotNumber) (prior : Option Vote) (new : Rows Row)
-    (given : Option BagId) (records : List Record) (session : Session) (under : UnderWay)
+    (given : Option BagId) (records : List Record) (volatile : VolatileState) (under : UnderWay)
     → HeardAt (system inside.members) ballot (record { site = from; prior = prior }) inside.rows
     new slot given
-    → Represents now.rows records session under
-    → (given ≡ ready (system now.members) (under.current_bag slot) slot (session.current slot)
-    session.heard ballot (record { site = from; prior = prior }))
-    × Represents new records (heard_after given session (promise_message slot from ballot prior))
+    → Represents now.rows records volatile under
+    → (given ≡ ready (system now.members) (under.current_bag slot) slot (volatile.current slot)
+    volatile.heard ballot (record { site = from; prior = prior }))
+    × Represents new records (heard_after given volatile (promise_message slot from ballot prior))
     (waiting_after given under (promise_message slot from ballot prior))
-promise_heard {Q} system laws {inside} {now} seen slot from ballot prior new given records session
+promise_heard {Q} system laws {inside} {now} seen slot from ballot prior new given records volatile
     under at stands =
     let here = subst (λ (p : ProposerState Q). HeardAt (system p.members) ballot
     (record { site = from; prior = prior }) p.rows new slot given) seen at in (
       promise_ready (system now.members) (laws now.members) slot from ballot prior now.rows new
-          given records session under here stands,
+          given records volatile under here stands,
       promise_stands (system now.members) (laws now.members) slot from ballot prior now.rows new
-          given records session under here stands,
+          given records volatile under here stands,
     )

@@ -6,7 +6,7 @@ use Rattle.fed_types.specs.Laws.Slots.{same_slot_decides}
 use Rattle.records.specs.declared.record.Record.{Record}
 use Rattle.slot_table.specs.Rows.{Rows, row_at, row_or, IsWith, HasRooms}
 use Rattle.proposer.specs.declared.row.Row.{Row}
-use Rattle.proposer.specs.Sessions.{Session}
+use Rattle.proposer.specs.VolatileStates.{VolatileState}
 use Rattle.proposer.specs.UnderWay.{UnderWay}
 use Rattle.proposer.specs.Rows.{Knows, Represents, row_of, empty_row}
 use Rattle.proposer.specs.inner.Rows.{OnlyAt}
@@ -41,33 +41,33 @@ only_at old new slot row puts s =
 
 -- what is known of the slot by its new row, and of each other slot by its old one
 pub stands_at : (old new : Rows Row) (slot : SlotName) (row : Row)
-    (records : List Record) (session : Session) (under : UnderWay) → PutsAt old new slot row
-    → Knows slot records session.heard (session.current slot) (under.begun slot)
+    (records : List Record) (volatile : VolatileState) (under : UnderWay) → PutsAt old new slot row
+    → Knows slot records volatile.heard (volatile.current slot) (under.begun slot)
     (under.begun_bag slot) (under.current_bag slot) (under.waiting slot) row
     → ((s : SlotName) → same_slot slot s ≡ false
-    → Knows s records session.heard (session.current s) (under.begun s) (under.begun_bag s)
+    → Knows s records volatile.heard (volatile.current s) (under.begun s) (under.begun_bag s)
     (under.current_bag s) (under.waiting s) (row_of old s))
-    → Represents new records session under
-stands_at old new slot row records session under puts at others s =
-    subst (Knows s records session.heard (session.current s) (under.begun s) (under.begun_bag s)
+    → Represents new records volatile under
+stands_at old new slot row records volatile under puts at others s =
+    subst (Knows s records volatile.heard (volatile.current s) (under.begun s) (under.begun_bag s)
     (under.current_bag s) (under.waiting s))
     (sym (puts s)) (go (same_slot slot s) refl)
   where
     go : (t : Bool) → same_slot slot s ≡ t
-        → Knows s records session.heard (session.current s) (under.begun s) (under.begun_bag s)
+        → Knows s records volatile.heard (volatile.current s) (under.begun s) (under.begun_bag s)
         (under.current_bag s) (under.waiting s) (cond t row (row_of old s))
     go true e =
-        subst (λ (k : SlotName). Knows k records session.heard (session.current k) (under.begun k)
+        subst (λ (k : SlotName). Knows k records volatile.heard (volatile.current k) (under.begun k)
         (under.begun_bag k) (under.current_bag k) (under.waiting k) row)
         ((same_slot_decides slot s).0 e) at
     go false e = others s e
 
 -- tables that say the same
 pub same_stands : (old new : Rows Row) → ((s : SlotName) → row_of new s ≡ row_of old s)
-    → (records : List Record) (session : Session) (under : UnderWay)
-    → Represents old records session under → Represents new records session under
-same_stands old new same records session under stands s =
-    subst (Knows s records session.heard (session.current s) (under.begun s) (under.begun_bag s)
+    → (records : List Record) (volatile : VolatileState) (under : UnderWay)
+    → Represents old records volatile under → Represents new records volatile under
+same_stands old new same records volatile under stands s =
+    subst (Knows s records volatile.heard (volatile.current s) (under.begun s) (under.begun_bag s)
     (under.current_bag s) (under.waiting s))
     (sym (same s)) (stands s)
 

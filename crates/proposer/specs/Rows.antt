@@ -11,11 +11,11 @@ use Rattle.dgram.specs.declared.body.Body.TheVariants.{Promise}
 use Rattle.dgram.specs.declared.message.Message.{Message}
 use Rattle.dgram.specs.Heard.{bodies_of, floor_of, promisers}
 use Rattle.slot_table.specs.Rows as tables
-use Rattle.proposer.specs.declared.round.Promise.{Promise as Waiting}
+use Rattle.proposer.specs.declared.ballot_state.Promise.{Promise as Waiting}
 use Rattle.proposer.specs.declared.row.Row.{Row}
 use Rattle.proposer.specs.Proposals.{Current, gathered, highest_prior}
-use Rattle.proposer.specs.Rounds.{Round, fresh, round_of}
-use Rattle.proposer.specs.Sessions.{Session}
+use Rattle.proposer.specs.BallotStates.{BallotState, fresh, state_of}
+use Rattle.proposer.specs.VolatileStates.{VolatileState}
 use Rattle.proposer.specs.UnderWay.{UnderWay}
 
 -- the membership, the own site, and the rows by slot
@@ -40,39 +40,39 @@ row_of rows slot = tables.row_of empty_row rows slot
 abbrev pub KnowsSame : (old new : tables.Rows Row) → Type 0
 KnowsSame old new = (s : SlotName) → row_of new s ≡ row_of old s
 
--- the rounds of a row
-abbrev pub begun_in : Row → Option Round
-begun_in row = option_map (λ plan. round_of (box_value plan)) row.begun
+-- the ballots of a row, with what was gathered for them
+abbrev pub begun_in : Row → Option BallotState
+begun_in row = option_map (λ plan. state_of (box_value plan)) row.begun
 
-abbrev pub current_in : Row → Option Round
+abbrev pub current_in : Row → Option BallotState
 current_in row = row.current
 
--- the round of the ballot that was begun, with this bag
-pub record Begins (bag : Option BagId) (ballot : BallotNumber) (round : Round) : Type 0 where
-  pub is : round ≡ fresh ballot round.own
-  pub own : bag ≡ Some round.own
+-- the ballot that was begun, with this bag, and nothing was gathered for it
+pub record Begins (bag : Option BagId) (ballot : BallotNumber) (state : BallotState) : Type 0 where
+  pub is : state ≡ fresh ballot state.own
+  pub own : bag ≡ Some state.own
 
-abbrev pub BeginsFor : Option BagId → Option BallotNumber → Option Round → Type 0
+abbrev pub BeginsFor : Option BagId → Option BallotNumber → Option BallotState → Type 0
 BeginsFor own None None = Unit {0}
-BeginsFor own (Some ballot) (Some round) = Begins own ballot round
+BeginsFor own (Some ballot) (Some state) = Begins own ballot state
 BeginsFor own _ _ = ⊥
 
--- the round of the current ballot, which was begun with this bag: it counts the promises that were
--- gathered
+-- the current ballot, which was begun with this bag: it counts the promises that were gathered
 pub record Counts
     (slot : SlotName) (bag : Option BagId) (heard : List Message) (c : Current)
-    (round : Round)
+    (state : BallotState)
     : Type 0 where
-  pub ballot : round.ballot ≡ c.ballot
-  pub voters : (n : ℕ) → is_in round.voters n ≡ is_in (promisers (gathered slot c heard)) n
-  pub best : round.best ≡ highest_prior (gathered slot c heard)
-  pub own : bag ≡ Some round.own
+  pub ballot : state.ballot ≡ c.ballot
+  pub promised_by : (n : ℕ)
+      → is_in state.promised_by n ≡ is_in (promisers (gathered slot c heard)) n
+  pub best : state.best ≡ highest_prior (gathered slot c heard)
+  pub own : bag ≡ Some state.own
   pub within : c.heard_before ≤ length heard
 
 abbrev pub CountsFor :
-    SlotName → Option BagId → List Message → Option Current → Option Round → Type 0
+    SlotName → Option BagId → List Message → Option Current → Option BallotState → Type 0
 CountsFor slot own heard None None = Unit {0}
-CountsFor slot own heard (Some c) (Some round) = Counts slot own heard c round
+CountsFor slot own heard (Some c) (Some state) = Counts slot own heard c state
 CountsFor slot own heard _ _ = ⊥
 
 -- the promise that waits, as it was heard
@@ -81,9 +81,9 @@ waiting_as slot ballot None = None
 waiting_as slot ballot (Some p) =
     Some (record { slot = slot; body = Promise p.site ballot p.prior })
 
-abbrev pub waiting_in : SlotName → Option Round → Option Message
+abbrev pub waiting_in : SlotName → Option BallotState → Option Message
 waiting_in slot None = None
-waiting_in slot (Some round) = waiting_as slot round.ballot round.waiting
+waiting_in slot (Some state) = waiting_as slot state.ballot state.waiting
 
 -- the row knows what records and messages say of the slot, its current ballot, the next one that is
 -- begun, with which bags they were begun, and what waits
@@ -98,8 +98,8 @@ pub record Knows
   pub waiting : waiting_in slot (current_in row) ≡ m
 
 -- so it is of every slot
-abbrev pub Represents : tables.Rows Row → List Record → Session → UnderWay → Type 0
-Represents rows records session under =
+abbrev pub Represents : tables.Rows Row → List Record → VolatileState → UnderWay → Type 0
+Represents rows records volatile under =
     (slot : SlotName)
-    → Knows slot records session.heard (session.current slot) (under.begun slot)
+    → Knows slot records volatile.heard (volatile.current slot) (under.begun slot)
     (under.begun_bag slot) (under.current_bag slot) (under.waiting slot) (row_of rows slot)

@@ -7,36 +7,38 @@ use Rattle.fed_types.specs.Slots.{SlotName}
 use Rattle.records.specs.declared.record.Record.{Record}
 use Rattle.records.specs.Records.{Records}
 use Rattle.dgram.specs.declared.message.Message.{Message}
-use Rattle.proposer.specs.Sessions.{Session, hears, refusal_message}
+use Rattle.proposer.specs.VolatileStates.{VolatileState, hears, refusal_message}
 use Rattle.proposer.specs.UnderWay.{UnderWay, heard_if, waits}
 use Rattle.proposer.specs.UnderWay.{heard_after, waiting_after, current_by, current_if}
 use Rattle.proposer.specs.UnderWay.{under_way_if}
 
+-- what a proposer's rows, or a site's tables, represent
 abbrev pub Meaning : Type 1
-Meaning = Records → Session → UnderWay → Type 0
+Meaning = Records → VolatileState → UnderWay → Type 0
 
 -- a promise is heard; or it made a proposal of this bag ready, and waits
 abbrev pub HearsPromise : (old new : Meaning) → Message → Option BagId → Type 0
 HearsPromise old new promise bag =
-    (records : Records) (session : Session) (under : UnderWay) → old records session under
-    → new records (heard_after bag session promise) (waiting_after bag under promise)
+    (records : Records) (volatile : VolatileState) (under : UnderWay) → old records volatile under
+    → new records (heard_after bag volatile promise) (waiting_after bag under promise)
 
 -- the proposal that became ready is issued: the promise that waits is heard
 abbrev pub IssuesProposal : (old new : Meaning) → SlotName → Type 0
 IssuesProposal old new slot =
-    (records : Records) (session : Session) (under : UnderWay) → old records session under
-    → new records (heard_if session (under.waiting slot)) (waits under slot None)
+    (records : Records) (volatile : VolatileState) (under : UnderWay) → old records volatile under
+    → new records (heard_if volatile (under.waiting slot)) (waits under slot None)
 
 -- a refusal is heard, from whatever site and of whatever ballot
 abbrev pub HearsRefusal : (old new : Meaning) → SlotName → (standing : BallotNumber) → Type 0
 HearsRefusal old new slot standing =
-    (from : ℕ) (asked : BallotNumber) (records : Records) (session : Session) (under : UnderWay)
-    → old records session under
-    → new records (hears session (refusal_message slot from asked standing)) under
+    (from : ℕ) (asked : BallotNumber) (records : Records) (volatile : VolatileState)
+    (under : UnderWay)
+    → old records volatile under
+    → new records (hears volatile (refusal_message slot from asked standing)) under
 
 -- a record is noted: the Round of a ballot that was begun makes it current
 abbrev pub NotesRecord : (old new : Meaning) → Record → Type 0
 NotesRecord old new r =
-    (records : Records) (session : Session) (under : UnderWay) → old records session under
-    → new (records ++ r ∷ []) (current_if session r.slot (current_by (under.begun r.slot) r.body))
+    (records : Records) (volatile : VolatileState) (under : UnderWay) → old records volatile under
+    → new (records ++ r ∷ []) (current_if volatile r.slot (current_by (under.begun r.slot) r.body))
     (under_way_if under r.slot (current_by (under.begun r.slot) r.body))

@@ -7,9 +7,9 @@ use Rattle.fed_types.specs.Slots.{SlotName}
 use Rattle.records.specs.declared.entry.Entry.{Entry}
 use Rattle.records.specs.declared.entry.Entry.TheVariants as entry
 use Rattle.dgram.specs.declared.message.Message.{Message}
-use Rattle.proposer.specs.Sessions.{Session, hears, at_slot, with_current}
+use Rattle.proposer.specs.VolatileStates.{VolatileState, hears, at_slot, with_current}
 
--- Of each slot, so that the session doesn't show it: where memory runs out meanwhile, nothing has
+-- Of each slot, what the volatile state doesn't show: where memory runs out meanwhile, nothing has
 -- happened. A ballot that was begun, while its Round record isn't noted, and the bag that it was
 -- begun with; the bag that the current ballot was begun with; and the promise that made a proposal
 -- ready, while the proposal isn't issued.
@@ -47,9 +47,9 @@ waits under slot m = record {
 }
 
 -- a promise that makes a proposal of this bag ready isn't heard yet; one that makes none ready is
-abbrev pub heard_after : Option BagId → Session → Message → Session
-heard_after None session m = hears session m
-heard_after (Some bag) session m = session
+abbrev pub heard_after : Option BagId → VolatileState → Message → VolatileState
+heard_after None volatile m = hears volatile m
+heard_after (Some bag) volatile m = volatile
 
 -- but waits
 abbrev pub waiting_after : Option BagId → UnderWay → Message → UnderWay
@@ -57,9 +57,9 @@ waiting_after None under m = under
 waiting_after (Some bag) under m = waits under m.slot (Some m)
 
 -- it is heard once the proposal is issued
-abbrev pub heard_if : Session → Option Message → Session
-heard_if session None = session
-heard_if session (Some m) = hears session m
+abbrev pub heard_if : VolatileState → Option Message → VolatileState
+heard_if volatile None = volatile
+heard_if volatile (Some m) = hears volatile m
 
 -- the ballot that was begun, where it is of this round
 abbrev pub of_round : Option BallotNumber → ℕ → Option BallotNumber
@@ -71,10 +71,10 @@ abbrev pub current_by : Option BallotNumber → Entry → Option BallotNumber
 current_by begun (entry.Round round) = of_round begun round
 current_by begun _ = None
 
--- the session after that
-abbrev pub current_if : Session → SlotName → Option BallotNumber → Session
-current_if session slot None = session
-current_if session slot (Some ballot) = with_current session slot ballot
+-- the volatile state after that
+abbrev pub current_if : VolatileState → SlotName → Option BallotNumber → VolatileState
+current_if volatile slot None = volatile
+current_if volatile slot (Some ballot) = with_current volatile slot ballot
 
 -- and what is under way: of this slot nothing but the bag of the ballot that is current now
 abbrev pub under_way_if : UnderWay → SlotName → Option BallotNumber → UnderWay

@@ -1,2 +1,2 @@
-pub mod Rounds
+pub mod BallotStates
 pub mod Rows

@@ -8,9 +8,9 @@
 //! ```
 #![tactic(auto)]
 
+mod ballot_state;
 mod fault;
 mod proposer;
-mod round;
 mod row;
 
 pub use fault::ProposeFault;

@@ -1,22 +1,21 @@
-ghost use Rattle.std.specs.Prelude.{◌≡◌, ℕ, max, ◌++◌, ◌∷◌, [], List, Some, None, Err};
+ghost use Rattle.std.specs.Prelude.{◌≡◌, max, [], Some, None, Err};
 ghost use Rattle.std.specs.Prelude.{OnOk, OnErr, IfOk, IsOk, IsSome};
-ghost use Rattle.fed_types.specs.Ballots.{BallotNumber};
-ghost use Rattle.fed_types.specs.Slots.{SlotName};
+ghost use Rattle.fed_types.specs.Faults.{IsOrFault};
 ghost use Rattle.records.specs.Records.{Records};
 ghost use Rattle.slot_table.specs.Rows.{row_at, IsWith, HasRooms};
 ghost use Rattle.proposer.specs.Proposals.{next_ballot, ready, ballot_after};
-ghost use Rattle.proposer.specs.Sessions.{Session, new_session};
+ghost use Rattle.proposer.specs.VolatileStates.{VolatileState, new_volatile};
 ghost use Rattle.proposer.specs.UnderWay.{UnderWay, nothing, begins};
-ghost use Rattle.proposer.specs.Sessions.{promise_message};
+ghost use Rattle.proposer.specs.VolatileStates.{promise_message};
 ghost use Rattle.proposer.specs.Steps.{HearsPromise, IssuesProposal, HearsRefusal, NotesRecord};
-ghost use Rattle.proposer.specs.Rounds.{round_of};
-ghost use Rattle.proposer.specs.Faults.{next_or_spent, IsOrMemory};
+ghost use Rattle.proposer.specs.BallotStates.{state_of};
+ghost use Rattle.proposer.specs.Faults.{next_or_spent};
 ghost use Rattle.proposer.specs.Rows.{Represents, IsOfSameSite, KnowsSame, row_of};
 ghost use Rattle.proposer.specs.inner.Rows.{BeginsAt, HeardAt, IssuesAt};
 ghost use Rattle.proposer.specs.inner.Rows.{with_begun, with_floor, noted_row};
 
+use crate::ballot_state::{Plan, Promise};
 use crate::fault::ProposeFault;
-use crate::round::{Plan, Promise};
 use crate::row::Row;
 use fed_types::{BagId, Ballot, Quorums, SiteNo, Slot, Vote};
 use records::Record;
@@ -45,7 +44,7 @@ impl<Q: Quorums + Drop> Model for Proposer<Q> {
 impl<Q: Quorums + Drop> Proposer<Q> {
     /// A proposer that knows of no record and has heard nothing.
     pub fn new(alloc: Global, members: Q, site: SiteNo) -> Proposer<Q>
-        ensures stands { Represents result.rows [] new_session nothing }
+        ensures stands { Represents result.rows [] new_volatile nothing }
         ensures whose { (result.members ≡ members) × (result.site ≡ site) }
     {
         Proposer {
@@ -73,17 +72,18 @@ impl<Q: Quorums + Drop> Proposer<Q> {
     /// where the greatest round was used or stood in the way; else `Memory` where an allocation
     /// fails.
     pub fn begin(&mut self, slot: &Slot, own: BagId) -> Result<Ballot, ProposeFault>
-        ensures answer { (records : Records) (session : Session) (under : UnderWay)
-            → Represents self.old.rows records session under → IsOrMemory result
-            (next_or_spent (next_ballot self.old.site slot.now records session.heard)) }
-        ensures spent { (records : Records) (session : Session) (under : UnderWay)
-            → Represents self.old.rows records session under
-            → next_ballot self.old.site slot.now records session.heard ≡ None
+        ensures answer { (records : Records) (volatile : VolatileState) (under : UnderWay)
+            → Represents self.old.rows records volatile under
+            → IsOrFault ProposeFault.Memory result
+            (next_or_spent (next_ballot self.old.site slot.now records volatile.heard)) }
+        ensures spent { (records : Records) (volatile : VolatileState) (under : UnderWay)
+            → Represents self.old.rows records volatile under
+            → next_ballot self.old.site slot.now records volatile.heard ≡ None
             → result ≡ Err ProposeFault.RoundsSpent }
         ensures begun { IfOk result (λ ballot.
-            (records : Records) (session : Session) (under : UnderWay)
-            → Represents self.old.rows records session under
-            → Represents self.new.rows records session (begins under slot.now ballot own)) }
+            (records : Records) (volatile : VolatileState) (under : UnderWay)
+            → Represents self.old.rows records volatile under
+            → Represents self.new.rows records volatile (begins under slot.now ballot own)) }
         ensures present { IfOk result (λ ballot. IsSome (row_at self.new.rows slot.now)) }
         ensures unchanged { OnErr result (KnowsSame self.old.rows self.new.rows) }
         ensures rooms { HasRooms self.old.rows self.new.rows }
@@ -91,7 +91,7 @@ impl<Q: Quorums + Drop> Proposer<Q> {
     {
         match self.next(slot) {
             None => Err(ProposeFault::RoundsSpent),
-            Some(ballot) => match self.begin_round(slot, Plan::new(ballot, own)) {
+            Some(ballot) => match self.begin_ballot(slot, Plan::new(ballot, own)) {
                 Ok(()) => Ok(ballot),
                 Err(_) => Err(ProposeFault::Memory),
             },
@@ -108,10 +108,10 @@ impl<Q: Quorums + Drop> Proposer<Q> {
         ballot: Ballot,
         prior: Option<Vote>,
     ) -> Option<BagId>
-        ensures ready { (records : Records) (session : Session) (under : UnderWay)
-            → Represents self.old.rows records session under
+        ensures ready { (records : Records) (volatile : VolatileState) (under : UnderWay)
+            → Represents self.old.rows records volatile under
             → result ≡ ready (Q.quorum_system self.old.members) (under.current_bag slot.now)
-            slot.now (session.current slot.now) session.heard ballot
+            slot.now (volatile.current slot.now) volatile.heard ballot
             (record { site = from; prior = prior }) }
         ensures heard { HearsPromise (Represents self.old.rows) (Represents self.new.rows)
             (promise_message slot.now from ballot prior) result }
@@ -174,9 +174,9 @@ impl<Q: Quorums + Drop> Proposer<Q> {
     }
 
     // Begins a ballot.
-    fn begin_round(&mut self, slot: &Slot, plan: Plan) -> Result<(), AllocError>
+    fn begin_ballot(&mut self, slot: &Slot, plan: Plan) -> Result<(), AllocError>
         ensures begun { OnOk result
-            (BeginsAt (round_of plan) self.old.rows self.new.rows slot.now) }
+            (BeginsAt (state_of plan) self.old.rows self.new.rows slot.now) }
         ensures present { OnOk result (IsSome (row_at self.new.rows slot.now)) }
         ensures unchanged { OnErr result (KnowsSame self.old.rows self.new.rows) }
         ensures rooms { HasRooms self.old.rows self.new.rows }

@@ -2,7 +2,7 @@ ghost use Rattle.std.specs.Prelude.{◌≡◌, max, Some};
 ghost use Rattle.proposer.specs.Rows.{empty_row, begun_in};
 ghost use Rattle.proposer.specs.inner.Rows.{noted_row, is_of_round, HeardPromise, IssuesWaiting};
 
-use crate::round::{Plan, Promise, Round};
+use crate::ballot_state::{BallotState, Plan, Promise};
 use fed_types::{BagId, Ballot, Quorums};
 use records::Entry;
 
@@ -17,7 +17,7 @@ pub(crate) struct Row {
     /// The ballot that was begun, until its record is noted.
     pub(crate) begun: Option<Box<Plan>>,
     /// The current ballot.
-    current: Option<Round>,
+    current: Option<BallotState>,
 }
 
 impl Row {
@@ -51,9 +51,9 @@ impl Row {
             result }
     {
         match &mut self.current {
-            Some(round) => {
-                if round.promise_for(members, ballot, promise) {
-                    Some(round.bag_with(&promise.prior))
+            Some(state) => {
+                if state.promise_for(members, ballot, promise) {
+                    Some(state.bag_with(&promise.prior))
                 } else {
                     None
                 }
@@ -66,8 +66,8 @@ impl Row {
     pub(crate) fn issued(&mut self)
         ensures { IssuesWaiting self.old self.new }
     {
-        if let Some(round) = &mut self.current {
-            round.issued();
+        if let Some(state) = &mut self.current {
+            state.issued();
         }
     }
 
@@ -81,7 +81,7 @@ impl Row {
         self.used = self.used.max(round.number());
         if self.has_begun(round.number()) {
             self.current = match self.begun.take() {
-                Some(plan) => Some(Round::of(plan)),
+                Some(plan) => Some(BallotState::of(plan)),
                 None => None,
             };
         }

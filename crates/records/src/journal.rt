@@ -1,9 +1,9 @@
 ghost use Rattle.std.specs.Prelude.{◌≡◌, ◌≤◌, ◌↔◌, ℕ, List, Result, length, IfOk, OnOk};
 ghost use Rattle.std.specs.Prelude.{IsTrue, All};
+ghost use Rattle.fed_types.specs.Faults.{IsOrFault};
 ghost use Rattle.records.specs.declared.fault.JournalFault.{JournalFault as declared_fault};
 ghost use Rattle.records.specs.Records.{Records};
 ghost use Rattle.records.specs.Answers.{IsReading, HasTextEnd, records_read};
-ghost use Rattle.records.specs.Faults.{IsOrMemory};
 ghost use Rattle.records.specs.Journals.{DecodesTo};
 ghost use Rattle.records.specs.inner.Parts.{IsRun};
 ghost use Rattle.records.specs.inner.Found.{ArePartsOf, Allows};
@@ -173,13 +173,13 @@ fn are_ones(weights: &[u8]) -> bool
 }
 
 // Whether these weights, those of a journal, are the owner's. Where it says none, all are 1.
-fn has_weights(owner: Owner, weights: &[u8]) -> bool
+fn has_weights(owner: &Owner, weights: &[u8]) -> bool
     ensures none { length weights.now ≡ 0
-        → (IsTrue result ↔ All (λ w. w ≡ 1) owner.members.weights) }
+        → (IsTrue result ↔ All (λ w. w ≡ 1) owner.now.members.weights) }
     ensures some { 1 ≤ length weights.now
-        → (IsTrue result ↔ (weights.now ≡ owner.members.weights)) }
+        → (IsTrue result ↔ (weights.now ≡ owner.now.members.weights)) }
 {
-    let members = owner.members;
+    let members = &owner.members;
     if weights.is_empty() {
         return are_ones(members.weights());
     }
@@ -189,9 +189,9 @@ fn has_weights(owner: Owner, weights: &[u8]) -> bool
 // Whether a journal of these parts may be the owner's by its weights: always, if it has no records,
 // since nothing was promised then. It is asked last: a damaged cell is damaged under any weights,
 // so that nobody looks for a members file where a disk is broken.
-fn allows_weights(owner: Owner, parts: &Parts) -> bool
-    ensures { (bytes : List ℕ) (is : ArePartsOf owner bytes parts.now)
-        → Allows owner bytes parts.now is result }
+fn allows_weights(owner: &Owner, parts: &Parts) -> bool
+    ensures { (bytes : List ℕ) (is : ArePartsOf owner.now bytes parts.now)
+        → Allows owner.now bytes parts.now is result }
 {
     if parts.old.is_empty() && parts.new.is_empty() {
         return true;
@@ -211,21 +211,20 @@ fn read_both(alloc: Global, old: &[u8], new: &[u8]) -> Result<Vec<Record>, Alloc
 
 // What the bytes say, and where their text ends.
 #[tactic(auto, unfolding(crate::specs::Journals::DecodesTo))]
-fn read_text(alloc: Global, owner: Owner, bytes: &[u8]) -> Result<Journal, JournalFault>
-    ensures said { IsReading owner bytes.now result }
-    ensures text { IfOk result (HasTextEnd owner bytes.now) }
+fn read_text(alloc: Global, owner: &Owner, bytes: &[u8]) -> Result<Journal, JournalFault>
+    ensures said { IsReading owner.now bytes.now result }
+    ensures text { IfOk result (HasTextEnd owner.now bytes.now) }
 {
-    let Owner { members, site } = owner;
-    if is_new(Owner { members, site }, bytes) {
+    if is_new(owner, bytes) {
         return Ok(Journal {
             records: Vec::new(alloc),
             end: 0,
             current: false,
         });
     }
-    let parts = find_parts(Owner { members, site }, bytes)?;
+    let parts = find_parts(owner, bytes)?;
     // Memory is taken only where the bytes say records, so it hides no fault.
-    if !allows_weights(Owner { members, site }, &parts) {
+    if !allows_weights(owner, &parts) {
         return Err(JournalFault::OtherWeights);
     }
     let records = read_both(alloc, parts.old, parts.new)?;
@@ -239,13 +238,14 @@ fn read_text(alloc: Global, owner: Owner, bytes: &[u8]) -> Result<Journal, Journ
 /// Reads the journal of this owner: its records in order, none skipped and none in part, whichever
 /// layouts they are in. What follows a crash, a torn tail or an unfinished header, is passed over.
 /// Memory can run out only where the bytes say records, so it hides no fault of theirs.
-pub fn read_journal(alloc: Global, owner: Owner, bytes: &[u8]) -> Result<Journal, JournalFault>
+pub fn read_journal(alloc: Global, owner: &Owner, bytes: &[u8]) -> Result<Journal, JournalFault>
     // What is answered is what the bytes say.
-    ensures said { IsReading owner bytes.now result }
+    ensures said { IsReading owner.now bytes.now result }
     // What the bytes say is answered, unless memory runs out.
     ensures only { (said : Result Records declared_fault)
-        → DecodesTo owner bytes.now said → IsOrMemory (records_read result) said }
-    ensures text { IfOk result (HasTextEnd owner bytes.now) }
+        → DecodesTo owner.now bytes.now said
+        → IsOrFault JournalFault.Memory (records_read result) said }
+    ensures text { IfOk result (HasTextEnd owner.now bytes.now) }
 {
     read_text(alloc, owner, bytes)
 }

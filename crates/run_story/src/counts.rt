@@ -84,11 +84,9 @@ impl Story {
 
     fn count_of(&self, heard: Heard) -> Count {
         let mut weight: u16 = 0;
-        for before in 0..self.members.count() {
-            if let Ok(site) = SiteNo::new(before.saturating_add(1)) {
-                if heard.voters.has(site) {
-                    weight = weight.saturating_add(u16::from(self.members.weight(site)));
-                }
+        for site in self.members.sites() {
+            if heard.voters.has(site) {
+                weight = weight.saturating_add(u16::from(self.members.weight(site)));
             }
         }
         Count {

@@ -12,7 +12,7 @@ use indexmap::IndexSet;
 use lines::Line;
 use records::{Entry, Owner, Record, read_journal};
 use sim_federation::Federation;
-use sim_stations::{Place, Station};
+use sim_stations::{RunState, Station};
 use sim_tables::{Datagrams, SeenBags};
 use std::alloc::{AllocError, Global};
 
@@ -242,19 +242,19 @@ fn tree_of(seen: &SeenBags, bag: Option<BagId>) -> u32 {
 // What the station's site has on record, wherever it is. Where its device has failed, the cell may
 // have one record more.
 fn recorded_at(alloc: Global, members: Members, station: &Station) -> Result<Recorded, AllocError> {
-    match station.place() {
-        Place::Running(site) => Ok(recorded_among(site.records())),
-        Place::AtRest(cell) => {
+    match station.run_state() {
+        RunState::Running(site) => Ok(recorded_among(site.records())),
+        RunState::AtRest(cell) => {
             let owner = Owner {
                 members,
                 site: station.number(),
             };
-            recorded_in(alloc, owner, cell.bytes())
+            recorded_in(alloc, &owner, cell.bytes())
         }
     }
 }
 
-fn recorded_in(alloc: Global, owner: Owner, bytes: &[u8]) -> Result<Recorded, AllocError> {
+fn recorded_in(alloc: Global, owner: &Owner, bytes: &[u8]) -> Result<Recorded, AllocError> {
     match read_journal(alloc, owner, bytes) {
         Ok(journal) => Ok(recorded_among(journal.records.as_slice())),
         // No other fault comes of a cell that keeps records.

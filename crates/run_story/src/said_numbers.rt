@@ -4,9 +4,9 @@ use crate::datagram::Kind;
 use crate::event::Outcome;
 use dgram::Body;
 use fed_types::{BagId, Ballot};
-use lines::{Line, NamedReply};
+use lines::{Line, NamedBag};
 use records::Entry;
-use site::SiteFault;
+use site::{Reply, SiteFault};
 
 /// What a message is. Between sites no other kinds are sent.
 pub(crate) fn kind_of(body: &Body) -> Kind {
@@ -84,11 +84,11 @@ pub(crate) fn outcome_of(line: &Line) -> Outcome {
     }
 }
 
-fn reply_outcome(reply: NamedReply) -> Outcome {
+fn reply_outcome(reply: Reply<NamedBag>) -> Outcome {
     match reply {
-        NamedReply::Known(_) => Outcome::Known,
-        NamedReply::Pending(_) => Outcome::Pending,
-        NamedReply::Nothing => Outcome::Nothing,
+        Reply::Known(_) => Outcome::Known,
+        Reply::Pending(_) => Outcome::Pending,
+        Reply::Nothing => Outcome::Nothing,
     }
 }
 
@@ -107,9 +107,9 @@ pub(crate) fn tree_in(line: &Line) -> u32 {
         Line::Registered { bag, .. } => bag.tree,
         Line::Known { bag, .. } => bag.tree,
         Line::Replied { reply, .. } => match reply {
-            NamedReply::Known(bag) => bag.tree,
-            NamedReply::Pending(bag) => bag.tree,
-            NamedReply::Nothing => 0,
+            Reply::Known(bag) => bag.tree,
+            Reply::Pending(bag) => bag.tree,
+            Reply::Nothing => 0,
         },
         _ => 0,
     }

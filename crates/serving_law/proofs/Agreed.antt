@@ -19,7 +19,7 @@ use Rattle.dgram.specs.Encoding.{datagram_of}
 use Rattle.dgram.specs.Heard.{bodies_of, floor_of, promises_for, promisers, priors, voters_for}
 use Rattle.learner.specs.declared.row.Row.TheVariants as rows
 use Rattle.proposer.specs.Proposals.{gathered, highest_prior, next_ballot}
-use Rattle.site.specs.declared.answer.Line.TheVariants as lines
+use Rattle.site.specs.declared.answer.Line.TheVariants as site_lines
 use Rattle.site.specs.Calls as calls
 use Rattle.site.specs.Calls.{effect_of, on_deposit, on_propose}
 use Rattle.site.specs.Effects.{Effect, to_each}
@@ -48,10 +48,10 @@ use Rattle.serving_law.specs.ExamplesAgreed.{three, a, ballot, Agree, DiesVoting
 use Rattle.serving_law.specs.ExamplesAgreed.{CountsOnce, ThreeSitesAgree, KilledInAVote}
 use Rattle.serving_law.specs.ExamplesAgreed.{ARepeatedVote}
 use Rattle.serving_law.specs.Reports.{Prints}
-use Rattle.lines.specs.Notices.{Learned}
+use Rattle.lines.specs.declared.notice.Notice.TheVariants.{Learned}
 use Rattle.records.specs.declared.owner.Owner.{Owner}
 use Rattle.serving_law.proofs.Agreement.{m, r, to_all}
-use Rattle.serving_law.proofs.Sites.{session_of, issued}
+use Rattle.serving_law.proofs.Sites.{volatile_of, issued}
 use Rattle.serving_law.proofs.Sites.{stands_idle, stands_issued}
 use Rattle.serving_law.proofs.Tables.{Rows, records_of, tables, begun_bag}
 use Rattle.records.specs.Records.{IsRecord}
@@ -86,36 +86,36 @@ module _ (bag : BagId) (request : Request 7 a bag) where
   registering = record {
     commits = Some (r (deposited bag));
     sends = [];
-    says = Ok (Some (lines.Registered bag));
-    session = session_of [] None;
+    says = Ok (Some (site_lines.Registered bag));
+    volatile = volatile_of [] None;
   }
 
-  on_deposit_is : on_deposit [] (session_of [] None) a (Ok bag) ≡ registering
+  on_deposit_is : on_deposit [] (volatile_of [] None) a (Ok bag) ≡ registering
   unfolding on_deposit deposit_of known_of
   on_deposit_is = refl
 
-  registers : effect_of (quorums_of three) 1 [] (session_of [] None)
+  registers : effect_of (quorums_of three) 1 [] (volatile_of [] None)
       (calls.Deposits a (check_of request.facts)) ≡ registering
   registers =
-      ap (λ (c : Result BagId BagFault). on_deposit [] (session_of [] None) a c) request.checked
+      ap (λ (c : Result BagId BagFault). on_deposit [] (volatile_of [] None) a c) request.checked
       ∙ on_deposit_is
 
   deposited_stands : Represents (tables a three 1 none_heard) (records_of a (deposited bag ∷ []))
-      (session_of [] None) (begun_bag a None)
+      (volatile_of [] None) (begun_bag a None)
   unfolding known_of used_of voters_for bodies_of floor_of is_in same_slot
   deposited_stands =
       stands_idle 1 (deposited bag ∷ []) [] rows.Unheard refl (λ none u k. refl) refl refl
 
   abbrev deposit_answer_is : Answer
-  deposit_answer_is = answer_of (Some (lines.Registered bag)) [] (omega arith)
+  deposit_answer_is = answer_of (Some (site_lines.Registered bag)) [] (omega arith)
 
   abbrev asked : Serving Disk
-  asked = serving three three_are 1 [] (tables a three 1 none_heard) (session_of [] None) 0 0
+  asked = serving three three_are 1 [] (tables a three 1 none_heard) (volatile_of [] None) 0 0
 
   abbrev has_deposit : Serving Disk
   has_deposit =
       serving three three_are 1 (r (deposited bag) ∷ []) (tables a three 1 none_heard)
-      (session_of [] None)
+      (volatile_of [] None)
       0 0
 
   abbrev deposit_done : Done
@@ -142,8 +142,8 @@ module _ (bag : BagId) (request : Request 7 a bag) where
         (
           Ok deposit_answer_is,
           called three three_are 1 [] tt (tables a three 1 none_heard) (tables a three 1 none_heard)
-              (session_of [] None) 0 0 (calls.Deposits a (check_of request.facts)) registering
-              (Some (lines.Registered bag)) registers refl (is_d bag request) tt (omega arith)
+              (volatile_of [] None) 0 0 (calls.Deposits a (check_of request.facts)) registering
+              (Some (site_lines.Registered bag)) registers refl (is_d bag request) tt (omega arith)
               (begun_bag a None) deposited_stands,
           refl,
         ),
@@ -154,17 +154,18 @@ module _ (bag : BagId) (request : Request 7 a bag) where
     commits = Some (r (proposed bag));
     sends = to_all (Prepare ballot);
     says = Ok None;
-    session = session_of [] (Some issued);
+    volatile = volatile_of [] (Some issued);
   }
 
-  proposes_it : effect_of (quorums_of three) 1 (records_of a (deposited bag ∷ [])) (session_of [] None)
+  proposes_it : effect_of (quorums_of three) 1 (records_of a (deposited bag ∷ []))
+      (volatile_of [] None)
       (calls.Proposes a) ≡ preparing
   unfolding on_propose known_of deposit_of next_ballot used_of floor_of bodies_of to_each sites_to
       same_slot
   proposes_it = refl
 
   prepared_stands : Represents (tables a three 1 none_promised)
-      (records_of a (deposited bag ∷ proposed bag ∷ [])) (session_of [] (Some issued))
+      (records_of a (deposited bag ∷ proposed bag ∷ [])) (volatile_of [] (Some issued))
       (begun_bag a (Some bag))
   unfolding known_of used_of deposit_of voters_for bodies_of floor_of is_in same_slot gathered
       promises_for promisers priors highest_prior
@@ -181,7 +182,7 @@ module _ (bag : BagId) (request : Request 7 a bag) where
   abbrev has_proposed : Serving Disk
   has_proposed =
       serving three three_are 1 (r (deposited bag) ∷ r (proposed bag) ∷ [])
-      (tables a three 1 none_promised) (session_of [] (Some issued)) 1 1
+      (tables a three 1 none_promised) (volatile_of [] (Some issued)) 1 1
 
   abbrev propose_done : Done
   propose_done = record {
@@ -205,7 +206,7 @@ module _ (bag : BagId) (request : Request 7 a bag) where
   proposes = (
     Ok prepare_answer,
     called three three_are 1 (r (deposited bag) ∷ []) (is_d bag request, tt) (tables a three 1 none_heard)
-        (tables a three 1 none_promised) (session_of [] None) 1 1 (calls.Proposes a)
+        (tables a three 1 none_promised) (volatile_of [] None) 1 1 (calls.Proposes a)
         preparing None proposes_it refl (is_r bag request) three_prepares (omega arith)
         (begun_bag a (Some bag)) prepared_stands,
     λ opened fault e.

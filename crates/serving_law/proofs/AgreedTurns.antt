@@ -30,7 +30,7 @@ use Rattle.learner.specs.declared.row.Row.{Row as heard_row}
 use Rattle.learner.specs.declared.row.Row.TheVariants as rows
 use Rattle.proposer.specs.Proposals.{gathered, highest_prior, proposal}
 use Rattle.proposer.specs.UnderWay.{UnderWay}
-use Rattle.site.specs.declared.answer.Line.TheVariants as lines
+use Rattle.site.specs.declared.answer.Line.TheVariants as site_lines
 use Rattle.site.specs.Arrivals.{on_body, on_arrival}
 use Rattle.site.specs.Effects.{Send, to_each}
 use Rattle.udp_site.specs.Requests as requests
@@ -44,7 +44,7 @@ use Rattle.serving_law.proofs.AgreedMessages.{promise_fits, accept_fits, accepte
 use Rattle.serving_law.proofs.Agreement.{State, Hearing, Answers, Stands, Fits, m, r, to_site}
 use Rattle.serving_law.proofs.Agreement.{to_all}
 use Rattle.serving_law.proofs.Answers.{AreMessages, seals}
-use Rattle.serving_law.proofs.Sites.{issued, no_ballot, promised_by, voted_by, counted}
+use Rattle.serving_law.proofs.Sites.{issued, no_ballot, promised_row, voted_by, counted}
 use Rattle.serving_law.proofs.Sites.{stands_idle, stands_issued}
 use Rattle.serving_law.proofs.DiskCalls.{IsKept}
 use Rattle.serving_law.proofs.Tables.{Rows, records_of, begun_bag}
@@ -79,7 +79,7 @@ module _ (bag : BagId) (request : Request 7 a bag) where
   unheard = record { own = no_ballot; heard = rows.Unheard }
 
   abbrev pub own_rows : List ℕ → heard_row → Rows
-  own_rows voters heard = record { own = promised_by bag voters; heard = heard }
+  own_rows voters heard = record { own = promised_row bag voters; heard = heard }
 
   -- the first records of site 1, and of site 2
   abbrev pub records_1 : ℕ → List Entry
@@ -163,7 +163,7 @@ module _ (bag : BagId) (request : Request 7 a bag) where
     body = body;
     commits = Some (r (entry.Known bag));
     sends = [];
-    line = Some (lines.Known a bag);
+    line = Some (site_lines.Known a bag);
     bs = old.bs ++ body ∷ [];
     rows = record { own = old.rows.own; heard = rows.Known bag };
     ms = tt;

@@ -29,7 +29,7 @@ use Rattle.serving_law.specs.Federations.{Serves, Federation, Step, Turns}
 use Rattle.serving_law.specs.Rules.{AreBytes, Takes, May}
 use Rattle.serving_law.proofs.Answers.{AreMessages, seals, answer_of}
 use Rattle.serving_law.proofs.Tables.{Rows, records_of, tables}
-use Rattle.serving_law.proofs.Sites.{session_of}
+use Rattle.serving_law.proofs.Sites.{volatile_of}
 use Rattle.serving_law.proofs.DiskCalls.{serving, kept, IsKept, said, called, heard_step, hears}
 
 each_weight : (k d : ℕ) → k < 3 → IsWeight (slice_index_or (1 ∷ 1 ∷ 1 ∷ []) k d)
@@ -68,7 +68,7 @@ pub record State : Type 0 where
 abbrev pub serves : (site : ℕ) → State → Serving Disk
 serves n s =
     serving three three_are n (records_of a s.es) (tables a three n s.rows)
-    (session_of s.bs s.current) s.turns s.turns
+    (volatile_of s.bs s.current) s.turns s.turns
 
 -- A turn in which a message comes: the site as it was, the message, what comes of it, and the site
 -- as it is then.
@@ -89,13 +89,13 @@ comes_to h = record {
   commits = h.commits;
   sends = h.sends;
   says = said h.line;
-  session = session_of h.bs h.old.current;
+  volatile = volatile_of h.bs h.old.current;
 }
 
 abbrev pub next_of : Hearing → Serving Disk
 next_of h =
     serving three three_are h.n (kept (records_of a h.old.es) h.commits) (tables a three h.n h.rows)
-    (session_of h.bs h.old.current) h.old.turns h.old.turns
+    (volatile_of h.bs h.old.current) h.old.turns h.old.turns
 
 abbrev pub answer_in : Hearing → Answer
 answer_in h = answer_of h.line (seals 7 h.sends h.ms) h.few
@@ -107,13 +107,13 @@ step_of h = heard_step three three_are h.n ports (m h.body) (answer_in h) (next_
 abbrev pub Answers : Hearing → Type 0
 Answers h =
     effect_of (quorums_of three) h.n (records_of a h.old.es)
-    (session_of h.old.bs h.old.current) (calls.Arrives (Some (m h.body))) ≡ comes_to h
+    (volatile_of h.old.bs h.old.current) (calls.Arrives (Some (m h.body))) ≡ comes_to h
 
 -- and the rows then represent what is on record and was heard
 abbrev pub Stands : Hearing → UnderWay → Type 0
 Stands h under =
     Represents (tables a three h.n h.rows) (kept (records_of a h.old.es) h.commits)
-    (session_of h.bs h.old.current) under
+    (volatile_of h.bs h.old.current) under
 
 -- what is on record, comes and is recorded is well-formed
 pub record Fits (h : Hearing) : Type 0 where
@@ -131,11 +131,11 @@ module _ (h : Hearing) (fits : Fits h) (answers : Answers h) (under : UnderWay)
     may_come = (fits.fits, λ message e. (port, handed));
     comes =
         hears three three_are h.n ports (records_of a h.old.es) (tables a three h.n h.old.rows)
-        (session_of h.old.bs h.old.current) h.old.turns h.old.turns (next_of h) (m h.body) fits.is
+        (volatile_of h.old.bs h.old.current) h.old.turns h.old.turns (next_of h) (m h.body) fits.is
         fits.says (answer_in h)
         (called three three_are h.n (records_of a h.old.es) fits.are
         (tables a three h.n h.old.rows) (tables a three h.n h.rows)
-        (session_of h.old.bs h.old.current) h.old.turns h.old.turns
+        (volatile_of h.old.bs h.old.current) h.old.turns h.old.turns
         (calls.Arrives (Some (m h.body))) (comes_to h) h.line answers refl fits.keep h.ms h.few
         under stands);
   }

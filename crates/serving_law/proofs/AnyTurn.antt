@@ -20,12 +20,14 @@ use Rattle.records.proofs.Bounds.{deposit_among}
 use Rattle.dgram.specs.declared.message.Message.{Message}
 use Rattle.dgram.specs.Messages.{IsMessage}
 use Rattle.proposer.specs.Proposals.{next_ballot}
+use Rattle.proposer.specs.VolatileStates.{VolatileState}
 use Rattle.site.specs.declared.answer.Answer.{Answer}
 use Rattle.site.specs.declared.fault.SiteFault.{SiteFault}
 use Rattle.site.specs.declared.fault.SiteFault.TheVariants as faults
 use Rattle.site.specs.Calls.{Input, Proposes, Arrives, effect_of, on_propose, begins_ballot_if}
-use Rattle.lines.specs.Notices.{Notice}
+use Rattle.lines.specs.declared.notice.Notice.{Notice}
 use Rattle.world_law.specs.Laws.{WasSent}
+use Rattle.world_law.specs.Networks.{volatile_in}
 use Rattle.world_law.proofs.Arrivals.{arrival_deed}
 use Rattle.world_law.proofs.Calls.{propose_deed}
 use Rattle.world_law.proofs.Deeds.{some_same}
@@ -60,6 +62,9 @@ module _ {C : Type 0} (device : C → Device) (members : Membership) (s : Scene 
   abbrev q : QuorumSystem
   q = quorums device members
 
+  abbrev volatile : VolatileState
+  volatile = volatile_in (w.sites n).mode
+
   abbrev Ends : Done → Serving C → May → Type 0
   Ends = turning.Ends device members s
 
@@ -92,7 +97,7 @@ module _ {C : Type 0} (device : C → Device) (members : Membership) (s : Scene 
       (turning.sites device members s)
       n
       (turning.is_site device members s)
-      (w.sites n).records (formed.records n) (w.sites n).session (formed.heard n)
+      (w.sites n).records (formed.records n) volatile (formed.heard n)
       (Arrives (Some message)) is)
       D (λ slot bag none. absurd none) result new called ports
       (notices_of n (Arrives (Some message)) result) (λ notice h. h)
@@ -102,34 +107,31 @@ module _ {C : Type 0} (device : C → Device) (members : Membership) (s : Scene 
   -- ---- a proposal
 
   propose_formed : (slot : SlotName)
-      → IsWellFormedEffect
-      (effect_of q n (w.sites n).records (w.sites n).session (Proposes slot))
+      → IsWellFormedEffect (effect_of q n (w.sites n).records volatile (Proposes slot))
   unfolding on_propose
   propose_formed slot = go (deposit_of slot (w.sites n).records) refl
     where
       by_slot : IsSlot slot
-          → IsWellFormedEffect
-          (effect_of q n (w.sites n).records (w.sites n).session (Proposes slot))
+          → IsWellFormedEffect (effect_of q n (w.sites n).records volatile (Proposes slot))
       by_slot is_slot =
           effect_is q
           (turning.sites device members s)
           n
           (turning.is_site device members s)
-          (w.sites n).records (formed.records n) (w.sites n).session (formed.heard n)
+          (w.sites n).records (formed.records n) volatile (formed.heard n)
           (Proposes slot) is_slot
 
       refused : (known : Option BagId) (next : Option BallotNumber)
-          → IsWellFormedEffect (begins_ballot_if q slot known None next (w.sites n).session)
-      refused (Some bag) next = refuses_is (w.sites n).session (formed.heard n) _
-      refused None next = refuses_is (w.sites n).session (formed.heard n) _
+          → IsWellFormedEffect (begins_ballot_if q slot known None next volatile)
+      refused (Some bag) next = refuses_is volatile (formed.heard n) _
+      refused None next = refuses_is volatile (formed.heard n) _
 
       go : (own : Option BagId) → deposit_of slot (w.sites n).records ≡ own
-          → IsWellFormedEffect
-          (effect_of q n (w.sites n).records (w.sites n).session (Proposes slot))
+          → IsWellFormedEffect (effect_of q n (w.sites n).records volatile (Proposes slot))
       go None e =
           subst (λ (o : Option BagId). IsWellFormedEffect
           (begins_ballot_if q slot (known_of slot (w.sites n).records) o
-          (next_ballot n slot (w.sites n).records (w.sites n).session.heard) (w.sites n).session))
+          (next_ballot n slot (w.sites n).records volatile.heard) volatile))
           (sym e) (refused (known_of slot (w.sites n).records) _)
       go (Some bag) e =
           by_slot (all_has IsRecord (w.sites n).records (formed.records n)

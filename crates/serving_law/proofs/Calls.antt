@@ -20,10 +20,10 @@ use Rattle.records.specs.declared.record.Record.{Record}
 use Rattle.records.specs.Bounds.{HasEntry}
 use Rattle.records.specs.Records.{IsRecord}
 use Rattle.book.specs.OpenBooks.{RecoversTo}
-use Rattle.proposer.specs.Sessions.{Session, new_session}
+use Rattle.proposer.specs.VolatileStates.{VolatileState}
 use Rattle.site.specs.declared.answer.Answer.{Answer}
 use Rattle.site.specs.declared.answer.Line.{Line}
-use Rattle.site.specs.declared.answer.Line.TheVariants as lines
+use Rattle.site.specs.declared.answer.Line.TheVariants as site_lines
 use Rattle.site.specs.declared.fault.SiteFault.{SiteFault}
 use Rattle.site.specs.declared.fault.SiteFault.TheVariants as faults
 use Rattle.site.specs.Answered.{Keeps, Gives}
@@ -31,15 +31,17 @@ use Rattle.site.specs.Calls.{Input, Deposits, Proposes, Asks, Arrives, effect_of
 use Rattle.site.specs.Datagrams.{handed_out, datagram}
 use Rattle.site.specs.Effects.{Effect}
 use Rattle.site.specs.Sites.{Represents}
-use Rattle.lines.specs.Notices.{Notice, Registered, notice_of}
-use Rattle.world_law.specs.Networks.{Network, SiteState, Up, Down}
+use Rattle.lines.specs.declared.notice.Notice.{Notice}
+use Rattle.lines.specs.declared.notice.Notice.TheVariants.{Registered}
+use Rattle.lines.specs.Notices.{notice_of}
+use Rattle.world_law.specs.Networks.{Network, SiteState, Mode, Up, Down, volatile_in}
 use Rattle.world_law.proofs.Deeds.{Deed, MayDeposit, some_same}
 use Rattle.world_law.proofs.Grows.{grows_itself}
 use Rattle.world_law.proofs.Step.{moved, kept_moved, Next, Sound, nothing_recalled, reports_nothing}
 use Rattle.world_law.proofs.Deeds.{nothing_sent}
 use Rattle.world_law.proofs.WellFormedEffects.{IsWellFormedEffect}
 use Rattle.udp_site.specs.Turns.{Serving, IsCalled, posts_of, outgoing_posts, notices_of}
-use Rattle.serving_law.specs.Federations.{Member, Serves}
+use Rattle.serving_law.specs.Federations.{Serves}
 use Rattle.serving_law.specs.Federations as federations
 use Rattle.serving_law.specs.Rules.{owner_of}
 use Rattle.serving_law.proofs.Spoken.{effect_speaks}
@@ -80,20 +82,23 @@ module _ {C : Type 0} (device : C → Device) (members : Membership) (s : Scene 
   abbrev pub owner : Owner
   owner = owner_of device members n
 
+  abbrev pub volatile : VolatileState
+  volatile = volatile_in (w.sites n).mode
+
   abbrev pub old : Serving C
-  old = serving device members n (w.sites n).records (w.sites n).session cell tables idle tried
+  old = serving device members n (w.sites n).records volatile cell tables idle tried
 
   -- ---- between turns, where the book is as it was but for a record
 
-  pub served : (new : Serving C) (o : Option Record) (session : Session)
-      → IsKept device owner (w.sites n).records o new.site.book → new.session ≡ session
+  pub served : (new : Serving C) (o : Option Record) (mode : Mode)
+      → IsKept device owner (w.sites n).records o new.site.book → new.volatile ≡ volatile_in mode
       → IsServed device members n new
-      (record { records = (w.sites n).records ++ option_to_list o; session = session; mode = Up })
-  served new o session k same = record {
+      (record { records = (w.sites n).records ++ option_to_list o; mode = mode })
+  served new o mode k same = record {
     records = k.records;
     opened = k.opened;
     whose = k.whose;
-    session = same;
+    volatile = same;
     recovers =
         subst (λ (rs : List Record). RecoversTo owner rs (device new.site.book.cell).image)
         k.records k.recovers;
@@ -101,7 +106,7 @@ module _ {C : Type 0} (device : C → Device) (members : Membership) (s : Scene 
 
   -- nothing moves
   pub stays : (new : Serving C) → IsKept device owner (w.sites n).records None new.site.book
-      → new.session ≡ old.session → (D : May) → Moves device members w w n (Serves new) D
+      → new.volatile ≡ old.volatile → (D : May) → Moves device members w w n (Serves new) D
   stays new k same D = record {
     kept = inv;
     formed = formed;
@@ -111,7 +116,7 @@ module _ {C : Type 0} (device : C → Device) (members : Membership) (s : Scene 
       records = k.records ∙ append-nil (w.sites n).records;
       opened = k.opened;
       whose = k.whose;
-      session = same;
+      volatile = same;
       recovers =
           subst (λ (rs : List Record). RecoversTo owner rs (device new.site.book.cell).image)
           (k.records ∙ append-nil (w.sites n).records) k.recovers;
@@ -122,23 +127,22 @@ module _ {C : Type 0} (device : C → Device) (members : Membership) (s : Scene 
   -- ---- a process stops, with a record more or without
 
   abbrev stopped : Option Record → Network
-  stopped o = (moved w n o new_session Down [] None).network
+  stopped o = (moved w n o Down [] None).network
 
   stops : (o : Option Record) (D : May) (slot : SlotName) (body : _)
       → Sound q w n D o slot body [] → IfSome o IsRecord → (records : List Record)
       → records ≡ (w.sites n).records ++ option_to_list o
       → Moves device members w (stopped o) n (federations.Down records) D
   stops o D slot body sound is records same =
-      let next = kept_moved q w n o new_session Down [] None D slot body sound inv nothing_recalled
-      reports_nothing in
+      let next =
+      kept_moved q w n o Down [] None D slot body sound inv nothing_recalled reports_nothing in
       record {
         kept = next.kept;
-        formed =
-            moved_formed w n o new_session Down [] None formed is tt (λ d h. absurd (has_none h));
+        formed = moved_formed w n o Down [] None formed is tt (λ d h. absurd (has_none h));
         grows = next.grows;
-        others = others_stay w n o new_session Down [] None;
+        others = others_stay w n o Down [] None;
         is =
-            subst (λ t. records ≡ t.records) (sym (moved_site w n o new_session Down [] None)) same;
+            subst (λ t. records ≡ t.records) (sym (moved_site w n o Down [] None)) same;
         deposits = λ k slot bag h. elim (next.deposits k slot bag h) [
           | inl old ↦ inl old
           | inr may ↦ inr (sym (some_same may.0), may.1)
@@ -157,17 +161,17 @@ module _ {C : Type 0} (device : C → Device) (members : Membership) (s : Scene 
 
   module _ (input : Input) where
     abbrev pub e : Effect
-    e = effect_of q n (w.sites n).records (w.sites n).session input
+    e = effect_of q n (w.sites n).records volatile input
 
     -- the site, where its call is done
     abbrev pub called : Network
-    called = (moved w n e.commits e.session Up e.sends (notice_of n input e.says)).network
+    called = (moved w n e.commits (Up e.volatile) e.sends (notice_of n input e.says)).network
 
     module _ (deed : Deed q w n input e) (is : IsWellFormedEffect e) where
       abbrev step : Next q w (Some n) (MayDeposit input)
-          (moved w n e.commits e.session Up e.sends (notice_of n input e.says))
+          (moved w n e.commits (Up e.volatile) e.sends (notice_of n input e.says))
       step =
-          kept_moved q w n e.commits e.session Up e.sends (notice_of n input e.says)
+          kept_moved q w n e.commits (Up e.volatile) e.sends (notice_of n input e.says)
           (MayDeposit input) deed.slot deed.body deed.sound inv deed.recalls deed.reports
 
       pub ok_moves : (answer : Answer) (new : Serving C)
@@ -176,17 +180,17 @@ module _ {C : Type 0} (device : C → Device) (members : Membership) (s : Scene 
       ok_moves answer new c = record {
         kept = step.kept;
         formed =
-            moved_formed w n e.commits e.session Up e.sends (notice_of n input e.says) formed
+            moved_formed w n e.commits (Up e.volatile) e.sends (notice_of n input e.says) formed
             is.commits is.heard is.sends;
         grows = step.grows;
-        others = others_stay w n e.commits e.session Up e.sends (notice_of n input e.says);
+        others = others_stay w n e.commits (Up e.volatile) e.sends (notice_of n input e.says);
         is =
             subst (IsServed device members n new)
-            (sym (moved_site w n e.commits e.session Up e.sends (notice_of n input e.says)))
-            (served new e.commits e.session
+            (sym (moved_site w n e.commits (Up e.volatile) e.sends (notice_of n input e.says)))
+            (served new e.commits (Up e.volatile)
             (kept_ok device owner old.site.book refl refl recovers e.commits answer new.site.book
             (c.answered refl).keeps)
-            c.session);
+            c.volatile);
         deposits = λ k slot bag h. elim (step.deposits k slot bag h) [
           | inl old ↦ inl old
           | inr may ↦ inr (sym (some_same may.0), may.1)
@@ -236,37 +240,35 @@ module _ {C : Type 0} (device : C → Device) (members : Membership) (s : Scene 
             sent = has_right w.sent from.1;
             bytes_are =
                 ap (λ (p : ℕ × List ℕ). p.1) (sym to.2) ∙ ap (λ (p : ℕ × List ℕ). p.1) (sym from.2);
-            speaks = effect_speaks q n (w.sites n).records (w.sites n).session input from.0 from.1;
+            speaks = effect_speaks q n (w.sites n).records volatile input from.0 from.1;
           }
 
       -- a deposit that is registered is on record
       pub deposit_kept : (slot : SlotName) (checked : Result BagId BagFault) (bag : BagId)
-          → input ≡ Deposits slot checked → e.says ≡ Ok (Some (lines.Registered bag))
+          → input ≡ Deposits slot checked → e.says ≡ Ok (Some (site_lines.Registered bag))
           → HasDeposit called n slot bag
       deposit_kept slot checked bag as_input says =
           subst (λ (t : SiteState). HasEntry slot t.records (entry.Deposit bag))
-          (sym (moved_site w n e.commits e.session Up e.sends (notice_of n input e.says)))
+          (sym (moved_site w n e.commits (Up e.volatile) e.sends (notice_of n input e.says)))
           (at input as_input says)
         where
           at : (i : Input) → i ≡ Deposits slot checked
-              → (effect_of q n (w.sites n).records (w.sites n).session i).says
-              ≡ Ok (Some (lines.Registered bag))
+              → (effect_of q n (w.sites n).records volatile i).says
+              ≡ Ok (Some (site_lines.Registered bag))
               → HasEntry slot
               ((w.sites n).records
-              ++ option_to_list
-              (effect_of q n (w.sites n).records (w.sites n).session i).commits)
+              ++ option_to_list (effect_of q n (w.sites n).records volatile i).commits)
               (entry.Deposit bag)
           at i f g =
               subst
-              (λ (i : Input). (effect_of q n (w.sites n).records (w.sites n).session i).says
-              ≡ Ok (Some (lines.Registered bag))
+              (λ (i : Input). (effect_of q n (w.sites n).records volatile i).says
+              ≡ Ok (Some (site_lines.Registered bag))
               → HasEntry slot
               ((w.sites n).records
-              ++ option_to_list
-              (effect_of q n (w.sites n).records (w.sites n).session i).commits)
+              ++ option_to_list (effect_of q n (w.sites n).records volatile i).commits)
               (entry.Deposit bag))
               (sym f)
-              (registered_is_kept slot (w.sites n).records (w.sites n).session checked bag) g
+              (registered_is_kept slot (w.sites n).records volatile checked bag) g
 
       pub ok_notices : (answer : Answer) → e.says ≡ Ok answer.line → (notice : Notice)
           → Has notice (notices_of n input (Ok answer))
@@ -283,7 +285,7 @@ module _ {C : Type 0} (device : C → Device) (members : Membership) (s : Scene 
 
           at_deposit : (slot k_slot : SlotName) (checked : Result BagId BagFault) (k : ℕ)
               (found bag : BagId) → input ≡ Deposits slot checked
-              → e.says ≡ Ok (Some (lines.Registered found))
+              → e.says ≡ Ok (Some (site_lines.Registered found))
               → Registered n slot found ≡ Registered k k_slot bag
               → HasDeposit called k k_slot bag
           at_deposit slot k_slot checked k found bag f g same =
@@ -300,12 +302,12 @@ module _ {C : Type 0} (device : C → Device) (members : Membership) (s : Scene 
               → notice_of n i (Ok line) ≡ Some (Registered k slot bag)
               → HasDeposit called k slot bag
           by_line None g i f same = absurd (cc same)
-          by_line (Some lines.Dropped) g i f same = absurd (cc same)
-          by_line (Some (lines.Known slot bag)) g i f same = absurd (cc same)
-          by_line (Some (lines.Registered bag)) g (Proposes slot) f same = absurd (cc same)
-          by_line (Some (lines.Registered bag)) g (Asks slot member) f same = absurd (cc same)
-          by_line (Some (lines.Registered bag)) g (Arrives message) f same = absurd (cc same)
-          by_line (Some (lines.Registered found)) g (Deposits slot checked) f
+          by_line (Some site_lines.Dropped) g i f same = absurd (cc same)
+          by_line (Some (site_lines.Known slot bag)) g i f same = absurd (cc same)
+          by_line (Some (site_lines.Registered bag)) g (Proposes slot) f same = absurd (cc same)
+          by_line (Some (site_lines.Registered bag)) g (Asks slot member) f same = absurd (cc same)
+          by_line (Some (site_lines.Registered bag)) g (Arrives message) f same = absurd (cc same)
+          by_line (Some (site_lines.Registered found)) g (Deposits slot checked) f
               {k = k} {slot = k_slot} {bag = bag} same =
               at_deposit slot k_slot checked k found bag f g (some_same same)
 
@@ -317,34 +319,34 @@ module _ {C : Type 0} (device : C → Device) (members : Membership) (s : Scene 
     err_stays fault new c opened D =
         elim (kept_err device owner old.site.book refl refl recovers e.commits fault new.site.book
         (c.answered refl).keeps) [
-          | inl k ↦ stays new k c.session D
+          | inl k ↦ stays new k c.volatile D
           | inr (inl f) ↦ absurd (failed fault f (c.answered refl).keeps (c.answered refl).gives)
           | inr (inr f) ↦ absurd (unopened fault f (c.answered refl).gives)
         ]
       where
         failed : (fault : SiteFault) → fault ≡ faults.Device
             → Keeps device e.commits (Err fault) old.site.book new.site.book
-            → Gives old.site new.site old.session e (Err fault) → ⊥
+            → Gives old.site new.site old.volatile e (Err fault) → ⊥
         failed fault f keeps gives =
             let kept : Keeps device e.commits (Err faults.Device) old.site.book new.site.book =
             subst (λ (f : SiteFault). Keeps device e.commits (Err f) old.site.book new.site.book) f
             keeps in
             let some : IsSome e.commits =
-            subst (λ (f : SiteFault). Gives old.site new.site old.session e (Err f)) f gives in
+            subst (λ (f : SiteFault). Gives old.site new.site old.volatile e (Err f)) f gives in
             false≢true (sym opened
             ∙ device_needs device owner old.site.book refl refl recovers e.commits new.site.book
             some kept)
 
         unopened : (fault : SiteFault) → fault ≡ faults.NeedsOpen
-            → Gives old.site new.site old.session e (Err fault) → ⊥
+            → Gives old.site new.site old.volatile e (Err fault) → ⊥
         unopened fault f gives =
-            subst (λ (f : SiteFault). Gives old.site new.site old.session e (Err f)) f gives
+            subst (λ (f : SiteFault). Gives old.site new.site old.volatile e (Err f)) f gives
 
     -- a site that refuses represents what it represented
     pub err_stands : (fault : SiteFault) (new : Serving C)
         → Keeps device e.commits (Err fault) old.site.book new.site.book
-        → Gives old.site new.site old.session e (Err fault) → new.site.book.needs_opening ≡ false
-        → Represents new.site old.session
+        → Gives old.site new.site old.volatile e (Err fault) → new.site.book.needs_opening ≡ false
+        → Represents new.site old.volatile
     err_stands faults.Memory new keeps gives opened = gives
     err_stands faults.Device new keeps gives opened =
         absurd (false≢true (sym opened
@@ -371,6 +373,6 @@ module _ {C : Type 0} (device : C → Device) (members : Membership) (s : Scene 
           | inl k ↦ absurd (false≢true (sym k.opened ∙ needs))
           | inr (inl f) ↦ ap Err f
           | inr (inr f) ↦
-              absurd (subst (λ (f : SiteFault). Gives old.site new.site old.session e (Err f)) f
+              absurd (subst (λ (f : SiteFault). Gives old.site new.site old.volatile e (Err f)) f
               (c.answered refl).gives)
         ]

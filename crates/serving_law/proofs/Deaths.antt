@@ -20,9 +20,9 @@ use Rattle.records.proofs.SlotStates.{known-push}
 use Rattle.dgram.specs.Heard.{bodies_of, floor_of, voters_for}
 use Rattle.learner.specs.declared.row.Row.TheVariants as rows
 use Rattle.proposer.specs.Rows.{empty_row}
-use Rattle.proposer.specs.Sessions.{new_session}
+use Rattle.proposer.specs.VolatileStates.{new_volatile}
 use Rattle.site.specs.declared.answer.Answer.{Answer}
-use Rattle.site.specs.declared.answer.Line.TheVariants as lines
+use Rattle.site.specs.declared.answer.Line.TheVariants as site_lines
 use Rattle.site.specs.Calls.{on_deposit}
 use Rattle.site.specs.Calls as calls
 use Rattle.site.specs.Effects.{Effect}
@@ -64,11 +64,11 @@ module _ (members : Membership) (is_membership : IsMembership members) (slot : S
       go true = refl
       go false = refl
 
-  it_stands : Represents its_tables (records_of slot (entry.Deposit bag ∷ [])) new_session
+  it_stands : Represents its_tables (records_of slot (entry.Deposit bag ∷ [])) new_volatile
       (begun_bag slot None)
   unfolding floor_of bodies_of voters_for
   it_stands =
-      stands slot members 1 (entry.Deposit bag ∷ []) [] new_session refl (λ s f. refl) None
+      stands slot members 1 (entry.Deposit bag ∷ []) [] new_volatile refl (λ s f. refl) None
       (record { own = empty_row; heard = rows.Unheard })
       (record {
         used = sym (used_by_none slot (entry.Deposit bag) refl);
@@ -85,28 +85,28 @@ module _ (members : Membership) (is_membership : IsMembership members) (slot : S
   registering = record {
     commits = Some r;
     sends = [];
-    says = Ok (Some (lines.Registered bag));
-    session = new_session;
+    says = Ok (Some (site_lines.Registered bag));
+    volatile = new_volatile;
   }
 
-  is_registering : on_deposit [] new_session slot (Ok bag) ≡ registering
+  is_registering : on_deposit [] new_volatile slot (Ok bag) ≡ registering
   unfolding on_deposit deposit_of known_of
   is_registering = refl
 
   abbrev pub old : Serving Disk
-  old = serving members is_membership 1 [] its_tables new_session 0 0
+  old = serving members is_membership 1 [] its_tables new_volatile 0 0
 
   abbrev pub new : Serving Disk
-  new = serving members is_membership 1 (r ∷ []) its_tables new_session 0 0
+  new = serving members is_membership 1 (r ∷ []) its_tables new_volatile 0 0
 
   abbrev pub answer : Answer
-  answer = answer_of (Some (lines.Registered bag)) [] (omega arith)
+  answer = answer_of (Some (site_lines.Registered bag)) [] (omega arith)
 
   module _ (request : Request members.federation slot bag) where
-    effect_is : effect old.site new_session (calls.Deposits slot (check_of request.facts))
+    effect_is : effect old.site new_volatile (calls.Deposits slot (check_of request.facts))
         ≡ registering
     effect_is =
-        ap (λ (c : Result BagId BagFault). on_deposit [] new_session slot c) request.checked
+        ap (λ (c : Result BagId BagFault). on_deposit [] new_volatile slot c) request.checked
         ∙ is_registering
 
     abbrev pub done : Done
@@ -150,9 +150,9 @@ module _ (members : Membership) (is_membership : IsMembership members) (slot : S
           refl,
           (
             Ok answer,
-            called members is_membership 1 [] tt its_tables its_tables new_session 0 0
+            called members is_membership 1 [] tt its_tables its_tables new_volatile 0 0
                 (calls.Deposits slot (check_of request.facts)) registering
-                (Some (lines.Registered bag)) effect_is refl is_record tt (omega arith)
+                (Some (site_lines.Registered bag)) effect_is refl is_record tt (omega arith)
                 (begun_bag slot None) it_stands,
             refl,
           ),

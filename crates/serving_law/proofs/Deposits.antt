@@ -21,14 +21,14 @@ use Rattle.dgram.specs.declared.body.Body.TheVariants.{DepositReply}
 use Rattle.dgram.specs.Messages.{IsDepositAnswer}
 use Rattle.site.specs.declared.answer.Answer.{Answer}
 use Rattle.site.specs.declared.answer.Line.{Line}
-use Rattle.site.specs.declared.answer.Line.TheVariants as lines
+use Rattle.site.specs.declared.answer.Line.TheVariants as site_lines
 use Rattle.site.specs.declared.fault.SiteFault.{SiteFault}
 use Rattle.site.specs.declared.fault.SiteFault.TheVariants as faults
 use Rattle.site.specs.Answered.{Gives}
 use Rattle.site.specs.Calls.{Input, Deposits, effect_of}
 use Rattle.site.specs.Effects.{Effect}
 use Rattle.world_law.specs.Laws.{IsChosen}
-use Rattle.world_law.specs.Networks.{Network}
+use Rattle.world_law.specs.Networks.{Network, volatile_in}
 use Rattle.world_law.specs.WellFormed.{IsWellFormed}
 use Rattle.world_law.proofs.Calls.{deposit_deed}
 use Rattle.world_law.proofs.Deeds.{Deed, MayDeposit, some_same}
@@ -138,7 +138,7 @@ module _ {C : Type 0} (device : C → Device) (members : Membership) (s : Scene 
       input = Deposits slot (check_of facts)
 
       abbrev e : Effect
-      e = effect_of q n (w.sites n).records (w.sites n).session input
+      e = effect_of q n (w.sites n).records (volatile_in (w.sites n).mode) input
 
       deed : Deed q w n input e
       deed = deposit_deed q
@@ -148,7 +148,7 @@ module _ {C : Type 0} (device : C → Device) (members : Membership) (s : Scene 
       effect_formed : IsWellFormedEffect e
       effect_formed = effect_is q
           (turning.sites device members s)
-          n site_number (w.sites n).records (formed.records n) (w.sites n).session
+          n site_number (w.sites n).records (formed.records n) (volatile_in (w.sites n).mode)
           (formed.heard n) input
           (is_slot, if_ok IsBag (check_of facts) (λ bag f. checked_is facts bag f))
 
@@ -161,9 +161,9 @@ module _ {C : Type 0} (device : C → Device) (members : Membership) (s : Scene 
       line_right : IsWellFormed called → (line : Option Line) → e.says ≡ Ok line
           → (answer : DepositAnswer) → line_answer line ≡ Some answer → IsRight called slot answer
       line_right is None says answer f = absurd (cc f)
-      line_right is (Some (lines.Known s bag)) says answer f = absurd (cc f)
-      line_right is (Some lines.Dropped) says answer f = absurd (cc f)
-      line_right is (Some (lines.Registered bag)) says answer f =
+      line_right is (Some (site_lines.Known s bag)) says answer f = absurd (cc f)
+      line_right is (Some site_lines.Dropped) says answer f = absurd (cc f)
+      line_right is (Some (site_lines.Registered bag)) says answer f =
           subst (IsRight called slot) (some_same f) (record {
             is = turning.deposit_is_bag device members s called is slot bag on_record;
             known = λ b g. absurd (cc g);
@@ -184,7 +184,7 @@ module _ {C : Type 0} (device : C → Device) (members : Membership) (s : Scene 
       other_known : (x : Network) (bag : BagId) → e.says ≡ Err (faults.OtherKnown bag)
           → IsRight x slot (deposit.OtherKnown bag)
       other_known x bag says =
-          let on_record = other_known_is slot (w.sites n).records (w.sites n).session
+          let on_record = other_known_is slot (w.sites n).records (volatile_in (w.sites n).mode)
           (check_of facts) bag says in
           record {
             is = turning.bag_is device members s slot bag on_record;
@@ -203,12 +203,13 @@ module _ {C : Type 0} (device : C → Device) (members : Membership) (s : Scene 
       other_deposit x bag says =
           neither_right x slot (deposit.OtherDeposit bag)
           (turning.deposit_is_bag device members s w formed slot bag
-          (other_deposit_is slot (w.sites n).records (w.sites n).session (check_of facts) bag says))
+          (other_deposit_is slot (w.sites n).records (volatile_in (w.sites n).mode)
+          (check_of facts) bag says))
           tt
 
       -- the answer that a refusal gives
       fault_right : (fault : SiteFault) (new : Serving C)
-          → Gives old.site new.site old.session e (Err fault) → (x : Network)
+          → Gives old.site new.site old.volatile e (Err fault) → (x : Network)
           → (answer : DepositAnswer) → fault_answer fault ≡ Some answer → IsRight x slot answer
       fault_right (faults.InvalidBag bags.Memory) new gives x answer f = absurd (cc f)
       fault_right (faults.InvalidBag fault) new gives x answer f =

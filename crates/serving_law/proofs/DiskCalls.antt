@@ -15,7 +15,7 @@ use Rattle.dgram.specs.declared.message.Message.{Message}
 use Rattle.dgram.specs.Encoding.{datagram_of}
 use Rattle.dgram.specs.Messages.{IsMessage}
 use Rattle.dgram.proofs.MessageOf.{message_of-again}
-use Rattle.proposer.specs.Sessions.{Session}
+use Rattle.proposer.specs.VolatileStates.{VolatileState}
 use Rattle.proposer.specs.UnderWay.{UnderWay}
 use Rattle.site.specs.declared.answer.Answer.{Answer}
 use Rattle.site.specs.declared.answer.Line.{Line}
@@ -56,10 +56,10 @@ module _ (members : Membership) (is_membership : IsMembership members) (n : ℕ)
   owner = record { members = members; site = n }
 
   abbrev pub serving :
-      List Record → Contents → Session → (idle tried : ℕ) → Serving Disk
-  serving records tables session idle tried = record {
+      List Record → Contents → VolatileState → (idle tried : ℕ) → Serving Disk
+  serving records tables volatile idle tried = record {
     site = record { book = holds owner records; tables = tables };
-    session = session;
+    volatile = volatile;
     idle = idle;
     tried = tried;
   }
@@ -73,16 +73,16 @@ module _ (members : Membership) (is_membership : IsMembership members) (n : ℕ)
 
   -- a call answers as the definitions say
   module _ (records : List Record) (are : AreRecords records) (tables then : Contents)
-      (session : Session) (idle tried : ℕ) (input : Input) (e : Effect) (line : Option Line)
-      (is : effect (serving records tables session idle tried).site session input ≡ e)
+      (volatile : VolatileState) (idle tried : ℕ) (input : Input) (e : Effect) (line : Option Line)
+      (is : effect (serving records tables volatile idle tried).site volatile input ≡ e)
       (says : e.says ≡ said line) (keep : IsKept e.commits) (ms : AreMessages e.sends)
       (few : length (seals members.federation e.sends ms) < 2 ^ 63)
-      (under : UnderWay) (stands : Represents then (kept records e.commits) e.session under) where
+      (under : UnderWay) (stands : Represents then (kept records e.commits) e.volatile under) where
     abbrev old : Serving Disk
-    old = serving records tables session idle tried
+    old = serving records tables volatile idle tried
 
     abbrev new : Serving Disk
-    new = serving (kept records e.commits) then e.session idle tried
+    new = serving (kept records e.commits) then e.volatile idle tried
 
     abbrev answer : Answer
     answer = answer_of line (seals members.federation e.sends ms) few
@@ -90,13 +90,13 @@ module _ (members : Membership) (is_membership : IsMembership members) (n : ℕ)
     pub called : IsCalled device old input (Ok answer) new
     called = record {
       answered = λ opened.
-          subst (λ (f : Effect). IsAnswered device old.site new.site session f (Ok answer))
+          subst (λ (f : Effect). IsAnswered device old.site new.site volatile f (Ok answer))
           (sym is) (record {
             keeps = keeps records are e.commits keep answer;
             gives = (says, seals_are members.federation e.sends ms, (under, stands));
           });
       refused = λ needs. absurd (cc needs);
-      session = ap (λ (f : Effect). f.session) (sym is);
+      volatile = ap (λ (f : Effect). f.volatile) (sym is);
       idle = refl;
       tried = refl;
     }
@@ -120,15 +120,16 @@ module _ (members : Membership) (is_membership : IsMembership members) (n : ℕ)
     next = next;
   }
 
-  pub hears : (ports : List ℕ) (records : List Record) (tables : Contents) (session : Session)
+  pub hears : (ports : List ℕ) (records : List Record) (tables : Contents)
+      (volatile : VolatileState)
       (idle tried : ℕ) (next : Serving Disk) (m : Message) → IsMessage m
       → requests.request_by 0 m m.body ≡ requests.Says m → (answer : Answer)
-      → IsCalled device (serving records tables session idle tried) (calls.Arrives (Some m))
+      → IsCalled device (serving records tables volatile idle tried) (calls.Arrives (Some m))
       (Ok answer) next
-      → turn_of device ports (Some no_folders) (serving records tables session idle tried)
+      → turn_of device ports (Some no_folders) (serving records tables volatile idle tried)
       (from_site m) (heard_done ports m answer) next
-  hears ports records tables session idle tried next m is says answer call =
+  hears ports records tables volatile idle tried next m is says answer call =
       subst (λ (q : requests.Request). comes_of device ports (Some no_folders)
-      (serving records tables session idle tried) q (heard_done ports m answer) next)
+      (serving records tables volatile idle tried) q (heard_done ports m answer) next)
       (sym (ap (requests.request_in 0) (message_of-again members.federation m is) ∙ says))
       (Ok answer, call, refl)

@@ -23,9 +23,9 @@ use Rattle.dgram.specs.Heard.{bodies_of, floor_of}
 use Rattle.dgram.specs.Messages.{IsMessage}
 use Rattle.learner.specs.declared.row.Row.TheVariants as rows
 use Rattle.proposer.specs.Rows.{empty_row}
-use Rattle.proposer.specs.Sessions.{Session, new_session, hears as heard_in}
+use Rattle.proposer.specs.VolatileStates.{VolatileState, new_volatile, hears as heard_in}
 use Rattle.site.specs.declared.answer.Answer.{Answer}
-use Rattle.site.specs.declared.answer.Line.TheVariants as lines
+use Rattle.site.specs.declared.answer.Line.TheVariants as site_lines
 use Rattle.site.specs.Arrivals.{on_arrival, on_body, is_member}
 use Rattle.site.specs.Calls as calls
 use Rattle.site.specs.Effects.{Effect}
@@ -51,8 +51,8 @@ module _ (members : Membership) (is_membership : IsMembership members) (two : 2 
   abbrev m : Message
   m = record { slot = slot; body = Known 2 bag }
 
-  abbrev heard : Session
-  heard = heard_in new_session m
+  abbrev heard : VolatileState
+  heard = heard_in new_volatile m
 
   -- ---- tables
 
@@ -99,7 +99,7 @@ module _ (members : Membership) (is_membership : IsMembership members) (two : 2 
   -- ---- the call
 
   abbrev old : Serving Disk
-  old = serving members is_membership 1 [] before_tables new_session 0 0
+  old = serving members is_membership 1 [] before_tables new_volatile 0 0
 
   abbrev new : Serving Disk
   new = serving members is_membership 1 (r ∷ []) after_tables heard 0 0
@@ -108,8 +108,8 @@ module _ (members : Membership) (is_membership : IsMembership members) (two : 2 
   learning = record {
     commits = Some r;
     sends = [];
-    says = Ok (Some (lines.Known slot bag));
-    session = heard;
+    says = Ok (Some (site_lines.Known slot bag));
+    volatile = heard;
   }
 
   member : is_member (quorums_of members) (Some 2) ≡ true
@@ -117,12 +117,12 @@ module _ (members : Membership) (is_membership : IsMembership members) (two : 2 
       (is_in_decides (members_of members) 2).1
       (sites_to_has (count_of members) 2 (omega arith) two)
 
-  effect_is : effect old.site new_session (calls.Arrives (Some m)) ≡ learning
+  effect_is : effect old.site new_volatile (calls.Arrives (Some m)) ≡ learning
   unfolding on_arrival on_body known_of
   effect_is = rw member refl
 
   abbrev answer : Answer
-  answer = answer_of (Some (lines.Known slot bag)) [] (omega arith)
+  answer = answer_of (Some (site_lines.Known slot bag)) [] (omega arith)
 
   abbrev step : Step Disk
   step = heard_step members is_membership 1 [] m answer new
@@ -132,9 +132,10 @@ module _ (members : Membership) (is_membership : IsMembership members) (two : 2 
 
   comes : turn_of device [] (Some no_folders) old step.turn.took step.turn.done new
   comes =
-      hears members is_membership 1 [] [] before_tables new_session 0 0 new m is_message refl answer
-      (called members is_membership 1 [] tt before_tables after_tables new_session 0 0
-      (calls.Arrives (Some m)) learning (Some (lines.Known slot bag)) effect_is refl
+      hears members is_membership 1 [] [] before_tables new_volatile 0 0 new m is_message refl
+      answer
+      (called members is_membership 1 [] tt before_tables after_tables new_volatile 0 0
+      (calls.Arrives (Some m)) learning (Some (site_lines.Known slot bag)) effect_is refl
       (is_slot, is_bag) tt (omega arith) (begun_bag slot None) it_stands)
 
   one : Has 1 (members_of members)

@@ -34,12 +34,13 @@ use Rattle.dgram.specs.declared.body.Body.TheVariants as bodies
 use Rattle.dgram.specs.declared.message.Message.{Message}
 use Rattle.dgram.specs.Decoded.{message_of}
 use Rattle.dgram.proofs.MessageOf.{message_of-again}
-use Rattle.proposer.specs.Sessions.{new_session}
+use Rattle.proposer.specs.VolatileStates.{new_volatile}
 use Rattle.book.specs.Opened.{Opens}
 use Rattle.site.specs.Sites.{OpenSite, Represents}
-use Rattle.lines.specs.Notices.{Notice, Registered}
+use Rattle.lines.specs.declared.notice.Notice.{Notice}
+use Rattle.lines.specs.declared.notice.Notice.TheVariants.{Registered}
 use Rattle.world_law.specs.Laws.{notice_report, IsChosen}
-use Rattle.world_law.specs.Networks.{Network, SiteState, Up}
+use Rattle.world_law.specs.Networks.{Network, SiteState, Up, volatile_in}
 use Rattle.world_law.specs.WellFormed.{IsWellFormed}
 use Rattle.world_law.proofs.Deeds.{some_same, nothing_sent}
 use Rattle.world_law.proofs.Grows.{Grows, grows_itself}
@@ -63,8 +64,8 @@ use Rattle.serving_law.proofs.Moves.{moved_site, others_stay, moved_formed}
 use Rattle.serving_law.proofs.Recoveries.{recovered_now}
 use Rattle.serving_law.proofs.Requests.{IsAsked}
 use Rattle.serving_law.proofs.Scene.{Scene, OnlyNow}
-use Rattle.serving_law.proofs.Networks.{quorums, serving, is_serving, IsServed, IsMember, IsSent}
-use Rattle.serving_law.proofs.Networks.{IsReply, SaysRightly, IsPost, IsNotice, Means, HasDeposit}
+use Rattle.serving_law.proofs.Networks.{quorums, serving, is_serving, IsServed, IsMember}
+use Rattle.serving_law.proofs.Networks.{SaysRightly, IsPost, IsNotice, Means, HasDeposit}
 use Rattle.serving_law.proofs.Networks.{Moves, Goes, Stands}
 use Rattle.serving_law.proofs.Networks as standing
 use Rattle.serving_law.proofs.Calls.{stops_as_it_was, any_slot}
@@ -431,12 +432,12 @@ module _ {C : Type 0} (device : C → Device) (members : Membership)
       ends n member old is records m =
           stops_as_it_was device members (scene n member old is) old.idle old.tried Nothing records
           (recovered_now device (owner_of device members n)
-          (serving device members n (w.sites n).records (w.sites n).session old.site.book.cell
-          old.site.tables old.idle old.tried).site.book
+          (serving device members n (w.sites n).records (volatile_in (w.sites n).mode)
+          old.site.book.cell old.site.tables old.idle old.tried).site.book
           refl refl is.recovers only_now records m)
 
       renews : (n : ℕ) (old : Serving C) → IsServed device members n old (w.sites n)
-          → Moves device members w w n (Serves (begins old.site old.session)) Nothing
+          → Moves device members w w n (Serves (begins old.site old.volatile)) Nothing
       renews n old is = record {
         kept = stands.kept;
         formed = stands.formed;
@@ -446,7 +447,7 @@ module _ {C : Type 0} (device : C → Device) (members : Membership)
           records = is.records;
           opened = is.opened;
           whose = is.whose;
-          session = is.session;
+          volatile = is.volatile;
           recovers = is.recovers;
         };
         deposits = λ k slot bag d. inl d;
@@ -456,23 +457,23 @@ module _ {C : Type 0} (device : C → Device) (members : Membership)
           → records ≡ (w.sites n).records
           → rules.ReadGives (owner_of device members n) (device cell) records
           → Opens device (owner_of device members n) cell (Ok site.book)
-          → (x : Network) × Moves device members w x n (Serves (begins site new_session)) Nothing
+          → (x : Network) × Moves device members w x n (Serves (begins site new_volatile)) Nothing
       starts n cell site records same reads opens = (
         x,
         record {
           kept = next.kept;
           formed =
-              moved_formed w n None new_session Up [] None stands.formed tt tt
+              moved_formed w n None (Up new_volatile) [] None stands.formed tt tt
               (λ d h. absurd (has_none h));
           grows = next.grows;
-          others = others_stay w n None new_session Up [] None;
+          others = others_stay w n None (Up new_volatile) [] None;
           is =
-              subst (IsServed device members n (begins site new_session))
-              (sym (moved_site w n None new_session Up [] None)) (record {
+              subst (IsServed device members n (begins site new_volatile))
+              (sym (moved_site w n None (Up new_volatile) [] None)) (record {
                 records = same_records;
                 opened = opens.whose.1;
                 whose = opens.whose.0;
-                session = refl;
+                volatile = refl;
                 recovers =
                     subst (λ (rs : List Record). RecoversTo (owner_of device members n) rs
                     (device site.book.cell).image)
@@ -486,10 +487,10 @@ module _ {C : Type 0} (device : C → Device) (members : Membership)
       )
         where
           x : Network
-          x = (moved w n None new_session Up [] None).network
+          x = (moved w n None (Up new_volatile) [] None).network
 
-          next : Next q w (Some n) Nothing (moved w n None new_session Up [] None)
-          next = kept_moved q w n None new_session Up [] None Nothing any_slot (bodies.Ask n)
+          next : Next q w (Some n) Nothing (moved w n None (Up new_volatile) [] None)
+          next = kept_moved q w n None (Up new_volatile) [] None Nothing any_slot (bodies.Ask n)
               (nothing_sent q w n Nothing any_slot) stands.kept nothing_recalled reports_nothing
 
           same_records : site.book.records ≡ (w.sites n).records ++ []
@@ -519,12 +520,12 @@ module _ {C : Type 0} (device : C → Device) (members : Membership)
           let moves = ends n serves.0 old (served_at n old serves.1) records recovers in
           quiet (Ends n records) refl n (Down records) refl moves.0 moves.1
       went (Renews n) (old, serves) =
-          quiet (Renews n) refl n (Serves (begins old.site old.session))
+          quiet (Renews n) refl n (Serves (begins old.site old.volatile))
           (ap (λ (m : Member C). becomes f n (renewed m) []) serves.1) w
           (renews n old (served_at n old serves.1))
       went (Starts n cell site) (member, (records, down, reads), opens) =
           let moves = starts n cell site records (down_at n records down) reads opens in
-          quiet (Starts n cell site) refl n (Serves (begins site new_session)) refl moves.0 moves.1
+          quiet (Starts n cell site) refl n (Serves (begins site new_volatile)) refl moves.0 moves.1
 
       -- ---- a turn, whatever is known of folders
 
@@ -546,7 +547,7 @@ module _ {C : Type 0} (device : C → Device) (members : Membership)
           → turns.IsServing old → turns.IsServing step.next
       stands_then n member old serves step takes before opened =
           (came n member old serves step takes).stands
-          (subst (λ (s : Serving C). Represents s.site s.session)
+          (subst (λ (s : Serving C). Represents s.site s.volatile)
           (is_serving device members n old (w.sites n) (served_at n old serves))
           (before (served_at n old serves).opened))
           opened

@@ -1,5 +1,5 @@
--- A network that a federation of sites that serve represents: the same records and sessions, and a
--- message for each datagram that was handed out.
+-- A network that a federation of sites that serve represents: the same records and volatile
+-- states, and a message for each datagram that was handed out.
 use Rattle.std.proofs.Common.{ℕ, ◌≡◌, ◌≢◌, ◌⊎◌, inl, inr, false}
 use Rattle.std.proofs.Common.{List, Some}
 use Rattle.fed_types.specs.declared.bag_id.BagId.{BagId}
@@ -17,13 +17,14 @@ use Rattle.dgram.specs.declared.body.Body.TheVariants.{DepositReply, QueryReply}
 use Rattle.dgram.specs.declared.message.Message.{Message}
 use Rattle.dgram.specs.Encoding.{datagram_of}
 use Rattle.dgram.specs.Messages.{IsMessage}
-use Rattle.proposer.specs.Sessions.{Session}
+use Rattle.proposer.specs.VolatileStates.{VolatileState}
 use Rattle.site.specs.Effects.{Send}
 use Rattle.site_tables.specs.Contents.{Contents}
-use Rattle.lines.specs.Notices.{Notice, Registered}
+use Rattle.lines.specs.declared.notice.Notice.{Notice}
+use Rattle.lines.specs.declared.notice.Notice.TheVariants.{Registered}
 use Rattle.world_law.specs.Laws.{IsChosen, Report, notice_report}
 use Rattle.world_law.specs.Laws as laws
-use Rattle.world_law.specs.Networks.{Network, SiteState}
+use Rattle.world_law.specs.Networks.{Network, SiteState, volatile_in}
 use Rattle.world_law.specs.WellFormed.{IsWellFormed}
 use Rattle.world_law.proofs.Grows.{Grows}
 use Rattle.world_law.proofs.Kept.{Kept}
@@ -53,10 +54,10 @@ module _ {C : Type 0} (device : C → Device) (members : Membership) where
 
   -- ---- sites
 
-  -- what is between two turns of member n, whose site has these records and this session
+  -- what is between two turns of member n, whose site has these records and this volatile state
   abbrev pub serving :
-      (n : ℕ) → List Record → Session → (cell : C) → Contents → (idle tried : ℕ) → Serving C
-  serving n records session cell tables idle tried = record {
+      (n : ℕ) → List Record → VolatileState → (cell : C) → Contents → (idle tried : ℕ) → Serving C
+  serving n records volatile cell tables idle tried = record {
     site = record {
       book = record {
         cell = cell;
@@ -66,7 +67,7 @@ module _ {C : Type 0} (device : C → Device) (members : Membership) where
       };
       tables = tables;
     };
-    session = session;
+    volatile = volatile;
     idle = idle;
     tried = tried;
   }
@@ -75,12 +76,13 @@ module _ {C : Type 0} (device : C → Device) (members : Membership) where
     pub records : s.site.book.records ≡ t.records
     pub opened : s.site.book.needs_opening ≡ false
     pub whose : s.site.book.owner ≡ owner_of device members n
-    pub session : s.session ≡ t.session
+    pub volatile : s.volatile ≡ volatile_in t.mode
     pub recovers :
         RecoversTo (owner_of device members n) t.records (device s.site.book.cell).image
 
   pub is_serving : (n : ℕ) (s : Serving C) (t : SiteState) → IsServed n s t
-      → s ≡ serving n t.records t.session s.site.book.cell s.site.tables s.idle s.tried
+      → s
+      ≡ serving n t.records (volatile_in t.mode) s.site.book.cell s.site.tables s.idle s.tried
   is_serving n s t h = λ i. record {
     site = record {
       book = record {
@@ -91,7 +93,7 @@ module _ {C : Type 0} (device : C → Device) (members : Membership) where
       };
       tables = s.site.tables;
     };
-    session = h.session i;
+    volatile = h.volatile i;
     idle = s.idle;
     tried = s.tried;
   }

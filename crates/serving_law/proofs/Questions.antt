@@ -13,15 +13,17 @@ use Rattle.fed_types.specs.Laws.Lists.{has_none, has_one, has_cases, has_map, ha
 use Rattle.cell_device.specs.Devices.{Device}
 use Rattle.dgram.specs.declared.body.Body.TheVariants.{Ask, QueryReply}
 use Rattle.dgram.specs.Encoding.{datagram_of}
+use Rattle.proposer.specs.VolatileStates.{VolatileState}
 use Rattle.site.specs.declared.answer.Reply.{Reply}
 use Rattle.site.specs.declared.answer.Reply.TheVariants as replies
 use Rattle.site.specs.declared.fault.SiteFault.{SiteFault}
 use Rattle.site.specs.declared.fault.SiteFault.TheVariants as faults
 use Rattle.site.specs.Calls.{reply_of}
 use Rattle.site.specs.Effects.{to_each}
-use Rattle.lines.specs.Notices.{Notice, Replied, Refused}
+use Rattle.lines.specs.declared.notice.Notice.{Notice}
+use Rattle.lines.specs.declared.notice.Notice.TheVariants.{Replied, Refused}
 use Rattle.world_law.specs.Laws.{Report, notice_report, IsChosen}
-use Rattle.world_law.specs.Networks.{Network, Up}
+use Rattle.world_law.specs.Networks.{Network, Up, volatile_in}
 use Rattle.world_law.proofs.Deeds.{some_same, only_sends, carries_each, same_recalls, not_new}
 use Rattle.world_law.proofs.Step.{moved, kept_moved, Next, reports_nothing}
 use Rattle.world_law.proofs.WellFormedEffects.{sends_are}
@@ -52,13 +54,13 @@ has_filter test {x = x} (y ∷ ys) h = go (λ k. has_filter test ys k) (test y) 
     go rest false k = there (rest k)
 
 -- what a reply to a query names as known
-named : (n : ℕ) (reply : Reply) (bag : BagId)
+named : (n : ℕ) (reply : Reply BagId) (bag : BagId)
     → known_told (QueryReply n (query_answer (Ok reply))) ≡ Some bag → reply ≡ replies.Known bag
 named n (replies.Known b) bag e = ap replies.Known (some_same e)
 named n (replies.Pending b) bag e = absurd (cc e)
 named n replies.Nothing bag e = absurd (cc e)
 
-reported : (n : ℕ) (slot : SlotName) (reply : Reply) (r : Report)
+reported : (n : ℕ) (slot : SlotName) (reply : Reply BagId) (r : Report)
     → notice_report (Replied n slot reply) ≡ Some r
     → (reply ≡ replies.Known r.bag) × (slot ≡ r.slot)
 reported n slot (replies.Known b) r e =
@@ -73,23 +75,25 @@ module _ {C : Type 0} (device : C → Device) (members : Membership) (s : Scene 
   abbrev q : QuorumSystem
   q = quorums device members
 
+  abbrev volatile : VolatileState
+  volatile = volatile_in (w.sites n).mode
+
   module _ (idle tried : ℕ) (slot : SlotName) (is_slot : IsSlot slot) where
     abbrev old : Serving C
     old = turning.old device members s idle tried
 
     -- the network in which these members are asked
     abbrev asking : List ℕ → Network
-    asking all = (moved w n None (w.sites n).session Up (to_each slot (Ask n) all) None).network
+    asking all = (moved w n None (Up volatile) (to_each slot (Ask n) all) None).network
 
     step : (D : May) (all : List ℕ)
-        → Next q w (Some n) D
-        (moved w n None (w.sites n).session Up (to_each slot (Ask n) all) None)
+        → Next q w (Some n) D (moved w n None (Up volatile) (to_each slot (Ask n) all) None)
     step D all =
-        kept_moved q w n None (w.sites n).session Up (to_each slot (Ask n) all) None D slot (Ask n)
+        kept_moved q w n None (Up volatile) (to_each slot (Ask n) all) None D slot (Ask n)
         (only_sends q w n D slot (Ask n) (to_each slot (Ask n) all) (carries_each slot (Ask n) all)
         refl (λ x g. tt))
         inv
-        (same_recalls q w n (inv.sessions n) None slot (Ask n)
+        (same_recalls q w n volatile (inv.volatiles n) None slot (Ask n)
         (λ k c bag e i. absurd (not_new (Ask n) tt i)))
         reports_nothing
 
@@ -101,20 +105,19 @@ module _ {C : Type 0} (device : C → Device) (members : Membership) (s : Scene 
     moves D all are = record {
       kept = (step D all).kept;
       formed =
-          moved_formed w n None (w.sites n).session Up (to_each slot (Ask n) all) None formed tt
+          moved_formed w n None (Up volatile) (to_each slot (Ask n) all) None formed tt
           (formed.heard n)
           (sends_are slot is_slot None tt (Ask n)
           (turning.is_site device members s)
           all
           (λ k h. turning.sites device members s k (are k h))
-          (w.sites n).session (formed.heard n)).sends;
+          volatile (formed.heard n)).sends;
       grows = (step D all).grows;
-      others = others_stay w n None (w.sites n).session Up (to_each slot (Ask n) all) None;
+      others = others_stay w n None (Up volatile) (to_each slot (Ask n) all) None;
       is =
           subst (IsServed device members n old)
-          (sym (moved_site w n None (w.sites n).session Up (to_each slot (Ask n) all) None))
-          (calling.served device members s idle tried old None
-          (w.sites n).session
+          (sym (moved_site w n None (Up volatile) (to_each slot (Ask n) all) None))
+          (calling.served device members s idle tried old None (Up volatile)
           (as_it_was device (owner_of device members n) old.site.book refl refl recovers) refl);
       deposits = λ k s bag h. elim ((step D all).deposits k s bag h) [
         | inl before ↦ inl before
@@ -122,7 +125,7 @@ module _ {C : Type 0} (device : C → Device) (members : Membership) (s : Scene 
       ];
     }
 
-    asked_are : (known : Result Reply SiteFault) → AreMembers (asked old known)
+    asked_are : (known : Result (Reply BagId) SiteFault) → AreMembers (asked old known)
     asked_are (Ok (replies.Known bag)) k h = absurd (has_none h)
     asked_are (Ok (replies.Pending bag)) k h = has_filter _ (members_of members) h
     asked_are (Ok replies.Nothing) k h = has_filter _ (members_of members) h
@@ -176,7 +179,7 @@ module _ {C : Type 0} (device : C → Device) (members : Membership) (s : Scene 
 
     -- ---- the reply
 
-    abbrev reply : Reply
+    abbrev reply : Reply BagId
     reply = reply_of slot (w.sites n).records
 
     chosen : (bag : BagId) → reply ≡ replies.Known bag → IsChosen q w slot bag

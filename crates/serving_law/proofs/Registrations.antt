@@ -16,15 +16,15 @@ use Rattle.records.specs.declared.record.Record.{Record}
 use Rattle.records.specs.Bounds.{HasEntry}
 use Rattle.records.specs.SlotStates.{deposit_of, known_of}
 use Rattle.records.proofs.Bounds.{deposit_among, known_among}
-use Rattle.proposer.specs.Sessions.{Session}
-use Rattle.site.specs.declared.answer.Line.TheVariants as lines
+use Rattle.proposer.specs.VolatileStates.{VolatileState}
+use Rattle.site.specs.declared.answer.Line.TheVariants as site_lines
 use Rattle.site.specs.declared.fault.SiteFault.{SiteFault}
 use Rattle.site.specs.declared.fault.SiteFault.TheVariants as faults
 use Rattle.site.specs.Calls.{on_deposit, registering, other_than, deposit_fault}
 use Rattle.site.specs.Effects.{refuses}
 use Rattle.site.specs.Faults.{check_fault}
 
-module _ (slot : SlotName) (records : List Record) (session : Session) where
+module _ (slot : SlotName) (records : List Record) (volatile : VolatileState) where
   -- no other deposit is in the way, so the own one is this
   same_own : (bag own : BagId) (known : Option BagId)
       → deposit_fault (other_than bag (Some own)) known ≡ None → own ≡ bag
@@ -37,7 +37,7 @@ module _ (slot : SlotName) (records : List Record) (session : Session) where
 
   by_own : (own : Option BagId) → deposit_of slot records ≡ own → (bag : BagId)
       → (known : Option BagId) → deposit_fault (other_than bag own) known ≡ None
-      → HasEntry slot (records ++ option_to_list (registering slot own bag None session).commits)
+      → HasEntry slot (records ++ option_to_list (registering slot own bag None volatile).commits)
       (entry.Deposit bag)
   by_own None e bag known f = has_right records (here refl)
   by_own (Some own) e bag known f =
@@ -48,20 +48,21 @@ module _ (slot : SlotName) (records : List Record) (session : Session) where
   by_fault : (own : Option BagId) → deposit_of slot records ≡ own → (found bag : BagId)
       (known : Option BagId) (fault : Option SiteFault)
       → deposit_fault (other_than found own) known ≡ fault
-      → (registering slot own found fault session).says ≡ Ok (Some (lines.Registered bag))
-      → HasEntry slot (records ++ option_to_list (registering slot own found fault session).commits)
+      → (registering slot own found fault volatile).says ≡ Ok (Some (site_lines.Registered bag))
+      → HasEntry slot (records ++ option_to_list
+      (registering slot own found fault volatile).commits)
       (entry.Deposit bag)
   by_fault own e found bag known None f says =
       let same : found ≡ bag = cc in
       subst (λ (b : BagId). HasEntry slot
-      (records ++ option_to_list (registering slot own found None session).commits)
+      (records ++ option_to_list (registering slot own found None volatile).commits)
       (entry.Deposit b)) same (by_own own e found known f)
   by_fault own e found bag known (Some fault) f says = absurd (cc says)
 
   pub registered_is_kept : (checked : Result BagId BagFault) (bag : BagId)
-      → (on_deposit records session slot checked).says ≡ Ok (Some (lines.Registered bag))
+      → (on_deposit records volatile slot checked).says ≡ Ok (Some (site_lines.Registered bag))
       → HasEntry slot
-      (records ++ option_to_list (on_deposit records session slot checked).commits)
+      (records ++ option_to_list (on_deposit records volatile slot checked).commits)
       (entry.Deposit bag)
   unfolding on_deposit
   registered_is_kept (Err fault) bag says = absurd (cc says)
@@ -85,7 +86,7 @@ module _ (slot : SlotName) (records : List Record) (session : Session) where
       go false h = h ∙ ap Some same
 
   refused_by : (own : Option BagId) (found bag : BagId) (fault : Option SiteFault)
-      → (registering slot own found fault session).says ≡ Err (faults.OtherKnown bag)
+      → (registering slot own found fault volatile).says ≡ Err (faults.OtherKnown bag)
       → fault ≡ Some (faults.OtherKnown bag)
   refused_by None found bag None says = absurd (cc says)
   refused_by (Some own) found bag None says = absurd (cc says)
@@ -97,14 +98,14 @@ module _ (slot : SlotName) (records : List Record) (session : Session) where
   no_known fault bag e = absurd (cc e)
 
   pub other_known_is : (checked : Result BagId BagFault) (bag : BagId)
-      → (on_deposit records session slot checked).says ≡ Err (faults.OtherKnown bag)
+      → (on_deposit records volatile slot checked).says ≡ Err (faults.OtherKnown bag)
       → HasEntry slot records (entry.Known bag)
   unfolding on_deposit
   other_known_is (Err fault) bag says =
       absurd (no_known fault bag (same_fault (check_fault fault) (faults.OtherKnown bag) says))
     where
       same_fault : (f g : SiteFault)
-          → (refuses f session).says ≡ Err g → f ≡ g
+          → (refuses f volatile).says ≡ Err g → f ≡ g
       same_fault f g e = cc
   other_known_is (Ok found) bag says =
       let e = refused_by (deposit_of slot records) found bag _ says in
@@ -135,7 +136,7 @@ module _ (slot : SlotName) (records : List Record) (session : Session) where
           (deposit_among slot records own e)
 
   deposit_refused_by : (own : Option BagId) (found bag : BagId) (fault : Option SiteFault)
-      → (registering slot own found fault session).says ≡ Err (faults.OtherDeposit bag)
+      → (registering slot own found fault volatile).says ≡ Err (faults.OtherDeposit bag)
       → fault ≡ Some (faults.OtherDeposit bag)
   deposit_refused_by None found bag None says = absurd (cc says)
   deposit_refused_by (Some own) found bag None says = absurd (cc says)
@@ -146,13 +147,13 @@ module _ (slot : SlotName) (records : List Record) (session : Session) where
   no_deposit fault bag e = absurd (cc e)
 
   pub other_deposit_is : (checked : Result BagId BagFault) (bag : BagId)
-      → (on_deposit records session slot checked).says ≡ Err (faults.OtherDeposit bag)
+      → (on_deposit records volatile slot checked).says ≡ Err (faults.OtherDeposit bag)
       → HasEntry slot records (entry.Deposit bag)
   unfolding on_deposit
   other_deposit_is (Err fault) bag says =
       absurd (no_deposit fault bag (same_fault (check_fault fault) (faults.OtherDeposit bag) says))
     where
-      same_fault : (f g : SiteFault) → (refuses f session).says ≡ Err g → f ≡ g
+      same_fault : (f g : SiteFault) → (refuses f volatile).says ≡ Err g → f ≡ g
       same_fault f g e = cc
   other_deposit_is (Ok found) bag says =
       let e = deposit_refused_by (deposit_of slot records) found bag _ says in

@@ -15,7 +15,7 @@ use Rattle.learner.specs.declared.row.Row.TheVariants as rows
 use Rattle.learner.proofs.HeardVotes.{same_vote_decides}
 use Rattle.proposer.specs.declared.row.Row.{Row as own_row}
 use Rattle.proposer.specs.Proposals.{Current, gathered, highest_prior}
-use Rattle.proposer.specs.Sessions.{Session, at_slot}
+use Rattle.proposer.specs.VolatileStates.{VolatileState, at_slot}
 use Rattle.site_tables.specs.Contents.{Represents}
 use Rattle.serving_law.specs.ExamplesAgreed.{three, a, ballot, vote}
 use Rattle.serving_law.proofs.Tables.{records_of, heard_of, tables, begun_bag, stands}
@@ -26,8 +26,8 @@ abbrev pub current_of : Option Current → SlotName → Option Current
 current_of None = λ s. None
 current_of (Some c) = at_slot a (Some c) (λ s. None)
 
-abbrev pub session_of : List Body → Option Current → Session
-session_of bs c = record { heard = heard_of a bs; current = current_of c }
+abbrev pub volatile_of : List Body → Option Current → VolatileState
+volatile_of bs c = record { heard = heard_of a bs; current = current_of c }
 
 -- its first ballot, which was issued before anything was heard
 abbrev pub issued : Current
@@ -43,14 +43,14 @@ abbrev pub no_ballot : own_row
 no_ballot = record { used = 0; floor = 0; begun = None; current = None }
 
 -- these have promised its ballot, and named no vote
-abbrev pub promised_by : BagId → List ℕ → own_row
-promised_by bag voters = record {
+abbrev pub promised_row : BagId → List ℕ → own_row
+promised_row bag voters = record {
   used = 1;
   floor = 0;
   begun = None;
   current = Some (record {
     ballot = ballot;
-    voters = voters;
+    promised_by = voters;
     own = bag;
     best = None;
     waiting = None;
@@ -90,9 +90,9 @@ module _ (n : ℕ) (es : List Entry) (bs : List Body) (heard : heard_row)
   -- where it has no ballot
   pub stands_idle : 0 ≡ used_of a (records_of a es)
       → Represents (tables a three n (record { own = no_ballot; heard = heard }))
-      (records_of a es) (session_of bs None) (begun_bag a None)
+      (records_of a es) (volatile_of bs None) (begun_bag a None)
   stands_idle used =
-      stands a three n es bs (session_of bs None) refl (elsewhere None) None
+      stands a three n es bs (volatile_of bs None) refl (elsewhere None) None
       (record { own = no_ballot; heard = heard })
       (record { used = used; floor = floor; begun = tt; current = tt; waiting = refl })
       (λ bag e. absurd (cc e)) known votes
@@ -102,19 +102,20 @@ module _ (n : ℕ) (es : List Entry) (bs : List Body) (heard : heard_row)
       → deposit_of a (records_of a es) ≡ Some bag
       → voters ≡ promisers (gathered a issued (heard_of a bs))
       → None ≡ highest_prior (gathered a issued (heard_of a bs))
-      → Represents (tables a three n (record { own = promised_by bag voters; heard = heard }))
-      (records_of a es) (session_of bs (Some issued)) (begun_bag a (Some bag))
+      → Represents (tables a three n (record { own = promised_row bag voters; heard = heard }))
+      (records_of a es) (volatile_of bs (Some issued)) (begun_bag a (Some bag))
   unfolding same_slot
   stands_issued bag voters used deposit promised best =
-      stands a three n es bs (session_of bs (Some issued)) refl (elsewhere (Some issued)) (Some bag)
-      (record { own = promised_by bag voters; heard = heard })
+      stands a three n es bs (volatile_of bs (Some issued)) refl (elsewhere (Some issued))
+      (Some bag)
+      (record { own = promised_row bag voters; heard = heard })
       (record {
         used = used;
         floor = floor;
         begun = tt;
         current = record {
           ballot = refl;
-          voters = λ k. ap (λ (xs : List ℕ). is_in xs k) promised;
+          promised_by = λ k. ap (λ (xs : List ℕ). is_in xs k) promised;
           best = best;
           own = refl;
           within = omega arith;

@@ -21,14 +21,14 @@ use Rattle.acceptor.specs.declared.decision.Response.TheVariants as answer
 use Rattle.acceptor.specs.declared.decision.Decision.{Decision}
 use Rattle.acceptor.specs.Decisions.{prepare_decision, accept_decision}
 use Rattle.proposer.specs.Proposals.{ready, next_ballot}
-use Rattle.proposer.specs.Sessions.{Session, hears}
+use Rattle.proposer.specs.VolatileStates.{VolatileState, hears}
 use Rattle.learner.specs.LearnedBags.{learned_from, learned_of_known}
 use Rattle.site.specs.declared.fault.SiteFault.{SiteFault}
 use Rattle.site.specs.Arrivals.{answer_body, addressees, decided, proposing, learning, telling}
 use Rattle.site.specs.Arrivals.{on_body, on_arrival, is_member}
 use Rattle.site.specs.Calls.{Input, Deposits, Proposes, Asks, Arrives, effect_of, registering}
 use Rattle.site.specs.Calls.{on_deposit, begins_ballot_if, on_propose, on_ask}
-use Rattle.site.specs.declared.answer.Line.TheVariants as lines
+use Rattle.site.specs.declared.answer.Line.TheVariants as site_lines
 use Rattle.site.specs.Effects.{Send, to_each, only_says}
 
 -- a body of kinds 1 to 7
@@ -60,29 +60,29 @@ answer_speaks n (answer.Accepted vote) = tt
 answer_speaks n (answer.Refused asked standing) = tt
 
 module _ (q : QuorumSystem) (n : ℕ) (records : List Record) where
-  decided_speaks : (slot : SlotName) (asker : ℕ) (d : Decision) (session : Session)
-      → Speak (decided q n slot asker d session).sends
-  decided_speaks slot asker d session =
+  decided_speaks : (slot : SlotName) (asker : ℕ) (d : Decision) (volatile : VolatileState)
+      → Speak (decided q n slot asker d volatile).sends
+  decided_speaks slot asker d volatile =
       each_speaks slot (answer_body n d.answer) (answer_speaks n d.answer)
       (addressees q asker d.answer)
 
   proposing_speaks : (slot : SlotName) (ballot : BallotNumber) (o : Option BagId)
-      (session : Session) → Speak (proposing q slot ballot o session).sends
-  proposing_speaks slot ballot None session = none_speak
-  proposing_speaks slot ballot (Some bag) session =
+      (volatile : VolatileState) → Speak (proposing q slot ballot o volatile).sends
+  proposing_speaks slot ballot None volatile = none_speak
+  proposing_speaks slot ballot (Some bag) volatile =
       each_speaks slot (Accept (record { ballot = ballot; bag = bag })) tt q.members
 
-  learning_speaks : (slot : SlotName) (o : Option BagId) (session : Session)
-      → Speak (learning slot o session).sends
-  learning_speaks slot None session = none_speak
-  learning_speaks slot (Some bag) session = none_speak
+  learning_speaks : (slot : SlotName) (o : Option BagId) (volatile : VolatileState)
+      → Speak (learning slot o volatile).sends
+  learning_speaks slot None volatile = none_speak
+  learning_speaks slot (Some bag) volatile = none_speak
 
-  telling_speaks : (slot : SlotName) (asker : ℕ) (o : Option BagId) (session : Session)
-      → Speak (telling n slot asker o session).sends
-  telling_speaks slot asker None session = none_speak
-  telling_speaks slot asker (Some bag) session = each_speaks slot (Known n bag) tt _
+  telling_speaks : (slot : SlotName) (asker : ℕ) (o : Option BagId) (volatile : VolatileState)
+      → Speak (telling n slot asker o volatile).sends
+  telling_speaks slot asker None volatile = none_speak
+  telling_speaks slot asker (Some bag) volatile = each_speaks slot (Known n bag) tt _
 
-  body_speaks : (old now : Session) (slot : SlotName) (body : Body)
+  body_speaks : (old now : VolatileState) (slot : SlotName) (body : Body)
       → Speak (on_body q n records old now slot body).sends
   unfolding on_body
   body_speaks old now slot (Prepare ballot) =
@@ -105,48 +105,48 @@ module _ (q : QuorumSystem) (n : ℕ) (records : List Record) where
   body_speaks old now slot (DepositReply from answer) = none_speak
   body_speaks old now slot (QueryReply from answer) = none_speak
 
-  module _ (session : Session) where
-    arrival_speaks : (o : Option Message) → Speak (on_arrival q n records session o).sends
+  module _ (volatile : VolatileState) where
+    arrival_speaks : (o : Option Message) → Speak (on_arrival q n records volatile o).sends
     unfolding on_arrival
     arrival_speaks None = none_speak
     arrival_speaks (Some m) = go (is_member q (body_from m.body))
       where
         go : (t : Bool)
-            → Speak (cond t (on_body q n records session (hears session m) m.slot m.body)
-            (only_says lines.Dropped session)).sends
-        go true = body_speaks session (hears session m) m.slot m.body
+            → Speak (cond t (on_body q n records volatile (hears volatile m) m.slot m.body)
+            (only_says site_lines.Dropped volatile)).sends
+        go true = body_speaks volatile (hears volatile m) m.slot m.body
         go false = none_speak
 
     registering_speaks : (slot : SlotName) (own : Option BagId) (bag : BagId)
-        (fault : Option SiteFault) → Speak (registering slot own bag fault session).sends
+        (fault : Option SiteFault) → Speak (registering slot own bag fault volatile).sends
     registering_speaks slot own bag None = none_speak
     registering_speaks slot own bag (Some fault) = none_speak
 
     deposit_speaks : (slot : SlotName) (checked : Result BagId BagFault)
-        → Speak (on_deposit records session slot checked).sends
+        → Speak (on_deposit records volatile slot checked).sends
     unfolding on_deposit
     deposit_speaks slot (Err fault) = none_speak
     deposit_speaks slot (Ok bag) = registering_speaks slot (deposit_of slot records) bag _
 
     issuing_speaks : (slot : SlotName) (known own : Option BagId) (next : Option BallotNumber)
-        → Speak (begins_ballot_if q slot known own next session).sends
+        → Speak (begins_ballot_if q slot known own next volatile).sends
     issuing_speaks slot (Some bag) own next = none_speak
     issuing_speaks slot None None next = none_speak
     issuing_speaks slot None (Some bag) None = none_speak
     issuing_speaks slot None (Some bag) (Some ballot) =
         each_speaks slot (Prepare ballot) tt q.members
 
-    propose_speaks : (slot : SlotName) → Speak (on_propose q n records session slot).sends
+    propose_speaks : (slot : SlotName) → Speak (on_propose q n records volatile slot).sends
     unfolding on_propose
     propose_speaks slot =
         issuing_speaks slot (known_of slot records) (deposit_of slot records)
-        (next_ballot n slot records session.heard)
+        (next_ballot n slot records volatile.heard)
 
-    ask_speaks : (slot : SlotName) (member : ℕ) → Speak (on_ask n session slot member).sends
+    ask_speaks : (slot : SlotName) (member : ℕ) → Speak (on_ask n volatile slot member).sends
     unfolding on_ask
     ask_speaks slot member = each_speaks slot (Ask n) tt (member ∷ [])
 
-    pub effect_speaks : (input : Input) → Speak (effect_of q n records session input).sends
+    pub effect_speaks : (input : Input) → Speak (effect_of q n records volatile input).sends
     effect_speaks (Deposits slot checked) = deposit_speaks slot checked
     effect_speaks (Proposes slot) = propose_speaks slot
     effect_speaks (Asks slot member) = ask_speaks slot member

@@ -19,7 +19,7 @@ use Rattle.learner.specs.LearnerStates as ledgers
 use Rattle.learner.specs.declared.row.Row.{Row as heard_row}
 use Rattle.proposer.specs.declared.row.Row.{Row as own_row}
 use Rattle.proposer.specs.Rows.{Knows, row_of, empty_row}
-use Rattle.proposer.specs.Sessions.{Session, at_slot}
+use Rattle.proposer.specs.VolatileStates.{VolatileState, at_slot}
 use Rattle.proposer.specs.UnderWay.{UnderWay}
 use Rattle.slot_table.specs.Rows.{row_at, row_or}
 use Rattle.site_tables.specs.Contents.{Contents, Represents}
@@ -110,34 +110,34 @@ module _ (slot : SlotName) where
       ap (λ (t : Bool). cond t (Some row) None) (same_slot_equivalence.symm s slot ∙ f)
 
   module _ (members : Membership) (site : ℕ) (es : List Entry) (bs : List Body)
-      (session : Session) (heard : session.heard ≡ heard_of bs)
-      (elsewhere : (s : SlotName) → same_slot slot s ≡ false → session.current s ≡ None)
+      (volatile : VolatileState) (heard : volatile.heard ≡ heard_of bs)
+      (elsewhere : (s : SlotName) → same_slot slot s ≡ false → volatile.current s ≡ None)
       (own : Option BagId) (rows : Rows)
-      (knows : Knows slot (records_of es) session.heard (session.current slot) None None own None
+      (knows : Knows slot (records_of es) volatile.heard (volatile.current slot) None None own None
       rows.own)
       (is_own : (bag : BagId) → own ≡ Some bag → deposit_of slot (records_of es) ≡ Some bag)
       (known : ledgers.known_in (Some rows.heard) ≡ known_of slot (records_of es))
       (votes : known_of slot (records_of es) ≡ None → (vote : Vote) (n : ℕ)
       → is_in (ledgers.counted_in (Some rows.heard) vote) n
-      ≡ is_in (voters_for vote (bodies_of slot session.heard)) n) where
+      ≡ is_in (voters_for vote (bodies_of slot volatile.heard)) n) where
     abbrev KnowsOf : SlotName → Type 0
     KnowsOf s =
-        Knows s (records_of es) session.heard (session.current s) None None
+        Knows s (records_of es) volatile.heard (volatile.current s) None None
         (cond (same_slot slot s) own None) None (row_of ((slot, rows.own) ∷ []) s)
 
     proposer_at : (s : SlotName) (t : Bool) → same_slot slot s ≡ t → KnowsOf s
     proposer_at s true e =
         subst KnowsOf ((same_slot_decides slot s).0 e)
-        (subst (λ (r : own_row). Knows slot (records_of es) session.heard (session.current slot)
+        (subst (λ (r : own_row). Knows slot (records_of es) volatile.heard (volatile.current slot)
         None None (cond (same_slot slot slot) own None) None r)
         (ap (λ (r : Option own_row). row_or empty_row r) (sym (the_row rows.own)))
-        (subst (λ (t : Bool). Knows slot (records_of es) session.heard (session.current slot)
+        (subst (λ (t : Bool). Knows slot (records_of es) volatile.heard (volatile.current slot)
         None None (cond t own None) None rows.own) (sym itself) knows))
     proposer_at s false e =
-        subst (λ (r : own_row). Knows s (records_of es) session.heard (session.current s)
+        subst (λ (r : own_row). Knows s (records_of es) volatile.heard (volatile.current s)
         None None (cond (same_slot slot s) own None) None r)
         (ap (λ (r : Option own_row). row_or empty_row r) (sym (no_row rows.own s e)))
-        (subst (λ (t : Bool). Knows s (records_of es) session.heard (session.current s)
+        (subst (λ (t : Bool). Knows s (records_of es) volatile.heard (volatile.current s)
         None None (cond t own None) None empty_row) (sym e)
         (record {
           used = sym (none_used s e es);
@@ -162,7 +162,7 @@ module _ (slot : SlotName) where
     abbrev Counts : SlotName → Vote → ℕ → Type 0
     Counts s vote n =
         is_in (ledgers.counted_in (row_at ((slot, rows.heard) ∷ []) s) vote) n
-        ≡ is_in (voters_for vote (bodies_of s session.heard)) n
+        ≡ is_in (voters_for vote (bodies_of s volatile.heard)) n
 
     votes_at : (s : SlotName) (t : Bool) → same_slot slot s ≡ t
         → known_of s (records_of es) ≡ None → (vote : Vote) (n : ℕ) → Counts s vote n
@@ -185,7 +185,7 @@ module _ (slot : SlotName) where
         ((same_slot_decides slot s).0 e) (is_own bag is)
     deposits_at s bag false e is = absurd (cc is)
 
-    pub stands : Represents (tables members site rows) (records_of es) session (begun_bag slot own)
+    pub stands : Represents (tables members site rows) (records_of es) volatile (begun_bag slot own)
     stands = record {
       proposer = λ s. proposer_at s (same_slot slot s) refl;
       begun = λ s bag e. absurd (cc e);

@@ -16,16 +16,17 @@ use Rattle.records.specs.declared.owner.Owner.{Owner}
 use Rattle.records.specs.declared.record.Record.{Record}
 use Rattle.records.specs.Bounds.{HasEntry}
 use Rattle.records.specs.Records.{IsRecord}
-use Rattle.proposer.specs.Sessions.{Session}
+use Rattle.proposer.specs.VolatileStates.{VolatileState}
 use Rattle.site.specs.declared.answer.Answer.{Answer}
 use Rattle.site.specs.declared.fault.SiteFault.{SiteFault}
 use Rattle.site.specs.declared.fault.SiteFault.TheVariants as faults
 use Rattle.site.specs.Calls.{Input, effect_of}
 use Rattle.site.specs.Effects.{Effect}
 use Rattle.site.specs.Sites.{Represents}
-use Rattle.lines.specs.Notices.{Notice, Refused, Dropped}
+use Rattle.lines.specs.declared.notice.Notice.{Notice}
+use Rattle.lines.specs.declared.notice.Notice.TheVariants.{Refused, Dropped}
 use Rattle.world_law.specs.Laws.{IsChosen}
-use Rattle.world_law.specs.Networks.{Network}
+use Rattle.world_law.specs.Networks.{Network, volatile_in}
 use Rattle.world_law.specs.WellFormed.{IsWellFormed, MembersAreSites}
 use Rattle.world_law.proofs.Deeds.{Deed, MayDeposit}
 use Rattle.world_law.proofs.WellFormed.{members_are_sites}
@@ -41,7 +42,6 @@ use Rattle.serving_law.proofs.Networks.{quorums, serving, IsNotice}
 use Rattle.serving_law.proofs.Networks.{IsPost, HasDeposit, May, Moves, Goes}
 use Rattle.serving_law.proofs.Networks.{allows}
 use Rattle.serving_law.proofs.Calls as calling
-use Rattle.serving_law.proofs.Calls.{has_notice}
 
 -- a call's result
 abbrev answered : Result Answer SiteFault → Result Answer SiteFault
@@ -65,9 +65,12 @@ module _ {C : Type 0} (device : C → Device) (members : Membership) (s : Scene 
   abbrev owner : Owner
   owner = owner_of device members n
 
+  abbrev volatile : VolatileState
+  volatile = volatile_in (w.sites n).mode
+
   -- What comes of a turn, in which this may be deposited: where the site can go on; where it needs
   -- opening, and its process ends, which a line says; and where its process is killed in it. A site
-  -- that represented its session does so then.
+  -- that represented its volatile state does so then.
   pub record Ends (done : Done) (new : Serving C) (D : May) : Type 0 where
     pub goes : new.site.book.needs_opening ≡ false → Goes device members w n done (Serves new) D
     pub fails : new.site.book.needs_opening ≡ true → (records : List Record)
@@ -77,9 +80,9 @@ module _ {C : Type 0} (device : C → Device) (members : Membership) (s : Scene 
         → MayRecoverTo owner (device cell) (device new.site.book.cell) records
         → (x : Network) × Moves device members w x n (Down records) D
     pub last : new.site.book.needs_opening ≡ true → or_one done.notices ≡ true
-    pub stands : Represents (serving device members n (w.sites n).records (w.sites n).session cell
-        tables 0 0).site (w.sites n).session
-        → new.site.book.needs_opening ≡ false → Represents new.site new.session
+    pub stands : Represents
+        (serving device members n (w.sites n).records volatile cell tables 0 0).site volatile
+        → new.site.book.needs_opening ≡ false → Represents new.site new.volatile
 
   -- ---- notices that report nothing
 
@@ -119,7 +122,7 @@ module _ {C : Type 0} (device : C → Device) (members : Membership) (s : Scene 
 
   module _ (idle tried : ℕ) where
     abbrev pub old : Serving C
-    old = serving device members n (w.sites n).records (w.sites n).session cell tables idle tried
+    old = serving device members n (w.sites n).records volatile cell tables idle tried
 
     -- ---- a turn without a call
 
@@ -151,7 +154,7 @@ module _ {C : Type 0} (device : C → Device) (members : Membership) (s : Scene 
 
     module _ (input : Input) where
       abbrev e : Effect
-      e = effect_of q n (w.sites n).records (w.sites n).session input
+      e = effect_of q n (w.sites n).records volatile input
 
       module _ (deed : Deed q w n input e) (is : IsWellFormedEffect e) (D : May)
           (may : (slot : SlotName) (bag : BagId) → MayDeposit input slot bag → D slot bag) where
@@ -194,7 +197,7 @@ module _ {C : Type 0} (device : C → Device) (members : Membership) (s : Scene 
               absurd (cc (calling.failed_by_device device members s idle tried input (Ok answer)
               new c needs));
           stands = λ before opened.
-              subst (λ (h : Session). Represents new.site h) (sym c.session)
+              subst (λ (h : VolatileState). Represents new.site h) (sym c.volatile)
               (c.answered refl).gives.2;
         }
 
@@ -229,7 +232,7 @@ module _ {C : Type 0} (device : C → Device) (members : Membership) (s : Scene 
               said (same_fault (calling.failed_by_device device members s idle tried input
               (Err fault) new c needs));
           stands = λ before opened.
-              subst (λ (h : Session). Represents new.site h) (sym c.session)
+              subst (λ (h : VolatileState). Represents new.site h) (sym c.volatile)
               (calling.err_stands device members s idle tried input fault new
               (c.answered refl).keeps (c.answered refl).gives opened);
         }

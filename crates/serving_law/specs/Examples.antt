@@ -16,7 +16,7 @@ use Rattle.dgram.specs.declared.answers.DepositAnswer.TheVariants as deposit
 use Rattle.dgram.specs.declared.body.Body.TheVariants.{DepositReply, Known}
 use Rattle.dgram.specs.Encoding.{datagram_of}
 use Rattle.udp_site.specs.Traffic.{Post, From}
-use Rattle.lines.specs.Notices.{Learned}
+use Rattle.lines.specs.declared.notice.Notice.TheVariants.{Learned}
 use Rattle.udp_site.specs.Requests.{Deposits, request_of}
 use Rattle.udp_site.specs.Turns.{Serving, turn_of}
 use Rattle.serving_law.specs.Disks.{Disk, device}

@@ -14,7 +14,7 @@ use Rattle.records.specs.declared.record.Record.{Record}
 use Rattle.records.specs.SlotStates.{known_of}
 use Rattle.dgram.specs.declared.body.Body.TheVariants.{Accepted}
 use Rattle.dgram.specs.Encoding.{datagram_of}
-use Rattle.lines.specs.Notices.{Learned}
+use Rattle.lines.specs.declared.notice.Notice.TheVariants.{Learned}
 use Rattle.udp_site.specs.Traffic.{Post, From}
 use Rattle.udp_site.specs.Turns.{Done}
 use Rattle.serving_law.specs.Federations.{Down, Step, Happening, Turns, Dies, new_federation}

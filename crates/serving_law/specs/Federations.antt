@@ -4,7 +4,7 @@ use Rattle.std.specs.Prelude.{ℕ, ◌==◌, List, [], ◌∷◌, ◌++◌, take
 use Rattle.bag_tree.specs.declared.fault.TreeFault.{TreeFault}
 use Rattle.bag_tree.specs.Facts.{TreeFacts}
 use Rattle.records.specs.declared.record.Record.{Record}
-use Rattle.proposer.specs.Sessions.{new_session}
+use Rattle.proposer.specs.VolatileStates.{new_volatile}
 use Rattle.site.specs.Sites.{OpenSite}
 use Rattle.udp_site.specs.Traffic.{Post}
 use Rattle.udp_site.specs.Turns.{Serving, begins}
@@ -65,7 +65,7 @@ becomes f member now posts = record {
 
 -- its idle turns are counted anew, and its deposits gone through anew
 abbrev pub renewed : {C : Type 0} → Member C → Member C
-renewed (Serves s) = Serves (begins s.site s.session)
+renewed (Serves s) = Serves (begins s.site s.volatile)
 renewed (Down records) = Down records
 
 -- a process that was killed or failed leaves the records that its cell recovers to, and has
@@ -78,7 +78,7 @@ after f (Fails n step handed written records) =
 after f (Dies n step records) = becomes f n (Down records) []
 after f (Ends n records) = becomes f n (Down records) []
 after f (Renews n) = becomes f n (renewed (f.members n)) []
-after f (Starts n cell site) = becomes f n (Serves (begins site new_session)) []
+after f (Starts n cell site) = becomes f n (Serves (begins site new_volatile)) []
 
 -- after all of these, in order
 unfoldable pub after_all : {C : Type 0} → Federation C → List (Happening C) → Federation C

@@ -17,7 +17,8 @@ use Rattle.dgram.specs.declared.body.Body.{Body}
 use Rattle.dgram.specs.declared.body.Body.TheVariants.{DepositReply, QueryReply}
 use Rattle.dgram.specs.declared.message.Message.{Message}
 use Rattle.dgram.specs.Decoded.{message_of}
-use Rattle.lines.specs.Notices.{Notice, Registered}
+use Rattle.lines.specs.declared.notice.Notice.{Notice}
+use Rattle.lines.specs.declared.notice.Notice.TheVariants.{Registered}
 use Rattle.world_law.specs.Laws.{notice_report}
 use Rattle.udp_site.specs.Requests.{Deposits, request_of}
 use Rattle.udp_site.specs.Served.{Turned, notice_text}

@@ -1,4 +1,5 @@
--- A call of a site, from what its station comes to.
+-- A federation after one of its sites was called, stopped or started, was asked, or got bytes that
+-- are no message.
 use Rattle.std.proofs.Common.{ℕ, Bool, cond, ◌+◌, ◌<◌, ◌≡◌, true, false, List, [], ◌∷◌, ◌++◌}
 use Rattle.std.proofs.Common.{length, map, get_or}
 use Rattle.std.proofs.Common.{Option, Some, None, Result, Ok, Err, refl, sym, ap, subst, ◌∙◌}
@@ -28,28 +29,29 @@ use Rattle.site.specs.Datagrams.{handed_out, datagram}
 use Rattle.sim_stations.specs.declared.station.Station.{Station}
 use Rattle.sim_stations.specs.declared.told.Told.{Told}
 use Rattle.sim_stations.specs.Modes.{is_down, is_up}
-use Rattle.sim_stations.specs.Owners.{owner_of, place_of}
-use Rattle.sim_stations.specs.Stations.{Undergoes, ComesTo, reached, reply_in}
+use Rattle.sim_stations.specs.Owners.{owner_of, run_state_of}
+use Rattle.sim_stations.specs.Stations.{Undergoes, ComesTo, reply_in}
 use Rattle.sim_stations.specs.Stations as stations
 use Rattle.lines.specs.declared.line.Line.{Line}
 use Rattle.lines.specs.declared.line.Line.TheVariants as printed
 use Rattle.lines.specs.declared.line.Reason.TheVariants as reasons
 use Rattle.world_law.specs.Networks.{Mode, Up, Down, NeedsOpening, SiteState, Happening}
-use Rattle.world_law.specs.Networks.{SiteOutcome}
+use Rattle.world_law.specs.Networks.{SiteOutcome, step}
 use Rattle.world_law.specs.Networks.{Stop, Start, happens, takes, happening, goes_down, opened}
 use Rattle.world_law.specs.Networks.{stops, starts, replies, Deposit, Ask, Query, Raw}
 use Rattle.world_law.specs.Trees.{tree_at}
 use Rattle.sim_tables.specs.Firsts as firsts
 use Rattle.world_law.specs.Worlds.{World, mode_of, quorums, after_event, event_at, unless_down}
 use Rattle.world_law.specs.Worlds.{on_start, skips, own_lines, on_raw, on_checked, on_deposit}
-use Rattle.lines.specs.Named.{named_reply}
+use Rattle.lines.specs.Named.{line_of}
+use Rattle.lines.specs.Notices.{reply_notice}
 use Rattle.world_law.specs.Worlds.{with_line, with_seen, sent_lines, at_member}
 use Rattle.sim_tables.specs.DatagramNumbers as numbers
 use Rattle.sim_tables.specs.DatagramNumbers.{is_named}
 use Rattle.sim_federation.specs.declared.federation.Federation.{Federation}
 use Rattle.sim_federation.specs.Federations.{Represents, IsStation, AreStations, IsSound}
 use Rattle.sim_federation.specs.Inputs.{after, after_input, place_in}
-use Rattle.sim_federation.specs.Said.{lines_said, seen_with}
+use Rattle.sim_federation.specs.Seen.{seen_with}
 use Rattle.sim_federation.specs.Sent.{lines_sent, places_from}
 use Rattle.sim_federation.proofs.Places.{with_state, station_at, with_station, member_at, none_at}
 use Rattle.sim_federation.proofs.Sound.{sound_after}
@@ -75,7 +77,7 @@ is_member_at f w place is within =
 came_to : (f : Federation) (w : World) (place : ℕ) (old new : Station) (s : SiteState)
     → Represents f w → place < length f.stations.items
     → old ≡ get_or f.stations.items place old → owner_of new ≡ owner_of old
-    → stations.Represents (record { members = w.members; site = place + 1 }) (place_of new) s
+    → stations.Represents (record { members = w.members; site = place + 1 }) (run_state_of new) s
     → IsStation w.members (place + 1) new s
 came_to f w place old new s is within at whose stands =
     let owner : owner_of new ≡ record { members = w.members; site = place + 1 } =
@@ -83,7 +85,7 @@ came_to f w place old new s is within at whose stands =
     at).owner in
     record {
       owner = owner;
-      stands = subst (λ (o : Owner). stations.Represents o (place_of new) s) (sym owner) stands;
+      stands = subst (λ (o : Owner). stations.Represents o (run_state_of new) s) (sym owner) stands;
     }
 
 -- ---- a call
@@ -95,11 +97,11 @@ pub undergone : (f g : Federation) (w : World) (place : ℕ) (input : ℕ → In
     fate).network
     → place < length f.stations.items → old ≡ get_or f.stations.items place old
     → owner_of new ≡ owner_of old
-    → Undergoes (owner_of old) (input (owner_of old).members.federation) fate (place_of old)
-    (place_of new) told
+    → Undergoes (owner_of old) (input (owner_of old).members.federation) fate (run_state_of old)
+    (run_state_of new) told
     → g.members ≡ f.members → g.stations.items ≡ slice_set f.stations.items place new
     → g.trees ≡ f.trees → g.seen ≡ f.seen
-    → front ≡ f.lines.items ++ lines_said w.seen (place + 1) (input w.members.federation) told.said
+    → front ≡ f.lines.items ++ own_lines w.seen told.notice
     → g.lines.items ≡ front ++ lines_sent (length f.sent.sent + 1) (map handed_out told.sends.items)
     → g.sent.sent ≡ f.sent.sent ++ places_from (length front) (length told.sends.items)
     → numbers.RepresentsSame f.sent g.sent
@@ -120,7 +122,7 @@ undergone f g w place input fate old new told front is up sound within at whose 
     at_place = station_at w.members f.stations.items w.network.sites place old is.stations within at
 
     o : SiteOutcome
-    o = reached (quorums_of w.members) site (w.network.sites site) (mode_of w site)
+    o = step (quorums_of w.members) site (w.network.sites site) (mode_of w site)
         (input w.members.federation) fate
 
     happens_so : takes (quorums w) w.network site (input w.members.federation) fate
@@ -128,14 +130,15 @@ undergone f g w place input fate old new told front is up sound within at whose 
     happens_so = taken (quorums w) w.network site (input w.members.federation) fate
         (is_member_at f w place is within) up
 
-    came : ComesTo owner (input w.members.federation) (place_of new) told o
+    came : ComesTo owner (run_state_of new) told o
     came = subst (λ (whose : Owner). Undergoes whose (input whose.members.federation) fate
-        (place_of old) (place_of new) told) at_place.owner comes (w.network.sites site)
-        (subst (λ (whose : Owner). stations.Represents whose (place_of old) (w.network.sites site))
+        (run_state_of old) (run_state_of new) told) at_place.owner comes (w.network.sites site)
+        (subst (λ (whose : Owner). stations.Represents whose
+        (run_state_of old) (w.network.sites site))
         at_place.owner at_place.stands)
 
     own : List Line
-    own = lines_said w.seen site (input w.members.federation) told.said
+    own = own_lines w.seen told.notice
 
     parts : Comes f g w site o
     parts = record {
@@ -165,13 +168,13 @@ undergone f g w place input fate old new told front is up sound within at whose 
 
 pub not_down : (w : World) (number : ℕ) (mode : Mode) (next : World) → is_down mode ≡ false
     → unless_down w number mode next ≡ next
-not_down w number Up next e = refl
+not_down w number (Up volatile) next e = refl
 not_down w number NeedsOpening next e = refl
 not_down w number Down next e = absurd (cc)
 
 pub when_down : (w : World) (number : ℕ) (mode : Mode) (next : World) → is_down mode ≡ true
     → unless_down w number mode next ≡ skips w number reasons.Down
-when_down w number Up next e = absurd (cc)
+when_down w number (Up volatile) next e = absurd (cc)
 when_down w number NeedsOpening next e = absurd (cc)
 when_down w number Down next e = refl
 
@@ -189,7 +192,7 @@ stop_happens w site member up =
     go : (mode : Mode) → is_down mode ≡ false
         → stops w.network site mode
         ≡ happening w.network site (goes_down site (w.network.sites site) None [])
-    go Up e = refl
+    go (Up volatile) e = refl
     go NeedsOpening e = refl
     go Down e = absurd (cc)
 
@@ -205,21 +208,21 @@ start_happens w site member down =
     go : (mode : Mode) → is_up mode ≡ false
         → starts w.network site mode
         ≡ happening w.network site (opened site (w.network.sites site))
-    go Up e = absurd (cc)
+    go (Up volatile) e = absurd (cc)
     go NeedsOpening e = refl
     go Down e = refl
 
 pub not_up : (w : World) (number site : ℕ) (mode : Mode) → is_up mode ≡ false
     → on_start w number site mode ≡ after_event w (Start site)
 unfolding on_start
-not_up w number site Up e = absurd (cc)
+not_up w number site (Up volatile) e = absurd (cc)
 not_up w number site NeedsOpening e = refl
 not_up w number site Down e = refl
 
 pub when_up : (w : World) (number site : ℕ) (mode : Mode) → is_up mode ≡ true
     → on_start w number site mode ≡ skips w number reasons.Up
 unfolding on_start
-when_up w number site Up e = refl
+when_up w number site (Up volatile) e = refl
 when_up w number site NeedsOpening e = absurd (cc)
 when_up w number site Down e = absurd (cc)
 
@@ -229,7 +232,8 @@ pub one_line : (f g : Federation) (w : World) (place : ℕ) (old new : Station) 
     (line : Line) → Represents f w → IsSound (quorums w) (happening w.network (place + 1) o).network
     → place < length f.stations.items → old ≡ get_or f.stations.items place old
     → owner_of new ≡ owner_of old
-    → stations.Represents (record { members = w.members; site = place + 1 }) (place_of new) o.site
+    → stations.Represents (record { members = w.members; site = place + 1 })
+    (run_state_of new) o.site
     → own_lines w.seen o.notice ≡ line ∷ [] → o.sends ≡ []
     → g.members ≡ f.members → g.stations.items ≡ slice_set f.stations.items place new
     → g.trees ≡ f.trees → g.seen ≡ f.seen → g.sent ≡ f.sent
@@ -261,8 +265,8 @@ pub stopped : (f g : Federation) (w : World) (number place : ℕ) (old new : Sta
     → Represents f w → is_down (mode_of w (place + 1)) ≡ false
     → place < length f.stations.items → old ≡ get_or f.stations.items place old
     → owner_of new ≡ owner_of old
-    → ((s : SiteState) → stations.Represents (owner_of old) (place_of old) s
-    → stations.Represents (owner_of old) (place_of new)
+    → ((s : SiteState) → stations.Represents (owner_of old) (run_state_of old) s
+    → stations.Represents (owner_of old) (run_state_of new)
     (goes_down (owner_of old).site s None []).site)
     → line ≡ printed.Down (place + 1)
     → g.members ≡ f.members → g.stations.items ≡ slice_set f.stations.items place new
@@ -290,9 +294,9 @@ stopped f g w number place old new line is up within at whose closes line_is mem
     at_place : IsStation w.members site old (w.network.sites site)
     at_place = station_at w.members f.stations.items w.network.sites place old is.stations within at
 
-    closed : stations.Represents (record { members = w.members; site = place + 1 }) (place_of new)
-        o.site
-    closed = subst (λ (whose : Owner). stations.Represents whose (place_of new)
+    closed : stations.Represents (record { members = w.members; site = place + 1 })
+        (run_state_of new) o.site
+    closed = subst (λ (whose : Owner). stations.Represents whose (run_state_of new)
         (goes_down whose.site (w.network.sites site) None []).site) at_place.owner
         (closes (w.network.sites site) at_place.stands)
 
@@ -304,8 +308,8 @@ pub started : (f g : Federation) (w : World) (number place : ℕ) (old new : Sta
     → Represents f w → is_up (mode_of w (place + 1)) ≡ false
     → place < length f.stations.items → old ≡ get_or f.stations.items place old
     → owner_of new ≡ owner_of old
-    → ((s : SiteState) → stations.Represents (owner_of old) (place_of old) s
-    → stations.Represents (owner_of old) (place_of new) (opened (owner_of old).site s).site
+    → ((s : SiteState) → stations.Represents (owner_of old) (run_state_of old) s
+    → stations.Represents (owner_of old) (run_state_of new) (opened (owner_of old).site s).site
     × (count ≡ length s.records))
     → line ≡ printed.Up (place + 1) count
     → g.members ≡ f.members → g.stations.items ≡ slice_set f.stations.items place new
@@ -336,9 +340,9 @@ started f g w number place old new count line is down within at whose closes lin
     at_place : IsStation w.members site old (w.network.sites site)
     at_place = station_at w.members f.stations.items w.network.sites place old is.stations within at
 
-    opens : stations.Represents (record { members = w.members; site = place + 1 }) (place_of new)
-        o.site × (count ≡ length (w.network.sites site).records)
-    opens = subst (λ (whose : Owner). stations.Represents whose (place_of new)
+    opens : stations.Represents (record { members = w.members; site = place + 1 })
+        (run_state_of new) o.site × (count ≡ length (w.network.sites site).records)
+    opens = subst (λ (whose : Owner). stations.Represents whose (run_state_of new)
         (opened whose.site (w.network.sites site)).site
         × (count ≡ length (w.network.sites site).records)) at_place.owner
         (closes (w.network.sites site) at_place.stands)
@@ -396,11 +400,10 @@ query_happens w site slot member =
     (record { network = w.network; sends = []; notice = None })) member
 
 -- the line of a reply
-abbrev pub reply_line : World → (site : ℕ) → SlotName → Result Reply SiteFault → Line
-reply_line w site slot (Ok reply) = printed.Replied site slot (named_reply w.seen reply)
-reply_line w site slot (Err fault) = printed.Refused site fault
+abbrev pub reply_line : World → (site : ℕ) → SlotName → Result (Reply BagId) SiteFault → Line
+reply_line w site slot reply = line_of w.seen (reply_notice site slot reply)
 
-pub replied : (w : World) (site : ℕ) (slot : SlotName) (reply : Result Reply SiteFault)
+pub replied : (w : World) (site : ℕ) (slot : SlotName) (reply : Result (Reply BagId) SiteFault)
     → is_in (quorums w).members site ≡ true
     → Some reply ≡ reply_in slot (w.network.sites site) (mode_of w site)
     → after_event w (Query site slot) ≡ with_line w (reply_line w site slot reply)
@@ -409,16 +412,17 @@ replied w site slot reply member is =
     ap (λ (h : Happening). after w h) (query_happens w site slot member)
     ∙ go (mode_of w site) is
   where
-    some_is : {a b : Result Reply SiteFault}
-        → ◌≡◌ {A = Option (Result Reply SiteFault)} (Some a) (Some b) → a ≡ b
+    some_is : {a b : Result (Reply BagId) SiteFault}
+        → ◌≡◌ {A = Option (Result (Reply BagId) SiteFault)} (Some a) (Some b) → a ≡ b
     some_is e = cc
 
+    said : Result (Reply BagId) SiteFault → World
+    said r = with_line w (reply_line w site slot r)
+
     go : (mode : Mode) → Some reply ≡ reply_in slot (w.network.sites site) mode
-        → after w (replies w.network site mode slot) ≡ with_line w (reply_line w site slot reply)
-    go Up e = ap (λ (r : Result Reply SiteFault). with_line w (reply_line w site slot r))
-        (sym (some_is e))
-    go NeedsOpening e = ap (λ (r : Result Reply SiteFault). with_line w (reply_line w site slot r))
-        (sym (some_is e))
+        → after w (replies w.network site mode slot) ≡ said reply
+    go (Up volatile) e = ap said (sym (some_is e))
+    go NeedsOpening e = ap said (sym (some_is e))
     go Down e = absurd (cc)
 
 pub no_reply : (w : World) (number site : ℕ) (slot : SlotName)
@@ -429,7 +433,7 @@ no_reply w number site slot is = go (mode_of w site) is
     go : (mode : Mode) → None ≡ reply_in slot (w.network.sites site) mode
         → unless_down w number mode (after_event w (Query site slot))
         ≡ skips w number reasons.Down
-    go Up e = absurd (cc)
+    go (Up volatile) e = absurd (cc)
     go NeedsOpening e = absurd (cc)
     go Down e = refl
 

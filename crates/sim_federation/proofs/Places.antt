@@ -1,15 +1,18 @@
 -- The stations of the members, each at its place.
-use Rattle.std.proofs.Common.{ℕ, zero, suc, ◌+◌, ◌-◌, ◌<◌, ◌≡◌, ◌==◌, true, false, cond, Bool}
+use Rattle.std.proofs.Common.{ℕ, zero, suc, ◌+◌, ◌-◌, ◌<◌, ◌≤◌, ◌≡◌, ◌==◌, true, false, cond, Bool}
 use Rattle.std.proofs.Common.{List, [], ◌∷◌, ◌++◌, length, Option, Some, None, refl, sym, ap, subst}
 use Rattle.std.proofs.Common.{◌∙◌, arith}
 use Rattle.std.proofs.Common.{◌⊎◌, inl, inr, ◌≢◌, get_or, if◌then◌else◌}
 use Rattle.std.specs.Prelude.{slice_get, slice_set, nat_le}
+use Rattle.std.specs.List.{range_with_len}
 use Rattle.std.proofs.lemmas.Option.{slice_get_read}
 use Rattle.std.proofs.lemmas.Bool.Decides.{eqb_tells, nat_tests}
 use Rattle.fed_types.specs.Lists.{is_in}
 use Rattle.fed_types.specs.Laws.Lists.{is_in_decides}
 use Rattle.fed_types.specs.Laws.Sites.{has_sites_to, is_in-sites_to}
 use Rattle.fed_types.specs.Sites.{Membership, count_of, members_of, sites_to}
+use Rattle.fed_types.specs.inner.After.{sites_after}
+use Rattle.fed_types.proofs.After.{all_sites, next_site}
 use Rattle.sim_stations.specs.declared.station.Station.{Station}
 use Rattle.world_law.specs.Networks.{SiteState, new_site}
 use Rattle.sim_federation.specs.Federations.{IsStation, AreStations, AreNew}
@@ -131,9 +134,12 @@ pub station_at : (members : Membership) (all : List Station) (sites : ℕ → Si
 station_at members all sites place station are within is =
     are.each place station (slice_get_read all (length all) place station refl within is)
 
--- no new stations yet, and one more
-pub record NewSoFar (members : Membership) (all : List Station) (count : ℕ) : Type 0 where
-  pub count_is : length all ≡ count
+-- ---- new stations, one after the other
+
+-- the stations so far, and the sites that are left
+pub record NewSoFar (members : Membership) (all : List Station) (left : List ℕ) : Type 0 where
+  pub left_is : left ≡ sites_after (length all) (count_of members)
+  pub within : length all ≤ count_of members
   pub each : (place : ℕ) (station : Station) → slice_get all place ≡ Some station
       → IsStation members (place + 1) station new_site
 
@@ -142,17 +148,48 @@ none_so_far : {P : Type 0} (place : ℕ) (station : Station)
 none_so_far zero station at = absurd (cc)
 none_so_far (suc place) station at = absurd (cc)
 
-pub new_none : (members : Membership) → NewSoFar members [] 0
-new_none members = record { count_is = refl; each = λ k station at. none_so_far k station at }
+pub new_none : (members : Membership) (left : List ℕ) → left ≡ members_of members
+    → NewSoFar members [] left
+new_none members left is = record {
+  left_is = is ∙ sym (all_sites (count_of members));
+  within = omega arith;
+  each = λ k station at. none_so_far k station at;
+}
 
-pub new_more : (members : Membership) (all : List Station) (count : ℕ) (station : Station)
-    → NewSoFar members all count → IsStation members (count + 1) station new_site
-    → NewSoFar members (all ++ station ∷ []) (count + 1)
-new_more members all count station so_far is = record {
-  count_is = longer all ∙ ap (λ (n : ℕ). n + 1) so_far.count_is;
+-- while a site is left, there are fewer stations than sites
+fewer : (before last site : ℕ) (rest : List ℕ) → sites_after before last ≡ site ∷ rest
+    → before < last
+fewer before last site rest is = go (last - before) refl is
+  where
+    go : (n : ℕ) → last - before ≡ n → range_with_len (before + 1) n ≡ site ∷ rest
+        → before < last
+    go zero same none = absurd (cc none)
+    go (suc n) same some = omega (arith, same)
+
+pub new_more : (members : Membership) (all : List Station) (left rest : List ℕ) (site : ℕ)
+    (station : Station)
+    → NewSoFar members all left → left ≡ site ∷ rest
+    → IsStation members site station new_site
+    → NewSoFar members (all ++ station ∷ []) rest
+new_more members all left rest site station so_far next is = record {
+  left_is = (parts now).1 ∙ ap (λ (n : ℕ). sites_after n (count_of members)) (sym (longer all));
+  within = subst (λ (n : ℕ). n ≤ count_of members) (sym (longer all)) (omega (arith, more));
   each = λ k other at. last_or k other at;
 }
   where
+    now : site ∷ rest ≡ sites_after (length all) (count_of members)
+    now = sym next ∙ so_far.left_is
+
+    more : length all < count_of members
+    more = fewer (length all) (count_of members) site rest (sym now)
+
+    parts : site ∷ rest ≡ sites_after (length all) (count_of members)
+        → (site ≡ length all + 1) × (rest ≡ sites_after (length all + 1) (count_of members))
+    parts e = both (e ∙ next_site (length all) (count_of members) more)
+      where
+        both : {m n : ℕ} {xs ys : List ℕ} → m ∷ xs ≡ n ∷ ys → (m ≡ n) × (xs ≡ ys)
+        both e = (cc e, cc e)
+
     longer : (xs : List Station) → length (xs ++ station ∷ []) ≡ length xs + 1
     longer [] = omega arith
     longer (x ∷ xs) = ap suc (longer xs) ∙ (omega arith)
@@ -161,8 +198,8 @@ new_more members all count station so_far is = record {
         → IsStation members (k + 1) other new_site
     here k other at same =
         subst (λ (o : Station). IsStation members (k + 1) o new_site) (sym same)
-        (subst (λ (n : ℕ). IsStation members (n + 1) station new_site)
-        (sym (at ∙ so_far.count_is)) is)
+        (subst (λ (n : ℕ). IsStation members (n + 1) station new_site) (sym at)
+        (subst (λ (n : ℕ). IsStation members n station new_site) (parts now).0 is))
 
     split : (xs : List Station) (k : ℕ) (other : Station)
         → slice_get (xs ++ station ∷ []) k ≡ Some other
@@ -183,10 +220,17 @@ new_more members all count station so_far is = record {
       | inr last ↦ here k other last.0 last.1
     ]
 
-pub are_new : (members : Membership) (all : List Station) (n : ℕ) → NewSoFar members all n
-    → n ≡ count_of members → AreNew members all
-are_new members all n so_far is =
-    record { count = so_far.count_is ∙ is; each = λ k station at. so_far.each k station at }
+pub are_new : (members : Membership) (all : List Station) (left : List ℕ)
+    → NewSoFar members all left → left ≡ [] → AreNew members all
+are_new members all left so_far none = record {
+  count = go (count_of members - length all) refl (sym so_far.left_is ∙ none);
+  each = so_far.each;
+}
+  where
+    go : (n : ℕ) → count_of members - length all ≡ n → range_with_len (length all + 1) n ≡ []
+        → length all ≡ count_of members
+    go zero same e = omega (arith, same, so_far.within)
+    go (suc n) same e = absurd (cc e)
 
 -- what was put at a place is gone once something else is put there
 pub put_twice : (xs : List Station) (place : ℕ) (first second : Station)

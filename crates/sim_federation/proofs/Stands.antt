@@ -8,10 +8,9 @@ use Rattle.schedule.specs.declared.fate.Fate.{Fate}
 use Rattle.site.specs.Calls.{Input}
 use Rattle.site.specs.Datagrams.{datagram}
 use Rattle.sim_stations.specs.Modes.{is_down}
-use Rattle.sim_stations.specs.Stations.{reached}
 use Rattle.lines.specs.declared.line.Line.{Line}
 use Rattle.world_law.specs.Networks.{Mode, Up, Down, NeedsOpening, Network}
-use Rattle.world_law.specs.Networks.{SiteOutcome, takes, reaches, happening}
+use Rattle.world_law.specs.Networks.{SiteOutcome, step, takes, reaches, happening}
 use Rattle.world_law.specs.Worlds.{World, quorums, own_lines, sent_lines}
 use Rattle.sim_tables.specs.DatagramNumbers as numbers
 use Rattle.sim_federation.specs.declared.federation.Federation.{Federation}
@@ -53,15 +52,15 @@ stands_saying f g w more same lines is = record {
 pub taken : (q : QuorumSystem) (w : Network) (site : ℕ) (input : Input) (fate : Fate)
     → is_in q.members site ≡ true → is_down (w.sites site).mode ≡ false
     → takes q w site input fate
-    ≡ happening w site (reached q site (w.sites site) (w.sites site).mode input fate)
+    ≡ happening w site (step q site (w.sites site) (w.sites site).mode input fate)
 taken q w site input fate member up =
     ap (λ (t : Bool). cond t (reaches q w site (w.sites site).mode input fate)
     (record { network = w; sends = []; notice = None })) member ∙ go (w.sites site).mode up
   where
     go : (mode : Mode) → is_down mode ≡ false
         → reaches q w site mode input fate
-        ≡ happening w site (reached q site (w.sites site) mode input fate)
-    go Up e = refl
+        ≡ happening w site (step q site (w.sites site) mode input fate)
+    go (Up volatile) e = refl
     go NeedsOpening e = refl
     go Down e = absurd (cc)
 

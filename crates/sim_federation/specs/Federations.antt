@@ -4,7 +4,7 @@ use Rattle.fed_types.specs.Lists.{is_in}
 use Rattle.fed_types.specs.Quorums.{QuorumSystem}
 use Rattle.fed_types.specs.Sites.{Membership, count_of}
 use Rattle.sim_stations.specs.declared.station.Station.{Station}
-use Rattle.sim_stations.specs.Owners.{owner_of, place_of}
+use Rattle.sim_stations.specs.Owners.{owner_of, run_state_of}
 use Rattle.sim_stations.specs.Stations as stations
 use Rattle.world_law.specs.Networks.{Network, SiteState, new_site}
 use Rattle.world_law.specs.WellFormed.{MembersAreSites, IsWellFormed}
@@ -20,7 +20,7 @@ use Rattle.sim_federation.specs.Sent.{AreSent}
 pub record IsStation (members : Membership) (site : ℕ) (station : Station) (s : SiteState) : Type 0
   where
     pub owner : owner_of station ≡ record { members = members; site = site }
-    pub stands : stations.Represents (owner_of station) (place_of station) s
+    pub stands : stations.Represents (owner_of station) (run_state_of station) s
 
 -- the stations of all members, that of site 1 first
 pub record AreStations (members : Membership) (all : List Station) (sites : ℕ → SiteState) : Type 0

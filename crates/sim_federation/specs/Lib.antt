@@ -1,4 +1,4 @@
 pub mod Sent
-pub mod Said
+pub mod Seen
 pub mod Inputs
 pub mod Federations

@@ -16,7 +16,7 @@ use dgram::{DgramFault, decode};
 use fed_types::Slot;
 use lines::{Line, Reason};
 use schedule::Fate;
-use sim_stations::Call;
+use sim_stations::SiteCall;
 use std::alloc::{AllocError, Global};
 
 /// A datagram that arrives: the site that it goes to, and its bytes.
@@ -75,7 +75,7 @@ impl Federation {
             return self.skip(number, Reason::Formed);
         }
         let (_slot, _facts): (Option<&Slot>, Option<&Facts>) = (None, None);
-        self.call(number, place, &Call::Arrive(bytes), Fate::Whole)
+        self.call(number, place, &SiteCall::Arrive(bytes), Fate::Whole)
     }
 
     // The datagram of this number, from its line.
@@ -100,7 +100,7 @@ impl Federation {
             Some(place) => {
                 // The checker of borrows has to know each type that a call may hold.
                 let (_slot, _facts): (Option<&Slot>, Option<&Facts>) = (None, None);
-                self.call(number, place, &Call::Arrive(bytes), fate)
+                self.call(number, place, &SiteCall::Arrive(bytes), fate)
             }
             None => Ok(()),
         }

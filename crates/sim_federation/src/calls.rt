@@ -15,7 +15,7 @@ use bag_tree::Facts;
 use fed_types::{Slot, slots_are_well_formed};
 use lines::Reason;
 use schedule::Fate;
-use sim_stations::{Call, Told};
+use sim_stations::{SiteCall, Told};
 use std::alloc::AllocError;
 
 impl Federation {
@@ -58,7 +58,7 @@ impl Federation {
         &mut self,
         number: usize,
         place: usize,
-        call: &Call,
+        call: &SiteCall,
         fate: Fate,
     ) -> Result<(), AllocError>
         requires { place < length self.old.stations.items }
@@ -78,7 +78,7 @@ impl Federation {
     pub(crate) fn undergo(
         &mut self,
         place: usize,
-        call: &Call,
+        call: &SiteCall,
         fate: Fate,
     ) -> Result<(), AllocError>
         requires { place < length self.old.stations.items }
@@ -89,12 +89,11 @@ impl Federation {
             → Represents self.new
             (after_input w (place + 1) (input_of w.members.federation call.now) fate)) }
     {
-        let site = self.site_at(place);
         let station = self.stations[place].take();
         let (station, told) = station.call(call, fate)?;
         self.stations[place] = station;
-        let Told { said, sends } = told;
-        tell(self.alloc, &mut self.lines, &self.seen, site, call, said)?;
+        let Told { notice, sends } = told;
+        tell(&mut self.lines, &self.seen, notice)?;
         send_all(&mut self.lines, &mut self.sent, sends)
     }
 
@@ -114,7 +113,7 @@ impl Federation {
         slots_are_well_formed(slot);
         // The checker of borrows has to know each type that a call may hold.
         let _facts: Option<&Facts> = None;
-        self.call(number, place, &Call::Propose(slot), fate)
+        self.call(number, place, &SiteCall::Propose(slot), fate)
     }
 
     /// A member is called to ask another.
@@ -135,6 +134,6 @@ impl Federation {
         slots_are_well_formed(slot);
         let to = self.stations[asked].number();
         let _facts: Option<&Facts> = None;
-        self.call(number, place, &Call::Ask(slot, to), fate)
+        self.call(number, place, &SiteCall::Ask(slot, to), fate)
     }
 }

@@ -2,17 +2,17 @@
 //! and checks it again.
 
 ghost use Rattle.std.specs.Prelude.{◌<◌, ◌+◌, length, OnOk, IfOk, List, Result};
+ghost use Rattle.fed_types.specs.Faults.{IsOrFault};
 ghost use Rattle.fed_types.specs.Values.{IsBag};
 ghost use Rattle.fed_types.specs.declared.bag_id.BagId.{BagId};
 ghost use Rattle.bag_check.specs.Check.{check_of};
-ghost use Rattle.bag_check.specs.Fault.{IsOrMemory};
 ghost use Rattle.bag_check.specs.declared.fault.BagFault.{BagFault};
 ghost use Rattle.lines.specs.Named.{SeenBag};
 ghost use Rattle.world_law.specs.Trees.{tree_at};
 ghost use Rattle.world_law.specs.Worlds.{World, on_deposit, on_checked};
 ghost use Rattle.sim_tables.specs.Firsts as firsts;
 ghost use Rattle.sim_federation.specs.Federations.{Represents};
-ghost use Rattle.sim_federation.specs.Said.{seen_with};
+ghost use Rattle.sim_federation.specs.Seen.{seen_with};
 
 use crate::federation::Federation;
 use bag_check::{BagFault, check};
@@ -20,7 +20,7 @@ use bag_tree::{Facts, facts_of};
 use fed_types::{BagId, Slot, bags_are_well_formed, slots_are_well_formed};
 use lines::Reason;
 use schedule::{Fate, TreeNo};
-use sim_stations::Call;
+use sim_stations::SiteCall;
 use sim_tables::SeenBags;
 use std::alloc::AllocError;
 
@@ -66,7 +66,7 @@ impl Federation {
         }
         slots_are_well_formed(slot);
         see(&mut self.seen, tree, check(self.alloc, facts))?;
-        self.undergo(place, &Call::Deposit(slot, facts), fate)
+        self.undergo(place, &SiteCall::Deposit(slot, facts), fate)
     }
 }
 
@@ -76,9 +76,10 @@ fn see(
     tree: TreeNo,
     checked: Result<BagId, BagFault>,
 ) -> Result<(), AllocError>
-    ensures well_formed { OnOk result ((found : Result BagId BagFault) → IsOrMemory checked found
-        → IfOk found IsBag) }
-    ensures seen { OnOk result ((found : Result BagId BagFault) → IsOrMemory checked found
+    ensures well_formed { OnOk result ((found : Result BagId BagFault)
+        → IsOrFault BagFault.Memory checked found → IfOk found IsBag) }
+    ensures seen { OnOk result ((found : Result BagId BagFault)
+        → IsOrFault BagFault.Memory checked found
         → (bags : List SeenBag) → firsts.Represents seen.old bags
         → firsts.Represents seen.new (seen_with tree found bags)) }
 {

@@ -1,6 +1,5 @@
 ghost use Rattle.std.specs.Prelude.{◌≡◌, IfOk};
 ghost use Rattle.world_law.specs.Worlds.{new_world};
-ghost use Rattle.fed_types.specs.Sites.{IsSiteNumber};
 ghost use Rattle.world_law.specs.Networks.{new_site};
 ghost use Rattle.sim_federation.specs.Federations.{Represents, AreNew, IsStation};
 
@@ -79,25 +78,16 @@ fn new_stations(alloc: Global, members: &Members) -> Result<Vec<Station>, AllocE
     ensures { IfOk result (λ stations. AreNew members.now stations.items) }
 {
     let mut stations = Vec::with_capacity(alloc, usize::from(members.count()))?;
-    'sites: for before in 0..members.count() {
-        stations.push(new_station(alloc, members, before + 1)?)?;
+    for site in members.sites() {
+        stations.push(new_station(alloc, members, site)?)?;
     }
     Ok(stations)
 }
 
 // The new site of this number.
-fn new_station(alloc: Global, members: &Members, number: u8) -> Result<Station, AllocError>
-    requires { IsSiteNumber number }
-    ensures { IfOk result (λ station. IsStation members.now number station new_site) }
+fn new_station(alloc: Global, members: &Members, site: SiteNo) -> Result<Station, AllocError>
+    ensures { IfOk result (λ station. IsStation members.now site station new_site) }
 {
-    let Ok(site) = SiteNo::new(number) else {
-        unreachable!();
-    };
-    Station::new(
-        alloc,
-        Owner {
-            members: *members,
-            site,
-        },
-    )
+    let members = *members;
+    Station::new(alloc, Owner { members, site })
 }

@@ -1,21 +1,16 @@
 //! What is said of an event.
 
-ghost use Rattle.std.specs.Prelude.{ℕ, ◌≡◌, ◌++◌, List, OnOk};
-ghost use Rattle.sim_stations.specs.Calls.{input_of};
-ghost use Rattle.lines.specs.Named.{SeenBag};
-ghost use Rattle.lines.specs.Named.{named_bag, named_reply};
-ghost use Rattle.world_law.specs.Worlds.{World, with_line, skips};
+ghost use Rattle.std.specs.Prelude.{◌≡◌, ◌++◌, List, OnOk};
+ghost use Rattle.lines.specs.Named.{SeenBag, line_of, tree_of};
+ghost use Rattle.world_law.specs.Worlds.{World, own_lines, with_line, skips};
 ghost use Rattle.sim_tables.specs.Firsts as firsts;
 ghost use Rattle.sim_federation.specs.Federations.{Represents};
-ghost use Rattle.sim_federation.specs.Said.{lines_said, line_said};
 
 use crate::federation::Federation;
 use fed_types::BagId;
-use lines::{Line, NamedBag, NamedReply, Reason};
-use sim_stations::{Call, Said};
+use lines::{Line, Notice, Reason, line_of};
 use sim_tables::SeenBags;
-use site::{Line as SiteLine, Reply};
-use std::alloc::{AllocError, Global};
+use std::alloc::AllocError;
 
 impl Federation {
     /// Adds a line.
@@ -39,76 +34,37 @@ impl Federation {
     }
 }
 
-/// Adds the line of what a site says of a call, if it says anything.
+/// Adds the line of a notice, if there is one.
 pub(crate) fn tell(
-    alloc: Global,
     lines: &mut Vec<Line>,
     seen: &SeenBags,
-    site: u8,
-    call: &Call,
-    said: Option<Said>,
+    notice: Option<Notice>,
 ) -> Result<(), AllocError>
-    ensures { OnOk result ((federation : ℕ) (bags : List SeenBag) → firsts.Represents seen.now bags
-        → lines.new.items ≡ lines.old.items
-        ++ lines_said bags site (input_of federation call.now) said) }
+    ensures { OnOk result ((bags : List SeenBag) → firsts.Represents seen.now bags
+        → lines.new.items ≡ lines.old.items ++ own_lines bags notice) }
 {
-    match said {
+    match notice {
+        Some(notice) => lines.push(line_said(seen, notice))?,
         None => {}
-        Some(Said::GoesDown) => lines.push(Line::Down { site })?,
-        Some(Said::Refuses(fault)) => lines.push(Line::Refused { site, fault })?,
-        Some(Said::Says(line)) => tell_line(alloc, lines, seen, site, call, line)?,
     }
     Ok(())
 }
 
-// Adds the line of what a site says of a call that isn't refused.
-fn tell_line(
-    alloc: Global,
-    lines: &mut Vec<Line>,
-    seen: &SeenBags,
-    site: u8,
-    call: &Call,
-    line: SiteLine,
-) -> Result<(), AllocError>
-    ensures { OnOk result ((federation : ℕ) (bags : List SeenBag) → firsts.Represents seen.now bags
-        → lines.new.items ≡ lines.old.items
-        ++ line_said bags site (input_of federation call.now) line) }
-{
-    match line {
-        SiteLine::Registered(bag) => {
-            if let Call::Deposit(slot, _) = *call {
-                let slot = slot.copy(alloc)?;
-                let bag = named(seen, bag);
-                lines.push(Line::Registered { site, slot, bag })?;
-            }
-        }
-        SiteLine::Known(slot, bag) => {
-            let bag = named(seen, bag);
-            lines.push(Line::Known { site, slot, bag })?;
-        }
-        SiteLine::Dropped => lines.push(Line::Dropped { site })?,
-    }
-    Ok(())
-}
-
-/// A bag as a line names it.
-fn named(seen: &SeenBags, bag: BagId) -> NamedBag
-    ensures { (bags : List SeenBag) → firsts.Represents seen.now bags → result ≡ named_bag bags bag }
-{
-    NamedBag {
-        bag,
-        tree: seen.first_tree(bag),
-    }
-}
-
-/// A reply as a line gives it.
-pub(crate) fn named_reply(seen: &SeenBags, reply: Reply) -> NamedReply
+/// The line of a notice: its bag is named by the tree in which it was seen first.
+pub(crate) fn line_said(seen: &SeenBags, notice: Notice) -> Line
     ensures { (bags : List SeenBag) → firsts.Represents seen.now bags
-        → result ≡ named_reply bags reply }
+        → result ≡ line_of bags notice }
 {
-    match reply {
-        Reply::Known(bag) => NamedReply::Known(named(seen, bag)),
-        Reply::Pending(bag) => NamedReply::Pending(named(seen, bag)),
-        Reply::Nothing => NamedReply::Nothing,
+    let tree = first_tree(seen, notice.bag());
+    line_of(notice, tree)
+}
+
+// The number of the tree in which a bag was seen first, and 0 where there is no bag.
+fn first_tree(seen: &SeenBags, bag: Option<BagId>) -> u32
+    ensures { (bags : List SeenBag) → firsts.Represents seen.now bags → result ≡ tree_of bags bag }
+{
+    match bag {
+        Some(bag) => seen.first_tree(bag),
+        None => 0,
     }
 }

@@ -8,9 +8,9 @@ ghost use Rattle.sim_federation.specs.Federations.{Represents};
 ghost use Rattle.std.specs.Prelude.{Some};
 
 use crate::federation::Federation;
-use crate::said_lines::named_reply;
+use crate::said_lines::{line_said, tell};
 use fed_types::Slot;
-use lines::{Line, Reason};
+use lines::{Notice, Reason, reply_notice};
 use site::{Reply, SiteFault};
 use std::alloc::AllocError;
 
@@ -44,15 +44,10 @@ impl Federation {
             → Some reply ≡ reply_in slot.now (w.network.sites (place + 1)) (mode_of w (place + 1))
             → Represents self.new (after_event w (Query (place + 1) slot.now))) }
     {
-        let site = self.site_at(place);
-        match reply {
-            Ok(reply) => {
-                let slot = slot.copy(self.alloc)?;
-                let reply = named_reply(&self.seen, reply);
-                self.say(Line::Replied { site, slot, reply })
-            }
-            Err(fault) => self.say(Line::Refused { site, fault }),
-        }
+        let slot = slot.copy(self.alloc)?;
+        let notice = reply_notice(self.site_at(place), slot, reply);
+        let line = line_said(&self.seen, notice);
+        self.say(line)
     }
 
     /// A member stops between calls.
@@ -67,8 +62,7 @@ impl Federation {
         let site = self.site_at(place);
         let station = self.stations[place].take();
         self.stations[place] = station.stop();
-        self.lines.push(Line::Down { site })?;
-        Ok(())
+        tell(&mut self.lines, &self.seen, Some(Notice::GoesDown { site }))
     }
 
     /// A member that isn't up is opened.
@@ -84,7 +78,7 @@ impl Federation {
         let station = self.stations[place].take();
         let (station, records) = station.start()?;
         self.stations[place] = station;
-        self.lines.push(Line::Up { site, records })?;
-        Ok(())
+        let notice = Notice::ComesUp { site, records };
+        tell(&mut self.lines, &self.seen, Some(notice))
     }
 }

@@ -9,7 +9,7 @@ use Rattle.cell_device.specs.Fuses.{next_fuse}
 use Rattle.cell_device.specs.Memory.{image_of, fuse_of, device_of}
 use Rattle.records.specs.declared.record.Record.{Record}
 use Rattle.records.specs.Journals.{DecodesTo}
-use Rattle.book.specs.Committed.{fires_within_two, records_kept}
+use Rattle.book.specs.Committed.{fires_within_two, read_after_fuse}
 use Rattle.book.specs.OpenBooks.{OpenBook}
 use Rattle.site.specs.declared.answer.Answer.{Answer}
 use Rattle.site.specs.declared.fault.SiteFault.{SiteFault}
@@ -65,7 +65,7 @@ module _ (old new : OpenBook MemoryCell) where
       → (new.needs_opening ≡ true) × (new.owner ≡ old.owner)
       × (fires_within_two (fuse_of old.cell) ≡ true)
       × DecodesTo old.owner (image_of new.cell).seen
-      (Ok (records_kept (fuse_of old.cell) old.records r))
+      (Ok (read_after_fuse (fuse_of old.cell) old.records r))
   failed r (inl (is, same)) = absurd (device_is_no_memory is)
   failed r (inr c) = (
     (c.device_failed refl).1,

@@ -13,7 +13,7 @@ use Rattle.dgram.specs.Encoding.{body_from}
 use Rattle.records.specs.declared.record.Record.{Record}
 use Rattle.records.specs.SlotStates.{deposit_of, known_of}
 use Rattle.proposer.specs.Proposals.{next_ballot, ready}
-use Rattle.proposer.specs.Sessions.{Session, hears}
+use Rattle.proposer.specs.VolatileStates.{VolatileState, hears}
 use Rattle.learner.specs.LearnedBags.{learned_from, learned_of_known}
 use Rattle.site.specs.declared.answer.Line.{Line}
 use Rattle.site.specs.declared.fault.SiteFault.{SiteFault}
@@ -22,11 +22,11 @@ use Rattle.site.specs.Calls.{Input, Deposits, Proposes, Asks, Arrives, effect_of
 use Rattle.site.specs.Calls.{on_propose, on_ask, registering, deposit_fault, other_than}
 use Rattle.site.specs.Calls.{begins_ballot_if}
 use Rattle.site.specs.Effects.{Effect, refuses, only_says}
-use Rattle.site.specs.declared.answer.Line.TheVariants as lines
+use Rattle.site.specs.declared.answer.Line.TheVariants as site_lines
 
 -- where it refuses, it does no more
-abbrev pub RefusesOnly : Session → Effect → Type 0
-RefusesOnly session e = (fault : SiteFault) → e.says ≡ Err fault → e ≡ refuses fault session
+abbrev pub RefusesOnly : VolatileState → Effect → Type 0
+RefusesOnly volatile e = (fault : SiteFault) → e.says ≡ Err fault → e ≡ refuses fault volatile
 
 no_answer : {T : Type 0} {x : Option Line} {f : SiteFault}
     → ◌≡◌ {A = Result (Option Line) SiteFault} (Ok x) (Err f) → T
@@ -36,68 +36,68 @@ no_answer e = absurd (differ e)
         → ◌≡◌ {A = Result (Option Line) SiteFault} (Ok x) (Err f) → ⊥
     differ e = cc
 
-refusal : (session : Session) (f : SiteFault) → RefusesOnly session (refuses f session)
-refusal session f fault e = ap (λ (x : SiteFault). refuses x session) (fault_of e)
+refusal : (volatile : VolatileState) (f : SiteFault) → RefusesOnly volatile (refuses f volatile)
+refusal volatile f fault e = ap (λ (x : SiteFault). refuses x volatile) (fault_of e)
   where
     fault_of : {f g : SiteFault} → ◌≡◌ {A = Result (Option Line) SiteFault} (Err f) (Err g) → f ≡ g
     fault_of e = cc
 
-module _ (q : QuorumSystem) (site : ℕ) (records : List Record) (session : Session) where
+module _ (q : QuorumSystem) (site : ℕ) (records : List Record) (volatile : VolatileState) where
   on_deposit_refuses : (slot : SlotName) (checked : Result BagId BagFault)
-      → RefusesOnly session (on_deposit records session slot checked)
+      → RefusesOnly volatile (on_deposit records volatile slot checked)
   unfolding on_deposit
-  on_deposit_refuses slot (Err fault) = refusal session _
+  on_deposit_refuses slot (Err fault) = refusal volatile _
   on_deposit_refuses slot (Ok bag) = go (deposit_fault (other_than bag (deposit_of slot records))
       (other_than bag (known_of slot records)))
     where
       go : (f : Option SiteFault)
-          → RefusesOnly session (registering slot (deposit_of slot records) bag f session)
-      go (Some fault) = refusal session fault
+          → RefusesOnly volatile (registering slot (deposit_of slot records) bag f volatile)
+      go (Some fault) = refusal volatile fault
       go None = λ fault e. no_answer e
 
   on_propose_refuses : (slot : SlotName)
-      → RefusesOnly session (on_propose q site records session slot)
+      → RefusesOnly volatile (on_propose q site records volatile slot)
   unfolding on_propose
   on_propose_refuses slot = go (known_of slot records) (deposit_of slot records)
-      (next_ballot site slot records session.heard)
+      (next_ballot site slot records volatile.heard)
     where
       go : (known own : Option BagId) (next : Option BallotNumber)
-          → RefusesOnly session (begins_ballot_if q slot known own next session)
-      go (Some known) own next = refusal session _
-      go None None next = refusal session _
-      go None (Some own) None = refusal session _
+          → RefusesOnly volatile (begins_ballot_if q slot known own next volatile)
+      go (Some known) own next = refusal volatile _
+      go None None next = refusal volatile _
+      go None (Some own) None = refusal volatile _
       go None (Some own) (Some ballot) = λ fault e. no_answer e
 
   on_ask_refuses : (slot : SlotName) (member : ℕ)
-      → RefusesOnly session (on_ask site session slot member)
+      → RefusesOnly volatile (on_ask site volatile slot member)
   unfolding on_ask
   on_ask_refuses slot member = λ fault e. no_answer e
 
-  module _ (slot : SlotName) (now : Session) where
+  module _ (slot : SlotName) (now : VolatileState) where
     proposes : (ballot : BallotNumber) (bag : Option BagId)
-        → RefusesOnly session (proposing q slot ballot bag now)
+        → RefusesOnly volatile (proposing q slot ballot bag now)
     proposes ballot None = λ fault e. no_answer e
     proposes ballot (Some bag) = λ fault e. no_answer e
 
-    learns : (bag : Option BagId) → RefusesOnly session (learning slot bag now)
+    learns : (bag : Option BagId) → RefusesOnly volatile (learning slot bag now)
     learns None = λ fault e. no_answer e
     learns (Some bag) = λ fault e. no_answer e
 
     tells : (asker : ℕ) (bag : Option BagId)
-        → RefusesOnly session (telling site slot asker bag now)
+        → RefusesOnly volatile (telling site slot asker bag now)
     tells asker None = λ fault e. no_answer e
     tells asker (Some bag) = λ fault e. no_answer e
 
     on_body_refuses : (body : Body)
-        → RefusesOnly session (on_body q site records session now slot body)
+        → RefusesOnly volatile (on_body q site records volatile now slot body)
     unfolding on_body
     on_body_refuses (bodies.Prepare ballot) = λ fault e. no_answer e
     on_body_refuses (bodies.Accept vote) = λ fault e. no_answer e
     on_body_refuses (bodies.Promise from ballot prior) = proposes ballot
-        (ready q (deposit_of slot records) slot (session.current slot) session.heard ballot
+        (ready q (deposit_of slot records) slot (volatile.current slot) volatile.heard ballot
         (record { site = from; prior = prior }))
     on_body_refuses (bodies.Accepted from vote) =
-        learns (learned_from q slot records session.heard from vote)
+        learns (learned_from q slot records volatile.heard from vote)
     on_body_refuses (bodies.Known from bag) = learns (learned_of_known slot records bag)
     on_body_refuses (bodies.Refused from asked standing) = λ fault e. no_answer e
     on_body_refuses (bodies.Ask from) = tells from (known_of slot records)
@@ -107,19 +107,20 @@ module _ (q : QuorumSystem) (site : ℕ) (records : List Record) (session : Sess
     on_body_refuses (bodies.QueryReply from answer) = λ fault e. no_answer e
 
   on_arrival_refuses : (message : Option Message)
-      → RefusesOnly session (on_arrival q site records session message)
+      → RefusesOnly volatile (on_arrival q site records volatile message)
   unfolding on_arrival
   on_arrival_refuses None = λ fault e. no_answer e
   on_arrival_refuses (Some m) = go (is_member q (body_from m.body))
     where
-      go : (t : Bool) → RefusesOnly session (cond t
-          (on_body q site records session (hears session m) m.slot m.body)
-          (only_says lines.Dropped session))
-      go true = on_body_refuses m.slot (hears session m) m.body
+      go : (t : Bool) → RefusesOnly volatile (cond t
+          (on_body q site records volatile (hears volatile m) m.slot m.body)
+          (only_says site_lines.Dropped volatile))
+      go true = on_body_refuses m.slot (hears volatile m) m.body
       go false = λ fault e. no_answer e
 
   -- no input brings about more than its refusal, where it is refused
-  pub refuses_only : (input : Input) → RefusesOnly session (effect_of q site records session input)
+  pub refuses_only : (input : Input)
+      → RefusesOnly volatile (effect_of q site records volatile input)
   refuses_only (Deposits slot checked) = on_deposit_refuses slot checked
   refuses_only (Proposes slot) = on_propose_refuses slot
   refuses_only (Asks slot member) = on_ask_refuses slot member

@@ -1,6 +1,6 @@
 -- A site that stops keeps its records, and is opened with them.
 use Rattle.std.specs.Prelude.{◌≡◌, false, List, [], Option, Some, None, Result, Ok, Err}
-use Rattle.std.proofs.Common.{append-nil, inl, inr, refl, ap, sym, subst}
+use Rattle.std.proofs.Common.{append-nil, inl, inr, ap, sym, subst}
 use Rattle.cell_device.specs.declared.fuse.FuseState.{FuseState}
 use Rattle.cell_device.specs.declared.fuse.FuseState.TheVariants.{Clear}
 use Rattle.cell_device.specs.declared.memory_cell.MemoryCell.{MemoryCell}
@@ -14,12 +14,12 @@ use Rattle.book.specs.declared.fault.OpenFault.{OpenFault}
 use Rattle.book.specs.declared.fault.OpenFault.TheVariants as faults
 use Rattle.book.specs.Faults.{IsOrDeviceOrMemory}
 use Rattle.book.specs.OpenBooks.{RecoversTo}
-use Rattle.proposer.specs.Sessions.{Session, new_session}
+use Rattle.proposer.specs.VolatileStates.{new_volatile}
 use Rattle.book.specs.Opened.{Opens}
 use Rattle.site.specs.Sites as sites
 use Rattle.site.specs.Sites.{OpenSite}
 use Rattle.world_law.specs.Networks.{Mode, Up, Down, NeedsOpening, SiteState, goes_down}
-use Rattle.sim_stations.specs.declared.place.Place.TheVariants.{Running, AtRest}
+use Rattle.sim_stations.specs.declared.run_state.RunState.TheVariants.{Running, AtRest}
 use Rattle.sim_stations.specs.Stations.{Keeps, IsOpened, Represents}
 use Rattle.sim_stations.proofs.Returns.{state}
 
@@ -44,7 +44,7 @@ found rs ss (inr (inr e)) = absurd (differ e)
 -- a cell that was restarted is opened with the records that it keeps
 pub opened : (owner : Owner) (cell after : MemoryCell) (site : OpenSite MemoryCell)
     → image_of after ≡ all_synced (image_of cell) → fuse_of after ≡ Clear
-    → Opens device_of owner after (Ok site.book) → sites.Represents site new_session
+    → Opens device_of owner after (Ok site.book) → sites.Represents site new_volatile
     → (records : List Record) → Keeps owner cell records → IsOpened owner records site
 opened owner cell after site image fuse opens stands records keeps = record {
   whose = opens.whose.0;
@@ -52,7 +52,7 @@ opened owner cell after site image fuse opens stands records keeps = record {
     opened = opens.whose.1;
     records = found site.book.records records (opens.only (Ok records)
         (subst (λ (i : Image). DecodesTo owner i.seen (Ok records)) (sym image) keeps));
-    session = stands;
+    volatile = stands;
     clear = fuse_is (opens.clear (ap (λ (f : FuseState). Some f) fuse)).0;
   };
 }
@@ -64,37 +64,32 @@ pub stopped : (owner : Owner) (site : OpenSite MemoryCell) (cell : MemoryCell)
     → RecoversTo site.book.owner site.book.records (Some (image_of cell)))
     → (s : SiteState) → Represents owner (Running site) s
     → Represents owner (AtRest cell) (goes_down owner.site s None []).site
-stopped owner site cell same recovers s stands = go s.records s.session s.mode stands
+stopped owner site cell same recovers s stands = go s.records s.mode stands
   where
-    go : (records : List Record) (session : Session) (mode : Mode)
-        → Represents owner (Running site) (state records session mode)
+    go : (records : List Record) (mode : Mode)
+        → Represents owner (Running site) (state records mode)
         → Represents owner (AtRest cell)
-        (goes_down owner.site (state records session mode) None []).site
-    go records session Up (whose, up) = (
-      rw (append-nil records) (subst (λ (rs : List Record). Keeps owner cell rs) up.records
-          (subst (λ (o : Owner). Keeps o cell site.book.records) whose (recovers up.opened).0)),
-      refl,
-    )
-    go records session NeedsOpening (whose, needs) = (
-      rw (append-nil records, same)
-          (subst (λ (o : Owner). Keeps o site.book.cell records) whose needs.records),
-      refl,
-    )
-    go records session Down (whose, down) = absurd down
+        (goes_down owner.site (state records mode) None []).site
+    go records (Up volatile) (whose, up) =
+        rw (append-nil records) (subst (λ (rs : List Record). Keeps owner cell rs) up.records
+        (subst (λ (o : Owner). Keeps o cell site.book.records) whose (recovers up.opened).0))
+    go records NeedsOpening (whose, needs) = rw (append-nil records, same)
+        (subst (λ (o : Owner). Keeps o site.book.cell records) whose needs.records)
+    go records Down (whose, down) = absurd down
 
 -- one that is down stays as it is
 pub rests : (owner : Owner) (cell : MemoryCell) (s : SiteState)
     → Represents owner (AtRest cell) s
     → Represents owner (AtRest cell) (goes_down owner.site s None []).site
-rests owner cell s stands = go s.records s.session s.mode stands
+rests owner cell s stands = go s.records s.mode stands
   where
-    go : (records : List Record) (session : Session) (mode : Mode)
-        → Represents owner (AtRest cell) (state records session mode)
+    go : (records : List Record) (mode : Mode)
+        → Represents owner (AtRest cell) (state records mode)
         → Represents owner (AtRest cell)
-        (goes_down owner.site (state records session mode) None []).site
-    go records session Up up = absurd up
-    go records session NeedsOpening needs = absurd needs
-    go records session Down down = (rw (append-nil records) down.0, refl)
+        (goes_down owner.site (state records mode) None []).site
+    go records (Up volatile) up = absurd up
+    go records NeedsOpening needs = absurd needs
+    go records Down down = rw (append-nil records) down
 
 -- a cell without bytes keeps no records
 pub empty_keeps_none : (owner : Owner) (cell : MemoryCell) → image_of cell ≡ at_rest []

@@ -13,8 +13,8 @@ use Rattle.cell_device.specs.Memory.{fuse_of, fuse_after_set, device_of}
 use Rattle.records.specs.declared.owner.Owner.{Owner}
 use Rattle.records.specs.declared.record.Record.{Record}
 use Rattle.records.specs.Texts.{kept_record}
-use Rattle.book.specs.Committed.{fires_within_two, records_kept}
-use Rattle.proposer.specs.Sessions.{Session}
+use Rattle.book.specs.Committed.{fires_within_two, read_after_fuse}
+use Rattle.proposer.specs.VolatileStates.{VolatileState, new_volatile}
 use Rattle.schedule.specs.declared.fate.DeviceCall.{DeviceCall}
 use Rattle.schedule.specs.declared.fate.DeviceCall.TheVariants.{Append, Sync}
 use Rattle.schedule.specs.declared.fate.Fate.{Fate}
@@ -29,20 +29,20 @@ use Rattle.site.specs.Sites as sites
 use Rattle.site.specs.Sites.{OpenSite, effect}
 use Rattle.world_law.specs.Networks as networks
 use Rattle.world_law.specs.Networks.{Mode, Up, Down, NeedsOpening, SiteState, outcome}
-use Rattle.sim_stations.specs.declared.place.Place.TheVariants.{Running}
+use Rattle.sim_stations.specs.declared.run_state.RunState.TheVariants.{Running}
 use Rattle.sim_stations.specs.declared.told.Told.{Told}
 use Rattle.sim_stations.specs.Fuses.{fuse_in}
 use Rattle.sim_stations.specs.Stations.{Keeps, IsUp, NeedsToOpen, Represents, ComesTo}
-use Rattle.sim_stations.specs.Stations.{Undergoes, under_fate, reached}
+use Rattle.sim_stations.specs.Stations.{Undergoes}
 use Rattle.sim_stations.specs.Told.{Tells}
 use Rattle.sim_stations.proofs.Came.{Done, Failed, FailedIn, Came, DiffersByFuse, came}
-use Rattle.sim_stations.proofs.Came.{came_between, same_site, same_session, same_kept}
+use Rattle.sim_stations.proofs.Came.{came_between, same_site, same_volatile, same_kept}
 use Rattle.sim_stations.proofs.Kept.{FuseAfter, is_no_true}
 use Rattle.sim_stations.proofs.Refusals.{refuses_only}
 
 -- a state of a site
-abbrev pub state : List Record → Session → Mode → SiteState
-state records session mode = record { records = records; session = session; mode = mode }
+abbrev pub state : List Record → Mode → SiteState
+state records mode = record { records = records; mode = mode }
 
 -- ---- the fuse
 
@@ -69,25 +69,25 @@ fires Sync how kept = refl
 -- ---- by what came of the call
 
 module _ (old new : OpenSite MemoryCell) (input : Input) (told : Told)
-    (records : List Record) (session : Session) where
+    (records : List Record) (mode : Mode) where
   -- the owner of the old site
   abbrev owner : Owner
   owner = old.book.owner
 
   -- what is to be shown, of an outcome
   abbrev Goal : networks.SiteOutcome → Type 0
-  Goal = ComesTo owner input (Running new) told
+  Goal = ComesTo owner (Running new) told
 
   done_goes_on : (e : Effect) → old.book.records ≡ records → Done old new input told e
       → fuse_of new.book.cell ≡ Clear
-      → Goal (networks.goes_on owner.site (state records session Up) input e)
+      → Goal (networks.goes_on owner.site (state records mode) (Up e.volatile) input e)
   done_goes_on e had is clear = record {
     stands = (
       is.whose,
       record {
         opened = is.opened;
         records = is.records ∙ ap (λ (rs : List Record). rs ++ option_to_list e.commits) had;
-        session = is.session;
+        volatile = is.volatile;
         clear = clear;
       },
     );
@@ -96,7 +96,7 @@ module _ (old new : OpenSite MemoryCell) (input : Input) (told : Told)
   }
 
   failed_fails : (kept : Option Record) → Failed old new told (records ++ option_to_list kept)
-      → Goal (networks.fails owner.site (state records session Up) kept)
+      → Goal (networks.fails owner.site (state records mode) kept)
   failed_fails kept is = record {
     stands = (
       is.whose,
@@ -104,17 +104,16 @@ module _ (old new : OpenSite MemoryCell) (input : Input) (told : Told)
         failed = is.failed;
         records = subst (λ (o : Owner). Keeps o new.book.cell (records ++ option_to_list kept))
             (sym is.whose) is.records;
-        session = refl;
       },
     );
     sends = rw is.sends refl;
-    notice = rw is.said refl;
+    notice = is.notice;
   }
 
-  refusing : NeedsToOpen old (state records session NeedsOpening) → DiffersByFuse old new
-      → Tells (Err faults.NeedsOpen) told
-      → Goal (networks.goes_on owner.site (state records session NeedsOpening) input
-      (refuses faults.NeedsOpen session))
+  refusing : NeedsToOpen old records → DiffersByFuse old new
+      → Tells owner.site input (Err faults.NeedsOpen) told
+      → Goal (networks.goes_on owner.site (state records mode) NeedsOpening input
+      (refuses faults.NeedsOpen new_volatile))
   refusing needs d so = record {
     stands = (
       d.whose,
@@ -122,17 +121,16 @@ module _ (old new : OpenSite MemoryCell) (input : Input) (told : Told)
         failed = d.opened ∙ needs.failed;
         records = rw (append-nil records, d.whose)
             (same_kept old new d owner records needs.records);
-        session = needs.session;
       },
     );
     sends = rw so.2 refl;
-    notice = rw so.1 refl;
+    notice = so.1;
   }
 
   -- without a fuse it was done
   whole : (e : Effect) (before after : FuseState) → old.book.records ≡ records → before ≡ Clear
       → after ≡ fuse_of new.book.cell → Came before after old new input told e
-      → Goal (under_fate owner.site (state records session Up) input e fates.Whole)
+      → Goal (networks.under_fate owner.site (state records mode) input e fates.Whole)
   unfolding outcome
   whole e before after had clear is (inl (done, fuse)) =
       done_goes_on e had done (sym is ∙ still_clear e.commits before after clear fuse)
@@ -145,7 +143,7 @@ module _ (old new : OpenSite MemoryCell) (input : Input) (told : Told)
       → before ≡ Burning (fuse_in device how kept)
       → fuse_of new.book.cell ≡ fuse_after_set None after
       → Came before after old new input told e
-      → Goal (outcome owner.site (state records session Up) input e commits
+      → Goal (outcome owner.site (state records mode) (Up e.volatile) input e commits
       (fates.FailsIn device kept))
   unfolding outcome
   fails_of device how kept e None before after is had burning taken (inl (done, fuse)) =
@@ -158,8 +156,8 @@ module _ (old new : OpenSite MemoryCell) (input : Input) (told : Told)
       ∙ ap (λ (f : FuseState). fires_within_two f) burning ∙ fires device how kept))
   fails_of device how kept e (Some r) before after is had burning taken (inr failed) =
       failed_fails (kept_record kept r)
-      (subst (λ (f : FuseState). Failed old new told (records_kept f records r)) burning
-      (subst (λ (rs : List Record). Failed old new told (records_kept before rs r)) had
+      (subst (λ (f : FuseState). Failed old new told (read_after_fuse f records r)) burning
+      (subst (λ (rs : List Record). Failed old new told (read_after_fuse before rs r)) had
       (subst (λ (c : Option Record). FailedIn c before old new told) is failed).1))
 
 -- ---- a call, with a fuse that is set before it, and taken away after
@@ -167,46 +165,50 @@ module _ (old new : OpenSite MemoryCell) (input : Input) (told : Told)
 module _ (old armed called new : OpenSite MemoryCell) (front : DiffersByFuse old armed)
     (back : DiffersByFuse called new) (input : Input) (told : Told)
     (result : Result Answer SiteFault)
-    (answer : armed.book.needs_opening ≡ false → (session : Session)
-    → sites.Represents armed session
-    → IsAnswered device_of armed called session (effect armed session input) result)
+    (answer : armed.book.needs_opening ≡ false → (volatile : VolatileState)
+    → sites.Represents armed volatile
+    → IsAnswered device_of armed called volatile (effect armed volatile input) result)
     (needs : IsErrOf result faults.NeedsOpen ↔ (armed.book.needs_opening ≡ true))
     (untouched : armed.book.needs_opening ≡ true → called ≡ armed)
-    (tells : Tells result told)
-    (records : List Record) (session : Session) where
-  -- what a site says in a session, by the owner and the records of the old one
-  abbrev says : Effect
-  says = effect_of (quorums_of old.book.owner.members) old.book.owner.site records session input
+    (tells : Tells old.book.owner.site input result told)
+    (records : List Record) where
+  -- what a site says in a volatile state, by the owner and the records of the old one
+  abbrev says : VolatileState → Effect
+  says volatile =
+      effect_of (quorums_of old.book.owner.members) old.book.owner.site records volatile input
 
   -- what is to be shown, in a mode and under a fate
   abbrev Comes : Mode → Fate → Type 0
-  Comes mode fate = ComesTo old.book.owner input (Running new) told
-      (reached (quorums_of old.book.owner.members) old.book.owner.site
-      (state records session mode) mode input fate)
+  Comes mode fate = ComesTo old.book.owner (Running new) told
+      (networks.step (quorums_of old.book.owner.members) old.book.owner.site
+      (state records mode) mode input fate)
 
-  came_up : IsUp old (state records session Up)
-      → Came (fuse_of armed.book.cell) (fuse_of called.book.cell) old new input told says
-  came_up up = came_between old armed called new input told front back says
+  came_up : (volatile : VolatileState) → IsUp old records volatile
+      → Came (fuse_of armed.book.cell) (fuse_of called.book.cell) old new input told
+      (says volatile)
+  came_up volatile up = came_between old armed called new input told front back (says volatile)
       (fuse_of armed.book.cell) (fuse_of called.book.cell)
       (subst (λ (e : Effect). Came (fuse_of armed.book.cell) (fuse_of called.book.cell)
       armed called input told e) same
-      (came armed called input told session (effect armed session input) result
+      (came armed called input told volatile (effect armed volatile input) result
       (refuses_only (quorums_of armed.book.owner.members) armed.book.owner.site armed.book.records
-      session input) opened
-      (answer opened session (same_session old armed front session up.session)) tells))
+      volatile input) opened
+      (answer opened volatile (same_volatile old armed front volatile up.volatile))
+      (subst (λ (o : Owner). Tells o.site input result told) (sym front.whose) tells)))
     where
       opened : armed.book.needs_opening ≡ false
       opened = front.opened ∙ up.opened
 
-      same : effect armed session input ≡ says
+      same : effect armed volatile input ≡ says volatile
       same = rw (front.whose, front.records, up.records) refl
 
-  refuses_open : NeedsToOpen old (state records session NeedsOpening)
-      → ComesTo old.book.owner input (Running new) told
-      (networks.goes_on old.book.owner.site (state records session NeedsOpening) input
-      (refuses faults.NeedsOpen session))
-  refuses_open n = refusing old new input told records session n all
-      (subst (λ (r : Result Answer SiteFault). Tells r told) (needs.1 failed) tells)
+  refuses_open : NeedsToOpen old records
+      → ComesTo old.book.owner (Running new) told
+      (networks.goes_on old.book.owner.site (state records NeedsOpening) NeedsOpening input
+      (refuses faults.NeedsOpen new_volatile))
+  refuses_open n = refusing old new input told records NeedsOpening n all
+      (subst (λ (r : Result Answer SiteFault). Tells old.book.owner.site input r told)
+      (needs.1 failed) tells)
     where
       failed : armed.book.needs_opening ≡ true
       failed = front.opened ∙ n.failed
@@ -228,12 +230,13 @@ module _ (old armed called new : OpenSite MemoryCell) (front : DiffersByFuse old
   whole_as : (mode : Mode)
       → (fuse_of old.book.cell ≡ Clear → fuse_of armed.book.cell ≡ Clear)
       → fuse_of called.book.cell ≡ fuse_of new.book.cell
-      → Represents old.book.owner (Running old) (state records session mode)
+      → Represents old.book.owner (Running old) (state records mode)
       → Comes mode fates.Whole
   unfolding outcome
-  whole_as Up clear same stands = whole old new input told records session says
+  whole_as (Up volatile) clear same stands =
+      whole old new input told records (Up volatile) (says volatile)
       (fuse_of armed.book.cell) (fuse_of called.book.cell) stands.1.records
-      (clear stands.1.clear) same (came_up stands.1)
+      (clear stands.1.clear) same (came_up volatile stands.1)
   whole_as NeedsOpening clear same stands = refuses_open stands.1
   whole_as Down clear same stands = absurd stands.1
 
@@ -241,27 +244,27 @@ module _ (old armed called new : OpenSite MemoryCell) (front : DiffersByFuse old
       → (fuse_of old.book.cell ≡ Clear
       → (fuse_of armed.book.cell ≡ Burning (fuse_in device how kept)))
       → fuse_of new.book.cell ≡ fuse_after_set None (fuse_of called.book.cell)
-      → Represents old.book.owner (Running old) (state records session mode)
+      → Represents old.book.owner (Running old) (state records mode)
       → Comes mode (fates.FailsIn device kept)
   unfolding outcome
-  fails_as Up device how kept burning taken stands =
-      fails_of old new input told records session device how kept says says.commits
-      (fuse_of armed.book.cell) (fuse_of called.book.cell) refl stands.1.records
-      (burning stands.1.clear) taken (came_up stands.1)
+  fails_as (Up volatile) device how kept burning taken stands =
+      fails_of old new input told records (Up volatile) device how kept (says volatile)
+      (says volatile).commits (fuse_of armed.book.cell) (fuse_of called.book.cell) refl
+      stands.1.records (burning stands.1.clear) taken (came_up volatile stands.1)
   fails_as NeedsOpening device how kept burning taken stands = refuses_open stands.1
   fails_as Down device how kept burning taken stands = absurd stands.1
 
 -- the call is done, and the site goes on
 pub goes_on : (old new : OpenSite MemoryCell) (input : Input) (told : Told)
     (result : Result Answer SiteFault)
-    → (old.book.needs_opening ≡ false → (session : Session) → sites.Represents old session
-    → IsAnswered device_of old new session (effect old session input) result)
+    → (old.book.needs_opening ≡ false → (volatile : VolatileState) → sites.Represents old volatile
+    → IsAnswered device_of old new volatile (effect old volatile input) result)
     → (IsErrOf result faults.NeedsOpen ↔ (old.book.needs_opening ≡ true))
-    → (old.book.needs_opening ≡ true → new ≡ old) → Tells result told
+    → (old.book.needs_opening ≡ true → new ≡ old) → Tells old.book.owner.site input result told
     → Undergoes old.book.owner input fates.Whole (Running old) (Running new) told
 goes_on old new input told result answer needs untouched tells s stands =
     whole_as old old new new (same_site old) (same_site new) input told result answer needs
-    untouched tells s.records s.session s.mode (λ clear. clear) refl stands
+    untouched tells s.records s.mode (λ clear. clear) refl stands
 
 -- a device call fails where the call commits a record
 pub fails_in : (old armed called new : OpenSite MemoryCell) (device : DeviceCall) (how : How)
@@ -270,19 +273,21 @@ pub fails_in : (old armed called new : OpenSite MemoryCell) (device : DeviceCall
     → fuse_of armed.book.cell
     ≡ fuse_after_set (Some (fuse_in device how kept)) (fuse_of old.book.cell)
     → fuse_of new.book.cell ≡ fuse_after_set None (fuse_of called.book.cell)
-    → (armed.book.needs_opening ≡ false → (session : Session) → sites.Represents armed session
-    → IsAnswered device_of armed called session (effect armed session (input armed.book.owner))
+    → (armed.book.needs_opening ≡ false
+    → (volatile : VolatileState) → sites.Represents armed volatile
+    → IsAnswered device_of armed called volatile (effect armed volatile (input armed.book.owner))
     result)
     → (IsErrOf result faults.NeedsOpen ↔ (armed.book.needs_opening ≡ true))
-    → (armed.book.needs_opening ≡ true → called ≡ armed) → Tells result told
+    → (armed.book.needs_opening ≡ true → called ≡ armed)
+    → Tells old.book.owner.site (input old.book.owner) result told
     → Undergoes old.book.owner (input old.book.owner) (fates.FailsIn device kept) (Running old)
     (Running new) told
 fails_in old armed called new device how kept input told result front back set taken answer needs
     untouched tells s stands =
     fails_as old armed called new front back (input old.book.owner) told result
-    (subst (λ (o : Owner). armed.book.needs_opening ≡ false → (session : Session)
-    → sites.Represents armed session
-    → IsAnswered device_of armed called session (effect armed session (input o)) result)
-    front.whose answer) needs untouched tells s.records s.session s.mode device how kept
+    (subst (λ (o : Owner). armed.book.needs_opening ≡ false → (volatile : VolatileState)
+    → sites.Represents armed volatile
+    → IsAnswered device_of armed called volatile (effect armed volatile (input o)) result)
+    front.whose answer) needs untouched tells s.records s.mode device how kept
     (λ clear. set ∙ ap (λ (f : FuseState). fuse_after_set (Some (fuse_in device how kept)) f) clear)
     taken stands

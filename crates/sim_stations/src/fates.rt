@@ -6,21 +6,21 @@ ghost use Rattle.sim_stations.specs.Calls.{input_of};
 ghost use Rattle.sim_stations.specs.Fates.{before_stop};
 ghost use Rattle.sim_stations.specs.Fuses.{fuse_in};
 ghost use Rattle.sim_stations.specs.Stations.{Undergoes};
-ghost use Rattle.sim_stations.specs.declared.place.Place.TheVariants.{Running};
+ghost use Rattle.sim_stations.specs.declared.run_state.RunState.TheVariants.{Running};
 
-use crate::call::{Call, make};
+use crate::site_call::{SiteCall, make};
 use crate::told::{Told, told_of};
 use cell_device::{Fuse, How, MemoryCell};
 use schedule::{DeviceCall, Fate};
 use site::Site;
 use std::alloc::{AllocError, Global};
 
-/// What a running site does in a call, up to where its fate stops it: what is told. `Err`: out of
-/// memory.
+/// Makes a call of a running site, up to where its fate stops it, and tells what came of it. `Err`:
+/// out of memory.
 pub(crate) fn undergo(
     alloc: Global,
     site: &mut Site<MemoryCell>,
-    call: &Call,
+    call: &SiteCall,
     fate: Fate,
 ) -> Result<Told, AllocError>
     ensures { IfOk result (λ told. Undergoes site.old.book.owner
@@ -35,19 +35,20 @@ pub(crate) fn undergo(
 }
 
 // The call is done, and the site goes on.
-fn goes_on(alloc: Global, site: &mut Site<MemoryCell>, call: &Call) -> Result<Told, AllocError>
+fn goes_on(alloc: Global, site: &mut Site<MemoryCell>, call: &SiteCall) -> Result<Told, AllocError>
     ensures { IfOk result (λ told. Undergoes site.old.book.owner
         (input_of site.old.book.owner.members.federation call.now) fates.Whole
         (Running site.old) (Running site.new) told) }
 {
-    told_of(alloc, make(site, call))
+    let number = site.number().number();
+    told_of(alloc, number, call, make(site, call))
 }
 
 // This device call fails where the call commits a record; afterwards no fuse is set.
 fn fails_in(
     alloc: Global,
     site: &mut Site<MemoryCell>,
-    call: &Call,
+    call: &SiteCall,
     device: DeviceCall,
     how: How,
     kept: u32,
@@ -56,10 +57,11 @@ fn fails_in(
         (input_of site.old.book.owner.members.federation call.now) (fates.FailsIn device kept)
         (Running site.old) (Running site.new) told) }
 {
+    let number = site.number().number();
     site.set_fuse(Some(fuse_in(device, how, kept)));
-    let told = told_of(alloc, make(site, call));
+    let answer = make(site, call);
     site.set_fuse(None);
-    told
+    told_of(alloc, number, call, answer)
 }
 
 // A device call of the next commit fails, and so many bytes are kept.

@@ -8,14 +8,14 @@
 //! ```
 #![tactic(auto)]
 
-mod call;
 mod fates;
 mod opened_site;
-mod place;
+mod run_state;
+mod site_call;
 mod station;
 mod told;
 
-pub use call::Call;
-pub use place::Place;
+pub use run_state::RunState;
+pub use site_call::SiteCall;
 pub use station::Station;
-pub use told::{Said, Told};
+pub use told::Told;

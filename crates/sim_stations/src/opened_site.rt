@@ -11,14 +11,14 @@ use std::alloc::{AllocError, Global};
 pub(crate) fn open(
     alloc: Global,
     cell: MemoryCell,
-    owner: Owner,
+    owner: &Owner,
 ) -> Result<Site<MemoryCell>, AllocError>
-    ensures { IfOk result (λ site. (records : List Record) → Keeps owner cell records
-        → IsOpened owner records site) }
+    ensures { IfOk result (λ site. (records : List Record) → Keeps owner.now cell records
+        → IsOpened owner.now records site) }
 {
     let mut cell = cell;
     cell.restart();
-    match Site::open(alloc, cell, owner) {
+    match Site::open(alloc, cell, *owner) {
         Ok(site) => Ok(site),
         // No other fault comes of a cell that keeps records.
         Err(_) => Err(AllocError),

@@ -1,40 +1,41 @@
-ghost use Rattle.std.specs.Prelude.{◌≡◌, [], None, IfOk};
-ghost use Rattle.sim_stations.specs.Told.{Tells, line_said};
+ghost use Rattle.std.specs.Prelude.{ℕ, ◌≡◌, [], None, IfOk};
+ghost use Rattle.lines.specs.Notices.{deposited_in};
+ghost use Rattle.sim_stations.specs.Calls.{input_of};
+ghost use Rattle.sim_stations.specs.Told.{Tells};
 
-use site::{Answer, Line, Outgoing, SiteFault};
+use crate::site_call::SiteCall;
+use fed_types::Slot;
+use lines::{Notice, notice_of};
+use site::{Answer, Outgoing, SiteFault};
 use std::alloc::{AllocError, Global};
-
-/// What is said of an event at a site.
-#[derive(Debug, Drop)]
-pub enum Said {
-    /// The site says this line.
-    Says(Line),
-    /// It refuses, for this fault, which isn't `Memory`.
-    Refuses(SiteFault),
-    /// It goes down.
-    GoesDown,
-}
 
 /// What an event at a site comes to: what is said of it, if anything, and the datagrams that were
 /// sent, in order.
 #[derive(Debug, Drop)]
 pub struct Told {
-    pub said: Option<Said>,
+    pub notice: Option<Notice>,
     pub sends: Vec<Outgoing>,
 }
 
-/// What a site answers, as it is told.
-pub(crate) fn told_of(alloc: Global, answer: Result<Answer, SiteFault>) -> Result<Told, AllocError>
-    ensures { IfOk result (λ t. Tells answer t) }
+/// What the site of this number answers to a call, as it is told. `Err`: out of memory.
+pub(crate) fn told_of(
+    alloc: Global,
+    site: u8,
+    call: &SiteCall,
+    answer: Result<Answer, SiteFault>,
+) -> Result<Told, AllocError>
+    ensures { IfOk result (λ t. (federation : ℕ)
+        → Tells site (input_of federation call.now) answer t) }
 {
+    let deposited = deposited(alloc, call)?;
     match answer {
-        Ok(answer) => Ok(Told {
-            said: line_said(answer.line),
-            sends: answer.sends,
+        Ok(Answer { line, sends }) => Ok(Told {
+            notice: notice_of(site, deposited, Ok(line)),
+            sends,
         }),
         Err(SiteFault::Memory) => Err(AllocError),
         Err(fault) => Ok(Told {
-            said: Some(Said::Refuses(fault)),
+            notice: notice_of(site, deposited, Err(fault)),
             sends: Vec::new(alloc),
         }),
     }
@@ -42,19 +43,21 @@ pub(crate) fn told_of(alloc: Global, answer: Result<Answer, SiteFault>) -> Resul
 
 /// Nothing is said or sent.
 pub(crate) fn nothing(alloc: Global) -> Told
-    ensures { (result.said ≡ None) × (result.sends.items ≡ []) }
+    ensures { (result.notice ≡ None) × (result.sends.items ≡ []) }
 {
     Told {
-        said: None,
+        notice: None,
         sends: Vec::new(alloc),
     }
 }
 
-fn line_said(line: Option<Line>) -> Option<Said>
-    ensures { result ≡ line_said line }
+// The slot of a call that is a deposit.
+fn deposited(alloc: Global, call: &SiteCall) -> Result<Option<Slot>, AllocError>
+    ensures { IfOk result (λ slot. (federation : ℕ)
+        → deposited_in (input_of federation call.now) ≡ slot) }
 {
-    match line {
-        Some(line) => Some(Said::Says(line)),
-        None => None,
+    match *call {
+        SiteCall::Deposit(slot, _) => Ok(Some(slot.copy(alloc)?)),
+        SiteCall::Propose(_) | SiteCall::Ask(..) | SiteCall::Arrive(_) => Ok(None),
     }
 }

@@ -3,7 +3,7 @@ use Rattle.std.proofs.Common.{◌≡◌, ℕ, map, Option, None, Ok, refl, sym, 
 use Rattle.fed_types.specs.Slots.{SlotName}
 use Rattle.cell_device.specs.Devices.{Device}
 use Rattle.dgram.specs.declared.body.Body.TheVariants.{Ask}
-use Rattle.proposer.specs.Sessions.{Session}
+use Rattle.proposer.specs.VolatileStates.{VolatileState}
 use Rattle.site.specs.declared.answer.Answer.{Answer}
 use Rattle.site.specs.declared.answer.Line.{Line}
 use Rattle.site.specs.Answered.{IsAnswered}
@@ -12,13 +12,13 @@ use Rattle.site.specs.Datagrams.{handed_out}
 use Rattle.site.specs.Sites.{OpenSite, Represents, effect}
 use Rattle.site.specs.inner.Concluded.{one_datagram}
 
-pub asked : {C : Type 0} (device : C → Device) (s : OpenSite C) (session : Session)
-    (slot same_slot : SlotName) (to from : ℕ) (answer : Answer) → Represents s session
+pub asked : {C : Type 0} (device : C → Device) (s : OpenSite C) (volatile : VolatileState)
+    (slot same_slot : SlotName) (to from : ℕ) (answer : Answer) → Represents s volatile
     → same_slot ≡ slot → from ≡ s.book.owner.site → answer.line ≡ None
     → map handed_out answer.sends.items ≡ one_datagram s same_slot (Ask from) to
-    → IsAnswered device s s session (effect s session (Asks slot to)) (Ok answer)
+    → IsAnswered device s s volatile (effect s volatile (Asks slot to)) (Ok answer)
 unfolding on_ask
-asked device s session slot same_slot to from answer stands e f line sends = record {
+asked device s volatile slot same_slot to from answer stands e f line sends = record {
   keeps = refl;
   gives = (
     ap (λ (l : Option Line). Ok l) (sym line),

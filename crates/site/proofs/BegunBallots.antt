@@ -4,15 +4,16 @@ use Rattle.std.proofs.Common.{ap, subst, List}
 use Rattle.std.specs.Prelude.{IsErrAnd, IsSome}
 use Rattle.fed_types.specs.declared.bag_id.BagId.{BagId}
 use Rattle.fed_types.specs.Ballots.{BallotNumber}
+use Rattle.fed_types.specs.Faults.{IsOrFault}
 use Rattle.fed_types.specs.Slots.{SlotName}
 use Rattle.records.specs.declared.owner.Owner.{Owner}
 use Rattle.records.specs.declared.record.Record.{Record}
 use Rattle.records.specs.SlotStates.{deposit_of}
 use Rattle.proposer.specs.declared.fault.ProposeFault.{ProposeFault}
 use Rattle.proposer.specs.declared.fault.ProposeFault.TheVariants as proposals
-use Rattle.proposer.specs.Faults.{next_or_spent, IsOrMemory}
+use Rattle.proposer.specs.Faults.{next_or_spent}
 use Rattle.proposer.specs.Proposals.{next_ballot}
-use Rattle.proposer.specs.Sessions.{Session}
+use Rattle.proposer.specs.VolatileStates.{VolatileState}
 use Rattle.proposer.specs.UnderWay.{UnderWay, begins}
 use Rattle.site_tables.specs.Contents.{Contents, IsOf, Represents, RepresentsSame}
 use Rattle.site.specs.declared.answer.Answer.{Answer}
@@ -23,7 +24,7 @@ use Rattle.site.specs.inner.Begun.{IsOfBallot, Begins, BeginsBallot}
 
 -- the ballot that was begun is the next one
 pub next_of : (n : Option BallotNumber) (ballot : BallotNumber)
-    → IsOrMemory (Ok ballot) (next_or_spent n) → n ≡ Some ballot
+    → IsOrFault proposals.Memory (Ok ballot) (next_or_spent n) → n ≡ Some ballot
 next_of None ballot (inl e) = absurd (differ e)
   where
     differ : ◌≡◌ {A = Result BallotNumber ProposeFault} (Ok ballot) (Err proposals.RoundsSpent)
@@ -44,7 +45,7 @@ next_of (Some b) ballot (inr e) = absurd (differ e)
 
 -- and where the rounds are spent there is none
 pub none_left : (n : Option BallotNumber)
-    → IsOrMemory (Err proposals.RoundsSpent) (next_or_spent n) → n ≡ None
+    → IsOrFault proposals.Memory (Err proposals.RoundsSpent) (next_or_spent n) → n ≡ None
 none_left None is = refl
 none_left (Some b) (inl e) = absurd (differ e)
   where
@@ -78,72 +79,76 @@ module _ (owner : Owner) (old new : Contents) (slot : SlotName) (own : BagId)
   -- no ballot was begun
   pub not_begun : (fault : ProposeFault) → result ≡ Err (propose_fault fault)
       → RepresentsSame old new
-      → ((records : List Record) (session : Session) (under : UnderWay) → IsOf old owner records
-      → Represents old records session under
-      → IsOrMemory (Err fault) (next_or_spent (next_ballot owner.site slot records session.heard)))
-      → ((records : List Record) (session : Session) (under : UnderWay) → IsOf old owner records
-      → Represents old records session under
-      → next_ballot owner.site slot records session.heard ≡ None
+      → ((records : List Record) (volatile : VolatileState)
+      (under : UnderWay) → IsOf old owner records
+      → Represents old records volatile under
+      → IsOrFault proposals.Memory (Err fault)
+      (next_or_spent (next_ballot owner.site slot records volatile.heard)))
+      → ((records : List Record) (volatile : VolatileState)
+      (under : UnderWay) → IsOf old owner records
+      → Represents old records volatile under
+      → next_ballot owner.site slot records volatile.heard ≡ None
       → ◌≡◌ {A = Result BallotNumber ProposeFault} (Err fault) (Err proposals.RoundsSpent))
       → BeginsBallot owner old new slot own result
   not_begun fault is same answer spent =
       subst (λ (r : Result (Record × Answer) SiteFault). BeginsBallot owner old new slot own r)
       (sym is) (record {
         order = same.of owner;
-        begun = λ records session under of stands deposit. go fault records session under
-            (answer records session under of stands) (spent records session under of stands)
-            (same.stands records session under stands);
+        begun = λ records volatile under of stands deposit. go fault records volatile under
+            (answer records volatile under of stands) (spent records volatile under of stands)
+            (same.stands records volatile under stands);
       })
     where
-      go : (f : ProposeFault) (records : List Record) (session : Session) (under : UnderWay)
-          → IsOrMemory (Err f) (next_or_spent (next_ballot owner.site slot records session.heard))
-          → (next_ballot owner.site slot records session.heard ≡ None
+      go : (f : ProposeFault) (records : List Record) (volatile : VolatileState) (under : UnderWay)
+          → IsOrFault proposals.Memory (Err f)
+          (next_or_spent (next_ballot owner.site slot records volatile.heard))
+          → (next_ballot owner.site slot records volatile.heard ≡ None
           → ◌≡◌ {A = Result BallotNumber ProposeFault} (Err f) (Err proposals.RoundsSpent))
-          → Represents new records session under
-          → Begins owner new slot own records session under (Err (propose_fault f))
-      go proposals.RoundsSpent records session under is spent stands = (none_left _ is, stands)
-      go proposals.Memory records session under is spent stands =
+          → Represents new records volatile under
+          → Begins owner new slot own records volatile under (Err (propose_fault f))
+      go proposals.RoundsSpent records volatile under is spent stands = (none_left _ is, stands)
+      go proposals.Memory records volatile under is spent stands =
           (one_left _ spent, under, stands)
 
   module _ (ballot : BallotNumber)
       (order : (records : List Record) → IsOf old owner records → IsOf new owner records)
-      (begun : (records : List Record) (session : Session) (under : UnderWay)
-      → Represents old records session under → deposit_of slot records ≡ Some own
-      → Represents new records session (begins under slot ballot own)) where
+      (begun : (records : List Record) (volatile : VolatileState) (under : UnderWay)
+      → Represents old records volatile under → deposit_of slot records ≡ Some own
+      → Represents new records volatile (begins under slot ballot own)) where
     -- memory ran out for the answer
     pub begun_in_vain : result ≡ Err faults.Memory
-        → ((records : List Record) (session : Session) (under : UnderWay)
-        → IsOf old owner records → Represents old records session under
-        → IsOrMemory (Ok ballot)
-        (next_or_spent (next_ballot owner.site slot records session.heard)))
+        → ((records : List Record) (volatile : VolatileState) (under : UnderWay)
+        → IsOf old owner records → Represents old records volatile under
+        → IsOrFault proposals.Memory (Ok ballot)
+        (next_or_spent (next_ballot owner.site slot records volatile.heard)))
         → BeginsBallot owner old new slot own result
     begun_in_vain is next =
         subst (λ (r : Result (Record × Answer) SiteFault). BeginsBallot owner old new slot own r)
         (sym is) (record {
           order = order;
-          begun = λ records session under of stands deposit. (
-            subst IsSome (sym (next_of _ ballot (next records session under of stands))) refl,
+          begun = λ records volatile under of stands deposit. (
+            subst IsSome (sym (next_of _ ballot (next records volatile under of stands))) refl,
             begins under slot ballot own,
-            begun records session under stands deposit,
+            begun records volatile under stands deposit,
           );
         })
 
     -- a ballot was begun
     pub ballot_begun : (new_record : Record) (answer : Answer)
         → result ≡ Ok (new_record, answer) → IsOfBallot owner slot ballot new_record answer
-        → ((records : List Record) (session : Session) (under : UnderWay)
-        → IsOf old owner records → Represents old records session under
-        → IsOrMemory (Ok ballot)
-        (next_or_spent (next_ballot owner.site slot records session.heard)))
+        → ((records : List Record) (volatile : VolatileState) (under : UnderWay)
+        → IsOf old owner records → Represents old records volatile under
+        → IsOrFault proposals.Memory (Ok ballot)
+        (next_or_spent (next_ballot owner.site slot records volatile.heard)))
         → BeginsBallot owner old new slot own result
     ballot_begun new_record answer is of_ballot next =
         subst (λ (r : Result (Record × Answer) SiteFault). BeginsBallot owner old new slot own r)
         (sym is) (record {
           order = order;
-          begun = λ records session under of stands deposit. (
+          begun = λ records volatile under of stands deposit. (
             ballot,
-            next_of _ ballot (next records session under of stands),
+            next_of _ ballot (next records volatile under of stands),
             of_ballot,
-            begun records session under stands deposit,
+            begun records volatile under stands deposit,
           );
         })

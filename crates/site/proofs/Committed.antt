@@ -7,7 +7,7 @@ use Rattle.records.specs.declared.record.Record.{Record}
 use Rattle.book.specs.declared.fault.CommitFault.{CommitFault}
 use Rattle.book.specs.declared.fault.CommitFault.TheVariants as commits
 use Rattle.book.specs.OpenBooks.{OpenBook}
-use Rattle.proposer.specs.Sessions.{Session}
+use Rattle.proposer.specs.VolatileStates.{VolatileState}
 use Rattle.proposer.specs.UnderWay.{UnderWay}
 use Rattle.site_tables.specs.Contents.{Contents, IsOf, RepresentsSame}
 use Rattle.site_tables.specs.Contents as tables
@@ -16,7 +16,7 @@ use Rattle.site.specs.declared.fault.SiteFault.TheVariants as faults
 use Rattle.book.specs.Committed.{Commits}
 use Rattle.site.specs.Faults.{commit_fault}
 use Rattle.site.specs.Sites.{OpenSite, IsInOrder}
-use Rattle.site.specs.inner.Concluded.{Stands, noted_session, noted_under, IsCommitted}
+use Rattle.site.specs.inner.Concluded.{Stands, noted_volatile, noted_under, IsCommitted}
 
 -- the result of a `?`
 pub err_of : (r : Result (Unit {0}) SiteFault) (fault : SiteFault)
@@ -28,20 +28,20 @@ module _ {C : Type 0} (device : C → Device) (old new : OpenSite C) (r : Record
   -- tables that represent the same, over the same records
   module _ (records : new.book.records ≡ old.book.records) (owner : new.book.owner ≡ old.book.owner)
       (same : RepresentsSame old.tables new.tables) where
-    pub same_stands : (session : Session) (under : UnderWay) → Stands old session under
-        → Stands new session under
-    same_stands session under stands =
-        subst (λ (rs : List Record). tables.Represents new.tables rs session under) (sym records)
-        (same.stands old.book.records session under stands)
+    pub same_stands : (volatile : VolatileState) (under : UnderWay) → Stands old volatile under
+        → Stands new volatile under
+    same_stands volatile under stands =
+        subst (λ (rs : List Record). tables.Represents new.tables rs volatile under) (sym records)
+        (same.stands old.book.records volatile under stands)
 
     pub same_order : IsInOrder old → IsInOrder new
     same_order order = record {
       of = rw (records, owner) (same.of old.book.owner old.book.records order.of);
-      session = (
-        order.session.0,
+      volatile = (
+        order.volatile.0,
         (
-          order.session.1.0,
-          same_stands order.session.0 order.session.1.0 order.session.1.1,
+          order.volatile.1.0,
+          same_stands order.volatile.0 order.volatile.1.0 order.volatile.1.1,
         ),
       );
     }
@@ -89,9 +89,9 @@ module _ {C : Type 0} (device : C → Device) (old new : OpenSite C) (r : Record
       → RepresentsSame old.tables mid
       → (IsOf mid old.book.owner old.book.records
       → IsOf new.tables old.book.owner (old.book.records ++ r ∷ []))
-      → ((session : Session) (under : UnderWay)
-      → tables.Represents mid old.book.records session under
-      → tables.Represents new.tables (old.book.records ++ r ∷ []) (noted_session session under r)
+      → ((volatile : VolatileState) (under : UnderWay)
+      → tables.Represents mid old.book.records volatile under
+      → tables.Represents new.tables (old.book.records ++ r ∷ []) (noted_volatile volatile under r)
       (noted_under under r))
       → IsCommitted device old new r (Ok tt)
   done mid c same of stands = record {
@@ -101,20 +101,20 @@ module _ {C : Type 0} (device : C → Device) (old new : OpenSite C) (r : Record
     faults = tt;
     order = λ order. record {
       of = rw (c.committed.0, c.whose) (of (same.of old.book.owner old.book.records order.of));
-      session = (
-        noted_session order.session.0 order.session.1.0 r,
+      volatile = (
+        noted_volatile order.volatile.0 order.volatile.1.0 r,
         (
-          noted_under order.session.1.0 r,
-          all_stands order.session.0 order.session.1.0 order.session.1.1,
+          noted_under order.volatile.1.0 r,
+          all_stands order.volatile.0 order.volatile.1.0 order.volatile.1.1,
         ),
       );
     };
   }
     where
-      all_stands : (session : Session) (under : UnderWay) → Stands old session under
-          → Stands new (noted_session session under r) (noted_under under r)
-      all_stands session under s =
+      all_stands : (volatile : VolatileState) (under : UnderWay) → Stands old volatile under
+          → Stands new (noted_volatile volatile under r) (noted_under under r)
+      all_stands volatile under s =
           subst (λ (rs : List Record). tables.Represents new.tables rs
-          (noted_session session under r)
+          (noted_volatile volatile under r)
           (noted_under under r)) (sym c.committed.0)
-          (stands session under (same.stands old.book.records session under s))
+          (stands volatile under (same.stands old.book.records volatile under s))

@@ -15,7 +15,7 @@ use Rattle.book.specs.OpenBooks.{OpenBook}
 use Rattle.acceptor.specs.Decisions.{prepare_decision, accept_decision, promises, votes}
 use Rattle.acceptor.specs.Decisions.{votes_again}
 use Rattle.acceptor.specs.Decisions.{refuses, on_prepare, is_vote, is_in_ballot, on_new_accept}
-use Rattle.proposer.specs.Sessions.{Session}
+use Rattle.proposer.specs.VolatileStates.{VolatileState}
 use Rattle.proposer.specs.UnderWay.{UnderWay, current_by}
 use Rattle.site.specs.declared.answer.Answer.{Answer}
 use Rattle.site.specs.declared.answer.Line.{Line}
@@ -26,7 +26,7 @@ use Rattle.site.specs.Answered.{Keeps, Gives, IsAnswered, commit_of}
 use Rattle.site.specs.Datagrams.{datagram}
 use Rattle.site.specs.Effects.{Effect, record_of}
 use Rattle.site.specs.Sites.{OpenSite, Represents}
-use Rattle.site.specs.inner.Concluded.{Stands, session_after, under_after, Concludes, IsCommitted}
+use Rattle.site.specs.inner.Concluded.{Stands, volatile_after, under_after, Concludes, IsCommitted}
 use Rattle.site.specs.inner.Concluded.{committed}
 
 -- the answer of a `?`
@@ -80,7 +80,7 @@ module _ {C : Type 0} (device : C → Device) (old new : OpenSite C) (r : Record
 
 -- ---- a conclusion as an answer
 module _ {C : Type 0} (device : C → Device) (old mid new : OpenSite C)
-    (session : Session) (under : UnderWay) (e : Effect)
+    (volatile : VolatileState) (under : UnderWay) (e : Effect)
     (line : Option Line) (datagrams : List (ℕ × List ℕ)) where
   -- the federation's number of the old site
   abbrev federation : ℕ
@@ -88,52 +88,52 @@ module _ {C : Type 0} (device : C → Device) (old mid new : OpenSite C)
 
   gives : (result : Result Answer SiteFault)
       → Concludes device mid new e.commits line datagrams result
-      → Stands mid session under
+      → Stands mid volatile under
       → e.says ≡ Ok line → datagrams ≡ map (datagram federation) e.sends
-      → (Stands new (session_after session under e.commits) (under_after under e.commits)
-      → Represents new e.session)
-      → Gives old new session e result
+      → (Stands new (volatile_after volatile under e.commits) (under_after under e.commits)
+      → Represents new e.volatile)
+      → Gives old new volatile e result
   gives (Ok answer) c stands says sends after = (
     says ∙ ap (λ (l : Option Line). Ok l) (sym (c.says answer refl).0),
     (c.says answer refl).1 ∙ sends,
-    after (c.stands session under stands),
+    after (c.stands volatile under stands),
   )
   gives (Err fault) c stands says sends after = go c.faults
     where
       go : (fault ≡ faults.Memory) ⊎ ((fault ≡ faults.Device) × IsSome e.commits)
-          → Gives old new session e (Err fault)
-      go (inl is) = subst (λ (f : SiteFault). Gives old new session e (Err f)) (sym is)
-          (under, c.same session under stands)
-      go (inr (is, some)) = subst (λ (f : SiteFault). Gives old new session e (Err f)) (sym is)
+          → Gives old new volatile e (Err fault)
+      go (inl is) = subst (λ (f : SiteFault). Gives old new volatile e (Err f)) (sym is)
+          (under, c.same volatile under stands)
+      go (inr (is, some)) = subst (λ (f : SiteFault). Gives old new volatile e (Err f)) (sym is)
           some
 
   -- a conclusion is the answer, where the effect is what was concluded
   pub concluded : (result : Result Answer SiteFault)
       → Concludes device mid new e.commits line datagrams result
-      → mid.book ≡ old.book → Stands mid session under
+      → mid.book ≡ old.book → Stands mid volatile under
       → e.says ≡ Ok line → datagrams ≡ map (datagram federation) e.sends
-      → (Stands new (session_after session under e.commits) (under_after under e.commits)
-      → Represents new e.session)
-      → IsAnswered device old new session e result
+      → (Stands new (volatile_after volatile under e.commits) (under_after under e.commits)
+      → Represents new e.volatile)
+      → IsAnswered device old new volatile e result
   concluded result c book stands says sends after = record {
     keeps = subst (λ (b : OpenBook C). Keeps device e.commits result b new.book) book c.keeps;
     gives = gives result c stands says sends after;
   }
 
--- ---- the session
+-- ---- the volatile state
 
 -- an entry that begins no ballot
 abbrev pub IsNoRound : Option Entry → Type 0
 IsNoRound None = Unit {0}
 IsNoRound (Some e) = (begun : Option BallotNumber) → current_by begun e ≡ None
 
--- its record changes neither the session nor what is under way
+-- its record changes neither the volatile state nor what is under way
 pub noted_same : (slot : SlotName) (e : Option Entry) → IsNoRound e
-    → (session : Session) (under : UnderWay)
-    → (session_after session under (record_of slot e) ≡ session)
+    → (volatile : VolatileState) (under : UnderWay)
+    → (volatile_after volatile under (record_of slot e) ≡ volatile)
     × (under_after under (record_of slot e) ≡ under)
-noted_same slot None none session under = (refl, refl)
-noted_same slot (Some e) none session under =
+noted_same slot None none volatile under = (refl, refl)
+noted_same slot (Some e) none volatile under =
     rw (none (under.begun slot)) (refl, refl)
 
 -- what an acceptor decides begins none

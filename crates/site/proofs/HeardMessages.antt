@@ -26,16 +26,16 @@ use Rattle.acceptor.specs.declared.decision.Decision.{Decision}
 use Rattle.acceptor.specs.Decisions.{prepare_decision, accept_decision}
 use Rattle.proposer.proofs.Stands.{at_here}
 use Rattle.proposer.specs.Proposals.{ready}
-use Rattle.proposer.specs.Sessions.{Session, hears, promise_message}
+use Rattle.proposer.specs.VolatileStates.{VolatileState, hears, promise_message}
 use Rattle.proposer.specs.UnderWay.{UnderWay, heard_if, waits}
-use Rattle.proposer.specs.Sessions.{refusal_message}
+use Rattle.proposer.specs.VolatileStates.{refusal_message}
 use Rattle.learner.specs.LearnedBags.{learned_from, learned_of_known}
 use Rattle.site_tables.specs.Contents.{Contents, IsOf, RepresentsSame}
 use Rattle.site_tables.specs.Contents as tables
 use Rattle.site_tables.proofs.Heard.{hears_other, hears_known}
 use Rattle.site.specs.declared.answer.Answer.{Answer}
 use Rattle.site.specs.declared.answer.Line.{Line}
-use Rattle.site.specs.declared.answer.Line.TheVariants as lines
+use Rattle.site.specs.declared.answer.Line.TheVariants as site_lines
 use Rattle.site.specs.declared.fault.SiteFault.{SiteFault}
 use Rattle.site.specs.declared.fault.SiteFault.TheVariants as faults
 use Rattle.site.specs.Answered.{IsAnswered, Keeps, Gives}
@@ -44,7 +44,7 @@ use Rattle.site.specs.Arrivals.{addressees, is_member, on_arrival}
 use Rattle.site.specs.Datagrams.{handed_out, datagram}
 use Rattle.site.specs.Effects.{Effect, record_of, to_each, only_says, quiet}
 use Rattle.site.specs.Sites.{OpenSite, Represents, IsInOrder}
-use Rattle.site.specs.inner.Concluded.{Stands, session_after, under_after, Concludes, HearsBody}
+use Rattle.site.specs.inner.Concluded.{Stands, volatile_after, under_after, Concludes, HearsBody}
 use Rattle.site.specs.inner.Concluded.{Issues, one_datagram, all_datagrams}
 use Rattle.site.proofs.Conclusions.{concluded, IsNoRound, noted_same, prepare_starts_none}
 use Rattle.site.proofs.Conclusions.{accept_starts_none}
@@ -74,50 +74,50 @@ module _ {C : Type 0} (device : C → Device) (old new : OpenSite C) (slot : Slo
       (addressees (quorums_of old.book.owner.members) asker d.answer))) result
 
   -- and how a site answers it that hears a message of this body
-  abbrev AnswersAs : Body → (asker : ℕ) → Decision → Session → Type 0
-  AnswersAs body asker d session =
-      IsAnswered device old new session
+  abbrev AnswersAs : Body → (asker : ℕ) → Decision → VolatileState → Type 0
+  AnswersAs body asker d volatile =
+      IsAnswered device old new volatile
       (decided (quorums_of old.book.owner.members) old.book.owner.site slot asker d
-      (hears session (record { slot = slot; body = body }))) result
+      (hears volatile (record { slot = slot; body = body }))) result
 
   -- what the acceptor has decided is concluded, and the message that asked for it is heard
   hears_decided : (body : Body) (asker : ℕ) (d : Decision) → IsOther body → IsNoRound d.entry
-      → ConcludesAs asker d → (session : Session) → Represents old session
-      → AnswersAs body asker d session
-  hears_decided body asker d other none c session (under, stands) =
-      concluded device old old new session under
+      → ConcludesAs asker d → (volatile : VolatileState) → Represents old volatile
+      → AnswersAs body asker d volatile
+  hears_decided body asker d other none c volatile (under, stands) =
+      concluded device old old new volatile under
       (decided (quorums_of old.book.owner.members) old.book.owner.site slot asker d
-      (hears session m)) None
+      (hears volatile m)) None
       (map (datagram old.book.owner.members.federation)
       (to_each slot (answer_body old.book.owner.site d.answer)
       (addressees (quorums_of old.book.owner.members) asker d.answer))) result c refl stands refl
       refl
       (λ after. (
         under,
-        hears_other new.tables new.book.records session under (same after) m
+        hears_other new.tables new.book.records volatile under (same after) m
             other.no_promise other.no_refusal other.no_vote,
       ))
     where
       m : Message
       m = record { slot = slot; body = body }
 
-      same : Stands new (session_after session under (record_of slot d.entry))
-          (under_after under (record_of slot d.entry)) → Stands new session under
+      same : Stands new (volatile_after volatile under (record_of slot d.entry))
+          (under_after under (record_of slot d.entry)) → Stands new volatile under
       same after =
-          subst (λ (u : UnderWay). Stands new session u)
-          (noted_same slot d.entry none session under).1
-          (subst (λ (s : Session). Stands new s (under_after under (record_of slot d.entry)))
-          (noted_same slot d.entry none session under).0 after)
+          subst (λ (u : UnderWay). Stands new volatile u)
+          (noted_same slot d.entry none volatile under).1
+          (subst (λ (s : VolatileState). Stands new s (under_after under (record_of slot d.entry)))
+          (noted_same slot d.entry none volatile under).0 after)
 
   -- so it is where the decision is the one that the definitions make
   hears_as : (body : Body) (asker sender : ℕ) (d made : Decision) → IsOther body → asker ≡ sender
-      → d ≡ made → IsNoRound made.entry → ConcludesAs asker d → (session : Session)
-      → Represents old session → AnswersAs body sender made session
-  hears_as body asker sender d made other from is none c session stands =
-      subst (λ (x : Decision). AnswersAs body sender x session) is
-      (subst (λ (n : ℕ). AnswersAs body n d session) from
+      → d ≡ made → IsNoRound made.entry → ConcludesAs asker d → (volatile : VolatileState)
+      → Represents old volatile → AnswersAs body sender made volatile
+  hears_as body asker sender d made other from is none c volatile stands =
+      subst (λ (x : Decision). AnswersAs body sender x volatile) is
+      (subst (λ (n : ℕ). AnswersAs body n d volatile) from
       (hears_decided body asker d other
-      (subst (λ (x : Decision). IsNoRound x.entry) (sym is) none) c session stands))
+      (subst (λ (x : Decision). IsNoRound x.entry) (sym is) none) c volatile stands))
 
   pub hears_prepare : (ballot : BallotNumber) (asker : ℕ) (d : Decision) → asker ≡ ballot.site
       → d ≡ prepare_decision slot old.book.records ballot → ConcludesAs asker d
@@ -143,46 +143,48 @@ module _ {C : Type 0} (device : C → Device) (old new : OpenSite C) (slot : Slo
 module _ {C : Type 0} (book : OpenBook C) (old new : Contents)
     (of : (owner : Owner) (records : List Record) → IsOf old owner records
     → IsOf new owner records) where
-  -- it stays in order, whatever session it represents then
+  -- it stays in order, whatever volatile state it represents then
   pub stays_in_order :
-      ((session : Session) (under : UnderWay) → tables.Represents old book.records session under
-      → (s : Session) × ((u : UnderWay) × tables.Represents new book.records s u))
+      ((volatile : VolatileState)
+      (under : UnderWay) → tables.Represents old book.records volatile under
+      → (s : VolatileState) × ((u : UnderWay) × tables.Represents new book.records s u))
       → IsInOrder (record { book = book; tables = old })
       → IsInOrder (record { book = book; tables = new })
   stays_in_order stands order = record {
     of = of book.owner book.records order.of;
-    session = stands order.session.0 order.session.1.0 order.session.1.1;
+    volatile = stands order.volatile.0 order.volatile.1.0 order.volatile.1.1;
   }
 
   -- and where they represent the same
   pub same_in_order : RepresentsSame old new → IsInOrder (record { book = book; tables = old })
       → IsInOrder (record { book = book; tables = new })
   same_in_order same =
-      stays_in_order (λ session under stands. (
-        session,
-        (under, same.stands book.records session under stands),
+      stays_in_order (λ volatile under stands. (
+        volatile,
+        (under, same.stands book.records volatile under stands),
       ))
 
 module _ {C : Type 0} (device : C → Device) (old new : OpenSite C) where
   -- what is dropped
-  says_dropped : (session : Session) (a : Answer)
-      → (a.line ≡ Some lines.Dropped) × (a.sends.items ≡ []) → new ≡ old → Represents old session
-      → IsAnswered device old new session (only_says lines.Dropped session) (Ok a)
-  says_dropped session a is same stands = record {
+  says_dropped : (volatile : VolatileState) (a : Answer)
+      → (a.line ≡ Some site_lines.Dropped) × (a.sends.items ≡ []) → new ≡ old
+      → Represents old volatile
+      → IsAnswered device old new volatile (only_says site_lines.Dropped volatile) (Ok a)
+  says_dropped volatile a is same stands = record {
     keeps = ap (λ (s : OpenSite C). s.book) same;
     gives = (
       ap (λ (l : Option Line). Ok l) (sym is.0),
       ap (map handed_out) is.1,
-      subst (λ (s : OpenSite C). Represents s session) (sym same) stands,
+      subst (λ (s : OpenSite C). Represents s volatile) (sym same) stands,
     );
   }
 
 module _ {C : Type 0} (device : C → Device) (old new : OpenSite C) (slot : SlotName) where
-  -- ---- nothing comes of a message but the session
-  says_nothing : (session now : Session) (a : Answer)
+  -- ---- nothing comes of a message but the volatile state
+  says_nothing : (volatile now : VolatileState) (a : Answer)
       → (a.line ≡ None) × (a.sends.items ≡ []) → new.book ≡ old.book → Represents new now
-      → IsAnswered device old new session (quiet now) (Ok a)
-  says_nothing session now a is book stands = record {
+      → IsAnswered device old new volatile (quiet now) (Ok a)
+  says_nothing volatile now a is book stands = record {
     keeps = book;
     gives = (
       ap (λ (l : Option Line). Ok l) (sym is.0),
@@ -192,73 +194,73 @@ module _ {C : Type 0} (device : C → Device) (old new : OpenSite C) (slot : Slo
   }
 
   -- memory ran out
-  out_of_memory : (session now : Session) (result : Result Answer SiteFault)
-      → result ≡ Err faults.Memory → new.book ≡ old.book → Represents new session
-      → IsAnswered device old new session (quiet now) result
-  out_of_memory session now result is book stands =
-      subst (λ (r : Result Answer SiteFault). IsAnswered device old new session (quiet now) r)
+  out_of_memory : (volatile now : VolatileState) (result : Result Answer SiteFault)
+      → result ≡ Err faults.Memory → new.book ≡ old.book → Represents new volatile
+      → IsAnswered device old new volatile (quiet now) result
+  out_of_memory volatile now result is book stands =
+      subst (λ (r : Result Answer SiteFault). IsAnswered device old new volatile (quiet now) r)
       (sym is) (record { keeps = book; gives = stands })
 
   -- ---- a refusal
   module _ (from : ℕ) (asked standing : BallotNumber) where
     pub hears_refused : (a : Answer) → (a.line ≡ None) × (a.sends.items ≡ [])
         → new.book ≡ old.book
-        → ((session : Session) (under : UnderWay) → Stands old session under
-        → Stands new (hears session (refusal_message slot from asked standing)) under)
+        → ((volatile : VolatileState) (under : UnderWay) → Stands old volatile under
+        → Stands new (hears volatile (refusal_message slot from asked standing)) under)
         → HearsBody device old new slot (bodies.Refused from asked standing) (Ok a)
     unfolding on_body
-    hears_refused a is book heard session (under, stands) =
-        says_nothing session (hears session (refusal_message slot from asked standing)) a is book
-        (under, heard session under stands)
+    hears_refused a is book heard volatile (under, stands) =
+        says_nothing volatile (hears volatile (refusal_message slot from asked standing)) a is book
+        (under, heard volatile under stands)
 
     pub refusal_unheard : (result : Result Answer SiteFault) → result ≡ Err faults.Memory
         → new.book ≡ old.book
-        → ((session : Session) (under : UnderWay) → Stands old session under
-        → Stands new session under)
+        → ((volatile : VolatileState) (under : UnderWay) → Stands old volatile under
+        → Stands new volatile under)
         → HearsBody device old new slot (bodies.Refused from asked standing) result
     unfolding on_body
-    refusal_unheard result is book same session (under, stands) =
-        out_of_memory session (hears session (refusal_message slot from asked standing)) result is
-        book (under, same session under stands)
+    refusal_unheard result is book same volatile (under, stands) =
+        out_of_memory volatile (hears volatile (refusal_message slot from asked standing)) result is
+        book (under, same volatile under stands)
 
   -- ---- a bag that a site knows
   module _ (from : ℕ) (bag : BagId) where
     abbrev known_message : Message
     known_message = record { slot = slot; body = bodies.Known from bag }
 
-    hears_it : (session : Session) (under : UnderWay) → Stands new session under
-        → Stands new (hears session known_message) under
-    hears_it session under stands =
-        hears_other new.tables new.book.records session under stands known_message (λ b. refl) refl
+    hears_it : (volatile : VolatileState) (under : UnderWay) → Stands new volatile under
+        → Stands new (hears volatile known_message) under
+    hears_it volatile under stands =
+        hears_other new.tables new.book.records volatile under stands known_message (λ b. refl) refl
         (λ v. refl)
 
     pub hears_told_nothing : (a : Answer) → (a.line ≡ None) × (a.sends.items ≡ [])
         → new ≡ old → None ≡ learned_of_known slot old.book.records bag
         → HearsBody device old new slot (bodies.Known from bag) (Ok a)
     unfolding on_body
-    hears_told_nothing a is same none session (under, stands) =
-        subst (λ (o : Option BagId). IsAnswered device old new session
-        (learning slot o (hears session known_message)) (Ok a)) none
-        (says_nothing session (hears session known_message) a is
+    hears_told_nothing a is same none volatile (under, stands) =
+        subst (λ (o : Option BagId). IsAnswered device old new volatile
+        (learning slot o (hears volatile known_message)) (Ok a)) none
+        (says_nothing volatile (hears volatile known_message) a is
         (ap (λ (s : OpenSite C). s.book) same) (
           under,
-          hears_it session under
-              (subst (λ (s : OpenSite C). Stands s session under) (sym same) stands),
+          hears_it volatile under
+              (subst (λ (s : OpenSite C). Stands s volatile under) (sym same) stands),
         ))
 
     pub hears_told : (learned : BagId) (result : Result Answer SiteFault)
         → Some learned ≡ learned_of_known slot old.book.records bag
         → Concludes device old new (record_of slot (Some (entry.Known learned)))
-        (Some (lines.Known slot learned)) [] result
+        (Some (site_lines.Known slot learned)) [] result
         → HearsBody device old new slot (bodies.Known from bag) result
     unfolding on_body
-    hears_told learned result some c session (under, stands) =
-        subst (λ (o : Option BagId). IsAnswered device old new session
-        (learning slot o (hears session known_message)) result) some
-        (concluded device old old new session under
-        (learning slot (Some learned) (hears session known_message))
-        (Some (lines.Known slot learned)) [] result c refl stands refl refl
-        (λ after. (under, hears_it session under after)))
+    hears_told learned result some c volatile (under, stands) =
+        subst (λ (o : Option BagId). IsAnswered device old new volatile
+        (learning slot o (hears volatile known_message)) result) some
+        (concluded device old old new volatile under
+        (learning slot (Some learned) (hears volatile known_message))
+        (Some (site_lines.Known slot learned)) [] result c refl stands refl refl
+        (λ after. (under, hears_it volatile under after)))
 
   -- ---- a vote
   module _ (from : ℕ) (vote : Vote) where
@@ -267,34 +269,34 @@ module _ {C : Type 0} (device : C → Device) (old new : OpenSite C) (slot : Slo
 
     pub hears_vote : (a : Answer) → (a.line ≡ None) × (a.sends.items ≡ [])
         → new.book ≡ old.book
-        → ((session : Session) (under : UnderWay) → Stands old session under
+        → ((volatile : VolatileState) (under : UnderWay) → Stands old volatile under
         → None ≡ learned_from (quorums_of old.book.owner.members) slot old.book.records
-        session.heard from vote)
-        → ((session : Session) (under : UnderWay) → Stands old session under
-        → Stands new (hears session (record { slot = slot; body = bodies.Accepted from vote }))
+        volatile.heard from vote)
+        → ((volatile : VolatileState) (under : UnderWay) → Stands old volatile under
+        → Stands new (hears volatile (record { slot = slot; body = bodies.Accepted from vote }))
         under)
         → HearsBody device old new slot (bodies.Accepted from vote) (Ok a)
     unfolding on_body
-    hears_vote a is book none heard session (under, stands) =
-        subst (λ (o : Option BagId). IsAnswered device old new session
-        (learning slot o (hears session vote_message)) (Ok a)) (none session under stands)
-        (says_nothing session (hears session vote_message) a is book
-        (under, heard session under stands))
+    hears_vote a is book none heard volatile (under, stands) =
+        subst (λ (o : Option BagId). IsAnswered device old new volatile
+        (learning slot o (hears volatile vote_message)) (Ok a)) (none volatile under stands)
+        (says_nothing volatile (hears volatile vote_message) a is book
+        (under, heard volatile under stands))
 
     pub vote_unheard : (result : Result Answer SiteFault) → result ≡ Err faults.Memory
         → new.book ≡ old.book
-        → ((session : Session) (under : UnderWay) → Stands old session under
-        → learned_from (quorums_of old.book.owner.members) slot old.book.records session.heard from
+        → ((volatile : VolatileState) (under : UnderWay) → Stands old volatile under
+        → learned_from (quorums_of old.book.owner.members) slot old.book.records volatile.heard from
         vote ≡ None)
-        → ((session : Session) (under : UnderWay) → Stands old session under
-        → Stands new session under)
+        → ((volatile : VolatileState) (under : UnderWay) → Stands old volatile under
+        → Stands new volatile under)
         → HearsBody device old new slot (bodies.Accepted from vote) result
     unfolding on_body
-    vote_unheard result is book none same session (under, stands) =
-        subst (λ (o : Option BagId). IsAnswered device old new session
-        (learning slot o (hears session vote_message)) result) (sym (none session under stands))
-        (out_of_memory session (hears session vote_message) result is book
-        (under, same session under stands))
+    vote_unheard result is book none same volatile (under, stands) =
+        subst (λ (o : Option BagId). IsAnswered device old new volatile
+        (learning slot o (hears volatile vote_message)) result) (sym (none volatile under stands))
+        (out_of_memory volatile (hears volatile vote_message) result is book
+        (under, same volatile under stands))
 
     -- once its bag is recorded as known, the vote that made it so is heard too
     module _ (bag : BagId) where
@@ -317,19 +319,19 @@ module _ {C : Type 0} (device : C → Device) (old new : OpenSite C) (slot : Slo
       )
 
       -- the effect
-      abbrev learned : Session → Effect
-      learned session = learning slot (Some bag) (hears session vote_message)
+      abbrev learned : VolatileState → Effect
+      learned volatile = learning slot (Some bag) (hears volatile vote_message)
 
-      refused_so : (fault : SiteFault) (session : Session) (under : UnderWay)
-          → Concludes device old new (Some noted) (Some (lines.Known slot bag)) [] (Err fault)
-          → Stands old session under
+      refused_so : (fault : SiteFault) (volatile : VolatileState) (under : UnderWay)
+          → Concludes device old new (Some noted) (Some (site_lines.Known slot bag)) [] (Err fault)
+          → Stands old volatile under
           → (fault ≡ faults.Memory) ⊎ ((fault ≡ faults.Device) × IsSome (Some noted))
-          → Gives old new session (learned session) (Err fault)
-      refused_so fault session under c stands (inl is) =
-          subst (λ (f : SiteFault). Gives old new session (learned session) (Err f)) (sym is)
-          (under, c.same session under stands)
-      refused_so fault session under c stands (inr (is, some)) =
-          subst (λ (f : SiteFault). Gives old new session (learned session) (Err f)) (sym is) some
+          → Gives old new volatile (learned volatile) (Err fault)
+      refused_so fault volatile under c stands (inl is) =
+          subst (λ (f : SiteFault). Gives old new volatile (learned volatile) (Err f)) (sym is)
+          (under, c.same volatile under stands)
+      refused_so fault volatile under c stands (inr (is, some)) =
+          subst (λ (f : SiteFault). Gives old new volatile (learned volatile) (Err f)) (sym is) some
 
       grown : (a : Answer) → Keeps device (Some noted) (Ok a) old.book new.book
           → new.book.records ≡ old.book.records ++ noted ∷ []
@@ -340,40 +342,41 @@ module _ {C : Type 0} (device : C → Device) (old new : OpenSite C) (slot : Slo
       grown a (inr c) = c.committed.0
 
       answered : (result : Result Answer SiteFault)
-          → Concludes device old new (Some noted) (Some (lines.Known slot bag)) [] result
-          → (session : Session) (under : UnderWay) → Stands old session under
-          → IsAnswered device old new session (learned session) result
-      answered (Ok a) c session under stands =
-          concluded device old old new session under (learned session) (Some (lines.Known slot bag))
+          → Concludes device old new (Some noted) (Some (site_lines.Known slot bag)) [] result
+          → (volatile : VolatileState) (under : UnderWay) → Stands old volatile under
+          → IsAnswered device old new volatile (learned volatile) result
+      answered (Ok a) c volatile under stands =
+          concluded device old old new volatile under (learned volatile)
+          (Some (site_lines.Known slot bag))
           [] (Ok a) c refl stands refl refl
           (λ after. (
             under,
-            hears_known new.tables new.book.records session under after slot from
+            hears_known new.tables new.book.records volatile under after slot from
                 vote now_known.0 (ap (known_of slot) (grown a c.keeps) ∙ now_known.1),
           ))
-      answered (Err fault) c session under stands =
-          record { keeps = c.keeps; gives = refused_so fault session under c stands c.faults }
+      answered (Err fault) c volatile under stands =
+          record { keeps = c.keeps; gives = refused_so fault volatile under c stands c.faults }
 
       pub hears_deciding_vote : (result : Result Answer SiteFault)
-          → ((session : Session) (under : UnderWay) → Stands old session under
+          → ((volatile : VolatileState) (under : UnderWay) → Stands old volatile under
           → Some bag ≡ learned_from (quorums_of old.book.owner.members) slot old.book.records
-          session.heard from vote)
+          volatile.heard from vote)
           → Concludes device old new (Some (record { slot = slot; body = entry.Known bag }))
-          (Some (lines.Known slot bag)) [] result
+          (Some (site_lines.Known slot bag)) [] result
           → HearsBody device old new slot (bodies.Accepted from vote) result
       unfolding on_body
-      hears_deciding_vote result some c session (under, stands) =
-          subst (λ (o : Option BagId). IsAnswered device old new session
-          (learning slot o (hears session vote_message)) result) (some session under stands)
-          (answered result c session under stands)
+      hears_deciding_vote result some c volatile (under, stands) =
+          subst (λ (o : Option BagId). IsAnswered device old new volatile
+          (learning slot o (hears volatile vote_message)) result) (some volatile under stands)
+          (answered result c volatile under stands)
 
   -- ---- a promise
   module _ (from : ℕ) (ballot : BallotNumber) (prior : Option Vote) where
     -- the bag that it makes ready to be proposed
-    abbrev now_ready : Session → Option BagId
-    now_ready session =
+    abbrev now_ready : VolatileState → Option BagId
+    now_ready volatile =
         ready (quorums_of old.book.owner.members) (deposit_of slot old.book.records) slot
-        (session.current slot) session.heard ballot (record { site = from; prior = prior })
+        (volatile.current slot) volatile.heard ballot (record { site = from; prior = prior })
 
     abbrev promise : Message
     promise = promise_message slot from ballot prior
@@ -383,28 +386,28 @@ module _ {C : Type 0} (device : C → Device) (old new : OpenSite C) (slot : Slo
 
     pub hears_promise : (a : Answer) → (a.line ≡ None) × (a.sends.items ≡ [])
         → new.book ≡ old.book
-        → ((session : Session) (under : UnderWay) → Stands old session under
-        → None ≡ now_ready session)
-        → ((session : Session) (under : UnderWay) → Stands old session under
-        → Stands new (hears session promise) under)
+        → ((volatile : VolatileState) (under : UnderWay) → Stands old volatile under
+        → None ≡ now_ready volatile)
+        → ((volatile : VolatileState) (under : UnderWay) → Stands old volatile under
+        → Stands new (hears volatile promise) under)
         → HearsBody device old new slot (bodies.Promise from ballot prior) (Ok a)
     unfolding on_body
-    hears_promise a is book none heard session (under, stands) =
-        subst (λ (o : Option BagId). IsAnswered device old new session
-        (proposing (quorums_of old.book.owner.members) slot ballot o (hears session promise))
-        (Ok a)) (none session under stands)
-        (says_nothing session (hears session promise) a is book
-        (under, heard session under stands))
+    hears_promise a is book none heard volatile (under, stands) =
+        subst (λ (o : Option BagId). IsAnswered device old new volatile
+        (proposing (quorums_of old.book.owner.members) slot ballot o (hears volatile promise))
+        (Ok a)) (none volatile under stands)
+        (says_nothing volatile (hears volatile promise) a is book
+        (under, heard volatile under stands))
 
     module _ (mid : OpenSite C) (bag : BagId) where
       asked_all : (result : Result Answer SiteFault) → mid.book ≡ old.book
           → Issues mid new slot (all_datagrams mid slot (bodies.Accept (vote_for bag))) result
-          → (session : Session) (under : UnderWay)
-          → Stands mid session (waits under slot (Some promise))
-          → IsAnswered device old new session
+          → (volatile : VolatileState) (under : UnderWay)
+          → Stands mid volatile (waits under slot (Some promise))
+          → IsAnswered device old new volatile
           (proposing (quorums_of old.book.owner.members) slot ballot (Some bag)
-          (hears session promise)) result
-      asked_all (Ok a) book i session under stands = record {
+          (hears volatile promise)) result
+      asked_all (Ok a) book i volatile under stands = record {
         keeps = i.book ∙ book;
         gives = (
           ap (λ (l : Option Line). Ok l) (sym (i.says a refl).0),
@@ -413,68 +416,69 @@ module _ {C : Type 0} (device : C → Device) (old new : OpenSite C) (slot : Slo
               (to_each slot (bodies.Accept (vote_for bag)) (members_of b.owner.members))) book,
           (
             waits (waits under slot (Some promise)) slot None,
-            subst (λ (m : Option Message). Stands new (heard_if session m)
+            subst (λ (m : Option Message). Stands new (heard_if volatile m)
                 (waits (waits under slot (Some promise)) slot None))
                 (at_here slot (Some promise) under.waiting)
-                (i.heard session (waits under slot (Some promise)) stands),
+                (i.heard volatile (waits under slot (Some promise)) stands),
           ),
         );
       }
-      asked_all (Err fault) book i session under stands =
+      asked_all (Err fault) book i volatile under stands =
           out_of_memory_of fault i.faults
         where
           out_of_memory_of : (f : SiteFault) → f ≡ faults.Memory
-              → IsAnswered device old new session
+              → IsAnswered device old new volatile
               (proposing (quorums_of old.book.owner.members) slot ballot (Some bag)
-              (hears session promise)) (Err f)
+              (hears volatile promise)) (Err f)
           out_of_memory_of f is =
-              subst (λ (x : SiteFault). IsAnswered device old new session
+              subst (λ (x : SiteFault). IsAnswered device old new volatile
               (proposing (quorums_of old.book.owner.members) slot ballot (Some bag)
-              (hears session promise)) (Err x)) (sym is)
+              (hears volatile promise)) (Err x)) (sym is)
               (record {
                 keeps = i.book ∙ book;
                 gives = (
                   waits under slot (Some promise),
-                  i.same session (waits under slot (Some promise)) stands,
+                  i.same volatile (waits under slot (Some promise)) stands,
                 );
               })
 
       pub hears_last_promise : (result : Result Answer SiteFault) → mid.book ≡ old.book
-          → ((session : Session) (under : UnderWay) → Stands old session under
-          → Some bag ≡ now_ready session)
-          → ((session : Session) (under : UnderWay) → Stands old session under
-          → Stands mid session (waits under slot (Some promise)))
+          → ((volatile : VolatileState) (under : UnderWay) → Stands old volatile under
+          → Some bag ≡ now_ready volatile)
+          → ((volatile : VolatileState) (under : UnderWay) → Stands old volatile under
+          → Stands mid volatile (waits under slot (Some promise)))
           → Issues mid new slot
           (all_datagrams mid slot (bodies.Accept (record { ballot = ballot; bag = bag }))) result
           → HearsBody device old new slot (bodies.Promise from ballot prior) result
       unfolding on_body
-      hears_last_promise result book some waiting i session (under, stands) =
-          subst (λ (o : Option BagId). IsAnswered device old new session
-          (proposing (quorums_of old.book.owner.members) slot ballot o (hears session promise))
-          result) (some session under stands)
-          (asked_all result book i session under (waiting session under stands))
+      hears_last_promise result book some waiting i volatile (under, stands) =
+          subst (λ (o : Option BagId). IsAnswered device old new volatile
+          (proposing (quorums_of old.book.owner.members) slot ballot o (hears volatile promise))
+          result) (some volatile under stands)
+          (asked_all result book i volatile under (waiting volatile under stands))
 
   -- ---- a question
   module _ (from : ℕ) where
     abbrev asking : Message
     asking = record { slot = slot; body = bodies.Ask from }
 
-    hears_question : new ≡ old → (session : Session) (under : UnderWay) → Stands old session under
-        → Stands new (hears session asking) under
-    hears_question same session under stands =
-        hears_other new.tables new.book.records session under
-        (subst (λ (s : OpenSite C). Stands s session under) (sym same) stands) asking (λ b. refl)
+    hears_question : new ≡ old → (volatile : VolatileState) (under : UnderWay)
+        → Stands old volatile under
+        → Stands new (hears volatile asking) under
+    hears_question same volatile under stands =
+        hears_other new.tables new.book.records volatile under
+        (subst (λ (s : OpenSite C). Stands s volatile under) (sym same) stands) asking (λ b. refl)
         refl (λ v. refl)
 
     pub hears_ask : (a : Answer) → (a.line ≡ None) × (a.sends.items ≡ []) → new ≡ old
         → None ≡ known_of slot old.book.records
         → HearsBody device old new slot (bodies.Ask from) (Ok a)
     unfolding on_body
-    hears_ask a is same none session (under, stands) =
-        subst (λ (o : Option BagId). IsAnswered device old new session
-        (telling old.book.owner.site slot from o (hears session asking)) (Ok a)) none
-        (says_nothing session (hears session asking) a is (ap (λ (s : OpenSite C). s.book) same)
-        (under, hears_question same session under stands))
+    hears_ask a is same none volatile (under, stands) =
+        subst (λ (o : Option BagId). IsAnswered device old new volatile
+        (telling old.book.owner.site slot from o (hears volatile asking)) (Ok a)) none
+        (says_nothing volatile (hears volatile asking) a is (ap (λ (s : OpenSite C). s.book) same)
+        (under, hears_question same volatile under stands))
 
     pub tells : (a : Answer) (bag : BagId) → a.line ≡ None
         → map handed_out a.sends.items
@@ -482,87 +486,87 @@ module _ {C : Type 0} (device : C → Device) (old new : OpenSite C) (slot : Slo
         → new ≡ old → Some bag ≡ known_of slot old.book.records
         → HearsBody device old new slot (bodies.Ask from) (Ok a)
     unfolding on_body
-    tells a bag silent sent same some session (under, stands) =
-        subst (λ (o : Option BagId). IsAnswered device old new session
-        (telling old.book.owner.site slot from o (hears session asking)) (Ok a)) some
+    tells a bag silent sent same some volatile (under, stands) =
+        subst (λ (o : Option BagId). IsAnswered device old new volatile
+        (telling old.book.owner.site slot from o (hears volatile asking)) (Ok a)) some
         (record {
           keeps = ap (λ (s : OpenSite C). s.book) same;
           gives = (
             ap (λ (l : Option Line). Ok l) (sym silent),
             sent,
-            (under, hears_question same session under stands),
+            (under, hears_question same volatile under stands),
           );
         })
 
   -- ---- a request of a client, or the reply to one
   pub drops_request : (body : Body) → IsRequest body → (a : Answer)
-      → (a.line ≡ Some lines.Dropped) × (a.sends.items ≡ []) → new ≡ old
+      → (a.line ≡ Some site_lines.Dropped) × (a.sends.items ≡ []) → new ≡ old
       → HearsBody device old new slot body (Ok a)
   unfolding on_body
-  drops_request (bodies.Deposit path) is a dropped same session stands =
-      says_dropped device old new session a dropped same stands
-  drops_request bodies.Query is a dropped same session stands =
-      says_dropped device old new session a dropped same stands
-  drops_request (bodies.DepositReply from answer) is a dropped same session stands =
-      says_dropped device old new session a dropped same stands
-  drops_request (bodies.QueryReply from answer) is a dropped same session stands =
-      says_dropped device old new session a dropped same stands
-  drops_request (bodies.Prepare ballot) is a dropped same session stands = absurd is
-  drops_request (bodies.Accept vote) is a dropped same session stands = absurd is
-  drops_request (bodies.Promise from ballot prior) is a dropped same session stands = absurd is
-  drops_request (bodies.Accepted from vote) is a dropped same session stands = absurd is
-  drops_request (bodies.Refused from asked standing) is a dropped same session stands = absurd is
-  drops_request (bodies.Ask from) is a dropped same session stands = absurd is
-  drops_request (bodies.Known from bag) is a dropped same session stands = absurd is
+  drops_request (bodies.Deposit path) is a dropped same volatile stands =
+      says_dropped device old new volatile a dropped same stands
+  drops_request bodies.Query is a dropped same volatile stands =
+      says_dropped device old new volatile a dropped same stands
+  drops_request (bodies.DepositReply from answer) is a dropped same volatile stands =
+      says_dropped device old new volatile a dropped same stands
+  drops_request (bodies.QueryReply from answer) is a dropped same volatile stands =
+      says_dropped device old new volatile a dropped same stands
+  drops_request (bodies.Prepare ballot) is a dropped same volatile stands = absurd is
+  drops_request (bodies.Accept vote) is a dropped same volatile stands = absurd is
+  drops_request (bodies.Promise from ballot prior) is a dropped same volatile stands = absurd is
+  drops_request (bodies.Accepted from vote) is a dropped same volatile stands = absurd is
+  drops_request (bodies.Refused from asked standing) is a dropped same volatile stands = absurd is
+  drops_request (bodies.Ask from) is a dropped same volatile stands = absurd is
+  drops_request (bodies.Known from bag) is a dropped same volatile stands = absurd is
 
 -- ---- what arrives
 module _ {C : Type 0} (device : C → Device) (old new : OpenSite C) where
-  abbrev arrived : Session → Option Message → Effect
-  arrived session message =
-      on_arrival (quorums_of old.book.owner.members) old.book.owner.site old.book.records session
+  abbrev arrived : VolatileState → Option Message → Effect
+  arrived volatile message =
+      on_arrival (quorums_of old.book.owner.members) old.book.owner.site old.book.records volatile
       message
 
   -- a message of a member is heard
   pub takes_in : (m : Message) (result : Result Answer SiteFault)
       → is_member (quorums_of old.book.owner.members) (body_from m.body) ≡ true
       → HearsBody device old new m.slot m.body result
-      → (session : Session) → Represents old session
-      → IsAnswered device old new session (arrived session (Some m)) result
+      → (volatile : VolatileState) → Represents old volatile
+      → IsAnswered device old new volatile (arrived volatile (Some m)) result
   unfolding on_arrival
-  takes_in m result member hears_body session stands =
-      subst (λ (t : Bool). IsAnswered device old new session
+  takes_in m result member hears_body volatile stands =
+      subst (λ (t : Bool). IsAnswered device old new volatile
       (cond t (on_body (quorums_of old.book.owner.members) old.book.owner.site old.book.records
-      session (hears session m) m.slot m.body) (only_says lines.Dropped session)) result)
-      (sym member) (hears_body session stands)
+      volatile (hears volatile m) m.slot m.body) (only_says site_lines.Dropped volatile)) result)
+      (sym member) (hears_body volatile stands)
 
   -- any other is dropped
   pub drops : (m : Message) (a : Answer)
       → is_member (quorums_of old.book.owner.members) (body_from m.body) ≡ false
-      → (a.line ≡ Some lines.Dropped) × (a.sends.items ≡ []) → new ≡ old
-      → (session : Session) → Represents old session
-      → IsAnswered device old new session (arrived session (Some m)) (Ok a)
+      → (a.line ≡ Some site_lines.Dropped) × (a.sends.items ≡ []) → new ≡ old
+      → (volatile : VolatileState) → Represents old volatile
+      → IsAnswered device old new volatile (arrived volatile (Some m)) (Ok a)
   unfolding on_arrival
-  drops m a stranger dropped same session stands =
-      subst (λ (t : Bool). IsAnswered device old new session
+  drops m a stranger dropped same volatile stands =
+      subst (λ (t : Bool). IsAnswered device old new volatile
       (cond t (on_body (quorums_of old.book.owner.members) old.book.owner.site old.book.records
-      session (hears session m) m.slot m.body) (only_says lines.Dropped session)) (Ok a))
-      (sym stranger) (says_dropped device old new session a dropped same stands)
+      volatile (hears volatile m) m.slot m.body) (only_says site_lines.Dropped volatile)) (Ok a))
+      (sym stranger) (says_dropped device old new volatile a dropped same stands)
 
   -- and so is what is no message
   pub drops_bytes : (o : Option Message) (a : Answer) → o ≡ None
-      → (a.line ≡ Some lines.Dropped) × (a.sends.items ≡ []) → new ≡ old
-      → (session : Session) → Represents old session
-      → IsAnswered device old new session (arrived session o) (Ok a)
+      → (a.line ≡ Some site_lines.Dropped) × (a.sends.items ≡ []) → new ≡ old
+      → (volatile : VolatileState) → Represents old volatile
+      → IsAnswered device old new volatile (arrived volatile o) (Ok a)
   unfolding on_arrival
-  drops_bytes o a none dropped same session stands =
-      subst (λ (x : Option Message). IsAnswered device old new session (arrived session x) (Ok a))
-      (sym none) (says_dropped device old new session a dropped same stands)
+  drops_bytes o a none dropped same volatile stands =
+      subst (λ (x : Option Message). IsAnswered device old new volatile (arrived volatile x) (Ok a))
+      (sym none) (says_dropped device old new volatile a dropped same stands)
 
   -- what is answered needs no opening
-  pub is_open : (session : Session) (e : Effect) (result : Result Answer SiteFault)
-      → IsAnswered device old new session e result → IsErrOf result faults.NeedsOpen → ⊥
-  is_open session e result is fault =
-      subst (λ (r : Result Answer SiteFault). Gives old new session e r) fault is.gives
+  pub is_open : (volatile : VolatileState) (e : Effect) (result : Result Answer SiteFault)
+      → IsAnswered device old new volatile e result → IsErrOf result faults.NeedsOpen → ⊥
+  is_open volatile e result is fault =
+      subst (λ (r : Result Answer SiteFault). Gives old new volatile e r) fault is.gives
 
 -- ---- what an answer says, of the answer that is given
 pub says_so : (a b : Answer) (line : Option Line) (datagrams : List (ℕ × List ℕ))

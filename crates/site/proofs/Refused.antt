@@ -1,15 +1,15 @@
 -- Calls that are refused.
-use Rattle.std.proofs.Common.{◌≡◌, inl, Option, Some, None, Result, Err, refl, sym}
+use Rattle.std.proofs.Common.{◌≡◌, inl, inr, Option, Some, None, Result, Err, refl, sym}
 use Rattle.std.proofs.Common.{subst, true, false, ◌∙◌}
 use Rattle.std.specs.Prelude.{IsErrOf, ◌↔◌}
 use Rattle.fed_types.specs.declared.bag_id.BagId.{BagId}
+use Rattle.fed_types.specs.Faults.{IsOrFault}
 use Rattle.fed_types.specs.Slots.{SlotName}
 use Rattle.bag_check.specs.declared.fault.BagFault.{BagFault}
 use Rattle.bag_check.specs.declared.fault.BagFault.TheVariants as checks
-use Rattle.bag_check.specs.Fault.{IsOrMemory}
 use Rattle.cell_device.specs.Devices.{Device}
 use Rattle.records.specs.declared.record.Record.{Record}
-use Rattle.proposer.specs.Sessions.{Session}
+use Rattle.proposer.specs.VolatileStates.{VolatileState}
 use Rattle.site.specs.declared.answer.Answer.{Answer}
 use Rattle.site.specs.declared.fault.SiteFault.{SiteFault}
 use Rattle.site.specs.declared.fault.SiteFault.TheVariants as faults
@@ -19,10 +19,10 @@ use Rattle.site.specs.Effects.{Effect}
 use Rattle.site.specs.Faults.{check_fault}
 use Rattle.site.specs.Sites.{OpenSite, Represents}
 
-module _ {C : Type 0} (device : C → Device) (old : OpenSite C) (session : Session) where
+module _ {C : Type 0} (device : C → Device) (old : OpenSite C) (volatile : VolatileState) where
   -- memory ran out before anything was done
-  pub out_of_memory : (e : Effect) → Represents old session
-      → IsAnswered device old old session e (Err faults.Memory)
+  pub out_of_memory : (e : Effect) → Represents old volatile
+      → IsAnswered device old old volatile e (Err faults.Memory)
   out_of_memory e stands = record { keeps = keeps e.commits; gives = stands }
     where
       keeps : (r : Option Record) → Keeps device r (Err faults.Memory) old.book old.book
@@ -31,77 +31,51 @@ module _ {C : Type 0} (device : C → Device) (old : OpenSite C) (session : Sess
 
   -- the check of a tree has found a fault, or no memory
   pub check_refused : (slot : SlotName) (wanted : Result BagId BagFault) (fault : BagFault)
-      → IsOrMemory {T = BagId} (Err fault) wanted → Represents old session
-      → IsAnswered device old old session (on_deposit old.book.records session slot wanted)
+      → IsOrFault checks.Memory (Err fault) wanted → Represents old volatile
+      → IsAnswered device old old volatile (on_deposit old.book.records volatile slot wanted)
       (Err (check_fault fault))
   unfolding on_deposit
-  check_refused slot wanted fault is stands = go fault is
+  check_refused slot wanted fault (inl is) stands =
+      subst (λ (w : Result BagId BagFault). IsAnswered device old old volatile
+      (on_deposit old.book.records volatile slot w) (Err (check_fault fault))) is (refused fault)
     where
-      invalid : (f : BagFault) → wanted ≡ Err f
-          → IsAnswered device old old session (on_deposit old.book.records session slot (Err f))
-          (Err (check_fault f))
-          → IsAnswered device old old session (on_deposit old.book.records session slot wanted)
-          (Err (check_fault f))
-      invalid f e answered =
-          subst (λ (w : Result BagId BagFault). IsAnswered device old old session
-          (on_deposit old.book.records session slot w) (Err (check_fault f))) (sym e) answered
-
-      go : (f : BagFault) → IsOrMemory {T = BagId} (Err f) wanted
-          → IsAnswered device old old session (on_deposit old.book.records session slot wanted)
-          (Err (check_fault f))
-      go checks.NoDeclaration e =
-          invalid checks.NoDeclaration e (record { keeps = refl; gives = (refl, stands) })
-      go checks.BadDeclaration e =
-          invalid checks.BadDeclaration e (record { keeps = refl; gives = (refl, stands) })
-      go checks.UnsupportedVersion e =
-          invalid checks.UnsupportedVersion e (record { keeps = refl; gives = (refl, stands) })
-      go checks.UnsupportedEncoding e =
-          invalid checks.UnsupportedEncoding e (record { keeps = refl; gives = (refl, stands) })
-      go checks.HasFetch e =
-          invalid checks.HasFetch e (record { keeps = refl; gives = (refl, stands) })
-      go checks.NoPayloadFolder e =
-          invalid checks.NoPayloadFolder e (record { keeps = refl; gives = (refl, stands) })
-      go checks.NoSha512Manifest e =
-          invalid checks.NoSha512Manifest e (record { keeps = refl; gives = (refl, stands) })
-      go checks.UnknownAlgorithm e =
-          invalid checks.UnknownAlgorithm e (record { keeps = refl; gives = (refl, stands) })
-      go checks.MalformedLine e =
-          invalid checks.MalformedLine e (record { keeps = refl; gives = (refl, stands) })
-      go checks.UnsafePath e =
-          invalid checks.UnsafePath e (record { keeps = refl; gives = (refl, stands) })
-      go checks.DuplicateEntry e =
-          invalid checks.DuplicateEntry e (record { keeps = refl; gives = (refl, stands) })
-      go checks.MissingFile e =
-          invalid checks.MissingFile e (record { keeps = refl; gives = (refl, stands) })
-      go checks.UnlistedFile e =
-          invalid checks.UnlistedFile e (record { keeps = refl; gives = (refl, stands) })
-      go checks.WrongDigest e =
-          invalid checks.WrongDigest e (record { keeps = refl; gives = (refl, stands) })
-      go checks.Memory e =
-          out_of_memory (on_deposit old.book.records session slot wanted) stands
+      refused : (f : BagFault) → IsAnswered device old old volatile
+          (on_deposit old.book.records volatile slot (Err f)) (Err (check_fault f))
+      refused checks.Memory =
+          out_of_memory (on_deposit old.book.records volatile slot (Err checks.Memory)) stands
+      refused f = record { keeps = refl; gives = (refl, stands) }
+  check_refused slot wanted fault (inr is) stands =
+      subst (λ (f : BagFault). IsAnswered device old old volatile
+      (on_deposit old.book.records volatile slot wanted) (Err (check_fault f))) (sym (same is))
+      (out_of_memory (on_deposit old.book.records volatile slot wanted) stands)
+    where
+      same : ◌≡◌ {A = Result BagId BagFault} (Err fault) (Err checks.Memory)
+          → fault ≡ checks.Memory
+      same e = cc
 
 -- an answer of a site that needs no opening isn't that it does
-pub needs_none : {C : Type 0} (device : C → Device) (old new : OpenSite C) (session : Session)
+pub needs_none : {C : Type 0} (device : C → Device) (old new : OpenSite C)
+    (volatile : VolatileState)
     (e : Effect) (result : Result Answer SiteFault)
-    → IsAnswered device old new session e result → IsErrOf result faults.NeedsOpen → ⊥
-needs_none device old new session e result answered is =
-    subst (λ (r : Result Answer SiteFault). Gives old new session e r) is answered.gives
+    → IsAnswered device old new volatile e result → IsErrOf result faults.NeedsOpen → ⊥
+needs_none device old new volatile e result answered is =
+    subst (λ (r : Result Answer SiteFault). Gives old new volatile e r) is answered.gives
 
--- so a call that answers as a session's effect says refuses for that reason exactly where the site,
+-- so a call that answers as the effect says refuses for that reason exactly where the site,
 -- as a clause sees it, needs opening: never
 pub never_needs : {C : Type 0} (device : C → Device) {inside now : OpenSite C} → inside ≡ now
-    → ((session : Session) × Represents inside session) → inside.book.needs_opening ≡ false
-    → (new : OpenSite C) (effect : Session → Effect) (result : Result Answer SiteFault)
-    → ((session : Session) → Represents now session
-    → IsAnswered device now new session (effect session) result)
+    → ((volatile : VolatileState) × Represents inside volatile) → inside.book.needs_opening ≡ false
+    → (new : OpenSite C) (effect : VolatileState → Effect) (result : Result Answer SiteFault)
+    → ((volatile : VolatileState) → Represents now volatile
+    → IsAnswered device now new volatile (effect volatile) result)
     → IsErrOf result faults.NeedsOpen ↔ (now.book.needs_opening ≡ true)
 never_needs {C} device {inside} {now} seen some opened new effect result answered = (
   λ e. absurd (needs_none device now new here.0 (effect here.0) result (answered here.0 here.1) e),
   λ e. absurd (differ (sym e ∙ still)),
 )
   where
-    here : (session : Session) × Represents now session
-    here = subst (λ (s : OpenSite C). (session : Session) × Represents s session) seen some
+    here : (volatile : VolatileState) × Represents now volatile
+    here = subst (λ (s : OpenSite C). (volatile : VolatileState) × Represents s volatile) seen some
 
     still : now.book.needs_opening ≡ false
     still = subst (λ (s : OpenSite C). s.book.needs_opening ≡ false) seen opened

@@ -7,10 +7,10 @@ use Rattle.fed_types.specs.Slots.{SlotName}
 use Rattle.cell_device.specs.Devices.{Device}
 use Rattle.records.specs.declared.entry.Entry.TheVariants as entry
 use Rattle.records.specs.SlotStates.{known_of, deposit_of}
-use Rattle.proposer.specs.Sessions.{Session}
+use Rattle.proposer.specs.VolatileStates.{VolatileState}
 use Rattle.site.specs.declared.answer.Answer.{Answer}
 use Rattle.site.specs.declared.answer.Line.{Line}
-use Rattle.site.specs.declared.answer.Line.TheVariants as lines
+use Rattle.site.specs.declared.answer.Line.TheVariants as site_lines
 use Rattle.site.specs.declared.fault.SiteFault.{SiteFault}
 use Rattle.site.specs.declared.fault.SiteFault.TheVariants as faults
 use Rattle.site.specs.Answered.{IsAnswered}
@@ -36,30 +36,30 @@ none_of (Some a) e = absurd (differ e)
     differ : true ≡ false → ⊥
     differ e = cc
 
-module _ {C : Type 0} (device : C → Device) (old : OpenSite C) (session : Session)
+module _ {C : Type 0} (device : C → Device) (old : OpenSite C) (volatile : VolatileState)
     (slot : SlotName) (bag : BagId) (own known : Option BagId)
     (o : own ≡ deposit_of slot old.book.records) (k : known ≡ known_of slot old.book.records)
-    (stands : Represents old session) where
+    (stands : Represents old volatile) where
   -- what the definitions say, by the two bags
   deposit_effect : (fault : Option SiteFault)
       → deposit_fault (other_than bag own) (other_than bag known) ≡ fault
-      → registering slot own bag fault session ≡ effect old session (Deposits slot (Ok bag))
+      → registering slot own bag fault volatile ≡ effect old volatile (Deposits slot (Ok bag))
   unfolding on_deposit
   deposit_effect fault is = λ i. registering slot (o i) bag
-      ((sym is ∙ (λ j. deposit_fault (other_than bag (o j)) (other_than bag (k j)))) i) session
+      ((sym is ∙ (λ j. deposit_fault (other_than bag (o j)) (other_than bag (k j)))) i) volatile
 
   -- another bag is in the way
   pub deposit_refused : (fault : SiteFault)
       → deposit_fault (other_than bag own) (other_than bag known) ≡ Some fault
-      → IsAnswered device old old session (effect old session (Deposits slot (Ok bag)))
+      → IsAnswered device old old volatile (effect old volatile (Deposits slot (Ok bag)))
       (Err fault)
   deposit_refused fault is =
-      subst (λ (e : Effect). IsAnswered device old old session e (Err fault))
+      subst (λ (e : Effect). IsAnswered device old old volatile e (Err fault))
       (deposit_effect (Some fault) is)
       (go (other_than bag own) (other_than bag known) is)
     where
       refuses : SiteFault → Effect
-      refuses f = registering slot own bag (Some f) session
+      refuses f = registering slot own bag (Some f) volatile
 
       own_of : (a : BagId) → ◌≡◌ {A = Option SiteFault} (Some (faults.OtherDeposit a)) (Some fault)
           → faults.OtherDeposit a ≡ fault
@@ -74,26 +74,26 @@ module _ {C : Type 0} (device : C → Device) (old : OpenSite C) (session : Sess
       nothing e = cc
 
       go : (a b : Option BagId) → deposit_fault a b ≡ Some fault
-          → IsAnswered device old old session (registering slot own bag (Some fault) session)
+          → IsAnswered device old old volatile (registering slot own bag (Some fault) volatile)
           (Err fault)
-      go (Some a) b e = subst (λ (f : SiteFault). IsAnswered device old old session
-          (registering slot own bag (Some f) session) (Err f)) (own_of a e)
+      go (Some a) b e = subst (λ (f : SiteFault). IsAnswered device old old volatile
+          (registering slot own bag (Some f) volatile) (Err f)) (own_of a e)
           (record { keeps = refl; gives = (refl, stands) })
-      go None (Some b) e = subst (λ (f : SiteFault). IsAnswered device old old session
-          (registering slot own bag (Some f) session) (Err f)) (known_of_it b e)
+      go None (Some b) e = subst (λ (f : SiteFault). IsAnswered device old old volatile
+          (registering slot own bag (Some f) volatile) (Err f)) (known_of_it b e)
           (record { keeps = refl; gives = (refl, stands) })
       go None None e = absurd (nothing e)
 
   module _ (is : deposit_fault (other_than bag own) (other_than bag known) ≡ None) where
     -- the slot has this deposit
     pub deposited_again : (a : BagId) → own ≡ Some a → (answer : Answer)
-        → answer.line ≡ Some (lines.Registered bag)
+        → answer.line ≡ Some (site_lines.Registered bag)
         → map handed_out answer.sends.items ≡ []
-        → IsAnswered device old old session (effect old session (Deposits slot (Ok bag)))
+        → IsAnswered device old old volatile (effect old volatile (Deposits slot (Ok bag)))
         (Ok answer)
     deposited_again a there answer line sends =
-        subst (λ (e : Effect). IsAnswered device old old session e (Ok answer))
-        ((λ i. registering slot (sym there i) bag None session) ∙ deposit_effect None is)
+        subst (λ (e : Effect). IsAnswered device old old volatile e (Ok answer))
+        ((λ i. registering slot (sym there i) bag None volatile) ∙ deposit_effect None is)
         (record {
           keeps = refl;
           gives =
@@ -105,11 +105,12 @@ module _ {C : Type 0} (device : C → Device) (old : OpenSite C) (session : Sess
         (result : Result Answer SiteFault)
         → own ≡ None → datagrams ≡ []
         → Concludes device old new (Some (record { slot = slot; body = entry.Deposit bag }))
-        (Some (lines.Registered bag)) datagrams result
-        → IsAnswered device old new session (effect old session (Deposits slot (Ok bag))) result
+        (Some (site_lines.Registered bag)) datagrams result
+        → IsAnswered device old new volatile (effect old volatile (Deposits slot (Ok bag))) result
     deposited new datagrams result none nothing c =
-        subst (λ (e : Effect). IsAnswered device old new session e result)
-        ((λ i. registering slot (sym none i) bag None session) ∙ deposit_effect None is)
-        (concluded device old old new session stands.0
-        (registering slot None bag None session) (Some (lines.Registered bag)) datagrams result c
+        subst (λ (e : Effect). IsAnswered device old new volatile e result)
+        ((λ i. registering slot (sym none i) bag None volatile) ∙ deposit_effect None is)
+        (concluded device old old new volatile stands.0
+        (registering slot None bag None volatile)
+        (Some (site_lines.Registered bag)) datagrams result c
         refl stands.1 refl nothing (λ s. (stands.0, s)))

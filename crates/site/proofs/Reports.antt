@@ -23,7 +23,7 @@ use Rattle.dgram.specs.declared.body.Body.TheVariants as bodies
 use Rattle.dgram.specs.declared.message.Message.{Message}
 use Rattle.dgram.specs.Encoding.{body_from}
 use Rattle.proposer.specs.Proposals.{ready, next_ballot}
-use Rattle.proposer.specs.Sessions.{Session, hears}
+use Rattle.proposer.specs.VolatileStates.{VolatileState, hears}
 use Rattle.learner.specs.LearnedBags.{unless_known, chosen_by, with_vote}
 use Rattle.cell_device.specs.Devices.{Device}
 use Rattle.book.specs.OpenBooks.{OpenBook}
@@ -39,9 +39,9 @@ use Rattle.site.specs.Calls.{Input, Deposits, Proposes, Asks, Arrives, effect_of
 use Rattle.site.specs.Calls.{on_propose, on_ask}
 use Rattle.site.specs.Calls.{registering, deposit_fault, other_than, begins_ballot_if, reply_by}
 use Rattle.site.specs.Calls.{reply_of}
-use Rattle.site.specs.declared.answer.Line.TheVariants as lines
+use Rattle.site.specs.declared.answer.Line.TheVariants as site_lines
 use Rattle.site.specs.Effects.{Effect, only_says}
-use Rattle.site.specs.Reported.{Answered, Kept, Lost, Turn, Called, Queried, Report}
+use Rattle.site.specs.Reported.{Answered, Kept, Lost, Act, Called, Queried, Report}
 use Rattle.site.specs.Reported.{line_report, reply_report, records_after, report_of, reports_of}
 use Rattle.site.specs.Reported.{Agree}
 
@@ -83,11 +83,11 @@ says_nothing records e none r some = absurd (differ (sym none ∙ some))
     differ : {r : Report} → None ≡ Some r → ⊥
     differ e = cc
 
-module _ (q : QuorumSystem) (site : ℕ) (records : List Record) (session : Session) where
+module _ (q : QuorumSystem) (site : ℕ) (records : List Record) (volatile : VolatileState) where
   learned : (slot : SlotName) (known bag : Option BagId) → known_of slot records ≡ known
-      → IsKnown records (learning slot (unless_known known bag) session)
-  learned slot (Some k) bag e = says_nothing records (learning slot None session) refl
-  learned slot None None e = says_nothing records (learning slot None session) refl
+      → IsKnown records (learning slot (unless_known known bag) volatile)
+  learned slot (Some k) bag e = says_nothing records (learning slot None volatile) refl
+  learned slot None None e = says_nothing records (learning slot None volatile) refl
   learned slot None (Some bag) e = λ r is.
       subst (λ (x : Report). known_of x.slot
       (records ++ record { slot = slot; body = entry.Known bag } ∷ [])
@@ -98,60 +98,60 @@ module _ (q : QuorumSystem) (site : ℕ) (records : List Record) (session : Sess
       same r e = cc
 
   registered : (slot : SlotName) (own : Option BagId) (bag : BagId) (fault : Option SiteFault)
-      → IsKnown records (registering slot own bag fault session)
+      → IsKnown records (registering slot own bag fault volatile)
   registered slot own bag (Some fault) =
-      says_nothing records (registering slot own bag (Some fault) session) refl
-  registered slot own bag None = says_nothing records (registering slot own bag None session) refl
+      says_nothing records (registering slot own bag (Some fault) volatile) refl
+  registered slot own bag None = says_nothing records (registering slot own bag None volatile) refl
 
   deposited : (slot : SlotName) (checked : Result BagId BagFault)
-      → IsKnown records (on_deposit records session slot checked)
+      → IsKnown records (on_deposit records volatile slot checked)
   unfolding on_deposit
   deposited slot (Err fault) =
-      says_nothing records (on_deposit records session slot (Err fault)) refl
+      says_nothing records (on_deposit records volatile slot (Err fault)) refl
   deposited slot (Ok bag) = registered slot (deposit_of slot records) bag
       (deposit_fault (other_than bag (deposit_of slot records))
       (other_than bag (known_of slot records)))
 
   started : (slot : SlotName) (known own : Option BagId) (next : Option BallotNumber)
-      → IsKnown records (begins_ballot_if q slot known own next session)
+      → IsKnown records (begins_ballot_if q slot known own next volatile)
   started slot (Some known) own next =
-      says_nothing records (begins_ballot_if q slot (Some known) own next session) refl
+      says_nothing records (begins_ballot_if q slot (Some known) own next volatile) refl
   started slot None None next =
-      says_nothing records (begins_ballot_if q slot None None next session) refl
+      says_nothing records (begins_ballot_if q slot None None next volatile) refl
   started slot None (Some own) None =
-      says_nothing records (begins_ballot_if q slot None (Some own) None session) refl
+      says_nothing records (begins_ballot_if q slot None (Some own) None volatile) refl
   started slot None (Some own) (Some ballot) =
-      says_nothing records (begins_ballot_if q slot None (Some own) (Some ballot) session) refl
+      says_nothing records (begins_ballot_if q slot None (Some own) (Some ballot) volatile) refl
 
-  proposed : (slot : SlotName) → IsKnown records (on_propose q site records session slot)
+  proposed : (slot : SlotName) → IsKnown records (on_propose q site records volatile slot)
   unfolding on_propose
   proposed slot = started slot (known_of slot records) (deposit_of slot records)
-      (next_ballot site slot records session.heard)
+      (next_ballot site slot records volatile.heard)
 
-  asked : (slot : SlotName) (member : ℕ) → IsKnown records (on_ask site session slot member)
+  asked : (slot : SlotName) (member : ℕ) → IsKnown records (on_ask site volatile slot member)
   unfolding on_ask
-  asked slot member = says_nothing records (on_ask site session slot member) refl
+  asked slot member = says_nothing records (on_ask site volatile slot member) refl
 
   proposal : (slot : SlotName) (ballot : BallotNumber) (bag : Option BagId)
-      → IsKnown records (proposing q slot ballot bag session)
-  proposal slot ballot None = says_nothing records (proposing q slot ballot None session) refl
+      → IsKnown records (proposing q slot ballot bag volatile)
+  proposal slot ballot None = says_nothing records (proposing q slot ballot None volatile) refl
   proposal slot ballot (Some bag) =
-      says_nothing records (proposing q slot ballot (Some bag) session) refl
+      says_nothing records (proposing q slot ballot (Some bag) volatile) refl
 
   told : (slot : SlotName) (asker : ℕ) (bag : Option BagId)
-      → IsKnown records (telling site slot asker bag session)
-  told slot asker None = says_nothing records (telling site slot asker None session) refl
+      → IsKnown records (telling site slot asker bag volatile)
+  told slot asker None = says_nothing records (telling site slot asker None volatile) refl
   told slot asker (Some bag) =
-      says_nothing records (telling site slot asker (Some bag) session) refl
+      says_nothing records (telling site slot asker (Some bag) volatile) refl
 
-  -- `session` has heard the message, and `old` is the one before it
-  heard : (old : Session) (slot : SlotName) (body : Body)
-      → IsKnown records (on_body q site records old session slot body)
+  -- `volatile` has heard the message, and `old` is the one before it
+  heard : (old : VolatileState) (slot : SlotName) (body : Body)
+      → IsKnown records (on_body q site records old volatile slot body)
   unfolding on_body
   heard old slot (bodies.Prepare ballot) =
-      says_nothing records (on_body q site records old session slot (bodies.Prepare ballot)) refl
+      says_nothing records (on_body q site records old volatile slot (bodies.Prepare ballot)) refl
   heard old slot (bodies.Accept vote) =
-      says_nothing records (on_body q site records old session slot (bodies.Accept vote)) refl
+      says_nothing records (on_body q site records old volatile slot (bodies.Accept vote)) refl
   heard old slot (bodies.Promise from ballot prior) = proposal slot ballot
       (ready q (deposit_of slot records) slot (old.current slot) old.heard ballot
       (record { site = from; prior = prior }))
@@ -159,39 +159,40 @@ module _ (q : QuorumSystem) (site : ℕ) (records : List Record) (session : Sess
       (chosen_by q slot (with_vote old.heard slot from vote) vote) refl
   heard old slot (bodies.Known from bag) = learned slot (known_of slot records) (Some bag) refl
   heard old slot (bodies.Refused from asked standing) =
-      says_nothing records (on_body q site records old session slot
+      says_nothing records (on_body q site records old volatile slot
       (bodies.Refused from asked standing)) refl
   heard old slot (bodies.Ask from) = told slot from (known_of slot records)
   heard old slot (bodies.Deposit path) =
-      says_nothing records (on_body q site records old session slot (bodies.Deposit path)) refl
+      says_nothing records (on_body q site records old volatile slot (bodies.Deposit path)) refl
   heard old slot bodies.Query =
-      says_nothing records (on_body q site records old session slot bodies.Query) refl
+      says_nothing records (on_body q site records old volatile slot bodies.Query) refl
   heard old slot (bodies.DepositReply from answer) =
-      says_nothing records (on_body q site records old session slot
+      says_nothing records (on_body q site records old volatile slot
       (bodies.DepositReply from answer)) refl
   heard old slot (bodies.QueryReply from answer) =
-      says_nothing records (on_body q site records old session slot (bodies.QueryReply from answer))
+      says_nothing records (on_body q site records old volatile slot
+      (bodies.QueryReply from answer))
       refl
 
 module _ (q : QuorumSystem) (site : ℕ) where
-  arrived : (records : List Record) (session : Session) (message : Option Message)
-      → IsKnown records (on_arrival q site records session message)
+  arrived : (records : List Record) (volatile : VolatileState) (message : Option Message)
+      → IsKnown records (on_arrival q site records volatile message)
   unfolding on_arrival
-  arrived records session None = says_nothing records (only_says lines.Dropped session) refl
-  arrived records session (Some m) = go (is_member q (body_from m.body))
+  arrived records volatile None = says_nothing records (only_says site_lines.Dropped volatile) refl
+  arrived records volatile (Some m) = go (is_member q (body_from m.body))
     where
       go : (t : Bool) → IsKnown records
-          (cond t (on_body q site records session (hears session m) m.slot m.body)
-          (only_says lines.Dropped session))
-      go true = heard q site records (hears session m) session m.slot m.body
-      go false = says_nothing records (only_says lines.Dropped session) refl
+          (cond t (on_body q site records volatile (hears volatile m) m.slot m.body)
+          (only_says site_lines.Dropped volatile))
+      go true = heard q site records (hears volatile m) volatile m.slot m.body
+      go false = says_nothing records (only_says site_lines.Dropped volatile) refl
 
-  pub answered : (records : List Record) (session : Session) (input : Input)
-      → IsKnown records (effect_of q site records session input)
-  answered records session (Deposits slot checked) = deposited q site records session slot checked
-  answered records session (Proposes slot) = proposed q site records session slot
-  answered records session (Asks slot member) = asked q site records session slot member
-  answered records session (Arrives message) = arrived records session message
+  pub answered : (records : List Record) (volatile : VolatileState) (input : Input)
+      → IsKnown records (effect_of q site records volatile input)
+  answered records volatile (Deposits slot checked) = deposited q site records volatile slot checked
+  answered records volatile (Proposes slot) = proposed q site records volatile slot
+  answered records volatile (Asks slot member) = asked q site records volatile slot member
+  answered records volatile (Arrives message) = arrived records volatile message
 
   -- what a query reports is known
   queried : (slot : SlotName) (records : List Record) (known own : Option BagId)
@@ -212,118 +213,118 @@ module _ (q : QuorumSystem) (site : ℕ) where
       differ : None ≡ Some r → ⊥
       differ e = cc
 
-  -- what a turn reports is known after it
-  pub reported : (records : List Record) (turn : Turn) (r : Report)
-      → report_of q site records turn ≡ Some r
-      → known_of r.slot (records_after q site records turn) ≡ Some r.bag
+  -- what an act reports is known after it
+  pub reported : (records : List Record) (act : Act) (r : Report)
+      → report_of q site records act ≡ Some r
+      → known_of r.slot (records_after q site records act) ≡ Some r.bag
   unfolding report_of records_after reply_of
-  reported records (Called session input Answered) r is = answered records session input r is
-  reported records (Called session input Kept) r is = absurd (differ is)
+  reported records (Called volatile input Answered) r is = answered records volatile input r is
+  reported records (Called volatile input Kept) r is = absurd (differ is)
     where
       differ : None ≡ Some r → ⊥
       differ e = cc
-  reported records (Called session input Lost) r is = absurd (differ is)
+  reported records (Called volatile input Lost) r is = absurd (differ is)
     where
       differ : None ≡ Some r → ⊥
       differ e = cc
   reported records (Queried slot) r is =
       queried slot records (known_of slot records) (deposit_of slot records) refl r is
 
-  -- what is known stays so after a turn
-  stays_after : (slot : SlotName) (bag : BagId) (records : List Record) (turn : Turn)
+  -- what is known stays so after an act
+  stays_after : (slot : SlotName) (bag : BagId) (records : List Record) (act : Act)
       → known_of slot records ≡ Some bag
-      → known_of slot (records_after q site records turn) ≡ Some bag
+      → known_of slot (records_after q site records act) ≡ Some bag
   unfolding records_after
-  stays_after slot bag records (Called session input Answered) e =
-      known_stays slot bag records (effect_of q site records session input).commits e
-  stays_after slot bag records (Called session input Kept) e =
-      known_stays slot bag records (effect_of q site records session input).commits e
-  stays_after slot bag records (Called session input Lost) e = e
+  stays_after slot bag records (Called volatile input Answered) e =
+      known_stays slot bag records (effect_of q site records volatile input).commits e
+  stays_after slot bag records (Called volatile input Kept) e =
+      known_stays slot bag records (effect_of q site records volatile input).commits e
+  stays_after slot bag records (Called volatile input Lost) e = e
   stays_after slot bag records (Queried other) e = e
 
   -- where a bag is known, each report of its slot names it
-  names_known : (slot : SlotName) (bag : BagId) (turns : List Turn) (records : List Record)
-      → known_of slot records ≡ Some bag → (r : Report) → Has r (reports_of q site records turns)
+  names_known : (slot : SlotName) (bag : BagId) (acts : List Act) (records : List Record)
+      → known_of slot records ≡ Some bag → (r : Report) → Has r (reports_of q site records acts)
       → r.slot ≡ slot → r.bag ≡ bag
   unfolding reports_of
   names_known slot bag [] records e r has is = absurd (has_none has)
-  names_known slot bag (turn ∷ turns) records e r has is =
-      go (λ h. names_known slot bag turns (records_after q site records turn)
-      (stays_after slot bag records turn e) r h is) (report_of q site records turn) refl
-      (has_cases (option_to_list (report_of q site records turn))
-      (reports_of q site (records_after q site records turn) turns) has)
+  names_known slot bag (act ∷ acts) records e r has is =
+      go (λ h. names_known slot bag acts (records_after q site records act)
+      (stays_after slot bag records act e) r h is) (report_of q site records act) refl
+      (has_cases (option_to_list (report_of q site records act))
+      (reports_of q site (records_after q site records act) acts) has)
     where
-      after : known_of slot (records_after q site records turn) ≡ Some bag
-      after = stays_after slot bag records turn e
+      after : known_of slot (records_after q site records act) ≡ Some bag
+      after = stays_after slot bag records act e
 
       some_same : (a b : BagId) → Some a ≡ Some b → a ≡ b
       some_same a b e = cc
 
-      named : known_of r.slot (records_after q site records turn) ≡ Some r.bag → r.bag ≡ bag
+      named : known_of r.slot (records_after q site records act) ≡ Some r.bag → r.bag ≡ bag
       named k = some_same r.bag bag (sym k
-          ∙ ap (λ (s : SlotName). known_of s (records_after q site records turn)) is ∙ after)
+          ∙ ap (λ (s : SlotName). known_of s (records_after q site records act)) is ∙ after)
 
-      go : (Has r (reports_of q site (records_after q site records turn) turns) → r.bag ≡ bag)
-          → (o : Option Report) → report_of q site records turn ≡ o
+      go : (Has r (reports_of q site (records_after q site records act) acts) → r.bag ≡ bag)
+          → (o : Option Report) → report_of q site records act ≡ o
           → Has r (option_to_list o)
-          ⊎ Has r (reports_of q site (records_after q site records turn) turns)
+          ⊎ Has r (reports_of q site (records_after q site records act) acts)
           → r.bag ≡ bag
       go later None f (inl h) = absurd (has_none h)
       go later (Some x) f (inl h) =
-          named (reported records turn r (f ∙ ap (λ (y : Report). Some y) (has_one h)))
+          named (reported records act r (f ∙ ap (λ (y : Report). Some y) (has_one h)))
       go later o f (inr h) = later h
 
-  pub reports_agree : (turns : List Turn) (records : List Record)
-      → Agree (reports_of q site records turns)
+  pub reports_agree : (acts : List Act) (records : List Record)
+      → Agree (reports_of q site records acts)
   unfolding reports_of
   reports_agree [] records r s hr hs e = absurd (has_none hr)
-  reports_agree (turn ∷ turns) records r s hr hs e =
-      go (λ a b. reports_agree turns (records_after q site records turn) r s a b e)
-      (report_of q site records turn) refl
-      (has_cases (option_to_list (report_of q site records turn))
-      (reports_of q site (records_after q site records turn) turns) hr)
-      (has_cases (option_to_list (report_of q site records turn))
-      (reports_of q site (records_after q site records turn) turns) hs)
+  reports_agree (act ∷ acts) records r s hr hs e =
+      go (λ a b. reports_agree acts (records_after q site records act) r s a b e)
+      (report_of q site records act) refl
+      (has_cases (option_to_list (report_of q site records act))
+      (reports_of q site (records_after q site records act) acts) hr)
+      (has_cases (option_to_list (report_of q site records act))
+      (reports_of q site (records_after q site records act) acts) hs)
     where
-      known : (x y : Report) → report_of q site records turn ≡ Some x → x ≡ y
-          → known_of y.slot (records_after q site records turn) ≡ Some y.bag
-      known x y is same = reported records turn y (is ∙ ap (λ (z : Report). Some z) same)
+      known : (x y : Report) → report_of q site records act ≡ Some x → x ≡ y
+          → known_of y.slot (records_after q site records act) ≡ Some y.bag
+      known x y is same = reported records act y (is ∙ ap (λ (z : Report). Some z) same)
 
-      go : (Has r (reports_of q site (records_after q site records turn) turns)
-          → Has s (reports_of q site (records_after q site records turn) turns) → r.bag ≡ s.bag)
-          → (o : Option Report) → report_of q site records turn ≡ o
+      go : (Has r (reports_of q site (records_after q site records act) acts)
+          → Has s (reports_of q site (records_after q site records act) acts) → r.bag ≡ s.bag)
+          → (o : Option Report) → report_of q site records act ≡ o
           → Has r (option_to_list o) ⊎ Has r
-          (reports_of q site (records_after q site records turn) turns)
+          (reports_of q site (records_after q site records act) acts)
           → Has s (option_to_list o) ⊎ Has s
-          (reports_of q site (records_after q site records turn) turns) → r.bag ≡ s.bag
+          (reports_of q site (records_after q site records act) acts) → r.bag ≡ s.bag
       go later None is (inl a) b = absurd (has_none a)
       go later None is (inr a) (inl b) = absurd (has_none b)
       go later None is (inr a) (inr b) = later a b
       go later (Some x) is (inl a) (inl b) =
           ap (λ (z : Report). z.bag) (sym (has_one a) ∙ has_one b)
       go later (Some x) is (inl a) (inr b) =
-          sym (names_known r.slot r.bag turns (records_after q site records turn)
+          sym (names_known r.slot r.bag acts (records_after q site records act)
           (known x r is (has_one a)) s b (sym e))
       go later (Some x) is (inr a) (inl b) =
-          names_known s.slot s.bag turns (records_after q site records turn)
+          names_known s.slot s.bag acts (records_after q site records act)
           (known x s is (has_one b)) r a e
       go later (Some x) is (inr a) (inr b) = later a b
 
   -- the records only grow
-  pub records_grow : (records : List Record) (turn : Turn)
-      → (more : List Record) × (records_after q site records turn ≡ records ++ more)
+  pub records_grow : (records : List Record) (act : Act)
+      → (more : List Record) × (records_after q site records act ≡ records ++ more)
   unfolding records_after
-  records_grow records (Called session input Answered) =
-      (option_to_list (effect_of q site records session input).commits, refl)
-  records_grow records (Called session input Kept) =
-      (option_to_list (effect_of q site records session input).commits, refl)
-  records_grow records (Called session input Lost) = ([], sym (append-nil records))
+  records_grow records (Called volatile input Answered) =
+      (option_to_list (effect_of q site records volatile input).commits, refl)
+  records_grow records (Called volatile input Kept) =
+      (option_to_list (effect_of q site records volatile input).commits, refl)
+  records_grow records (Called volatile input Lost) = ([], sym (append-nil records))
   records_grow records (Queried slot) = ([], sym (append-nil records))
 
 -- what a call that is answered reports is known then
-module _ {C : Type 0} (device : C → Device) (old new : OpenSite C) (session : Session)
+module _ {C : Type 0} (device : C → Device) (old new : OpenSite C) (volatile : VolatileState)
     (input : Input) (a : Answer)
-    (answer : IsAnswered device old new session (effect old session input) (Ok a)) where
+    (answer : IsAnswered device old new volatile (effect old volatile input) (Ok a)) where
   grown : (commits : Option Record) → Keeps device commits (Ok a) old.book new.book
       → new.book.records ≡ old.book.records ++ option_to_list commits
   grown None keeps = ap (λ (v : OpenBook C). v.records) keeps ∙ sym (append-nil old.book.records)
@@ -333,10 +334,10 @@ module _ {C : Type 0} (device : C → Device) (old new : OpenSite C) (session : 
       differ e = cc
   grown (Some r) (inr commits) = commits.committed.0
 
-  line_is_known : (slot : SlotName) (bag : BagId) → a.line ≡ Some (lines.Known slot bag)
+  line_is_known : (slot : SlotName) (bag : BagId) → a.line ≡ Some (site_lines.Known slot bag)
       → known_of slot new.book.records ≡ Some bag
-  line_is_known slot bag line = rw (grown (effect old session input).commits answer.keeps)
-      (answered (quorums_of old.book.owner.members) old.book.owner.site old.book.records session
+  line_is_known slot bag line = rw (grown (effect old volatile input).commits answer.keeps)
+      (answered (quorums_of old.book.owner.members) old.book.owner.site old.book.records volatile
       input (record { slot = slot; bag = bag })
       (ap line_report (answer.gives.0 ∙ ap (λ (l : Option Line). Ok l) line)))
 
@@ -344,16 +345,17 @@ module _ {C : Type 0} (device : C → Device) (old new : OpenSite C) (session : 
   says_what_is_known = go a.line refl
     where
       go : (l : Option Line) → a.line ≡ l → SaysWhatIsKnown l new.book.records
-      go (Some (lines.Known slot bag)) is = line_is_known slot bag is
-      go (Some (lines.Registered bag)) is = tt
-      go (Some lines.Dropped) is = tt
+      go (Some (site_lines.Known slot bag)) is = line_is_known slot bag is
+      go (Some (site_lines.Registered bag)) is = tt
+      go (Some site_lines.Dropped) is = tt
       go None is = tt
 
 -- and so it is of each result
-pub reported_of : {C : Type 0} (device : C → Device) (old new : OpenSite C) (session : Session)
+pub reported_of : {C : Type 0} (device : C → Device) (old new : OpenSite C)
+    (volatile : VolatileState)
     (input : Input) (result : Result Answer SiteFault)
-    → IsAnswered device old new session (effect old session input) result
+    → IsAnswered device old new volatile (effect old volatile input) result
     → IfOk result (λ a. SaysWhatIsKnown a.line new.book.records)
-reported_of device old new session input (Ok a) answer =
-    says_what_is_known device old new session input a answer
-reported_of device old new session input (Err fault) answer = tt
+reported_of device old new volatile input (Ok a) answer =
+    says_what_is_known device old new volatile input a answer
+reported_of device old new volatile input (Err fault) answer = tt

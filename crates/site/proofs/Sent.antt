@@ -1,8 +1,7 @@
 -- A message as datagrams, site by site.
-use Rattle.std.specs.Prelude.{◌≡◌, ℕ, zero, suc, ◌-◌, ◌≤◌, List, [], ◌∷◌, ◌++◌, map}
-use Rattle.std.proofs.Common.{arith, refl, ap, ◌∙◌}
+use Rattle.std.specs.Prelude.{◌≡◌, ℕ, List, [], ◌∷◌, ◌++◌, map}
+use Rattle.std.proofs.Common.{sym, ap, ◌∙◌, append_assoc, append-nil}
 use Rattle.std.proofs.lemmas.List.{map-append}
-use Rattle.fed_types.specs.Sites.{sites_to}
 use Rattle.dgram.specs.declared.message.Message.{Message}
 use Rattle.dgram.specs.Encoding.{datagram_of}
 use Rattle.site.specs.declared.answer.Outgoing.{Outgoing}
@@ -13,35 +12,24 @@ use Rattle.site.specs.Effects.{to_each}
 abbrev pub sent : ℕ → Message → List ℕ → List (ℕ × List ℕ)
 sent federation m sites = map (datagram federation) (to_each m.slot m.body sites)
 
-pub sent_to_none : (federation : ℕ) (m : Message) → [] ≡ sent federation m (sites_to 0)
-unfolding sites_to to_each
-sent_to_none federation m = refl
+-- those that were made, and those for the sites that are left, are all
+module _ (federation : ℕ) (m : Message) (made : List Outgoing) (left : List ℕ)
+    (all : List (ℕ × List ℕ)) (before : map handed_out made ++ sent federation m left ≡ all) where
+  pub next_sent : (to : ℕ) (rest : List ℕ) (one : Outgoing) → left ≡ to ∷ rest
+      → handed_out one ≡ (to, datagram_of federation m)
+      → map handed_out (made ++ one ∷ []) ++ sent federation m rest ≡ all
+  unfolding to_each
+  next_sent to rest one next is =
+      ap (λ (l : List (ℕ × List ℕ)). l ++ sent federation m rest)
+      (map-append handed_out made (one ∷ []))
+      ∙ (append_assoc (map handed_out made) (handed_out one ∷ []) (sent federation m rest)
+      ∙ (ap (λ (d : ℕ × List ℕ). map handed_out made ++ d ∷ sent federation m rest) is
+      ∙ (ap (λ (sites : List ℕ). map handed_out made ++ sent federation m sites) (sym next)
+      ∙ before)))
 
--- for one site more
-pub sent_to_more : (federation : ℕ) (m : Message) (sites : List ℕ) (to : ℕ)
-    → sent federation m (sites ++ to ∷ [])
-    ≡ sent federation m sites ++ (to, datagram_of federation m) ∷ []
-unfolding to_each
-sent_to_more federation m sites to =
-    ap (map (datagram federation)) (map-append _ sites (to ∷ []))
-    ∙ map-append (datagram federation) (to_each m.slot m.body sites) _
-
-pub sealed_next : (federation f : ℕ) (m : Message) (n to : ℕ) (old : List Outgoing) (s : Outgoing)
-    → f ≡ federation → to ≡ n → 1 ≤ n
-    → map handed_out old ≡ sent federation m (sites_to (n - 1))
-    → handed_out s ≡ (to, datagram_of f m)
-    → map handed_out (old ++ s ∷ []) ≡ sent federation m (sites_to n)
-unfolding sites_to
-sealed_next federation f m zero to old s same_federation same_site low before is =
-    absurd (omega arith)
-sealed_next federation f m (suc n) to old s same_federation same_site low before is =
-    let same : suc n - 1 ≡ n = omega arith in
-    rw (
-      map-append handed_out old (s ∷ []),
-      before,
-      same,
-      is,
-      same_federation,
-      same_site,
-      sent_to_more federation m (sites_to n) (suc n),
-    ) refl
+  pub all_sent : left ≡ [] → map handed_out made ≡ all
+  unfolding to_each
+  all_sent none =
+      sym (append-nil (map handed_out made))
+      ∙ (ap (λ (sites : List ℕ). map handed_out made ++ sent federation m sites) (sym none)
+      ∙ before)

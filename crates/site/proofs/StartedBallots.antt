@@ -13,7 +13,7 @@ use Rattle.records.specs.declared.owner.Owner.{Owner}
 use Rattle.records.specs.declared.record.Record.{Record}
 use Rattle.records.specs.SlotStates.{known_of, deposit_of}
 use Rattle.proposer.specs.Proposals.{next_ballot}
-use Rattle.proposer.specs.Sessions.{Session}
+use Rattle.proposer.specs.VolatileStates.{VolatileState}
 use Rattle.proposer.specs.UnderWay.{UnderWay, begins, current_by, current_if, of_round}
 use Rattle.proposer.proofs.Stands.{at_here}
 use Rattle.site.specs.declared.answer.Answer.{Answer}
@@ -72,20 +72,20 @@ module _ {C : Type 0} (device : C → Device) (old mid : OpenSite C) (slot : Slo
     pub mid_order : IsInOrder mid
     mid_order = rw book (record {
       of = b.order old.book.records order.of;
-      session = (
-        order.session.0,
-        some begun (b.begun old.book.records order.session.0
-            order.session.1.0 order.of order.session.1.1 deposit),
+      volatile = (
+        order.volatile.0,
+        some begun (b.begun old.book.records order.volatile.0
+            order.volatile.1.0 order.of order.volatile.1.1 deposit),
       );
     })
       where
         some : (r : Result (Record × Answer) SiteFault)
-            → Begins old.book.owner mid.tables slot own old.book.records order.session.0
-            order.session.1.0 r
-            → Represents (record { book = old.book; tables = mid.tables }) order.session.0
+            → Begins old.book.owner mid.tables slot own old.book.records order.volatile.0
+            order.volatile.1.0 r
+            → Represents (record { book = old.book; tables = mid.tables }) order.volatile.0
         some (Ok x) (ballot, next, of_ballot, stands) =
-            (begins order.session.1.0 slot ballot own, stands)
-        some (Err faults.RoundsSpent) (none, stands) = (order.session.1.0, stands)
+            (begins order.volatile.1.0 slot ballot own, stands)
+        some (Err faults.RoundsSpent) (none, stands) = (order.volatile.1.0, stands)
         some (Err faults.Memory) (left, after, stands) = (after, stands)
         some (Err (faults.InvalidBag f)) x = absurd x
         some (Err (faults.OtherDeposit other)) x = absurd x
@@ -95,36 +95,36 @@ module _ {C : Type 0} (device : C → Device) (old mid : OpenSite C) (slot : Slo
         some (Err faults.NoDeposit) x = absurd x
         some (Err faults.AlreadyKnown) x = absurd x
 
-    module _ (session : Session) (stands : Represents old session)
+    module _ (volatile : VolatileState) (stands : Represents old volatile)
         (known : known_of slot old.book.records ≡ None) where
       propose_effect : (next : Option BallotNumber)
-          → next_ballot old.book.owner.site slot old.book.records session.heard ≡ next
-          → begins_ballot_if (quorums_of old.book.owner.members) slot None (Some own) next session
-          ≡ effect old session (Proposes slot)
+          → next_ballot old.book.owner.site slot old.book.records volatile.heard ≡ next
+          → begins_ballot_if (quorums_of old.book.owner.members) slot None (Some own) next volatile
+          ≡ effect old volatile (Proposes slot)
       unfolding on_propose
       propose_effect next is = λ i. begins_ballot_if (quorums_of old.book.owner.members) slot
-          (sym known i) (sym deposit i) (sym is i) session
+          (sym known i) (sym deposit i) (sym is i) volatile
 
       -- it wasn't begun, or memory ran out
       pub not_started : (fault : SiteFault) → begun ≡ Err fault
-          → IsAnswered device old mid session (effect old session (Proposes slot)) (Err fault)
+          → IsAnswered device old mid volatile (effect old volatile (Proposes slot)) (Err fault)
       not_started fault is = go fault (subst (λ (r : Result (Record × Answer) SiteFault).
-          Begins old.book.owner mid.tables slot own old.book.records session stands.0 r) is
-          (b.begun old.book.records session stands.0 order.of stands.1 deposit))
+          Begins old.book.owner mid.tables slot own old.book.records volatile stands.0 r) is
+          (b.begun old.book.records volatile stands.0 order.of stands.1 deposit))
         where
           keeps : (r : Option Record) → Keeps device r (Err faults.Memory) old.book mid.book
           keeps None = book
           keeps (Some r) = inl (refl, book)
 
-          go : (f : SiteFault) → Begins old.book.owner mid.tables slot own old.book.records session
+          go : (f : SiteFault) → Begins old.book.owner mid.tables slot own old.book.records volatile
               stands.0 (Err f)
-              → IsAnswered device old mid session (effect old session (Proposes slot)) (Err f)
+              → IsAnswered device old mid volatile (effect old volatile (Proposes slot)) (Err f)
           go faults.RoundsSpent (none, s) =
-              subst (λ (e : Effect). IsAnswered device old mid session e (Err faults.RoundsSpent))
+              subst (λ (e : Effect). IsAnswered device old mid volatile e (Err faults.RoundsSpent))
               (propose_effect None none)
               (record { keeps = book; gives = (refl, rw book (stands.0, s)) })
           go faults.Memory (left, after, s) = record {
-            keeps = keeps (effect old session (Proposes slot)).commits;
+            keeps = keeps (effect old volatile (Proposes slot)).commits;
             gives = rw book (after, s);
           }
           go (faults.InvalidBag f) x = absurd x
@@ -139,20 +139,20 @@ module _ {C : Type 0} (device : C → Device) (old mid : OpenSite C) (slot : Slo
       pub started : (new : OpenSite C) (x : Record × Answer) (result : Result Answer SiteFault)
           → begun ≡ Ok x
           → Concludes device mid new (Some x.0) x.1.line (map handed_out x.1.sends.items) result
-          → IsAnswered device old new session (effect old session (Proposes slot)) result
+          → IsAnswered device old new volatile (effect old volatile (Proposes slot)) result
       started new x result is c = go (subst (λ (r : Result (Record × Answer) SiteFault).
-          Begins old.book.owner mid.tables slot own old.book.records session stands.0 r) is
-          (b.begun old.book.records session stands.0 order.of stands.1 deposit))
+          Begins old.book.owner mid.tables slot own old.book.records volatile stands.0 r) is
+          (b.begun old.book.records volatile stands.0 order.of stands.1 deposit))
         where
-          go : Begins old.book.owner mid.tables slot own old.book.records session stands.0 (Ok x)
-              → IsAnswered device old new session (effect old session (Proposes slot)) result
+          go : Begins old.book.owner mid.tables slot own old.book.records volatile stands.0 (Ok x)
+              → IsAnswered device old new volatile (effect old volatile (Proposes slot)) result
           go (ballot, next, of_ballot, s) =
-              subst (λ (e : Effect). IsAnswered device old new session e result)
+              subst (λ (e : Effect). IsAnswered device old new volatile e result)
               (propose_effect (Some ballot) next)
-              (concluded device old mid new session (begins stands.0 slot ballot own)
+              (concluded device old mid new volatile (begins stands.0 slot ballot own)
               (begins_ballot_if (quorums_of old.book.owner.members) slot None (Some own)
               (Some ballot)
-              session) None (map handed_out x.1.sends.items) result
+              volatile) None (map handed_out x.1.sends.items) result
               (subst (λ (r : Record). Concludes device mid new (Some r) None
               (map handed_out x.1.sends.items) result) of_ballot.record_is
               (rw (← of_ballot.line) c))
@@ -160,7 +160,7 @@ module _ {C : Type 0} (device : C → Device) (old mid : OpenSite C) (slot : Slo
               (λ after. (
                 noted_under (begins stands.0 slot ballot own)
                     (record { slot = slot; body = entry.Round ballot.round }),
-                subst (λ (o : Option BallotNumber). Stands new (current_if session slot o)
+                subst (λ (o : Option BallotNumber). Stands new (current_if volatile slot o)
                     (noted_under (begins stands.0 slot ballot own)
                     (record { slot = slot; body = entry.Round ballot.round })))
                     (current_is slot ballot own stands.0) after,
@@ -169,13 +169,13 @@ module _ {C : Type 0} (device : C → Device) (old mid : OpenSite C) (slot : Slo
       -- that no round is left is answered
       pub refused_or_started : (result : Result Answer SiteFault)
           → ((fault : SiteFault) → begun ≡ Err fault → result ≡ Err fault)
-          → IsRefused (effect old session (Proposes slot)) result
+          → IsRefused (effect old volatile (Proposes slot)) result
       refused_or_started result err = go begun refl
-          (b.begun old.book.records session stands.0 order.of stands.1 deposit)
+          (b.begun old.book.records volatile stands.0 order.of stands.1 deposit)
         where
           with_current : (ballot : BallotNumber)
-              → next_ballot old.book.owner.site slot old.book.records session.heard ≡ Some ballot
-              → IsRefused (effect old session (Proposes slot)) result
+              → next_ballot old.book.owner.site slot old.book.records volatile.heard ≡ Some ballot
+              → IsRefused (effect old volatile (Proposes slot)) result
           with_current ballot next = subst (λ (e : Effect). IsRefused e result)
               (propose_effect (Some ballot) next) (λ fault is. absurd (differ fault is))
             where
@@ -184,8 +184,8 @@ module _ {C : Type 0} (device : C → Device) (old mid : OpenSite C) (slot : Slo
               differ fault e = cc
 
           left : (next : Option BallotNumber)
-              → next_ballot old.book.owner.site slot old.book.records session.heard ≡ next
-              → IsSome next → IsRefused (effect old session (Proposes slot)) result
+              → next_ballot old.book.owner.site slot old.book.records volatile.heard ≡ next
+              → IsSome next → IsRefused (effect old volatile (Proposes slot)) result
           left None is some = absurd (differ some)
             where
               differ : false ≡ true → ⊥
@@ -193,8 +193,8 @@ module _ {C : Type 0} (device : C → Device) (old mid : OpenSite C) (slot : Slo
           left (Some ballot) is some = with_current ballot is
 
           go : (r : Result (Record × Answer) SiteFault) → begun ≡ r
-              → Begins old.book.owner mid.tables slot own old.book.records session stands.0 r
-              → IsRefused (effect old session (Proposes slot)) result
+              → Begins old.book.owner mid.tables slot own old.book.records volatile stands.0 r
+              → IsRefused (effect old volatile (Proposes slot)) result
           go (Ok x) is (ballot, next, of_ballot, s) = with_current ballot next
           go (Err faults.RoundsSpent) is (none, s) = subst (λ (e : Effect). IsRefused e result)
               (propose_effect None none)

@@ -9,10 +9,10 @@ use Rattle.book.specs.declared.fault.CommitFault.{CommitFault}
 use Rattle.book.specs.declared.fault.CommitFault.TheVariants as commits
 use Rattle.book.specs.Committed.{Commits}
 use Rattle.book.specs.OpenBooks.{OpenBook}
-use Rattle.proposer.specs.Sessions.{Session}
+use Rattle.proposer.specs.VolatileStates.{VolatileState}
 use Rattle.site.specs.declared.answer.Answer.{Answer}
 use Rattle.site.specs.declared.answer.Line.{Line}
-use Rattle.site.specs.declared.answer.Line.TheVariants as lines
+use Rattle.site.specs.declared.answer.Line.TheVariants as site_lines
 use Rattle.site.specs.declared.fault.SiteFault.{SiteFault}
 use Rattle.site.specs.declared.fault.SiteFault.TheVariants as faults
 use Rattle.site.specs.Datagrams.{handed_out, datagram}
@@ -21,8 +21,9 @@ use Rattle.site.specs.Sites.{OpenSite, Represents}
 
 -- ---- the record
 
--- What a call's answer says of the commit of its record. Any other fault comes before the device is
--- called, so it counts as one of memory, after which the cell is unchanged.
+-- What a call's answer says of the commit of its record. Device and NeedsOpen are the commit's own.
+-- Of the other faults only Memory comes where there is a record: a refusal of the definitions has
+-- none, and `Keeps` doesn't ask this of it.
 abbrev pub commit_of : Result Answer SiteFault → Result (Unit {0}) CommitFault
 commit_of (Ok answer) = Ok tt
 commit_of (Err faults.Device) = Err commits.Device
@@ -44,24 +45,26 @@ Keeps device (Some r) result old new =
 -- definitions, and then, as where memory runs out, the site represents what it represented; Device
 -- can come only where there is a record
 abbrev pub Gives :
-    {C : Type 0} → (old new : OpenSite C) → Session → Effect → Result Answer SiteFault → Type 0
-Gives old new session e (Ok answer) =
+    {C : Type 0} → (old new : OpenSite C) → VolatileState → Effect → Result Answer SiteFault
+    → Type 0
+Gives old new volatile e (Ok answer) =
     (e.says ≡ Ok answer.line)
     × (map handed_out answer.sends.items
     ≡ map (datagram old.book.owner.members.federation) e.sends)
-    × Represents new e.session
-Gives old new session e (Err faults.Memory) = Represents new session
-Gives old new session e (Err faults.Device) = IsSome e.commits
-Gives old new session e (Err faults.NeedsOpen) = ⊥
-Gives old new session e (Err fault) = (e.says ≡ Err fault) × Represents new session
+    × Represents new e.volatile
+Gives old new volatile e (Err faults.Memory) = Represents new volatile
+Gives old new volatile e (Err faults.Device) = IsSome e.commits
+Gives old new volatile e (Err faults.NeedsOpen) = ⊥
+Gives old new volatile e (Err fault) = (e.says ≡ Err fault) × Represents new volatile
 
 -- a call of a site that needs no opening answers as the definitions say
 pub record IsAnswered
-    {C : Type 0} (device : C → Device) (old new : OpenSite C) (session : Session) (e : Effect)
+    {C : Type 0} (device : C → Device) (old new : OpenSite C) (volatile : VolatileState)
+    (e : Effect)
     (result : Result Answer SiteFault)
     : Type 0 where
   pub keeps : Keeps device e.commits result old.book new.book
-  pub gives : Gives old new session e result
+  pub gives : Gives old new volatile e result
 
 -- where the definitions refuse, the call refuses so, whatever memory there is
 abbrev pub IsRefused : Effect → Result Answer SiteFault → Type 0
@@ -69,5 +72,5 @@ IsRefused e result = (fault : SiteFault) → e.says ≡ Err fault → result ≡
 
 -- a line that reports a bag names the known bag of these records
 abbrev pub SaysWhatIsKnown : Option Line → List Record → Type 0
-SaysWhatIsKnown (Some (lines.Known slot bag)) records = known_of slot records ≡ Some bag
+SaysWhatIsKnown (Some (site_lines.Known slot bag)) records = known_of slot records ≡ Some bag
 SaysWhatIsKnown line records = ⊤

@@ -21,9 +21,9 @@ use Rattle.acceptor.specs.declared.decision.Response.TheVariants as answer
 use Rattle.acceptor.specs.declared.decision.Decision.{Decision}
 use Rattle.acceptor.specs.Decisions.{prepare_decision, accept_decision}
 use Rattle.proposer.specs.Proposals.{ready}
-use Rattle.proposer.specs.Sessions.{Session, hears}
+use Rattle.proposer.specs.VolatileStates.{VolatileState, hears}
 use Rattle.learner.specs.LearnedBags.{learned_from, learned_of_known}
-use Rattle.site.specs.declared.answer.Line.TheVariants as lines
+use Rattle.site.specs.declared.answer.Line.TheVariants as site_lines
 use Rattle.site.specs.Effects.{Effect, commits_and_sends, commits_and_says, only_says, quiet}
 
 -- an acceptor's answer as a message of its site
@@ -40,33 +40,34 @@ addressees q asker (answer.Refused asked standing) = asker ∷ []
 
 -- the acceptor's record, and then its answer
 abbrev pub decided :
-    QuorumSystem → (site : ℕ) → SlotName → (asker : ℕ) → Decision → Session → Effect
-decided q site slot asker d session =
+    QuorumSystem → (site : ℕ) → SlotName → (asker : ℕ) → Decision → VolatileState → Effect
+decided q site slot asker d volatile =
     commits_and_sends slot d.entry (answer_body site d.answer) (addressees q asker d.answer)
-    session
+    volatile
 
 -- Phase 2 (a): a bag to propose is sent to all members.
-abbrev pub proposing : QuorumSystem → SlotName → BallotNumber → Option BagId → Session → Effect
-proposing q slot ballot None session = quiet session
-proposing q slot ballot (Some bag) session =
-    commits_and_sends slot None (Accept (record { ballot = ballot; bag = bag })) q.members session
+abbrev pub proposing :
+    QuorumSystem → SlotName → BallotNumber → Option BagId → VolatileState → Effect
+proposing q slot ballot None volatile = quiet volatile
+proposing q slot ballot (Some bag) volatile =
+    commits_and_sends slot None (Accept (record { ballot = ballot; bag = bag })) q.members volatile
 
 -- a bag that is learned is recorded, and reported
-abbrev pub learning : SlotName → Option BagId → Session → Effect
-learning slot None session = quiet session
-learning slot (Some bag) session =
-    commits_and_says slot (Some (entry.Known bag)) (lines.Known slot bag) session
+abbrev pub learning : SlotName → Option BagId → VolatileState → Effect
+learning slot None volatile = quiet volatile
+learning slot (Some bag) volatile =
+    commits_and_says slot (Some (entry.Known bag)) (site_lines.Known slot bag) volatile
 
 -- a site that asks is sent the known bag
-abbrev pub telling : (site : ℕ) → SlotName → (asker : ℕ) → Option BagId → Session → Effect
-telling site slot asker None session = quiet session
-telling site slot asker (Some bag) session =
-    commits_and_sends slot None (Known site bag) (asker ∷ []) session
+abbrev pub telling : (site : ℕ) → SlotName → (asker : ℕ) → Option BagId → VolatileState → Effect
+telling site slot asker None volatile = quiet volatile
+telling site slot asker (Some bag) volatile =
+    commits_and_sends slot None (Known site bag) (asker ∷ []) volatile
 
--- What a message of a member does, where `old` is the session before it came, and `now` has heard
--- it too. Requests of clients, and the replies to them, are dropped, and aren't heard.
+-- What a message of a member does, where `old` is the volatile state before it came, and `now` has
+-- heard it too. Requests of clients, and the replies to them, are dropped, and aren't heard.
 unfoldable pub on_body :
-    QuorumSystem → (site : ℕ) → List Record → (old now : Session) → SlotName → Body → Effect
+    QuorumSystem → (site : ℕ) → List Record → (old now : VolatileState) → SlotName → Body → Effect
 on_body q site records old now slot (Prepare ballot) =
     decided q site slot ballot.site (prepare_decision slot records ballot) now
 on_body q site records old now slot (Accept vote) =
@@ -82,10 +83,10 @@ on_body q site records old now slot (Known from bag) =
 on_body q site records old now slot (Refused from asked standing) = quiet now
 on_body q site records old now slot (Ask from) =
     telling site slot from (known_of slot records) now
-on_body q site records old now slot (Deposit path) = only_says lines.Dropped old
-on_body q site records old now slot Query = only_says lines.Dropped old
-on_body q site records old now slot (DepositReply from answer) = only_says lines.Dropped old
-on_body q site records old now slot (QueryReply from answer) = only_says lines.Dropped old
+on_body q site records old now slot (Deposit path) = only_says site_lines.Dropped old
+on_body q site records old now slot Query = only_says site_lines.Dropped old
+on_body q site records old now slot (DepositReply from answer) = only_says site_lines.Dropped old
+on_body q site records old now slot (QueryReply from answer) = only_says site_lines.Dropped old
 
 -- whether there is a site, and it is a member
 abbrev pub is_member : QuorumSystem → Option ℕ → Bool
@@ -95,9 +96,9 @@ is_member q (Some site) = is_in q.members site
 -- A message arrives, or (None) bytes that are no message of the federation: what doesn't come from
 -- a member is dropped, and isn't heard.
 unfoldable pub on_arrival :
-    QuorumSystem → (site : ℕ) → List Record → Session → Option Message → Effect
-on_arrival q site records session None = only_says lines.Dropped session
-on_arrival q site records session (Some m) =
+    QuorumSystem → (site : ℕ) → List Record → VolatileState → Option Message → Effect
+on_arrival q site records volatile None = only_says site_lines.Dropped volatile
+on_arrival q site records volatile (Some m) =
     if is_member q (body_from m.body)
-    then on_body q site records session (hears session m) m.slot m.body
-    else only_says lines.Dropped session
+    then on_body q site records volatile (hears volatile m) m.slot m.body
+    else only_says site_lines.Dropped volatile

@@ -15,8 +15,8 @@ use Rattle.records.specs.SlotStates.{deposit_of, known_of}
 use Rattle.dgram.specs.declared.body.Body.TheVariants.{Prepare, Ask}
 use Rattle.dgram.specs.declared.message.Message.{Message}
 use Rattle.proposer.specs.Proposals.{next_ballot}
-use Rattle.proposer.specs.Sessions.{Session, with_current}
-use Rattle.site.specs.declared.answer.Line.TheVariants as lines
+use Rattle.proposer.specs.VolatileStates.{VolatileState, with_current}
+use Rattle.site.specs.declared.answer.Line.TheVariants as site_lines
 use Rattle.site.specs.declared.answer.Reply.{Reply}
 use Rattle.site.specs.declared.answer.Reply.TheVariants as replies
 use Rattle.site.specs.declared.fault.SiteFault.{SiteFault}
@@ -44,56 +44,59 @@ deposit_entry None bag = Some (entry.Deposit bag)
 deposit_entry (Some own) bag = None
 
 -- a valid bag is registered unless it is refused
-abbrev pub registering : SlotName → (own : Option BagId) → BagId → Option SiteFault → Session
+abbrev pub registering : SlotName → (own : Option BagId) → BagId → Option SiteFault → VolatileState
     → Effect
-registering slot own bag (Some fault) session = refuses fault session
-registering slot own bag None session =
-    commits_and_says slot (deposit_entry own bag) (lines.Registered bag) session
+registering slot own bag (Some fault) volatile = refuses fault volatile
+registering slot own bag None volatile =
+    commits_and_says slot (deposit_entry own bag) (site_lines.Registered bag) volatile
 
 -- a tree is deposited, of which the check gave this answer
-unfoldable pub on_deposit : List Record → Session → SlotName → Result BagId BagFault → Effect
-on_deposit records session slot (Err fault) = refuses (check_fault fault) session
-on_deposit records session slot (Ok bag) =
+unfoldable pub on_deposit : List Record → VolatileState → SlotName → Result BagId BagFault → Effect
+on_deposit records volatile slot (Err fault) = refuses (check_fault fault) volatile
+on_deposit records volatile slot (Ok bag) =
     registering slot (deposit_of slot records) bag
     (deposit_fault (other_than bag (deposit_of slot records))
     (other_than bag (known_of slot records)))
-    session
+    volatile
 
 -- ---- a proposal
 
 -- Phase 1 (a): a ballot is begun. Its round is recorded, and all members are asked to promise it.
-abbrev pub begins_ballot : QuorumSystem → SlotName → BallotNumber → Session → Effect
-begins_ballot q slot ballot session =
+abbrev pub begins_ballot : QuorumSystem → SlotName → BallotNumber → VolatileState → Effect
+begins_ballot q slot ballot volatile =
     commits_and_sends slot (Some (entry.Round ballot.round)) (Prepare ballot) q.members
-    (with_current session slot ballot)
+    (with_current volatile slot ballot)
 
 -- a site proposes where no bag is known, it has a deposit, and a ballot is left; the first of these
 -- that isn't so is why it refuses
 abbrev pub begins_ballot_if :
-    QuorumSystem → SlotName → (known own : Option BagId) → Option BallotNumber → Session → Effect
-begins_ballot_if q slot (Some known) own next session = refuses faults.AlreadyKnown session
-begins_ballot_if q slot None None next session = refuses faults.NoDeposit session
-begins_ballot_if q slot None (Some own) None session = refuses faults.RoundsSpent session
-begins_ballot_if q slot None (Some own) (Some ballot) session = begins_ballot q slot ballot session
+    QuorumSystem → SlotName → (known own : Option BagId) → Option BallotNumber → VolatileState
+    → Effect
+begins_ballot_if q slot (Some known) own next volatile = refuses faults.AlreadyKnown volatile
+begins_ballot_if q slot None None next volatile = refuses faults.NoDeposit volatile
+begins_ballot_if q slot None (Some own) None volatile = refuses faults.RoundsSpent volatile
+begins_ballot_if q slot None (Some own) (Some ballot) volatile =
+    begins_ballot q slot ballot volatile
 
-unfoldable pub on_propose : QuorumSystem → (site : ℕ) → List Record → Session → SlotName → Effect
-on_propose q site records session slot =
+unfoldable pub on_propose :
+    QuorumSystem → (site : ℕ) → List Record → VolatileState → SlotName → Effect
+on_propose q site records volatile slot =
     begins_ballot_if q slot (known_of slot records) (deposit_of slot records)
-    (next_ballot site slot records session.heard) session
+    (next_ballot site slot records volatile.heard) volatile
 
 -- ---- a question
 
 -- a member is asked for the known bag; who calls says which, and that it is one
-unfoldable pub on_ask : (site : ℕ) → Session → SlotName → (member : ℕ) → Effect
-on_ask site session slot member = commits_and_sends slot None (Ask site) (member ∷ []) session
+unfoldable pub on_ask : (site : ℕ) → VolatileState → SlotName → (member : ℕ) → Effect
+on_ask site volatile slot member = commits_and_sends slot None (Ask site) (member ∷ []) volatile
 
 -- the reply to a query: the known bag, else the own deposit
-abbrev pub reply_by : (known own : Option BagId) → Reply
+abbrev pub reply_by : (known own : Option BagId) → Reply BagId
 reply_by (Some known) own = replies.Known known
 reply_by None (Some own) = replies.Pending own
 reply_by None None = replies.Nothing
 
-unfoldable pub reply_of : SlotName → List Record → Reply
+unfoldable pub reply_of : SlotName → List Record → Reply BagId
 reply_of slot records = reply_by (known_of slot records) (deposit_of slot records)
 
 -- ---- all that can reach an open site but queries, and what it does with it
@@ -103,8 +106,8 @@ pub data Input : Type 0 where
   Asks : SlotName → (member : ℕ) → Input
   Arrives : Option Message → Input
 
-abbrev pub effect_of : QuorumSystem → (site : ℕ) → List Record → Session → Input → Effect
-effect_of q site records session (Deposits slot checked) = on_deposit records session slot checked
-effect_of q site records session (Proposes slot) = on_propose q site records session slot
-effect_of q site records session (Asks slot member) = on_ask site session slot member
-effect_of q site records session (Arrives message) = on_arrival q site records session message
+abbrev pub effect_of : QuorumSystem → (site : ℕ) → List Record → VolatileState → Input → Effect
+effect_of q site records volatile (Deposits slot checked) = on_deposit records volatile slot checked
+effect_of q site records volatile (Proposes slot) = on_propose q site records volatile slot
+effect_of q site records volatile (Asks slot member) = on_ask site volatile slot member
+effect_of q site records volatile (Arrives message) = on_arrival q site records volatile message

@@ -1,6 +1,6 @@
--- What a site reports, over any list of its turns. Each turn may have any session, so nothing is
--- assumed of the network: whatever the site has heard, forged messages too, and however often it
--- was opened in between.
+-- What a site reports, over any list of its acts. Each act may have any volatile state, so
+-- nothing is assumed of the network: whatever the site has heard, forged messages too, and however
+-- often it was opened in between.
 use Rattle.std.specs.Prelude.{◌≡◌, ℕ, List, [], ◌∷◌, ◌++◌, Option, Some, None, Result, Ok}
 use Rattle.std.specs.Option.{option_to_list}
 use Rattle.fed_types.specs.declared.bag_id.BagId.{BagId}
@@ -8,9 +8,9 @@ use Rattle.fed_types.specs.Lists.{Has}
 use Rattle.fed_types.specs.Quorums.{QuorumSystem}
 use Rattle.fed_types.specs.Slots.{SlotName}
 use Rattle.records.specs.declared.record.Record.{Record}
-use Rattle.proposer.specs.Sessions.{Session}
+use Rattle.proposer.specs.VolatileStates.{VolatileState}
 use Rattle.site.specs.declared.answer.Line.{Line}
-use Rattle.site.specs.declared.answer.Line.TheVariants as lines
+use Rattle.site.specs.declared.answer.Line.TheVariants as site_lines
 use Rattle.site.specs.declared.answer.Reply.{Reply}
 use Rattle.site.specs.declared.answer.Reply.TheVariants as replies
 use Rattle.site.specs.declared.fault.SiteFault.{SiteFault}
@@ -24,10 +24,10 @@ pub data Ending : Type 0 where
   Kept : Ending
   Lost : Ending
 
--- a call in a session, or a query
-pub data Turn : Type 0 where
-  Called : Session → Input → Ending → Turn
-  Queried : SlotName → Turn
+-- a call in a volatile state, or a query
+pub data Act : Type 0 where
+  Called : VolatileState → Input → Ending → Act
+  Queried : SlotName → Act
 
 -- the records after the ending of a call that comes to this
 abbrev pub ended : List Record → Effect → Ending → List Record
@@ -35,10 +35,10 @@ ended records e Answered = records ++ option_to_list e.commits
 ended records e Kept = records ++ option_to_list e.commits
 ended records e Lost = records
 
--- the records after a turn
-unfoldable pub records_after : QuorumSystem → (site : ℕ) → List Record → Turn → List Record
-records_after q site records (Called session input ending) =
-    ended records (effect_of q site records session input) ending
+-- the records after an act
+unfoldable pub records_after : QuorumSystem → (site : ℕ) → List Record → Act → List Record
+records_after q site records (Called volatile input ending) =
+    ended records (effect_of q site records volatile input) ending
 records_after q site records (Queried slot) = records
 
 -- a slot, and a bag that is said to be known for it
@@ -48,11 +48,11 @@ pub record Report : Type 0 where
 
 -- a line that says that a bag was learned
 abbrev pub line_report : Result (Option Line) SiteFault → Option Report
-line_report (Ok (Some (lines.Known slot bag))) = Some (record { slot = slot; bag = bag })
+line_report (Ok (Some (site_lines.Known slot bag))) = Some (record { slot = slot; bag = bag })
 line_report _ = None
 
 -- a reply that says that a bag is known
-abbrev pub reply_report : SlotName → Reply → Option Report
+abbrev pub reply_report : SlotName → Reply BagId → Option Report
 reply_report slot (replies.Known bag) = Some (record { slot = slot; bag = bag })
 reply_report slot _ = None
 
@@ -62,18 +62,18 @@ ending_report e Answered = line_report e.says
 ending_report e Kept = None
 ending_report e Lost = None
 
--- what a turn reports, if anything
-unfoldable pub report_of : QuorumSystem → (site : ℕ) → List Record → Turn → Option Report
-report_of q site records (Called session input ending) =
-    ending_report (effect_of q site records session input) ending
+-- what an act reports, if anything
+unfoldable pub report_of : QuorumSystem → (site : ℕ) → List Record → Act → Option Report
+report_of q site records (Called volatile input ending) =
+    ending_report (effect_of q site records volatile input) ending
 report_of q site records (Queried slot) = reply_report slot (reply_of slot records)
 
--- what the turns report, in order, the first with these records
-unfoldable pub reports_of : QuorumSystem → (site : ℕ) → List Record → List Turn → List Report
+-- what the acts report, in order, the first with these records
+unfoldable pub reports_of : QuorumSystem → (site : ℕ) → List Record → List Act → List Report
 reports_of q site records [] = []
-reports_of q site records (turn ∷ turns) =
-    option_to_list (report_of q site records turn)
-    ++ reports_of q site (records_after q site records turn) turns
+reports_of q site records (act ∷ acts) =
+    option_to_list (report_of q site records act)
+    ++ reports_of q site (records_after q site records act) acts
 
 -- one bag is reported for a slot
 abbrev pub Agree : List Report → Type 0

@@ -1,7 +1,7 @@
 -- A site that is open, as a clause sees it, and what it represents.
 use Rattle.fed_types.specs.Quorums.{quorums_of}
 use Rattle.book.specs.OpenBooks.{OpenBook}
-use Rattle.proposer.specs.Sessions.{Session}
+use Rattle.proposer.specs.VolatileStates.{VolatileState}
 use Rattle.proposer.specs.UnderWay.{UnderWay}
 use Rattle.site_tables.specs.Contents.{Contents, IsOf}
 use Rattle.site_tables.specs.Contents as tables
@@ -13,17 +13,19 @@ pub record OpenSite (C : Type 0) : Type 0 where
   pub book : OpenBook C
   pub tables : Contents
 
--- The site represents a session: what its tables count is what the definitions find in its records
--- and in the messages that the session has heard, whatever a call has begun in them.
-abbrev pub Represents : {C : Type 0} → OpenSite C → Session → Type 0
-Represents s session = (under : UnderWay) × tables.Represents s.tables s.book.records session under
+-- The site represents a volatile state: what its tables count is what the definitions find in its
+-- records and in the messages that it has heard, whatever a call has begun in them.
+abbrev pub Represents : {C : Type 0} → OpenSite C → VolatileState → Type 0
+Represents s volatile =
+    (under : UnderWay) × tables.Represents s.tables s.book.records volatile under
 
--- what is so of every site: its tables are those of its records, and it represents some session
+-- what is so of every site: its tables are those of its records, and it represents some volatile
+-- state
 pub record IsInOrder {C : Type 0} (s : OpenSite C) : Type 0 where
   pub of : IsOf s.tables s.book.owner s.book.records
-  pub session : (session : Session) × Represents s session
+  pub volatile : (volatile : VolatileState) × Represents s volatile
 
--- what the definitions say that it does with an input in a session
-abbrev pub effect : {C : Type 0} → OpenSite C → Session → Input → Effect
-effect s session input =
-    effect_of (quorums_of s.book.owner.members) s.book.owner.site s.book.records session input
+-- what the definitions say that it does with an input in a volatile state
+abbrev pub effect : {C : Type 0} → OpenSite C → VolatileState → Input → Effect
+effect s volatile input =
+    effect_of (quorums_of s.book.owner.members) s.book.owner.site s.book.records volatile input

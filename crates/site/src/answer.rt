@@ -26,13 +26,13 @@ pub struct Answer {
     pub sends: Vec<Outgoing>,
 }
 
-/// What a site replies to a query.
+/// What a site replies to a query: a bag by its identity, or as a line names it.
 #[derive(Clone, Copy, Debug, PartialEq, Eq)]
-pub enum Reply {
+pub enum Reply<B = BagId> {
     /// This bag is known for the slot.
-    Known(BagId),
+    Known(B),
     /// No bag is known; this one is the site's own deposit.
-    Pending(BagId),
+    Pending(B),
     /// No bag is known, and the site has no deposit.
     Nothing,
 }

@@ -8,14 +8,14 @@ ghost use Rattle.records.specs.declared.entry.Entry.TheVariants as entries;
 ghost use Rattle.dgram.specs.declared.body.Body.TheVariants as bodies;
 ghost use Rattle.dgram.specs.Decoded.{message_of};
 ghost use Rattle.dgram.specs.Encoding.{body_from};
-ghost use Rattle.proposer.specs.Sessions.{Session};
+ghost use Rattle.proposer.specs.VolatileStates.{VolatileState};
 ghost use Rattle.site.specs.Answered.{IsAnswered, SaysWhatIsKnown};
 ghost use Rattle.site.specs.Arrivals.{answer_body, addressees, is_member, on_arrival};
 ghost use Rattle.site.specs.Calls.{Arrives};
 ghost use Rattle.site.specs.Datagrams.{handed_out, datagram};
 ghost use Rattle.site.specs.Effects.{record_of, to_each};
 ghost use Rattle.site.specs.Sites.{Represents, effect};
-ghost use Rattle.site.specs.declared.answer.Line.TheVariants as lines;
+ghost use Rattle.site.specs.declared.answer.Line.TheVariants as site_lines;
 ghost use Rattle.site.specs.inner.Concluded.{Concludes, HearsBody, Issues, all_datagrams};
 
 use crate::answer::{Answer, Line, Outgoing};
@@ -31,10 +31,10 @@ use std::alloc::AllocError;
 impl<C: Cell> Site<C> {
     /// A datagram arrives. Bytes that are no message of the federation take no memory.
     pub fn arrive(&mut self, bytes: &[u8]) -> Result<Answer, SiteFault>
-        ensures answer { self.old.book.needs_opening ≡ false → (session : Session)
-            → Represents self.old session
-            → IsAnswered C.device self.old self.new session
-            (effect self.old session
+        ensures answer { self.old.book.needs_opening ≡ false → (volatile : VolatileState)
+            → Represents self.old volatile
+            → IsAnswered C.device self.old self.new volatile
+            (effect self.old volatile
             (Arrives (message_of self.old.book.owner.members.federation bytes.now))) result }
         ensures reported { self.old.book.needs_opening ≡ false → IfOk result
             (λ a. SaysWhatIsKnown a.line self.new.book.records) }
@@ -55,10 +55,10 @@ impl<C: Cell> Site<C> {
 
     /// Like `arrive`, of a datagram of the federation that was decoded already, to this message.
     pub fn arrive_message(&mut self, message: Message) -> Result<Answer, SiteFault>
-        ensures answer { self.old.book.needs_opening ≡ false → (session : Session)
-            → Represents self.old session
-            → IsAnswered C.device self.old self.new session
-            (effect self.old session (Arrives (Some message))) result }
+        ensures answer { self.old.book.needs_opening ≡ false → (volatile : VolatileState)
+            → Represents self.old volatile
+            → IsAnswered C.device self.old self.new volatile
+            (effect self.old volatile (Arrives (Some message))) result }
         ensures reported { self.old.book.needs_opening ≡ false → IfOk result
             (λ a. SaysWhatIsKnown a.line self.new.book.records) }
         ensures needs_open { IsErrOf result SiteFault.NeedsOpen
@@ -89,10 +89,10 @@ impl<C: Cell> Site<C> {
     // What doesn't come from a member is dropped.
     fn on_message(&mut self, message: Message) -> Result<Answer, SiteFault>
         requires { self.old.book.needs_opening ≡ false }
-        ensures answer { (session : Session) → Represents self.old session
-            → IsAnswered C.device self.old self.new session
+        ensures answer { (volatile : VolatileState) → Represents self.old volatile
+            → IsAnswered C.device self.old self.new volatile
             (on_arrival (quorums_of self.old.book.owner.members) self.old.book.owner.site
-            self.old.book.records session (Some message)) result }
+            self.old.book.records volatile (Some message)) result }
         ensures fault { ¬ IsErrOf result SiteFault.NeedsOpen }
     {
         if self.is_from_member(&message) {
@@ -250,7 +250,7 @@ impl<C: Cell> Site<C> {
     fn learn(&mut self, slot: Slot, bag: BagId) -> Result<Answer, SiteFault>
         requires { self.old.book.needs_opening ≡ false }
         ensures { Concludes C.device self.old self.new (record_of slot (Some (entries.Known bag)))
-            (Some (lines.Known slot bag)) [] result }
+            (Some (site_lines.Known slot bag)) [] result }
     {
         let line = Some(Line::Known(slot.copy(self.alloc)?, bag));
         let sends = Vec::new(self.alloc);

@@ -1,7 +1,7 @@
 //! A message as datagrams, for the sites that it goes to.
 
 ghost use Rattle.std.specs.Prelude.{◌≡◌, ◌∷◌, [], map, IfOk};
-ghost use Rattle.fed_types.specs.Sites.{IsSiteNumber, members_of};
+ghost use Rattle.fed_types.specs.Sites.{members_of};
 ghost use Rattle.dgram.specs.Encoding.{datagram_of};
 ghost use Rattle.site.specs.Datagrams.{handed_out, datagram};
 ghost use Rattle.site.specs.Effects.{to_each};
@@ -40,22 +40,10 @@ pub(crate) fn to_all(
 {
     let bytes = encoded(alloc, members.federation(), message)?;
     let mut sends = Vec::with_capacity(alloc, usize::from(members.count()))?;
-    for number in 1..=members.count() {
-        let to = site(number);
+    for to in members.sites() {
         sends.push(addressed(alloc, &bytes, to)?)?;
     }
     Ok(sends)
-}
-
-// The site of this number.
-fn site(number: u8) -> SiteNo
-    requires { IsSiteNumber number }
-    ensures { result ≡ number }
-{
-    match SiteNo::new(number) {
-        Ok(site) => site,
-        Err(_) => unreachable!(),
-    }
 }
 
 // The message's datagram.

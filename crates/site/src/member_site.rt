@@ -5,11 +5,11 @@ ghost use Rattle.site_tables.specs.Contents.{deposits_of, slot_at};
 ghost use Rattle.bag_check.specs.Check.{check_of};
 ghost use Rattle.book.specs.OpenBooks.{HoldsText, RecoversTo};
 ghost use Rattle.cell_device.specs.Memory.{fuse_of, failures_of, fuse_after_set, IsSameMedium};
-ghost use Rattle.proposer.specs.Sessions.{Session, new_session};
+ghost use Rattle.proposer.specs.VolatileStates.{VolatileState, new_volatile};
 ghost use Rattle.site.specs.Answered.{IsAnswered, IsRefused};
 ghost use Rattle.records.specs.SlotStates.{deposit_of, known_of};
 ghost use Rattle.site.specs.Calls.{Deposits, Proposes, Asks, reply_of, other_than, deposit_fault};
-ghost use Rattle.site.specs.declared.answer.Line.TheVariants as lines;
+ghost use Rattle.site.specs.declared.answer.Line.TheVariants as site_lines;
 ghost use Rattle.site.specs.Datagrams.{handed_out};
 ghost use Rattle.book.specs.Opened.{Opens};
 ghost use Rattle.site.specs.Opened.{book_of};
@@ -55,11 +55,10 @@ impl<C: Cell> Site<C> {
     /// ballot of it is current. On a refusal the cell is handed back.
     pub fn open(alloc: Global, cell: C, owner: Owner) -> Result<Site<C>, (C, OpenFault)>
         ensures opened { Opens C.device owner cell (book_of result) }
-        ensures stands { IfOk result (λ s. Represents s new_session) }
+        ensures stands { IfOk result (λ s. Represents s new_volatile) }
     {
-        let Owner { members, site } = owner;
-        let book = Book::open(alloc, cell, Owner { members, site })?;
-        match Tables::of(alloc, Owner { members, site }, book.records()) {
+        let book = Book::open(alloc, cell, owner)?;
+        match Tables::of(alloc, &owner, book.records()) {
             Ok(tables) => Ok(Site {
                 alloc,
                 book,
@@ -139,10 +138,10 @@ impl<C: Cell> Site<C> {
 
     /// Asks a member for the bag that it knows. The caller ensures that it is one.
     pub fn ask(&self, slot: &Slot, to: SiteNo) -> Result<Answer, SiteFault>
-        ensures answer { self.now.book.needs_opening ≡ false → (session : Session)
-            → Represents self.now session
-            → IsAnswered C.device self.now self.now session
-            (effect self.now session (Asks slot.now to)) result }
+        ensures answer { self.now.book.needs_opening ≡ false → (volatile : VolatileState)
+            → Represents self.now volatile
+            → IsAnswered C.device self.now self.now volatile
+            (effect self.now volatile (Asks slot.now to)) result }
         ensures needs_open { IsErrOf result SiteFault.NeedsOpen
             ↔ (self.now.book.needs_opening ≡ true) }
     {
@@ -160,10 +159,10 @@ impl<C: Cell> Site<C> {
     /// Takes a tree as the slot's deposit, where it is a valid bag, and neither another deposit nor
     /// another known bag is in the way.
     pub fn deposit(&mut self, slot: &Slot, facts: &Facts) -> Result<Answer, SiteFault>
-        ensures answer { self.old.book.needs_opening ≡ false → (session : Session)
-            → Represents self.old session
-            → IsAnswered C.device self.old self.new session
-            (effect self.old session (Deposits slot.now (check_of facts.now))) result }
+        ensures answer { self.old.book.needs_opening ≡ false → (volatile : VolatileState)
+            → Represents self.old volatile
+            → IsAnswered C.device self.old self.new volatile
+            (effect self.old volatile (Deposits slot.now (check_of facts.now))) result }
         ensures needs_open { IsErrOf result SiteFault.NeedsOpen
             ↔ (self.old.book.needs_opening ≡ true) }
         ensures untouched { self.old.book.needs_opening ≡ true → self.new ≡ self.old }
@@ -178,13 +177,13 @@ impl<C: Cell> Site<C> {
     /// Proposes the slot's deposit: begins the next ballot, and asks all members to promise it.
     /// Where that is refused, it takes no memory.
     pub fn propose(&mut self, slot: &Slot) -> Result<Answer, SiteFault>
-        ensures answer { self.old.book.needs_opening ≡ false → (session : Session)
-            → Represents self.old session
-            → IsAnswered C.device self.old self.new session
-            (effect self.old session (Proposes slot.now)) result }
-        ensures refused { self.old.book.needs_opening ≡ false → (session : Session)
-            → Represents self.old session
-            → IsRefused (effect self.old session (Proposes slot.now)) result }
+        ensures answer { self.old.book.needs_opening ≡ false → (volatile : VolatileState)
+            → Represents self.old volatile
+            → IsAnswered C.device self.old self.new volatile
+            (effect self.old volatile (Proposes slot.now)) result }
+        ensures refused { self.old.book.needs_opening ≡ false → (volatile : VolatileState)
+            → Represents self.old volatile
+            → IsRefused (effect self.old volatile (Proposes slot.now)) result }
         ensures needs_open { IsErrOf result SiteFault.NeedsOpen
             ↔ (self.old.book.needs_opening ≡ true) }
         ensures untouched { self.old.book.needs_opening ≡ true → self.new ≡ self.old }
@@ -204,9 +203,9 @@ impl<C: Cell> Site<C> {
     // Takes a valid bag as the slot's deposit.
     fn register(&mut self, slot: &Slot, bag: BagId) -> Result<Answer, SiteFault>
         requires { self.old.book.needs_opening ≡ false }
-        ensures { (session : Session) → Represents self.old session
-            → IsAnswered C.device self.old self.new session
-            (effect self.old session (Deposits slot.now (Ok bag))) result }
+        ensures { (volatile : VolatileState) → Represents self.old volatile
+            → IsAnswered C.device self.old self.new volatile
+            (effect self.old volatile (Deposits slot.now (Ok bag))) result }
     {
         let own = self.tables.deposit(slot);
         if let Some(fault) = deposit_fault(bag, own, self.tables.known(slot)) {
@@ -228,13 +227,13 @@ impl<C: Cell> Site<C> {
     fn start_ballot(&mut self, slot: &Slot, own: BagId) -> Result<Answer, SiteFault>
         requires opened { self.old.book.needs_opening ≡ false }
         requires deposit { deposit_of slot.now self.old.book.records ≡ Some own }
-        ensures answer { (session : Session) → Represents self.old session
+        ensures answer { (volatile : VolatileState) → Represents self.old volatile
             → known_of slot.now self.old.book.records ≡ None
-            → IsAnswered C.device self.old self.new session
-            (effect self.old session (Proposes slot.now)) result }
-        ensures refused { (session : Session) → Represents self.old session
+            → IsAnswered C.device self.old self.new volatile
+            (effect self.old volatile (Proposes slot.now)) result }
+        ensures refused { (volatile : VolatileState) → Represents self.old volatile
             → known_of slot.now self.old.book.records ≡ None
-            → IsRefused (effect self.old session (Proposes slot.now)) result }
+            → IsRefused (effect self.old volatile (Proposes slot.now)) result }
     {
         let owner = self.book.owner();
         let (new, answer) = begin_ballot(self.alloc, &owner, &mut self.tables, slot, own)?;
@@ -300,7 +299,7 @@ pub(crate) fn quiet(alloc: Global) -> Answer
 
 /// What arrived is dropped.
 pub(crate) fn dropped(alloc: Global) -> Answer
-    ensures { (result.line ≡ Some lines.Dropped) × (result.sends.items ≡ []) }
+    ensures { (result.line ≡ Some site_lines.Dropped) × (result.sends.items ≡ []) }
 {
     Answer {
         line: Some(Line::Dropped),

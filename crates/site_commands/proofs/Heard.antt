@@ -13,8 +13,8 @@ use Rattle.dgram.specs.declared.message.Message.{Message}
 use Rattle.dgram.specs.Decoded.{message_of}
 use Rattle.udp_site.specs.Traffic.{Nothing, From, Move, Took, Failed, Handed, Grows}
 use Rattle.udp_site.proofs.Growth.{Grows-trans, Grows-none}
-use Rattle.site_commands.specs.declared.reply.Reply.{Reply}
-use Rattle.site_commands.specs.declared.reply.Reply.TheVariants.{ToDeposit, ToQuery}
+use Rattle.site_commands.specs.declared.reply.ClientReply.{ClientReply}
+use Rattle.site_commands.specs.declared.reply.ClientReply.TheVariants.{ToDeposit, ToQuery}
 use Rattle.site_commands.specs.declared.reply.Wanted.{Wanted}
 use Rattle.site_commands.specs.declared.reply.Wanted.TheVariants as wanted
 use Rattle.site_commands.specs.Replies.{Question, datagram_to, reply_by, reply_of, reply_in}
@@ -28,7 +28,8 @@ takes_both (Took taken ∷ m) n p q = takes_both m n p q
 takes_both (Failed ∷ m) n p q = takes_both m n p q
 takes_both (Handed post ∷ m) n p q = absurd p
 
-pub or_assoc : (a b c : Option Reply) → option_or a (option_or b c) ≡ option_or (option_or a b) c
+pub or_assoc : (a b c : Option ClientReply)
+    → option_or a (option_or b c) ≡ option_or (option_or a b) c
 or_assoc None b c = refl
 or_assoc (Some x) b c = refl
 
@@ -44,7 +45,7 @@ first_of_both q kind (move ∷ m) n =
 pub first_of_second : (q : Question) (kind : Wanted) (m n : List Move)
     → None ≡ first_reply q kind m → first_reply q kind n ≡ first_reply q kind (m ++ n)
 first_of_second q kind m n none =
-    ap (λ (r : Option Reply). option_or r (first_reply q kind n)) none
+    ap (λ (r : Option ClientReply). option_or r (first_reply q kind n)) none
     ∙ sym (first_of_both q kind m n)
 
 pub none_takes : (moves : List Move) → BringsNone moves → OnlyTakes moves
@@ -62,7 +63,7 @@ none_replies q kind (Took (From port bytes) ∷ moves) p = absurd p
 none_replies q kind (Failed ∷ moves) p = none_replies q kind moves p
 none_replies q kind (Handed post ∷ moves) p = absurd p
 
-pub or_none : (a : Option Reply) → a ≡ option_or a None
+pub or_none : (a : Option ClientReply) → a ≡ option_or a None
 or_none None = refl
 or_none (Some x) = refl
 
@@ -74,7 +75,7 @@ module _ (q : Question) (kind : Wanted) where
 
   -- after moves without a reply others come
   pub hears_more : (a b c : Option (List Move)) → Hears q kind a b (Ok None)
-      → (result : Result (Option Reply) AllocError) → Hears q kind b c result
+      → (result : Result (Option ClientReply) AllocError) → Hears q kind b c result
       → Hears q kind a c result
   hears_more a b c (m, grows, takes, none) result (n, more, takes_more, reply) = (
     m ++ n,
@@ -83,7 +84,7 @@ module _ (q : Question) (kind : Wanted) where
     go result reply,
   )
     where
-      go : (result : Result (Option Reply) AllocError)
+      go : (result : Result (Option ClientReply) AllocError)
           → IfOk result (λ r. r ≡ first_reply q kind n)
           → IfOk result (λ r. r ≡ first_reply q kind (m ++ n))
       go (Ok reply) is = is ∙ first_of_second q kind m n none
@@ -96,12 +97,13 @@ module _ (q : Question) (kind : Wanted) where
 
   -- a datagram came
   pub hears_one : (a b : Option (List Move)) (bytes : List ℕ) → TakesOne a b (Some bytes)
-      → (result : Result (Option Reply) AllocError) → IfOk result (λ r. r ≡ reply_in q kind bytes)
+      → (result : Result (Option ClientReply) AllocError)
+      → IfOk result (λ r. r ≡ reply_in q kind bytes)
       → Hears q kind a b result
   hears_one a b bytes (port, grows) result is =
       (Took (From port bytes) ∷ [], grows, tt, go result is)
     where
-      go : (result : Result (Option Reply) AllocError)
+      go : (result : Result (Option ClientReply) AllocError)
           → IfOk result (λ r. r ≡ reply_in q kind bytes)
           → IfOk result (λ r. r ≡ option_or (reply_in q kind bytes) None)
       go (Ok reply) is = is ∙ or_none (reply_in q kind bytes)
@@ -118,7 +120,7 @@ err_if_ok (Err e) P Q is = tt
 module _ (q : Question) (kind : Wanted) (bytes : List ℕ) where
   -- a datagram was handed out, and then some are taken in
   pub asks_then : (a b c : Option (List Move)) → Grows a b (Handed (q.target, bytes) ∷ [])
-      → (result : Result (Option Reply) AllocError) → Hears q kind b c result
+      → (result : Result (Option ClientReply) AllocError) → Hears q kind b c result
       → IsAsked q kind bytes a c result
   asks_then a b c handed result (moves, grows, takes, reply) = (
     Handed (q.target, bytes) ∷ moves,
@@ -130,7 +132,7 @@ module _ (q : Question) (kind : Wanted) (bytes : List ℕ) where
 -- ---- a bag that is asked for
 
 -- it is the reply to a query, or none
-IsOfQuery : Option Reply → Type 0
+IsOfQuery : Option ClientReply → Type 0
 IsOfQuery reply = option_map ToQuery (query_in reply) ≡ reply
 
 query_if : (b : Bool) (answer : QueryAnswer) → IsOfQuery (cond b (Some (ToQuery answer)) None)
@@ -148,12 +150,12 @@ none_of_query : IsOfQuery None
 unfolding IsOfQuery
 none_of_query = refl
 
-of_query_if : (b : Bool) (reply : Option Reply) → IsOfQuery reply
+of_query_if : (b : Bool) (reply : Option ClientReply) → IsOfQuery reply
     → IsOfQuery (cond b reply None)
 of_query_if true reply is = is
 of_query_if false reply is = none_of_query
 
-either_of_query : (a b : Option Reply) → IsOfQuery a → IsOfQuery b → IsOfQuery (option_or a b)
+either_of_query : (a b : Option ClientReply) → IsOfQuery a → IsOfQuery b → IsOfQuery (option_or a b)
 either_of_query None b p r = r
 either_of_query (Some x) b p r = p
 
@@ -181,7 +183,7 @@ first_of_query q (move ∷ moves) =
 
 -- what is replied to a query is its answer
 pub bag_asked : (q : Question) (bytes : List ℕ) → bytes ≡ datagram_to q None
-    → (a b : Option (List Move)) (reply : Option Reply) (answer : Option QueryAnswer)
+    → (a b : Option (List Move)) (reply : Option ClientReply) (answer : Option QueryAnswer)
     → answer ≡ query_in reply → IsAsked q wanted.ToQuery bytes a b (Ok reply)
     → IsAskedForBag q a b (Ok answer)
 unfolding IsOfQuery

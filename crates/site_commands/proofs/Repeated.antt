@@ -9,7 +9,7 @@ use Rattle.outcomes.specs.declared.program_output.ProgramOutput.{ProgramOutput}
 use Rattle.outcomes.specs.declared.fault.ProgramFault.{ProgramFault}
 use Rattle.udp_site.specs.Traffic.{Move, Grows}
 use Rattle.udp_site.proofs.Growth.{Grows-trans, Grows-none}
-use Rattle.site_commands.specs.declared.reply.Reply.{Reply}
+use Rattle.site_commands.specs.declared.reply.ClientReply.{ClientReply}
 use Rattle.site_commands.specs.declared.reply.Wanted.{Wanted}
 use Rattle.site_commands.specs.Replies.{Question, datagram_to, first_reply}
 use Rattle.site_commands.specs.Exchanges.{Asks, IsAsked}
@@ -20,25 +20,25 @@ use Rattle.site_commands.specs.inner.Repeated.{IsLastReply, IsLastAnswer}
 use Rattle.site_commands.specs.inner.Written.{outcome_to}
 use Rattle.site_commands.proofs.Heard.{or_assoc, or_none}
 
-none_ends_then : (replies : List (Option Reply)) (reply : Option Reply) → NoneEnds replies
+none_ends_then : (replies : List (Option ClientReply)) (reply : Option ClientReply) → NoneEnds replies
     → ends reply ≡ false → NoneEnds (replies ++ reply ∷ [])
 none_ends_then [] reply p is = (is, tt)
 none_ends_then (r ∷ replies) reply (one, p) is = (one, none_ends_then replies reply p is)
 
 -- nothing follows
-at_last : (reply : Option Reply)
-    → IfSome reply (λ r. is_last r ≡ true → ◌≡◌ {A = List (Option Reply)} [] [])
+at_last : (reply : Option ClientReply)
+    → IfSome reply (λ r. is_last r ≡ true → ◌≡◌ {A = List (Option ClientReply)} [] [])
 at_last None = tt
 at_last (Some r) = λ _. refl
 
 -- something may follow
-not_last : (reply : Option Reply) (replies : List (Option Reply)) → ends reply ≡ false
+not_last : (reply : Option ClientReply) (replies : List (Option ClientReply)) → ends reply ≡ false
     → IfSome reply (λ r. is_last r ≡ true → replies ≡ [])
 not_last None replies is = tt
 not_last (Some r) replies is = λ last. absurd (cc (is, last))
 
-replies_then : (q : Question) (path next : Option (List ℕ)) (replies : List (Option Reply))
-    (m n : List Move) (reply : Option Reply) → AreReplies q path next replies m
+replies_then : (q : Question) (path next : Option (List ℕ)) (replies : List (Option ClientReply))
+    (m n : List Move) (reply : Option ClientReply) → AreReplies q path next replies m
     → NoneEnds replies → Asks (q.target, datagram_to q (path_after path next replies)) n
     → reply ≡ first_reply q (wanted_until path) n
     → AreReplies q path next (replies ++ reply ∷ []) (m ++ n)
@@ -62,23 +62,24 @@ replies_then q path next (r ∷ replies) m n reply (first, rest, parts, one, giv
       replies_then q path (next_path path r) replies rest n reply more none asks is,
     )
 
-last_then : (replies : List (Option Reply)) (reply : Option Reply)
+last_then : (replies : List (Option ClientReply)) (reply : Option ClientReply)
     → last_of (replies ++ reply ∷ []) ≡ option_or reply (last_of replies)
 last_then [] reply = or_none reply
 last_then (r ∷ replies) reply =
-    ap (λ (last : Option Reply). option_or last r) (last_then replies reply)
+    ap (λ (last : Option ClientReply). option_or last r) (last_then replies reply)
     ∙ sym (or_assoc reply (last_of replies) r)
 
-path_then : (path next : Option (List ℕ)) (replies : List (Option Reply)) (reply : Option Reply)
+path_then : (path next : Option (List ℕ)) (replies : List (Option ClientReply))
+    (reply : Option ClientReply)
     → path_after path next (replies ++ reply ∷ []) ≡ next_path path reply
 path_then path next [] reply = refl
 path_then path next (r ∷ replies) reply = path_then path (next_path path r) replies reply
 
 -- the replies so far, of which none is the last, and what is sent next
 abbrev pub SoFar : Question → (path : Option (List ℕ)) → (before after : Option (List Move))
-    → (last : Option Reply) → (bytes : List ℕ) → Type 0
+    → (last : Option ClientReply) → (bytes : List ℕ) → Type 0
 SoFar q path before after last bytes =
-    (replies : List (Option Reply)) × (moves : List Move) × Grows before after moves
+    (replies : List (Option ClientReply)) × (moves : List Move) × Grows before after moves
     × AreReplies q path path replies moves × NoneEnds replies × (last ≡ last_of replies)
     × (bytes ≡ datagram_to q (path_after path path replies))
 
@@ -89,14 +90,14 @@ module _ (q : Question) (path : Option (List ℕ)) (a : Option (List Move)) wher
   pub none_asked : IsLastReply q path a a (Ok None)
   none_asked = ([], [], Grows-none a, refl, refl)
 
-  module _ (b c : Option (List Move)) (last : Option Reply) (bytes : List ℕ)
-      (far : SoFar q path a b last bytes) (reply : Option Reply) (kind : Wanted)
+  module _ (b c : Option (List Move)) (last : Option ClientReply) (bytes : List ℕ)
+      (far : SoFar q path a b last bytes) (reply : Option ClientReply) (kind : Wanted)
       (kind_is : kind ≡ wanted_until path) (asked_so : IsAsked q kind bytes b c (Ok reply)) where
     asked : IsAsked q (wanted_until path) bytes b c (Ok reply)
     asked = subst (λ (k : Wanted). IsAsked q k bytes b c (Ok reply)) kind_is asked_so
 
     -- the next reply is the last
-    pub then_last : (new : Option Reply) → new ≡ option_or reply last
+    pub then_last : (new : Option ClientReply) → new ≡ option_or reply last
         → IsLastReply q path a c (Ok new)
     then_last new is_new = go far asked
       where
@@ -112,7 +113,7 @@ module _ (q : Question) (path : Option (List ℕ)) (a : Option (List Move)) wher
         )
 
     -- it isn't
-    pub then_more : (new : Option Reply) (next : List ℕ) → new ≡ option_or reply last
+    pub then_more : (new : Option ClientReply) (next : List ℕ) → new ≡ option_or reply last
         → ends reply ≡ false → next ≡ datagram_to q (next_path path reply)
         → SoFar q path a c new next
     then_more new next is_new goes_on is_next = go far asked
@@ -131,8 +132,8 @@ module _ (q : Question) (path : Option (List ℕ)) (a : Option (List Move)) wher
         )
 
   -- memory ran out
-  pub then_stopped : (b c : Option (List Move)) (last : Option Reply) (bytes : List ℕ)
-      (fault : AllocError) (result : Result (Option Reply) AllocError)
+  pub then_stopped : (b c : Option (List Move)) (last : Option ClientReply) (bytes : List ℕ)
+      (fault : AllocError) (result : Result (Option ClientReply) AllocError)
       → SoFar q path a b last bytes → (kind : Wanted) → IsAsked q kind bytes b c (Err fault)
       → IsErr result → IsLastReply q path a c result
   then_stopped b c last bytes fault (Ok given) far kind asked err = absurd (cc err)
@@ -147,7 +148,7 @@ module _ (q : Question) (path : Option (List ℕ)) (a : Option (List Move)) wher
       )
 
   -- time is over
-  pub no_more : (b : Option (List Move)) (last : Option Reply) (bytes : List ℕ)
+  pub no_more : (b : Option (List Move)) (last : Option ClientReply) (bytes : List ℕ)
       → SoFar q path a b last bytes → IsLastReply q path a b (Ok last)
   no_more b last bytes (replies, m, grows, are, none, was, sent) = (replies, m, grows, are, was)
 
@@ -161,7 +162,7 @@ module _ (q : Question) (path : Option (List ℕ)) (a b : Option (List Move)) wh
   not_begun (Err e) err = ([], [], [], Grows-none a, refl, inl refl)
 
   -- there was a reply, and no memory for its line
-  pub no_room : (last : Option Reply) (result : Result (Option ProgramOutput) AllocError)
+  pub no_room : (last : Option ClientReply) (result : Result (Option ProgramOutput) AllocError)
       → IsErr result
       → IsLastReply q path a b (Ok last) → IsLastAnswer q path a b result
   no_room last (Ok given) err is = absurd (cc err)

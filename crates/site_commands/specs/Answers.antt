@@ -2,23 +2,22 @@
 use Rattle.std.specs.Prelude.{◌≡◌, ◌⊎◌, ℕ, ◌+◌, true, false, List, [], ◌∷◌, ◌++◌, codes}
 use Rattle.std.specs.Prelude.{Option, Some, None, Result, Ok, Err}
 use Rattle.std.specs.Fmt.{decimal}
-use Rattle.fed_types.specs.declared.bag_id.BagId.{BagId}
 use Rattle.fed_types.specs.Slots.{SlotName}
 use Rattle.dgram.specs.declared.answers.DepositAnswer.{DepositAnswer}
 use Rattle.dgram.specs.declared.answers.DepositAnswer.TheVariants as deposit
 use Rattle.dgram.specs.declared.answers.QueryAnswer.{QueryAnswer}
 use Rattle.dgram.specs.declared.answers.QueryAnswer.TheVariants as query
-use Rattle.lines.specs.declared.line.Line.{Line}
-use Rattle.lines.specs.declared.line.Line.TheVariants.{Registered, Replied}
-use Rattle.lines.specs.declared.line.NamedBag.{NamedBag}
-use Rattle.lines.specs.declared.line.NamedReply.TheVariants as named
+use Rattle.site.specs.declared.answer.Reply.TheVariants as replies
+use Rattle.lines.specs.declared.notice.Notice.{Notice}
+use Rattle.lines.specs.declared.notice.Notice.TheVariants.{Registered, Replied}
+use Rattle.lines.specs.Named.{line_of}
 use Rattle.lines.specs.Texts.{line_text}
 use Rattle.outcomes.specs.declared.fault.ProgramFault.{ProgramFault}
 use Rattle.outcomes.specs.declared.fault.ProgramFault.TheVariants.{Output}
 use Rattle.outcomes.specs.Outcomes.{Outcome, no_memory, Writes, WritesPrefix}
 use Rattle.udp_site.specs.Traffic.{Move, Grows}
-use Rattle.site_commands.specs.declared.reply.Reply.{Reply}
-use Rattle.site_commands.specs.declared.reply.Reply.TheVariants.{ToDeposit, ToQuery}
+use Rattle.site_commands.specs.declared.reply.ClientReply.{ClientReply}
+use Rattle.site_commands.specs.declared.reply.ClientReply.TheVariants.{ToDeposit, ToQuery}
 use Rattle.site_commands.specs.declared.reply.Wanted.{Wanted}
 use Rattle.site_commands.specs.declared.reply.Wanted.TheVariants as wanted
 use Rattle.site_commands.specs.Replies.{Question, datagram_to, first_reply}
@@ -26,15 +25,11 @@ use Rattle.site_commands.specs.Exchanges.{Asks}
 
 -- ---- lines
 
--- a bag as it is named here: by its identity
-abbrev pub named_bag : BagId → NamedBag
-named_bag bag = record { bag = bag; tree = 0 }
-
--- a site's own line, with the identities of bags
-abbrev pub said : Line → Outcome
-said line = record {
+-- the line of what a site says, with the identities of bags
+abbrev pub said : Notice → Outcome
+said notice = record {
   status = 0;
-  text = line_text (record { sent = false; identities = true }) line;
+  text = line_text (record { sent = false; identities = true }) (line_of [] notice);
 }
 
 -- the site refuses, for the reason of this code
@@ -52,7 +47,7 @@ no_answer = record { status = 1; text = codes "no answer" ++ 10 ∷ [] }
 -- The bag is registered, or the deposit is refused; the codes of a folder's and a bag's faults
 -- follow after 20 and 40.
 abbrev pub deposit_outcome : (site : ℕ) → SlotName → DepositAnswer → Outcome
-deposit_outcome site slot (deposit.Registered bag) = said (Registered site slot (named_bag bag))
+deposit_outcome site slot (deposit.Registered bag) = said (Registered site slot bag)
 deposit_outcome site slot (deposit.OtherDeposit bag) = refused site 11
 deposit_outcome site slot (deposit.OtherKnown bag) = refused site 12
 deposit_outcome site slot deposit.Device = refused site 13
@@ -63,18 +58,17 @@ deposit_outcome site slot (deposit.Bag fault) = refused site (40 + fault)
 
 -- what the site knows of the slot; it is refused only where the site needs opening
 abbrev pub query_outcome : (site : ℕ) → SlotName → QueryAnswer → Outcome
-query_outcome site slot (query.Known bag) = said (Replied site slot (named.Known (named_bag bag)))
-query_outcome site slot (query.Pending bag) =
-    said (Replied site slot (named.Pending (named_bag bag)))
-query_outcome site slot query.Nothing = said (Replied site slot named.Nothing)
+query_outcome site slot (query.Known bag) = said (Replied site slot (replies.Known bag))
+query_outcome site slot (query.Pending bag) = said (Replied site slot (replies.Pending bag))
+query_outcome site slot query.Nothing = said (Replied site slot replies.Nothing)
 query_outcome site slot query.NeedsOpen = refused site 15
 
-abbrev pub reply_outcome : Question → Reply → Outcome
+abbrev pub reply_outcome : Question → ClientReply → Outcome
 reply_outcome q (ToDeposit answer) = deposit_outcome q.to q.slot answer
 reply_outcome q (ToQuery answer) = query_outcome q.to q.slot answer
 
 -- what a client says of a reply, or of none
-abbrev pub outcome_of : Question → Option Reply → Outcome
+abbrev pub outcome_of : Question → Option ClientReply → Outcome
 outcome_of q None = no_answer
 outcome_of q (Some reply) = reply_outcome q reply
 

@@ -4,8 +4,8 @@ use Rattle.std.specs.Option.{option_map}
 use Rattle.std.specs.declared.alloc.AllocError.{AllocError}
 use Rattle.dgram.specs.declared.answers.QueryAnswer.{QueryAnswer}
 use Rattle.udp_site.specs.Traffic.{Post, Move, Took, Failed, Handed, Grows}
-use Rattle.site_commands.specs.declared.reply.Reply.{Reply}
-use Rattle.site_commands.specs.declared.reply.Reply.TheVariants.{ToQuery}
+use Rattle.site_commands.specs.declared.reply.ClientReply.{ClientReply}
+use Rattle.site_commands.specs.declared.reply.ClientReply.TheVariants.{ToQuery}
 use Rattle.site_commands.specs.declared.reply.Wanted.{Wanted}
 use Rattle.site_commands.specs.declared.reply.Wanted.TheVariants as wanted
 use Rattle.site_commands.specs.Replies.{Question, datagram_to, first_reply}
@@ -27,7 +27,7 @@ Asks post (Failed ∷ moves) = ⊥
 -- A site is asked by this datagram, and the first wanted reply that is then taken in is what it
 -- replies. How long the client listens isn't said, nor that there is memory for the question.
 abbrev pub IsAsked : Question → Wanted → List ℕ → (before after : Option (List Move))
-    → Result (Option Reply) AllocError → Type 0
+    → Result (Option ClientReply) AllocError → Type 0
 IsAsked q kind bytes before after result =
     (moves : List Move) × Grows before after moves × Asks (q.target, bytes) moves
     × IfOk result (λ reply. reply ≡ first_reply q kind moves)

@@ -7,8 +7,8 @@ use Rattle.dgram.specs.declared.answers.QueryAnswer.TheVariants as query
 use Rattle.outcomes.specs.declared.fault.ProgramFault.{ProgramFault}
 use Rattle.outcomes.specs.Outcomes.{Outcome, no_memory}
 use Rattle.udp_site.specs.Traffic.{Move, Grows}
-use Rattle.site_commands.specs.declared.reply.Reply.{Reply}
-use Rattle.site_commands.specs.declared.reply.Reply.TheVariants.{ToDeposit, ToQuery}
+use Rattle.site_commands.specs.declared.reply.ClientReply.{ClientReply}
+use Rattle.site_commands.specs.declared.reply.ClientReply.TheVariants.{ToDeposit, ToQuery}
 use Rattle.site_commands.specs.declared.reply.Wanted.{Wanted}
 use Rattle.site_commands.specs.declared.reply.Wanted.TheVariants as wanted
 use Rattle.site_commands.specs.Replies.{Question, datagram_to, first_reply}
@@ -16,24 +16,24 @@ use Rattle.site_commands.specs.Exchanges.{Asks}
 use Rattle.site_commands.specs.Answers.{no_answer, reply_outcome, IsWritten}
 
 -- the site knows the bag
-abbrev pub is_known : Reply → Bool
+abbrev pub is_known : ClientReply → Bool
 is_known (ToQuery (query.Known bag)) = true
 is_known reply = false
 
 -- nothing else is to be waited for: the bag is known, or the deposit is refused
-abbrev pub is_last : Reply → Bool
+abbrev pub is_last : ClientReply → Bool
 is_last (ToDeposit (deposit.Registered bag)) = false
 is_last (ToDeposit answer) = true
 is_last (ToQuery answer) = is_known (ToQuery answer)
 
 -- What is said next. The folder is deposited once more where the site replies that it knows nothing
 -- of the slot; else the bag is asked for.
-abbrev pub next_path : Option (List ℕ) → Option Reply → Option (List ℕ)
+abbrev pub next_path : Option (List ℕ) → Option ClientReply → Option (List ℕ)
 next_path path (Some (ToQuery query.Nothing)) = path
 next_path path reply = None
 
 -- what is said after these replies
-abbrev pub path_after : Option (List ℕ) → (next : Option (List ℕ)) → List (Option Reply)
+abbrev pub path_after : Option (List ℕ) → (next : Option (List ℕ)) → List (Option ClientReply)
     → Option (List ℕ)
 path_after path next [] = next
 path_after path next (reply ∷ replies) = path_after path (next_path path reply) replies
@@ -44,18 +44,18 @@ wanted_until None = wanted.ToQuery
 wanted_until (Some path) = wanted.Any
 
 -- it is the last reply
-abbrev pub ends : Option Reply → Bool
+abbrev pub ends : Option ClientReply → Bool
 ends None = false
 ends (Some reply) = is_last reply
 
 -- none of these is
-abbrev pub NoneEnds : List (Option Reply) → Type 0
+abbrev pub NoneEnds : List (Option ClientReply) → Type 0
 NoneEnds [] = ⊤
 NoneEnds (reply ∷ replies) = (ends reply ≡ false) × NoneEnds replies
 
 -- One after another the site is asked, and these are its first replies, if it replied. With a path
 -- the folder is deposited first. After the last reply there is no other question.
-abbrev pub AreReplies : Question → (path next : Option (List ℕ)) → List (Option Reply)
+abbrev pub AreReplies : Question → (path next : Option (List ℕ)) → List (Option ClientReply)
     → List Move → Type 0
 AreReplies q path next [] moves = moves ≡ []
 AreReplies q path next (reply ∷ replies) moves =
@@ -66,12 +66,12 @@ AreReplies q path next (reply ∷ replies) moves =
     × AreReplies q path (next_path path reply) replies rest
 
 -- the last reply that there was
-abbrev pub last_of : List (Option Reply) → Option Reply
+abbrev pub last_of : List (Option ClientReply) → Option ClientReply
 last_of [] = None
 last_of (reply ∷ replies) = option_or (last_of replies) reply
 
 -- what it says, with the status 0 only where the bag is known
-abbrev pub until_outcome : Question → Option Reply → Outcome
+abbrev pub until_outcome : Question → Option ClientReply → Outcome
 until_outcome q None = no_answer
 until_outcome q (Some reply) = record {
   status = if is_known reply then 0 else 1;
@@ -82,7 +82,7 @@ until_outcome q (Some reply) = record {
 abbrev pub IsBrokenOff : Question → (path : Option (List ℕ)) → (before after : Option (List Move))
     → Type 0
 IsBrokenOff q path before after =
-    (replies : List (Option Reply)) × (moves : List Move) × (others : List Move)
+    (replies : List (Option ClientReply)) × (moves : List Move) × (others : List Move)
     × Grows before after (moves ++ others) × AreReplies q path path replies moves
     × ((others ≡ []) ⊎ (NoneEnds replies
     × Asks (q.target, datagram_to q (path_after path path replies)) others))
@@ -93,7 +93,7 @@ abbrev pub IsSentUntilKnown : Question → (path : Option (List ℕ))
     → (before after : Option (List Move)) → (old new : Option (List ℕ)) → Result ℕ ProgramFault
     → Type 0
 IsSentUntilKnown q path before after old new result =
-    ((replies : List (Option Reply)) × (moves : List Move) × Grows before after moves
+    ((replies : List (Option ClientReply)) × (moves : List Move) × Grows before after moves
     × AreReplies q path path replies moves
     × IsWritten old new result (until_outcome q (last_of replies)))
     ⊎ (IsBrokenOff q path before after × IsWritten old new result no_memory)

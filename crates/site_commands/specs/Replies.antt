@@ -10,8 +10,8 @@ use Rattle.dgram.specs.Decoded.{message_of}
 use Rattle.dgram.specs.Encoding.{datagram_of}
 use Rattle.udp_site.specs.Traffic.{Nothing, From, Move, Took, Failed, Handed}
 use Rattle.site_commands.specs.declared.request.Request.{Request}
-use Rattle.site_commands.specs.declared.reply.Reply.{Reply}
-use Rattle.site_commands.specs.declared.reply.Reply.TheVariants.{ToDeposit, ToQuery}
+use Rattle.site_commands.specs.declared.reply.ClientReply.{ClientReply}
+use Rattle.site_commands.specs.declared.reply.ClientReply.TheVariants.{ToDeposit, ToQuery}
 use Rattle.site_commands.specs.declared.reply.Wanted.{Wanted}
 use Rattle.site_commands.specs.declared.reply.Wanted.TheVariants as wanted
 
@@ -55,7 +55,7 @@ wants_queries wanted.ToQuery = true
 wants_queries wanted.Any = true
 
 -- the reply of this site in what a message says, if it is a wanted one
-abbrev pub reply_by : (to : ℕ) → Wanted → Body → Option Reply
+abbrev pub reply_by : (to : ℕ) → Wanted → Body → Option ClientReply
 reply_by to kind (DepositReply from answer) =
     if from == to && wants_deposits kind then Some (ToDeposit answer) else None
 reply_by to kind (QueryReply from answer) =
@@ -63,22 +63,22 @@ reply_by to kind (QueryReply from answer) =
 reply_by to kind body = None
 
 -- the same in a message, if there is one, and it is about the slot
-abbrev pub reply_of : Question → Wanted → Option Message → Option Reply
+abbrev pub reply_of : Question → Wanted → Option Message → Option ClientReply
 reply_of q kind None = None
 reply_of q kind (Some m) = if same_slot m.slot q.slot then reply_by q.to kind m.body else None
 
 -- the same in the bytes of a datagram, whichever port it comes from
-abbrev pub reply_in : Question → Wanted → List ℕ → Option Reply
+abbrev pub reply_in : Question → Wanted → List ℕ → Option ClientReply
 reply_in q kind bytes = reply_of q kind (message_of q.federation bytes)
 
 -- the same in what a port does
-abbrev pub reply_at : Question → Wanted → Move → Option Reply
+abbrev pub reply_at : Question → Wanted → Move → Option ClientReply
 reply_at q kind (Took (From port bytes)) = reply_in q kind bytes
 reply_at q kind (Took Nothing) = None
 reply_at q kind Failed = None
 reply_at q kind (Handed post) = None
 
 -- the first that a port takes in
-abbrev pub first_reply : Question → Wanted → List Move → Option Reply
+abbrev pub first_reply : Question → Wanted → List Move → Option ClientReply
 first_reply q kind [] = None
 first_reply q kind (move ∷ moves) = option_or (reply_at q kind move) (first_reply q kind moves)

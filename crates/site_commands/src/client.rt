@@ -8,7 +8,7 @@ ghost use Rattle.site_commands.specs.inner.Written.{outcome_to, outcome_in, IsAn
 
 use crate::client_answer::{deposit_text, query_text};
 use crate::exchange::{PortUse, ask, datagram};
-use crate::reply::{Reply, Wanted, query_in, wanted_for};
+use crate::reply::{ClientReply, Wanted, query_in, wanted_for};
 use crate::request::Request;
 use dgram::{FolderPath, QueryAnswer};
 use outcomes::{ProgramFault, ProgramOutput, write_output};
@@ -93,14 +93,14 @@ pub fn ask_for_bag<P: Port>(
 pub(crate) fn answer_of(
     alloc: Global,
     request: &Request<'_>,
-    reply: Reply,
+    reply: ClientReply,
 ) -> Result<ProgramOutput, AllocError>
     ensures { IfOk result
         (λ answer. outcome_in answer ≡ outcome_of (question_of request.now) (Some reply)) }
 {
     let slot = request.slot.copy(alloc)?;
     match reply {
-        Reply::ToDeposit(answer) => deposit_text(alloc, request.to, slot, answer),
-        Reply::ToQuery(answer) => query_text(alloc, request.to, slot, answer),
+        ClientReply::ToDeposit(answer) => deposit_text(alloc, request.to, slot, answer),
+        ClientReply::ToQuery(answer) => query_text(alloc, request.to, slot, answer),
     }
 }

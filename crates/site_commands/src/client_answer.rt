@@ -2,14 +2,13 @@
 
 ghost use Rattle.std.specs.Prelude.{◌≡◌, IfOk};
 ghost use Rattle.site_commands.specs.Answers.{deposit_outcome, query_outcome, said, refused};
-ghost use Rattle.site_commands.specs.Answers.{named_bag};
 ghost use Rattle.site_commands.specs.inner.Written.{outcome_in};
 
 use dgram::{DepositAnswer, QueryAnswer};
-use fed_types::{BagId, SiteNo, Slot};
-use lines::{Line, NamedBag, NamedReply, Options, push_line};
+use fed_types::{SiteNo, Slot};
+use lines::{Notice, Options, line_by_identity, push_line};
 use outcomes::ProgramOutput;
-use site::SiteFault;
+use site::{Reply, SiteFault};
 use std::alloc::{AllocError, Global};
 
 /// The answer to a deposit.
@@ -23,10 +22,7 @@ pub(crate) fn deposit_text(
 {
     let site = to.number();
     match answer {
-        DepositAnswer::Registered(bag) => {
-            let bag = named(bag);
-            line_text(alloc, &Line::Registered { site, slot, bag })
-        }
+        DepositAnswer::Registered(bag) => said(alloc, Notice::Registered { site, slot, bag }),
         DepositAnswer::OtherDeposit(bag) => {
             refused(alloc, site, SiteFault::OtherDeposit(bag).number())
         }
@@ -52,26 +48,26 @@ pub(crate) fn query_text(
 {
     let site = to.number();
     let reply = match answer {
-        QueryAnswer::Known(bag) => NamedReply::Known(named(bag)),
-        QueryAnswer::Pending(bag) => NamedReply::Pending(named(bag)),
-        QueryAnswer::Nothing => NamedReply::Nothing,
+        QueryAnswer::Known(bag) => Reply::Known(bag),
+        QueryAnswer::Pending(bag) => Reply::Pending(bag),
+        QueryAnswer::Nothing => Reply::Nothing,
         QueryAnswer::NeedsOpen => {
             return refused(alloc, site, SiteFault::NeedsOpen.number());
         }
     };
-    line_text(alloc, &Line::Replied { site, slot, reply })
+    said(alloc, Notice::Replied { site, slot, reply })
 }
 
-// A line, in which the bag has its identity.
-fn line_text(alloc: Global, line: &Line) -> Result<ProgramOutput, AllocError>
-    ensures { IfOk result (λ given. outcome_in given ≡ said line.now) }
+// The line of what the site says.
+fn said(alloc: Global, notice: Notice) -> Result<ProgramOutput, AllocError>
+    ensures { IfOk result (λ given. outcome_in given ≡ said notice) }
 {
     let options = Options {
         sent: false,
         identities: true,
     };
     let mut text = String::new(alloc);
-    push_line(alloc, &mut text, options, line)?;
+    push_line(alloc, &mut text, options, &line_by_identity(notice))?;
     Ok(ProgramOutput { status: 0, text })
 }
 
@@ -83,10 +79,4 @@ fn refused(alloc: Global, site: u8, code: u8) -> Result<ProgramOutput, AllocErro
         status: 1,
         text: format!(in alloc; "refused {site} {code}\n")?,
     })
-}
-
-fn named(bag: BagId) -> NamedBag
-    ensures { result ≡ named_bag bag }
-{
-    NamedBag { bag, tree: 0 }
 }

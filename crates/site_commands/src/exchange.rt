@@ -6,7 +6,7 @@ ghost use Rattle.site_commands.specs.Replies.{question_of, datagram_to};
 ghost use Rattle.site_commands.specs.Exchanges.{IsAsked};
 ghost use Rattle.site_commands.specs.inner.Heard.{TakesOne, Hears};
 
-use crate::reply::{Reply, Wanted, reply_in};
+use crate::reply::{ClientReply, Wanted, reply_in};
 use crate::request::Request;
 use dgram::{Body, FolderPath, LONGEST_DATAGRAM, Message, encode};
 use std::alloc::{AllocError, Global};
@@ -51,7 +51,7 @@ pub(crate) fn ask<P: Port>(
     request: &Request<'_>,
     wanted: Wanted,
     bytes: &[u8],
-) -> Result<Option<Reply>, AllocError>
+) -> Result<Option<ClientReply>, AllocError>
     ensures { IsAsked (question_of request.now) wanted bytes.now
         (P.traffic port.old) (P.traffic port.new) result }
 {
@@ -72,7 +72,7 @@ fn receive_reply<P: Port>(
     port: &mut P,
     request: &Request<'_>,
     wanted: Wanted,
-) -> Result<Option<Reply>, AllocError>
+) -> Result<Option<ClientReply>, AllocError>
     ensures { Hears (question_of request.now) wanted
         (P.traffic port.old) (P.traffic port.new) result }
 {

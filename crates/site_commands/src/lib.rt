@@ -32,7 +32,7 @@ pub use client_command::send_to_site;
 pub use file_members::{members_at, port_of};
 pub use members_arguments::{MembersTask, members_command, members_task};
 pub use printed_members::print_members;
-pub use reply::{Reply, Wanted};
+pub use reply::{ClientReply, Wanted};
 pub use request::Request;
 pub use send_arguments::{SendTask, send_command, send_task, to_argument};
 pub use server_command::serve_site;

@@ -14,7 +14,7 @@ use std::alloc::{AllocError, Global};
 
 /// What a site replies.
 #[derive(Clone, Copy)]
-pub enum Reply {
+pub enum ClientReply {
     ToDeposit(DepositAnswer),
     ToQuery(QueryAnswer),
 }
@@ -38,12 +38,12 @@ pub(crate) fn wanted_for(path: &Option<FolderPath>) -> Wanted
 }
 
 /// The answer to a query, if this is one.
-pub(crate) fn query_in(reply: Option<Reply>) -> Option<QueryAnswer>
+pub(crate) fn query_in(reply: Option<ClientReply>) -> Option<QueryAnswer>
     ensures { result ≡ query_in reply }
 {
     match reply {
-        Some(Reply::ToQuery(answer)) => Some(answer),
-        Some(Reply::ToDeposit(_)) | None => None,
+        Some(ClientReply::ToQuery(answer)) => Some(answer),
+        Some(ClientReply::ToDeposit(_)) | None => None,
     }
 }
 
@@ -54,7 +54,7 @@ pub(crate) fn reply_in(
     request: &Request<'_>,
     wanted: Wanted,
     bytes: &[u8],
-) -> Result<Option<Reply>, AllocError>
+) -> Result<Option<ClientReply>, AllocError>
     ensures reply { IfOk result
         (λ reply. reply ≡ reply_in (question_of request.now) wanted bytes.now) }
     ensures memory { IsErr result → IsSome (message_of request.now.federation bytes.now) }
@@ -72,15 +72,15 @@ pub(crate) fn reply_in(
 }
 
 // The reply of the site, if this is one that is wanted.
-fn reply_by(to: SiteNo, wanted: Wanted, body: &Body) -> Option<Reply>
+fn reply_by(to: SiteNo, wanted: Wanted, body: &Body) -> Option<ClientReply>
     ensures { result ≡ reply_by to wanted body.now }
 {
     match body {
         Body::DepositReply { from, answer } if *from == to && wants_deposits(wanted) => {
-            Some(Reply::ToDeposit(*answer))
+            Some(ClientReply::ToDeposit(*answer))
         }
         Body::QueryReply { from, answer } if *from == to && wants_queries(wanted) => {
-            Some(Reply::ToQuery(*answer))
+            Some(ClientReply::ToQuery(*answer))
         }
         _ => None,
     }

@@ -10,7 +10,7 @@ ghost use Rattle.site_commands.specs.inner.Written.{outcome_in};
 
 use crate::client::{answer_of, write_reply};
 use crate::exchange::{PortUse, ask, datagram};
-use crate::reply::{Reply, Wanted};
+use crate::reply::{ClientReply, Wanted};
 use crate::request::Request;
 use dgram::{DepositAnswer, FolderPath, QueryAnswer};
 use outcomes::{ProgramFault, ProgramOutput};
@@ -85,7 +85,7 @@ fn wanted_until(path: &Option<FolderPath>) -> Wanted
 fn answer_to(
     alloc: Global,
     request: &Request<'_>,
-    reply: Reply,
+    reply: ClientReply,
 ) -> Result<ProgramOutput, AllocError>
     ensures { IfOk result
         (λ answer. outcome_in answer ≡ until_outcome (question_of request.now) (Some reply)) }
@@ -104,7 +104,7 @@ fn last_reply<P: Port, C: Clock>(
     wanted: Wanted,
     questions: &Questions,
     seconds: u32,
-) -> Result<Option<Reply>, AllocError>
+) -> Result<Option<ClientReply>, AllocError>
     ensures { (path : Option (List ℕ)) → wanted ≡ wanted_until path
         → AreQuestions (question_of request.now) path questions.now
         → IsLastReply (question_of request.now) path
@@ -128,7 +128,7 @@ fn last_reply<P: Port, C: Clock>(
 }
 
 // The reply, or an earlier one.
-fn or(reply: Option<Reply>, earlier: Option<Reply>) -> Option<Reply>
+fn or(reply: Option<ClientReply>, earlier: Option<ClientReply>) -> Option<ClientReply>
     ensures { result ≡ option_or reply earlier }
 {
     match reply {
@@ -137,14 +137,14 @@ fn or(reply: Option<Reply>, earlier: Option<Reply>) -> Option<Reply>
     }
 }
 
-fn is_known(reply: &Reply) -> bool
+fn is_known(reply: &ClientReply) -> bool
     ensures { result ≡ is_known reply.now }
 {
-    matches!(reply, Reply::ToQuery(QueryAnswer::Known(_)))
+    matches!(reply, ClientReply::ToQuery(QueryAnswer::Known(_)))
 }
 
 // Whether nothing else is to be waited for.
-fn ends(reply: &Option<Reply>) -> bool
+fn ends(reply: &Option<ClientReply>) -> bool
     ensures { result ≡ ends reply.now }
 {
     match reply {
@@ -153,13 +153,13 @@ fn ends(reply: &Option<Reply>) -> bool
     }
 }
 
-fn is_last(reply: &Reply) -> bool
+fn is_last(reply: &ClientReply) -> bool
     ensures { result ≡ is_last reply.now }
 {
     match reply {
-        Reply::ToDeposit(DepositAnswer::Registered(_)) => false,
-        Reply::ToDeposit(_) => true,
-        Reply::ToQuery(_) => is_known(reply),
+        ClientReply::ToDeposit(DepositAnswer::Registered(_)) => false,
+        ClientReply::ToDeposit(_) => true,
+        ClientReply::ToQuery(_) => is_known(reply),
     }
 }
 
@@ -204,12 +204,12 @@ impl Questions {
     }
 
     // What is sent after this reply. A site that knows nothing hasn't got the deposit.
-    fn after(&self, reply: &Option<Reply>) -> &[u8]
+    fn after(&self, reply: &Option<ClientReply>) -> &[u8]
         ensures { (q : Question) (path : Option (List ℕ)) → AreQuestions q path self.now
             → result.now ≡ datagram_to q (next_path path reply.now) }
     {
         match reply {
-            Some(Reply::ToQuery(QueryAnswer::Nothing)) => self.first(),
+            Some(ClientReply::ToQuery(QueryAnswer::Nothing)) => self.first(),
             _ => self.query.as_slice(),
         }
     }

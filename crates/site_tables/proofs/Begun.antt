@@ -12,9 +12,9 @@ use Rattle.records.proofs.SlotStates.{deposit-push}
 use Rattle.dgram.specs.declared.message.Message.{Message}
 use Rattle.dgram.specs.Heard.{PromiseFrom}
 use Rattle.proposer.specs.Proposals.{Current, ready}
-use Rattle.proposer.specs.Rounds.{Round}
+use Rattle.proposer.specs.BallotStates.{BallotState}
 use Rattle.proposer.specs.Rows.{CountsFor}
-use Rattle.proposer.specs.Sessions.{at_slot}
+use Rattle.proposer.specs.VolatileStates.{at_slot}
 use Rattle.proposer.specs.UnderWay.{UnderWay, under_way_if, waiting_after}
 use Rattle.site_tables.specs.Contents.{AreDeposits}
 
@@ -85,7 +85,7 @@ current_waits under (Some bag) m records current = current
 -- what is proposed where the current ballot was begun with the deposit
 pub ready_with_deposit : (q : QuorumSystem) (slot : SlotName) (own deposit : Option BagId)
     (heard : List Message) (ballot : BallotNumber) (p : PromiseFrom) (c : Option Current)
-    (o : Option Round) → CountsFor slot own heard c o
+    (o : Option BallotState) → CountsFor slot own heard c o
     → ((bag : BagId) → own ≡ Some bag → deposit ≡ Some bag)
     → ready q own slot c heard ballot p ≡ ready q deposit slot c heard ballot p
 ready_with_deposit q slot own deposit heard ballot p None o h is = refl

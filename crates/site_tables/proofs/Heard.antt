@@ -14,11 +14,11 @@ use Rattle.dgram.specs.declared.message.Message.{Message}
 use Rattle.dgram.specs.Heard.{bodies_of, promise_in, refused_round, voter_in, voters_for}
 use Rattle.dgram.proofs.Heard.{bodies_of-append, voters_for-append}
 use Rattle.slot_table.specs.Rows.{Rows}
-use Rattle.proposer.specs.declared.round.Promise.{Promise as Waiting}
-use Rattle.proposer.specs.Rounds.{Round}
+use Rattle.proposer.specs.declared.ballot_state.Promise.{Promise as Waiting}
+use Rattle.proposer.specs.BallotStates.{BallotState}
 use Rattle.proposer.specs.declared.row.Row.{Row as proposer_row}
 use Rattle.proposer.specs.Rows as proposers
-use Rattle.proposer.specs.Sessions.{Session, hears, promise_message}
+use Rattle.proposer.specs.VolatileStates.{VolatileState, hears, promise_message}
 use Rattle.proposer.specs.UnderWay.{UnderWay, heard_after}
 use Rattle.proposer.specs.UnderWay.{heard_if}
 use Rattle.proposer.proofs.Stands.{heard_stands}
@@ -59,70 +59,71 @@ module _ (rows : Rows learner_row) (records : List Record) (heard : List Message
           ∙ append-nil (voters_for v (bodies_of s heard))
 
 -- a promise, which is heard unless it waits
-pub learner_hears_promise : (rows : Rows learner_row) (records : List Record) (session : Session)
-    → learners.Represents rows records session.heard → (given : Option BagId)
+pub learner_hears_promise : (rows : Rows learner_row) (records : List Record)
+    (volatile : VolatileState)
+    → learners.Represents rows records volatile.heard → (given : Option BagId)
     (slot : SlotName) (from : ℕ) (ballot : BallotNumber) (prior : Option Vote)
     → learners.Represents rows records
-    (heard_after given session (promise_message slot from ballot prior)).heard
-learner_hears_promise rows records session stands None slot from ballot prior =
-    learner_hears rows records session.heard stands (promise_message slot from ballot prior)
+    (heard_after given volatile (promise_message slot from ballot prior)).heard
+learner_hears_promise rows records volatile stands None slot from ballot prior =
+    learner_hears rows records volatile.heard stands (promise_message slot from ballot prior)
     (λ v. refl)
-learner_hears_promise rows records session stands (Some bag) slot from ballot prior = stands
+learner_hears_promise rows records volatile stands (Some bag) slot from ballot prior = stands
 
 -- what waits in a proposer is a promise
 pub learner_hears_waiting : (rows : Rows learner_row) (proposing : Rows proposer_row)
-    (records : List Record) (session : Session) (under : UnderWay)
-    → proposers.Represents proposing records session under
-    → learners.Represents rows records session.heard → (slot : SlotName)
-    → learners.Represents rows records (heard_if session (under.waiting slot)).heard
-learner_hears_waiting rows proposing records session under proposes stands slot =
+    (records : List Record) (volatile : VolatileState) (under : UnderWay)
+    → proposers.Represents proposing records volatile under
+    → learners.Represents rows records volatile.heard → (slot : SlotName)
+    → learners.Represents rows records (heard_if volatile (under.waiting slot)).heard
+learner_hears_waiting rows proposing records volatile under proposes stands slot =
     go (proposers.current_in (proposers.row_of proposing slot)) (proposes slot).waiting
   where
     waits : (ballot : BallotNumber) (p : Option Waiting)
         → proposers.waiting_as slot ballot p ≡ under.waiting slot
-        → learners.Represents rows records (heard_if session (under.waiting slot)).heard
+        → learners.Represents rows records (heard_if volatile (under.waiting slot)).heard
     waits ballot None e =
-        subst (λ (m : Option Message). learners.Represents rows records (heard_if session m).heard)
+        subst (λ (m : Option Message). learners.Represents rows records (heard_if volatile m).heard)
         e stands
     waits ballot (Some p) e =
-        subst (λ (m : Option Message). learners.Represents rows records (heard_if session m).heard)
+        subst (λ (m : Option Message). learners.Represents rows records (heard_if volatile m).heard)
         e
-        (learner_hears rows records session.heard stands
+        (learner_hears rows records volatile.heard stands
         (promise_message slot p.site ballot p.prior) (λ v. refl))
 
-    go : (o : Option Round) → proposers.waiting_in slot o ≡ under.waiting slot
-        → learners.Represents rows records (heard_if session (under.waiting slot)).heard
+    go : (o : Option BallotState) → proposers.waiting_in slot o ≡ under.waiting slot
+        → learners.Represents rows records (heard_if volatile (under.waiting slot)).heard
     go None e =
-        subst (λ (m : Option Message). learners.Represents rows records (heard_if session m).heard)
+        subst (λ (m : Option Message). learners.Represents rows records (heard_if volatile m).heard)
         e stands
     go (Some round) e = waits round.ballot round.waiting e
 
 -- ---- the tables
 
-module _ (t : Contents) (records : List Record) (session : Session) (under : UnderWay)
-    (stands : Represents t records session under) where
+module _ (t : Contents) (records : List Record) (volatile : VolatileState) (under : UnderWay)
+    (stands : Represents t records volatile under) where
   -- a message that is no promise, no refusal and no vote changes nothing of what they represent
   pub hears_other : (m : Message) → ((b : BallotNumber) → promise_in b m.body ≡ None)
       → refused_round m.body ≡ None → ((v : Vote) → voter_in v m.body ≡ None)
-      → Represents t records (hears session m) under
+      → Represents t records (hears volatile m) under
   hears_other m no_promise no_refusal no_vote = record {
-    proposer = heard_stands t.proposer.rows m records session under no_refusal no_promise
+    proposer = heard_stands t.proposer.rows m records volatile under no_refusal no_promise
         stands.proposer;
     begun = stands.begun;
     current = stands.current;
-    learner = learner_hears t.learner.rows records session.heard stands.learner m no_vote;
+    learner = learner_hears t.learner.rows records volatile.heard stands.learner m no_vote;
   }
 
   -- nor does a vote of a slot whose bag is known
   pub hears_known : (slot : SlotName) (from : ℕ) (vote : Vote) (bag : BagId)
       → known_of slot records ≡ Some bag
-      → Represents t records (hears session (record { slot = slot; body = Accepted from vote }))
+      → Represents t records (hears volatile (record { slot = slot; body = Accepted from vote }))
       under
   hears_known slot from vote bag known = record {
     proposer = heard_stands t.proposer.rows (record { slot = slot; body = Accepted from vote })
-        records session under refl (λ b. refl) stands.proposer;
+        records volatile under refl (λ b. refl) stands.proposer;
     begun = stands.begun;
     current = stands.current;
-    learner = heard_known t.learner.rows records session.heard slot from vote stands.learner bag
+    learner = heard_known t.learner.rows records volatile.heard slot from vote stands.learner bag
         (stands.learner.known slot ∙ known);
   }

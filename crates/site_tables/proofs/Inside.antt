@@ -2,7 +2,7 @@
 use Rattle.std.proofs.Common.{◌≡◌, List, sym, subst}
 use Rattle.records.specs.declared.owner.Owner.{Owner}
 use Rattle.records.specs.declared.record.Record.{Record}
-use Rattle.proposer.specs.Sessions.{Session}
+use Rattle.proposer.specs.VolatileStates.{VolatileState}
 use Rattle.proposer.specs.UnderWay.{UnderWay}
 use Rattle.site_tables.specs.Contents.{Contents, IsOf, Represents}
 
@@ -12,7 +12,7 @@ is_inside seen owner records of =
     subst (λ (t : Contents). IsOf t owner records) (sym seen) of
 
 pub was_inside : {inside now : Contents} → inside ≡ now → (records : List Record)
-    (session : Session) (under : UnderWay) → Represents now records session under
-    → Represents inside records session under
-was_inside seen records session under stands =
-    subst (λ (t : Contents). Represents t records session under) (sym seen) stands
+    (volatile : VolatileState) (under : UnderWay) → Represents now records volatile under
+    → Represents inside records volatile under
+was_inside seen records volatile under stands =
+    subst (λ (t : Contents). Represents t records volatile under) (sym seen) stands

@@ -12,7 +12,7 @@ use Rattle.records.specs.declared.record.Record.{Record}
 use Rattle.dgram.specs.declared.message.Message.{Message}
 use Rattle.acceptor.specs.Rows as acceptors
 use Rattle.proposer.specs.Rows as proposers
-use Rattle.proposer.specs.Sessions.{Session, new_session}
+use Rattle.proposer.specs.VolatileStates.{VolatileState, new_volatile}
 use Rattle.proposer.specs.UnderWay.{UnderWay, nothing, current_by, current_if}
 use Rattle.proposer.specs.UnderWay.{under_way_if}
 use Rattle.learner.specs.LearnerStates as learners
@@ -22,10 +22,10 @@ use Rattle.site_tables.proofs.Deposited.{deposits-push}
 use Rattle.site_tables.proofs.Outcomes.{always}
 
 -- a ballot that becomes current changes nothing of what was heard
-heard_same : (session : Session) (slot : SlotName) (ballot : Option BallotNumber)
-    → session.heard ≡ (current_if session slot ballot).heard
-heard_same session slot None = refl
-heard_same session slot (Some ballot) = refl
+heard_same : (volatile : VolatileState) (slot : SlotName) (ballot : Option BallotNumber)
+    → volatile.heard ≡ (current_if volatile slot ballot).heard
+heard_same volatile slot None = refl
+heard_same volatile slot (Some ballot) = refl
 
 -- each part takes note of the record
 abbrev pub AcceptorNotes : (old new : Contents) → Record → Type 0
@@ -36,10 +36,10 @@ AcceptorNotes old new r =
 
 abbrev pub ProposerNotes : (old new : Contents) → Record → Type 0
 ProposerNotes old new r =
-    (records : List Record) (session : Session) (under : UnderWay)
-    → proposers.Represents old.proposer.rows records session under
+    (records : List Record) (volatile : VolatileState) (under : UnderWay)
+    → proposers.Represents old.proposer.rows records volatile under
     → proposers.Represents new.proposer.rows (records ++ r ∷ [])
-    (current_if session r.slot (current_by (under.begun r.slot) r.body))
+    (current_if volatile r.slot (current_by (under.begun r.slot) r.body))
     (under_way_if under r.slot (current_by (under.begun r.slot) r.body))
 
 abbrev pub LearnerNotes : (old new : Contents) → Record → Type 0
@@ -97,21 +97,21 @@ module _ (old new : Contents) (r : Record) (notes : Notes old new r) where
   }
 
   -- and represent them
-  pub noted_stands : (records : List Record) (session : Session) (under : UnderWay)
-      → Represents old records session under
+  pub noted_stands : (records : List Record) (volatile : VolatileState) (under : UnderWay)
+      → Represents old records volatile under
       → Represents new (records ++ r ∷ [])
-      (current_if session r.slot (current_by (under.begun r.slot) r.body))
+      (current_if volatile r.slot (current_by (under.begun r.slot) r.body))
       (under_way_if under r.slot (current_by (under.begun r.slot) r.body))
-  noted_stands records session under stands = record {
-    proposer = notes.proposer records session under stands.proposer;
+  noted_stands records volatile under stands = record {
+    proposer = notes.proposer records volatile under stands.proposer;
     begun = begun_stays under r.slot (current_by (under.begun r.slot) r.body) (records ++ r ∷ [])
         (deposits_stay under.begun_bag records r stands.begun);
     current = current_stays under r.slot (current_by (under.begun r.slot) r.body)
         (records ++ r ∷ []) (deposits_stay under.begun_bag records r stands.begun)
         (deposits_stay under.current_bag records r stands.current);
     learner = subst (learners.Represents new.learner.rows (records ++ r ∷ []))
-        (heard_same session r.slot (current_by (under.begun r.slot) r.body))
-        (notes.learner records session.heard stands.learner);
+        (heard_same volatile r.slot (current_by (under.begun r.slot) r.body))
+        (notes.learner records volatile.heard stands.learner);
   }
 
 -- where no ballot was begun none becomes current
@@ -122,11 +122,11 @@ none_current (entry.Promise ballot) = refl
 none_current (entry.Vote vote) = refl
 none_current (entry.Known bag) = refl
 
--- so a record leaves a new session new
+-- so a record leaves a new volatile state new
 pub stays_new : (t : Contents) (records : List Record) (r : Record)
-    → Represents t records (current_if new_session r.slot (current_by None r.body))
+    → Represents t records (current_if new_volatile r.slot (current_by None r.body))
     (under_way_if nothing r.slot (current_by None r.body))
-    → Represents t records new_session nothing
+    → Represents t records new_volatile nothing
 stays_new t records r stands =
-    subst (λ (b : Option BallotNumber). Represents t records (current_if new_session r.slot b)
+    subst (λ (b : Option BallotNumber). Represents t records (current_if new_volatile r.slot b)
     (under_way_if nothing r.slot b)) (none_current r.body) stands

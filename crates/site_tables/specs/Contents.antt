@@ -13,7 +13,7 @@ use Rattle.slot_table.specs.Rows.{Rows, row_at}
 use Rattle.acceptor.specs.declared.row.Row.{Row as acceptor_row}
 use Rattle.acceptor.specs.Rows as acceptors
 use Rattle.proposer.specs.Rows as proposers
-use Rattle.proposer.specs.Sessions.{Session}
+use Rattle.proposer.specs.VolatileStates.{VolatileState}
 use Rattle.proposer.specs.UnderWay.{UnderWay}
 use Rattle.learner.specs.LearnerStates as learners
 
@@ -63,12 +63,12 @@ AreDeposits bags records =
 
 -- they represent the records, and what was heard since the site was opened
 pub record Represents
-    (t : Contents) (records : List Record) (session : Session) (under : UnderWay)
+    (t : Contents) (records : List Record) (volatile : VolatileState) (under : UnderWay)
     : Type 0 where
-  pub proposer : proposers.Represents t.proposer.rows records session under
+  pub proposer : proposers.Represents t.proposer.rows records volatile under
   pub begun : AreDeposits under.begun_bag records
   pub current : AreDeposits under.current_bag records
-  pub learner : learners.Represents t.learner.rows records session.heard
+  pub learner : learners.Represents t.learner.rows records volatile.heard
 
 -- there is room for a record of this slot
 pub record HasRoom (t : Contents) (slot : SlotName) : Type 0 where
@@ -85,5 +85,5 @@ IsOfSame old new =
 -- whatever owner, records and messages the old contents represent, the new ones represent
 pub record RepresentsSame (old new : Contents) : Type 0 where
   pub of : IsOfSame old new
-  pub stands : (records : List Record) (session : Session) (under : UnderWay)
-      → Represents old records session under → Represents new records session under
+  pub stands : (records : List Record) (volatile : VolatileState) (under : UnderWay)
+      → Represents old records volatile under → Represents new records volatile under

@@ -1,15 +1,16 @@
-ghost use Rattle.std.specs.Prelude.{◌≡◌, ℕ, ◌++◌, ◌∷◌, [], List, None, Option, Err, slice_get};
-ghost use Rattle.std.specs.Prelude.{OnOk, OnErr, IfOk, IsOk, IsSome, option_map};
+ghost use Rattle.std.specs.Prelude.{◌≡◌, ◌++◌, ◌∷◌, [], None, Option, Err};
+ghost use Rattle.std.specs.Prelude.{OnOk, OnErr, IfOk, IsOk, IsSome};
 ghost use Rattle.std.specs.Option.{option_copied};
-ghost use Rattle.fed_types.specs.Ballots.{BallotNumber};
+ghost use Rattle.fed_types.specs.Faults.{IsOrFault};
 ghost use Rattle.fed_types.specs.Quorums.{quorums_of};
 ghost use Rattle.records.specs.declared.owner.Owner.{Owner as declared_owner};
 ghost use Rattle.records.specs.Records.{Records};
 ghost use Rattle.records.specs.SlotStates.{deposit_of, known_of};
 ghost use Rattle.acceptor.specs.Decisions.{prepare_decision, accept_decision};
-ghost use Rattle.proposer.specs.Faults.{next_or_spent, IsOrMemory};
+ghost use Rattle.proposer.specs.Faults.{next_or_spent};
 ghost use Rattle.proposer.specs.Proposals.{next_ballot, ready};
-ghost use Rattle.proposer.specs.Sessions.{Session, new_session, promise_message, hears};
+ghost use Rattle.proposer.specs.VolatileStates.{VolatileState, new_volatile};
+ghost use Rattle.proposer.specs.VolatileStates.{promise_message, hears};
 ghost use Rattle.proposer.specs.UnderWay.{UnderWay, nothing, begins};
 ghost use Rattle.proposer.specs.Steps.{HearsPromise, IssuesProposal, HearsRefusal, NotesRecord};
 ghost use Rattle.learner.specs.LearnedBags.{learned_from, learned_of_known};
@@ -51,9 +52,9 @@ impl Model for Tables {
 
 impl Tables {
     /// The tables of a site without records that has heard nothing.
-    pub fn new(alloc: Global, owner: Owner) -> Tables
-        ensures of { IsOf result owner [] }
-        ensures stands { Represents result [] new_session nothing }
+    pub fn new(alloc: Global, owner: &Owner) -> Tables
+        ensures of { IsOf result owner.now [] }
+        ensures stands { Represents result [] new_volatile nothing }
     {
         Tables {
             deposits: Deposits::new(alloc),
@@ -64,9 +65,9 @@ impl Tables {
     }
 
     /// The tables of a site with these records that has heard nothing.
-    pub fn of(alloc: Global, owner: Owner, records: &[Record]) -> Result<Tables, AllocError>
-        ensures of { IfOk result (λ t. IsOf t owner records.now) }
-        ensures stands { IfOk result (λ t. Represents t records.now new_session nothing) }
+    pub fn of(alloc: Global, owner: &Owner, records: &[Record]) -> Result<Tables, AllocError>
+        ensures of { IfOk result (λ t. IsOf t owner.now records.now) }
+        ensures stands { IfOk result (λ t. Represents t records.now new_volatile nothing) }
     {
         let mut tables = Tables::new(alloc, owner);
         for r in records {
@@ -122,18 +123,20 @@ impl Tables {
     /// Begins the slot's next ballot, to propose this bag, the site's deposit.
     pub fn begin(&mut self, slot: &Slot, own: BagId) -> Result<Ballot, ProposeFault>
         ensures answer { (owner : declared_owner) (records : Records)
-            (session : Session) (under : UnderWay) → IsOf self.old owner records
-            → Represents self.old records session under → IsOrMemory result
-            (next_or_spent (next_ballot owner.site slot.now records session.heard)) }
+            (volatile : VolatileState) (under : UnderWay) → IsOf self.old owner records
+            → Represents self.old records volatile under
+            → IsOrFault ProposeFault.Memory result
+            (next_or_spent (next_ballot owner.site slot.now records volatile.heard)) }
         ensures spent { (owner : declared_owner) (records : Records)
-            (session : Session) (under : UnderWay) → IsOf self.old owner records
-            → Represents self.old records session under
-            → next_ballot owner.site slot.now records session.heard ≡ None
+            (volatile : VolatileState) (under : UnderWay) → IsOf self.old owner records
+            → Represents self.old records volatile under
+            → next_ballot owner.site slot.now records volatile.heard ≡ None
             → result ≡ Err ProposeFault.RoundsSpent }
         ensures begun { IfOk result (λ ballot. (records : Records)
-            (session : Session) (under : UnderWay) → Represents self.old records session under
+            (volatile : VolatileState) (under : UnderWay)
+            → Represents self.old records volatile under
             → deposit_of slot.now records ≡ Some own
-            → Represents self.new records session (begins under slot.now ballot own)) }
+            → Represents self.new records volatile (begins under slot.now ballot own)) }
         ensures of { IsOfSame self.old self.new }
         ensures same { OnErr result (RepresentsSame self.old self.new) }
     {
@@ -150,10 +153,10 @@ impl Tables {
         prior: Option<Vote>,
     ) -> Option<BagId>
         ensures ready { (owner : declared_owner) (records : Records)
-            (session : Session) (under : UnderWay) → IsOf self.old owner records
-            → Represents self.old records session under
+            (volatile : VolatileState) (under : UnderWay) → IsOf self.old owner records
+            → Represents self.old records volatile under
             → result ≡ ready (quorums_of owner.members) (deposit_of slot.now records) slot.now
-            (session.current slot.now) session.heard ballot
+            (volatile.current slot.now) volatile.heard ballot
             (record { site = from; prior = prior }) }
         ensures heard { HearsPromise (Represents self.old) (Represents self.new)
             (promise_message slot.now from ballot prior) result }
@@ -188,23 +191,24 @@ impl Tables {
         vote: Vote,
     ) -> Result<Option<BagId>, AllocError>
         ensures learned { IfOk result (λ o. (owner : declared_owner)
-            (records : Records) (session : Session) (under : UnderWay)
-            → IsOf self.old owner records → Represents self.old records session under
-            → o ≡ learned_from (quorums_of owner.members) slot.now records session.heard from
+            (records : Records) (volatile : VolatileState) (under : UnderWay)
+            → IsOf self.old owner records → Represents self.old records volatile under
+            → o ≡ learned_from (quorums_of owner.members) slot.now records volatile.heard from
             vote) }
         ensures heard { IfOk result (λ o. o ≡ None → (records : Records)
-            (session : Session) (under : UnderWay) → Represents self.old records session under
+            (volatile : VolatileState) (under : UnderWay)
+            → Represents self.old records volatile under
             → Represents self.new records
-            (hears session (record { slot = slot.now; body = Accepted from vote })) under) }
+            (hears volatile (record { slot = slot.now; body = Accepted from vote })) under) }
         ensures unchanged { IfOk result (λ o. IsSome o → self.new ≡ self.old) }
         ensures of { IsOfSame self.old self.new }
         ensures same { OnErr result (RepresentsSame self.old self.new) }
         // Memory can run out only where nothing is learned, and the vote still counts.
         ensures no_memory { OnErr result ((owner : declared_owner)
-            (records : Records) (session : Session) (under : UnderWay)
-            → IsOf self.old owner records → Represents self.old records session under
+            (records : Records) (volatile : VolatileState) (under : UnderWay)
+            → IsOf self.old owner records → Represents self.old records volatile under
             → (known_of slot.now records ≡ None)
-            × (learned_from (quorums_of owner.members) slot.now records session.heard from vote
+            × (learned_from (quorums_of owner.members) slot.now records volatile.heard from vote
             ≡ None)) }
     {
         self.learner.accepted(from, slot, vote.ballot, vote.bag)

@@ -4,7 +4,7 @@ use Rattle.std.proofs.Common.{Result, Ok, Err, refl, sym, subst, ◌∙◌}
 use Rattle.std.specs.Prelude.{IsErrOf}
 use Rattle.cell_device.specs.Devices.{Device}
 use Rattle.records.specs.declared.record.Record.{Record}
-use Rattle.proposer.specs.Sessions.{Session}
+use Rattle.proposer.specs.VolatileStates.{VolatileState}
 use Rattle.site.specs.declared.answer.Answer.{Answer}
 use Rattle.site.specs.declared.fault.SiteFault.{SiteFault}
 use Rattle.site.specs.declared.fault.SiteFault.TheVariants as faults
@@ -13,7 +13,7 @@ use Rattle.site.specs.Calls.{Input}
 use Rattle.site.specs.Effects.{Effect}
 use Rattle.site.specs.Sites.{OpenSite, Represents, effect}
 use Rattle.site.proofs.Refused.{out_of_memory}
-use Rattle.udp_site.specs.Turns.{Serving, IsServing, IsCalled, session_after}
+use Rattle.udp_site.specs.Turns.{Serving, IsServing, IsCalled, volatile_after}
 
 pub differ : true ≡ false → ⊥
 differ e = cc
@@ -22,7 +22,7 @@ not_memory : ◌≡◌ {A = Result Answer SiteFault} (Err faults.Device) (Err fa
 not_memory e = cc
 
 module _ {C : Type 0} (device : C → Device) (old : OpenSite C) (new : OpenSite C)
-    (session : Session) where
+    (volatile : VolatileState) where
   -- a device that failed leaves a site that needs opening
   needs_opening_then : (r : Option Record) → IsSome r
       → Keeps device r (Err faults.Device) old.book new.book → new.book.needs_opening ≡ true
@@ -32,8 +32,8 @@ module _ {C : Type 0} (device : C → Device) (old : OpenSite C) (new : OpenSite
 
   -- what was answered leaves a site that represents what it has heard then, unless it needs opening
   stands_then : (e : Effect) (result : Result Answer SiteFault)
-      → IsAnswered device old new session e result → new.book.needs_opening ≡ false
-      → Represents new (session_after e session result)
+      → IsAnswered device old new volatile e result → new.book.needs_opening ≡ false
+      → Represents new (volatile_after e volatile result)
   stands_then e (Ok answer) answered opened = answered.gives.2
   stands_then e (Err faults.Memory) answered opened = answered.gives
   stands_then e (Err faults.Device) answered opened =
@@ -46,8 +46,8 @@ module _ {C : Type 0} (device : C → Device) (input : Input) (result : Result A
     (start site : OpenSite C) where
   abbrev pub Answers : Type 0
   Answers =
-      start.book.needs_opening ≡ false → (session : Session) → Represents start session
-      → IsAnswered device start site session (effect start session input) result
+      start.book.needs_opening ≡ false → (volatile : VolatileState) → Represents start volatile
+      → IsAnswered device start site volatile (effect start volatile input) result
 
   abbrev pub NeedsOpen : Type 0
   NeedsOpen = IsErrOf result faults.NeedsOpen ↔ (start.book.needs_opening ≡ true)
@@ -60,7 +60,7 @@ abbrev pub called : {C : Type 0} → Serving C → Input → Result Answer SiteF
     → Serving C
 called old input result site = record {
   site = site;
-  session = session_after (effect old.site old.session input) old.session result;
+  volatile = volatile_after (effect old.site old.volatile input) old.volatile result;
   idle = old.idle;
   tried = old.tried;
 }
@@ -90,9 +90,9 @@ module _ {C : Type 0} {device : C → Device} {old : Serving C} {input : Input}
 
   pub is_called : IsCalled device old input result (called old input result site)
   is_called = record {
-    answered = λ opened. answers opened old.session (call.serves opened);
+    answered = λ opened. answers opened old.volatile (call.serves opened);
     refused = λ shut. (needs_open.1 shut, untouched shut);
-    session = refl;
+    volatile = refl;
     idle = refl;
     tried = refl;
   }
@@ -111,8 +111,8 @@ module _ {C : Type 0} {device : C → Device} {old : Serving C} {input : Input}
           absurd (differ (sym (subst (λ (s : OpenSite C). s.book.needs_opening ≡ true)
           (sym (untouched shut)) shut) ∙ opened))
       go false before opened =
-          stands_then device old.site site old.session (effect old.site old.session input) result
-          (answers before old.session (call.serves before)) opened
+          stands_then device old.site site old.volatile (effect old.site old.volatile input) result
+          (answers before old.volatile (call.serves before)) opened
 
 -- a call that changes nothing: the site needs opening, or it refuses
 module _ {C : Type 0} (device : C → Device) (old : Serving C) (input : Input) where
@@ -121,19 +121,19 @@ module _ {C : Type 0} (device : C → Device) (old : Serving C) (input : Input) 
   needs_to_open shut = record {
     answered = λ opened. absurd (differ (sym shut ∙ opened));
     refused = λ _. (refl, refl);
-    session = refl;
+    volatile = refl;
     idle = refl;
     tried = refl;
   }
 
   pub refuses_call : (fault : SiteFault) → old.site.book.needs_opening ≡ false
-      → IsAnswered device old.site old.site old.session (effect old.site old.session input)
+      → IsAnswered device old.site old.site old.volatile (effect old.site old.volatile input)
       (Err fault)
       → IsCalled device old input (Err fault) old
   refuses_call fault opened answered = record {
     answered = λ _. answered;
     refused = λ shut. absurd (differ (sym shut ∙ opened));
-    session = refl;
+    volatile = refl;
     idle = refl;
     tried = refl;
   }
@@ -149,6 +149,6 @@ module _ {C : Type 0} (device : C → Device) (old : Serving C) (input : Input) 
       go false opened = (
         Err faults.Memory,
         refuses_call faults.Memory opened
-            (out_of_memory device old.site old.session (effect old.site old.session input)
+            (out_of_memory device old.site old.volatile (effect old.site old.volatile input)
             (serving opened)),
       )

@@ -9,7 +9,7 @@ use Rattle.bag_tree.specs.Facts.{TreeFacts}
 use Rattle.bag_check.specs.Check.{check_of}
 use Rattle.records.specs.declared.record.Record.{Record}
 use Rattle.book.specs.OpenBooks.{OpenBook}
-use Rattle.proposer.specs.Sessions.{Session}
+use Rattle.proposer.specs.VolatileStates.{VolatileState}
 use Rattle.site.specs.declared.answer.Answer.{Answer}
 use Rattle.site.specs.declared.fault.SiteFault.{SiteFault}
 use Rattle.site.specs.declared.fault.SiteFault.TheVariants as faults
@@ -41,18 +41,18 @@ module _ {C : Type 0} where
       same_on old.site new.site (ap (λ (s : Serving C). s.site.book.records) is)
 
 module _ {C : Type 0} (device : C → Device) where
-  answered_on : (old new : OpenSite C) (session : Session) (e : Effect)
+  answered_on : (old new : OpenSite C) (volatile : VolatileState) (e : Effect)
       (result : Result Answer SiteFault) (r : Option Record)
-      → Keeps device r result old.book new.book → Gives old new session e result → GoesOn old new
-  answered_on old new session e result None kept gives =
+      → Keeps device r result old.book new.book → Gives old new volatile e result → GoesOn old new
+  answered_on old new volatile e result None kept gives =
       same_on old new (ap (λ (v : OpenBook C). v.records) kept)
-  answered_on old new session e result (Some r) (inl (is, same)) gives =
+  answered_on old new volatile e result (Some r) (inl (is, same)) gives =
       same_on old new (ap (λ (v : OpenBook C). v.records) same)
-  answered_on old new session e (Ok answer) (Some r) (inr c) gives = (r ∷ [], c.committed.0)
-  answered_on old new session e (Err faults.Device) (Some r) (inr c) gives =
+  answered_on old new volatile e (Ok answer) (Some r) (inr c) gives = (r ∷ [], c.committed.0)
+  answered_on old new volatile e (Err faults.Device) (Some r) (inr c) gives =
       same_on old new (c.device_failed refl).0
-  answered_on old new session e (Err faults.NeedsOpen) (Some r) (inr c) gives = absurd gives
-  answered_on old new session e (Err fault) (Some r) (inr c) gives =
+  answered_on old new volatile e (Err faults.NeedsOpen) (Some r) (inr c) gives = absurd gives
+  answered_on old new volatile e (Err fault) (Some r) (inr c) gives =
       same_on old new (c.memory refl).records
 
   called_on : (old new : Serving C) (input : Input) (result : Result Answer SiteFault)
@@ -64,8 +64,8 @@ module _ {C : Type 0} (device : C → Device) where
           same_on old.site new.site
           (ap (λ (s : OpenSite C). s.book.records) (is.refused shut).1)
       go false opened =
-          answered_on old.site new.site old.session (effect old.site old.session input) result
-          (effect old.site old.session input).commits (is.answered opened).keeps
+          answered_on old.site new.site old.volatile (effect old.site old.volatile input) result
+          (effect old.site old.volatile input).commits (is.answered opened).keeps
           (is.answered opened).gives
 
   module _ (ports : List ℕ) (new : Serving C) (done : Done) where

@@ -5,8 +5,8 @@ use Rattle.std.proofs.Common.{refl, ap, ◌∙◌}
 use Rattle.std.proofs.lemmas.List.Folds.{flat_map-map}
 use Rattle.site.specs.declared.fault.SiteFault.TheVariants as faults
 use Rattle.lines.specs.declared.line.Line.{Line}
-use Rattle.lines.specs.Notices as kinds
-use Rattle.lines.specs.Notices.{Notice}
+use Rattle.lines.specs.declared.notice.Notice.TheVariants as kinds
+use Rattle.lines.specs.declared.notice.Notice.{Notice}
 use Rattle.lines.specs.Named.{line_of}
 use Rattle.lines.specs.Texts.{line_text}
 use Rattle.udp_site.specs.Served.{by_identity, notice_text, or_one, is_of_the_cell}

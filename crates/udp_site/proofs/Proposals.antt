@@ -9,7 +9,7 @@ use Rattle.fed_types.specs.Slots.{SlotName}
 use Rattle.cell_device.specs.Devices.{Device}
 use Rattle.records.specs.SlotStates.{known_of, deposit_of}
 use Rattle.proposer.specs.Proposals.{next_ballot}
-use Rattle.proposer.specs.Sessions.{Session}
+use Rattle.proposer.specs.VolatileStates.{VolatileState}
 use Rattle.site.specs.declared.answer.Answer.{Answer}
 use Rattle.site.specs.declared.answer.Line.{Line}
 use Rattle.site.specs.declared.fault.SiteFault.{SiteFault}
@@ -34,8 +34,8 @@ use Rattle.udp_site.proofs.Handed.{Part}
 abbrev pub RefusesAt :
     {C : Type 0} → Input → Result Answer SiteFault → (start : OpenSite C) → Type 0
 RefusesAt input result start =
-    start.book.needs_opening ≡ false → (session : Session) → Represents start session
-    → IsRefused (effect start session input) result
+    start.book.needs_opening ≡ false → (volatile : VolatileState) → Represents start volatile
+    → IsRefused (effect start volatile input) result
 
 pub refuses : {C : Type 0} (old : Serving C) (input : Input) (result : Result Answer SiteFault)
     (start : OpenSite C) → old.site ≡ start → IsServing old → RefusesAt input result start
@@ -43,7 +43,7 @@ pub refuses : {C : Type 0} (old : Serving C) (input : Input) (result : Result An
 refuses {C} old input result start same serving at_start opened =
     let here : RefusesAt input result old.site =
     subst (λ (s : OpenSite C). RefusesAt input result s) (sym same) at_start in
-    here opened old.session (serving opened)
+    here opened old.volatile (serving opened)
 
 -- what is done of a proposal's answer
 abbrev pub done_of : List ℕ → (site : ℕ) → SlotName → Result Answer SiteFault → Done
@@ -89,12 +89,12 @@ module _ {C : Type 0} {device : C → Device} {old : Serving C} {slot : SlotName
       comes_failed call (done_of ports (number old) slot) (proposing device ports old slot) so a b
       before after
 
-module _ {C : Type 0} (device : C → Device) (s : OpenSite C) (session : Session)
-    (stands : Represents s session) where
+module _ {C : Type 0} (device : C → Device) (s : OpenSite C) (volatile : VolatileState)
+    (stands : Represents s volatile) where
   -- a refusal that changes nothing
   abbrev CouldRefuse : Effect → Type 0
   CouldRefuse e =
-      (fault : SiteFault) × IsAnswered device s s session e (Err fault) × IsRefused e (Err fault)
+      (fault : SiteFault) × IsAnswered device s s volatile e (Err fault) × IsRefused e (Err fault)
 
   answered : (f fault : SiteFault) → ◌≡◌ {A = Result (Option Line) SiteFault} (Err f) (Err fault)
       → ◌≡◌ {A = Result Answer SiteFault} (Err f) (Err fault)
@@ -105,7 +105,7 @@ module _ {C : Type 0} (device : C → Device) (s : OpenSite C) (session : Sessio
   isnt_refused fault e = cc
 
   by_bags : (q : QuorumSystem) (slot : SlotName) (known own : Option BagId)
-      (next : Option BallotNumber) → CouldRefuse (begins_ballot_if q slot known own next session)
+      (next : Option BallotNumber) → CouldRefuse (begins_ballot_if q slot known own next volatile)
   by_bags q slot (Some known) own next = (
     faults.AlreadyKnown,
     record { keeps = refl; gives = (refl, stands) },
@@ -120,16 +120,16 @@ module _ {C : Type 0} (device : C → Device) (s : OpenSite C) (session : Sessio
   )
   by_bags q slot None (Some own) (Some ballot) = (
     faults.Memory,
-    out_of_memory device s session (begins_ballot q slot ballot session) stands,
+    out_of_memory device s volatile (begins_ballot q slot ballot volatile) stands,
     λ fault e. absurd (isnt_refused fault e),
   )
 
-  could_refuse : (slot : SlotName) → CouldRefuse (effect s session (Proposes slot))
+  could_refuse : (slot : SlotName) → CouldRefuse (effect s volatile (Proposes slot))
   unfolding on_propose
   could_refuse slot =
       by_bags (quorums_of s.book.owner.members) slot (known_of slot s.book.records)
       (deposit_of slot s.book.records)
-      (next_ballot s.book.owner.site slot s.book.records session.heard)
+      (next_ballot s.book.owner.site slot s.book.records volatile.heard)
 
 -- there is a proposal that changes nothing
 pub could_propose : {C : Type 0} (device : C → Device) (old : Serving C) (slot : SlotName)
@@ -147,5 +147,5 @@ could_propose {C} device old slot serving = go old.site.book.needs_opening refl
       λ opened. absurd (differ (sym shut ∙ opened)),
     )
     go false opened =
-        let could = could_refuse device old.site old.session (serving opened) slot in
+        let could = could_refuse device old.site old.volatile (serving opened) slot in
         (Err could.0, refuses_call device old (Proposes slot) could.0 opened could.1, λ _. could.2)

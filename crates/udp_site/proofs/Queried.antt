@@ -3,6 +3,7 @@ use Rattle.std.proofs.Common.{◌≡◌, ◌∙◌, ℕ, Bool, true, false, if�
 use Rattle.std.proofs.Common.{map, Option}
 use Rattle.std.proofs.Common.{Result, Ok, Err, refl, sym, ap, subst, append_assoc}
 use Rattle.std.specs.Prelude.{IsErrAnd, IsOk}
+use Rattle.fed_types.specs.declared.bag_id.BagId.{BagId}
 use Rattle.fed_types.specs.Sites.{Membership}
 use Rattle.fed_types.specs.Slots.{SlotName}
 use Rattle.site.specs.declared.answer.Reply.{Reply}
@@ -15,8 +16,9 @@ use Rattle.lines.specs.Named.{line_of}
 use Rattle.udp_site.specs.declared.fault.ServeFault.{ServeFault}
 use Rattle.udp_site.specs.declared.fault.ServeFault.TheVariants as faults
 use Rattle.udp_site.specs.Traffic.{Post, Move, Grows, all_handed}
+use Rattle.lines.specs.Notices.{reply_notice}
 use Rattle.udp_site.specs.Turns.{Serving, Done, IsServing, asked, answer_to, members, number}
-use Rattle.udp_site.specs.Turns.{queries, query_replies, reply_notice}
+use Rattle.udp_site.specs.Turns.{queries, query_replies}
 use Rattle.udp_site.specs.inner.Outcomes.{ComesTo, AsksFor, Notes}
 use Rattle.udp_site.proofs.Handed.{Part, grows_by_posts, part_of_posts, then_part_of_posts}
 use Rattle.udp_site.proofs.Requested.{could_ask}
@@ -24,7 +26,7 @@ use Rattle.udp_site.proofs.Same.{same_federation, same_site}
 use Rattle.udp_site.proofs.Said.{broken_off}
 
 -- what a query answers, by whether the site needs opening
-pub is_answer : (needs_opening : Bool) (known wanted : Result Reply SiteFault)
+pub is_answer : (needs_opening : Bool) (known wanted : Result (Reply BagId) SiteFault)
     → (needs_opening ≡ false → known ≡ wanted)
     → (needs_opening ≡ true → known ≡ Err sites.NeedsOpen)
     → known ≡ (if needs_opening then Err sites.NeedsOpen else wanted)
@@ -32,16 +34,16 @@ is_answer true known wanted opened shut = shut refl
 is_answer false known wanted opened shut = opened refl
 
 -- a site that answers needs no opening
-pub is_open : (needs_opening : Bool) (known : Result Reply SiteFault)
+pub is_open : (needs_opening : Bool) (known : Result (Reply BagId) SiteFault)
     → (needs_opening ≡ true → known ≡ Err sites.NeedsOpen) → IsOk known → needs_opening ≡ false
 is_open true known shut ok = absurd (no (subst IsOk (shut refl) ok))
   where
-    no : IsOk {T = Reply} (Err sites.NeedsOpen) → ⊥
+    no : IsOk {T = Reply BagId} (Err sites.NeedsOpen) → ⊥
     no e = cc
 is_open false known shut ok = refl
 
 pub known_is : {C : Type 0} (old : Serving C) (start : OpenSite C) → old.site ≡ start
-    → (slot : SlotName) (known : Result Reply SiteFault)
+    → (slot : SlotName) (known : Result (Reply BagId) SiteFault)
     → (start.book.needs_opening ≡ false → known ≡ Ok (reply_of slot start.book.records))
     → (start.book.needs_opening ≡ true → known ≡ Err sites.NeedsOpen)
     → known ≡ answer_to old slot
@@ -50,13 +52,14 @@ known_is {C} old start there slot known opened shut =
     else Ok (reply_of slot s.book.records))) (sym there)
     (is_answer start.book.needs_opening known (Ok (reply_of slot start.book.records)) opened shut)
 
-pub same_query_replies : (f g s t port : ℕ) (slot : SlotName) (known told : Result Reply SiteFault)
+pub same_query_replies : (f g s t port : ℕ) (slot : SlotName)
+    (known told : Result (Reply BagId) SiteFault)
     → f ≡ g → s ≡ t → known ≡ told
     → query_replies f s port slot known ≡ query_replies g t port slot told
 same_query_replies f g s t port slot known told p q r =
     ap (λ (x : ℕ). query_replies x s port slot known) p
     ∙ (ap (λ (x : ℕ). query_replies g x port slot known) q
-    ∙ ap (λ (x : Result Reply SiteFault). query_replies g t port slot x) r)
+    ∙ ap (λ (x : Result (Reply BagId) SiteFault). query_replies g t port slot x) r)
 
 -- the reply that the client gets
 abbrev pub client_reply : {C : Type 0} → Serving C → (port : ℕ) → SlotName → List Post
@@ -66,7 +69,8 @@ client_reply s port slot =
 -- it is the reply that the code hands out
 pub query_replied : {C : Type 0} (old : Serving C) (start : OpenSite C) → old.site ≡ start
     → (m : Membership) (f n : ℕ) → f ≡ m.federation → m ≡ start.book.owner.members
-    → n ≡ start.book.owner.site → (port : ℕ) (slot : SlotName) (known : Result Reply SiteFault)
+    → n ≡ start.book.owner.site → (port : ℕ) (slot : SlotName)
+    (known : Result (Reply BagId) SiteFault)
     → known ≡ answer_to old slot
     → query_replies f n port slot known ≡ client_reply old port slot
 query_replied old start there m f n named whose numbered port slot known is =
@@ -120,11 +124,12 @@ module _ {C : Type 0} (ports : List ℕ) (old : Serving C) (port : ℕ) (slot : 
       (part_of_posts a b (client_reply old port slot) asks.0.posts part) r fails
 
 -- the notice of the reply, in the code's words
-pub same_notice : (s t : ℕ) (slot named : SlotName) (known told : Result Reply SiteFault)
+pub same_notice : (s t : ℕ) (slot named : SlotName) (known told : Result (Reply BagId) SiteFault)
     → s ≡ t → named ≡ slot → known ≡ told
     → (l m : List Line) → Notes l m (reply_notice s named known ∷ [])
     → Notes l m (reply_notice t slot told ∷ [])
 same_notice s t slot named known told p q r l m said =
     subst (λ (x : ℕ). Notes l m (reply_notice x slot told ∷ [])) p
     (subst (λ (x : SlotName). Notes l m (reply_notice s x told ∷ [])) q
-    (subst (λ (x : Result Reply SiteFault). Notes l m (reply_notice s named x ∷ [])) r said))
+    (subst (λ (x : Result (Reply BagId) SiteFault). Notes l m
+    (reply_notice s named x ∷ [])) r said))

@@ -1,18 +1,17 @@
 -- Members that are asked for a slot's bag, one after another.
-use Rattle.std.proofs.Common.{◌≡◌, ℕ, ◌+◌, ◌-◌, ◌<◌, ◌==◌, Bool, true, false, not, cond, inl, inr}
+use Rattle.std.proofs.Common.{◌≡◌, ℕ, ◌==◌, Bool, true, false, not, cond, inl, inr}
 use Rattle.std.proofs.Common.{List, [], ◌∷◌, ◌++◌, map, Option, Result, Ok, Err, refl, sym}
-use Rattle.std.proofs.Common.{ap, subst, ◌∙◌, append_assoc, append-nil, add-one, arith, suc, zero}
-use Rattle.std.proofs.Math.Nat.{add-zero, add-suc}
+use Rattle.std.proofs.Common.{ap, subst, ◌∙◌, append_assoc, append-nil}
 use Rattle.std.proofs.lemmas.List.Elements.{filter-append}
 use Rattle.std.specs.Prelude.{IsErrAnd}
 use Rattle.std.specs.List.{flat_map}
 use Rattle.std.proofs.lemmas.List.{map-append}
-use Rattle.fed_types.specs.Sites.{Membership, sites_to, count_of}
+use Rattle.fed_types.specs.Sites.{members_of}
 use Rattle.fed_types.specs.Slots.{SlotName}
 use Rattle.dgram.specs.declared.body.Body.TheVariants.{Ask}
 use Rattle.dgram.specs.Encoding.{datagram_of}
 use Rattle.cell_device.specs.Devices.{Device}
-use Rattle.proposer.specs.Sessions.{Session}
+use Rattle.proposer.specs.VolatileStates.{VolatileState}
 use Rattle.site.specs.declared.answer.Answer.{Answer}
 use Rattle.site.specs.declared.answer.Outgoing.{Outgoing}
 use Rattle.site.specs.declared.fault.SiteFault.TheVariants as sites
@@ -23,7 +22,8 @@ use Rattle.site.specs.Datagrams.{handed_out}
 use Rattle.site.specs.Effects.{to_each}
 use Rattle.site.specs.Sites.{OpenSite, Represents, effect}
 use Rattle.lines.specs.declared.line.Line.{Line}
-use Rattle.lines.specs.Notices.{Notice, Refused}
+use Rattle.lines.specs.declared.notice.Notice.{Notice}
+use Rattle.lines.specs.declared.notice.Notice.TheVariants.{Refused}
 use Rattle.lines.specs.Named.{line_of}
 use Rattle.udp_site.specs.declared.fault.ServeFault.{ServeFault}
 use Rattle.udp_site.specs.declared.fault.ServeFault.TheVariants as faults
@@ -167,22 +167,22 @@ module _ {C : Type 0} (ports : List ℕ) (s : Serving C) (slot : SlotName) where
     -- the datagram of the answer was handed out
     module _ (device : C → Device) (start : OpenSite C) (there : s.site ≡ start)
         (serves : IsServing s) (opened : start.book.needs_opening ≡ false) (answer : Answer)
-        (answers : start.book.needs_opening ≡ false → (session : Session)
-        → Represents start session
-        → IsAnswered device start start session
-        (effect start session (calls.Asks slot member)) (Ok answer)) where
+        (answers : start.book.needs_opening ≡ false → (volatile : VolatileState)
+        → Represents start volatile
+        → IsAnswered device start start volatile
+        (effect start volatile (calls.Asks slot member)) (Ok answer)) where
       abbrev question : List ℕ
       question = datagram_of (members s).federation (record { slot = slot; body = Ask (number s) })
 
-      answered : IsAnswered device s.site s.site s.session
-          (effect s.site s.session (calls.Asks slot member)) (Ok answer)
+      answered : IsAnswered device s.site s.site s.volatile
+          (effect s.site s.volatile (calls.Asks slot member)) (Ok answer)
       answered =
           let there_opened : s.site.book.needs_opening ≡ false =
           subst (λ (o : OpenSite C). o.book.needs_opening ≡ false) (sym there) opened in
-          subst (λ (o : OpenSite C). o.book.needs_opening ≡ false → (session : Session)
-          → Represents o session
-          → IsAnswered device o o session (effect o session (calls.Asks slot member)) (Ok answer))
-          (sym there) answers there_opened s.session (serves there_opened)
+          subst (λ (o : OpenSite C). o.book.needs_opening ≡ false → (volatile : VolatileState)
+          → Represents o volatile
+          → IsAnswered device o o volatile (effect o volatile (calls.Asks slot member)) (Ok answer))
+          (sym there) answers there_opened s.volatile (serves there_opened)
 
       one_datagram : map handed_out answer.sends.items ≡ (member, question) ∷ []
       unfolding on_ask to_each
@@ -224,76 +224,61 @@ module _ {C : Type 0} (ports : List ℕ) (s : Serving C) (slot : SlotName) where
 
 -- ---- all of them
 
--- the sites to a number begin with those to a smaller one
-pub sites_from : (n more : ℕ) → (rest : List ℕ) × (sites_to (n + more) ≡ sites_to n ++ rest)
-unfolding sites_to
-sites_from n zero = ([], rw add-zero (sym (append-nil (sites_to n))))
-sites_from n (suc more) =
-    let before = sites_from n more in (
-      before.0 ++ (n + more + 1) ∷ [],
-      rw add-suc (ap (λ (l : List ℕ). l ++ suc (n + more) ∷ []) before.1
-          ∙ (append_assoc (sites_to n) before.0 (suc (n + more) ∷ [])
-          ∙ ap (λ (m : ℕ). sites_to n ++ (before.0 ++ m ∷ [])) (sym (add-one (n + more))))),
-    )
-
-sites_next : (n : ℕ) → sites_to (n + 1) ≡ sites_to n ++ (n + 1) ∷ []
-unfolding sites_to
-sites_next n =
-    subst (λ (m : ℕ). sites_to m ≡ sites_to n ++ m ∷ []) (sym (add-one n)) refl
-
-module _ {C : Type 0} (s : Serving C) where
+module _ {C : Type 0} (ports : List ℕ) (s : Serving C) (slot : SlotName) where
   others_both : (xs ys : List ℕ) → others_of s (xs ++ ys) ≡ others_of s xs ++ others_of s ys
   others_both xs ys = filter-append (λ (member : ℕ). not (member == number s)) xs ys
 
-  others_next : (n : ℕ) → others_of s (sites_to (n + 1))
-      ≡ others_of s (sites_to n) ++ others_of s ((n + 1) ∷ [])
-  others_next n = ap (others_of s) (sites_next n) ∙ others_both (sites_to n) ((n + 1) ∷ [])
+  -- the others of all members but those that are left were asked
+  abbrev pub AskedBut : List ℕ → (before after : Option (List Move)) → (old new : List Line)
+      → Type 0
+  AskedBut left a b l1 l2 =
+      (asked : List ℕ) × (asked ++ left ≡ members_of (members s))
+      × AsksFor ports s slot (others_of s asked) a b l1 l2 (Ok tt)
 
-  -- the members to this number were asked, and then the next
-  module _ (ports : List ℕ) (slot : SlotName) (n member : ℕ) (is : member ≡ n + 1)
-      (a b c : Option (List Move)) (l1 l2 l3 : List Line)
-      (earlier : AsksFor ports s slot (others_of s (sites_to n)) a b l1 l2 (Ok tt)) where
-    by_place : (r : Result (Unit {0}) ServeFault)
+  pub nobody_asked : (left : List ℕ) → left ≡ members_of (members s) → (a : Option (List Move))
+      → (lines : List Line) → AskedBut left a a lines lines
+  nobody_asked left all a lines = ([], all, asks_none ports s slot a lines)
+
+  pub all_asked : (a b : Option (List Move)) (l1 l2 : List Line) (left : List ℕ) → left ≡ []
+      → AskedBut left a b l1 l2
+      → AsksFor ports s slot (others_of s (members_of (members s))) a b l1 l2 (Ok tt)
+  all_asked a b l1 l2 left none (asked, all, asks) =
+      subst (λ (l : List ℕ). AsksFor ports s slot (others_of s l) a b l1 l2 (Ok tt))
+      (sym (append-nil asked) ∙ (ap (λ (l : List ℕ). asked ++ l) (sym none) ∙ all)) asks
+
+  -- the next of those that are left
+  module _ (a b c : Option (List Move)) (l1 l2 l3 : List Line) (member : ℕ) (left rest : List ℕ)
+      (next : left ≡ member ∷ rest) (before : AskedBut left a b l1 l2) where
+    abbrev asked : List ℕ
+    asked = before.0 ++ member ∷ []
+
+    all_but : asked ++ rest ≡ members_of (members s)
+    all_but =
+        append_assoc before.0 (member ∷ []) rest
+        ∙ (ap (λ (l : List ℕ). before.0 ++ l) (sym next) ∙ before.1)
+
+    with_next : (r : Result (Unit {0}) ServeFault)
         → AsksFor ports s slot (others_of s (member ∷ [])) b c l2 l3 r
-        → AsksFor ports s slot (others_of s ((n + 1) ∷ [])) b c l2 l3 r
-    by_place r asks =
-        subst (λ (m : ℕ). AsksFor ports s slot (others_of s (m ∷ [])) b c l2 l3 r) is asks
+        → AsksFor ports s slot (others_of s asked) a c l1 l3 r
+    with_next r asks =
+        subst (λ (l : List ℕ). AsksFor ports s slot l a c l1 l3 r)
+        (sym (others_both before.0 (member ∷ [])))
+        (asks_then ports s slot (others_of s before.0) (others_of s (member ∷ [])) a b c l1 l2 l3
+        before.2 r asks)
 
     pub next_asked : AsksFor ports s slot (others_of s (member ∷ [])) b c l2 l3 (Ok tt)
-        → AsksFor ports s slot (others_of s (sites_to (n + 1))) a c l1 l3 (Ok tt)
-    next_asked asks =
-        subst (λ (l : List ℕ). AsksFor ports s slot l a c l1 l3 (Ok tt)) (sym (others_next n))
-        (asks_then ports s slot (others_of s (sites_to n)) (others_of s ((n + 1) ∷ [])) a b c l1 l2
-        l3 earlier (Ok tt) (by_place (Ok tt) asks))
+        → AskedBut rest a c l1 l3
+    next_asked asks = (asked, all_but, with_next (Ok tt) asks)
 
     pub next_failed : (fault : ServeFault)
         → AsksFor ports s slot (others_of s (member ∷ [])) b c l2 l3 (Err fault)
-        → (count : ℕ) → n < count → (r : Result (Unit {0}) ServeFault)
-        → IsErrAnd r (λ f. f ≡ fault)
-        → AsksFor ports s slot (others_of s (sites_to count)) a c l1 l3 r
-    next_failed fault asks count below r failed =
-        let more = sites_from (n + 1) (count - (n + 1)) in
-        let whole : n + 1 + (count - (n + 1)) ≡ count = omega arith in
-        let split : others_of s (sites_to (n + 1)) ++ others_of s more.0
-        ≡ others_of s (sites_to count) =
-        sym (others_both (sites_to (n + 1)) more.0)
-        ∙ ap (others_of s) (sym more.1 ∙ ap sites_to whole) in
+        → (r : Result (Unit {0}) ServeFault) → IsErrAnd r (λ f. f ≡ fault)
+        → AsksFor ports s slot (others_of s (members_of (members s))) a c l1 l3 r
+    next_failed fault asks r failed =
+        let all : others_of s asked ++ others_of s rest ≡ others_of s (members_of (members s)) =
+        sym (others_both asked rest) ∙ ap (others_of s) all_but in
         subst (λ (x : Result (Unit {0}) ServeFault). AsksFor ports s slot
-        (others_of s (sites_to count)) a c l1 l3 x) (sym (is_err r fault failed))
-        (subst (λ (l : List ℕ). AsksFor ports s slot l a c l1 l3 (Err fault)) split
-        (asks_before ports s slot (others_of s (sites_to (n + 1))) (others_of s more.0) a c l1 l3 l3
-        fault (subst (λ (l : List ℕ). AsksFor ports s slot l a c l1 l3 (Err fault))
-        (sym (others_next n))
-        (asks_then ports s slot (others_of s (sites_to n)) (others_of s ((n + 1) ∷ [])) a b c l1 l2
-        l3 earlier (Err fault) (by_place (Err fault) asks)))))
-
-  pub asks_at_first : (ports : List ℕ) (slot : SlotName) (a : Option (List Move))
-      (lines : List Line) → AsksFor ports s slot (others_of s (sites_to 0)) a a lines lines (Ok tt)
-  unfolding sites_to
-  asks_at_first ports slot a lines = asks_none ports s slot a lines
-
-  -- all members are those to their count
-  pub count_is : (start : OpenSite C) (m : Membership) (count : ℕ) → s.site ≡ start
-      → m ≡ start.book.owner.members → count ≡ count_of m → count ≡ count_of (members s)
-  count_is start m count there of is =
-      is ∙ ap count_of (of ∙ ap (λ (o : OpenSite C). o.book.owner.members) (sym there))
+        (others_of s (members_of (members s))) a c l1 l3 x) (sym (is_err r fault failed))
+        (subst (λ (l : List ℕ). AsksFor ports s slot l a c l1 l3 (Err fault)) all
+        (asks_before ports s slot (others_of s asked) (others_of s rest) a c l1 l3 l3 fault
+        (with_next (Err fault) asks)))

@@ -16,13 +16,14 @@ use Rattle.site.specs.declared.fault.SiteFault.TheVariants as faults
 use Rattle.site.specs.Calls as calls
 use Rattle.site.specs.Sites.{OpenSite}
 use Rattle.lines.specs.declared.line.Line.{Line}
-use Rattle.lines.specs.Notices.{Refused, Dropped}
+use Rattle.lines.specs.declared.notice.Notice.TheVariants.{Refused, Dropped}
 use Rattle.udp_site.specs.declared.fault.ServeFault.{ServeFault}
 use Rattle.udp_site.specs.Replies.{tree_answer}
 use Rattle.udp_site.specs.Traffic.{Move}
 use Rattle.udp_site.specs.Requests.{Request, Says, request_by, request_in}
+use Rattle.lines.specs.Notices.{reply_notice}
 use Rattle.udp_site.specs.Turns.{Serving, Done, IsServing, Asks, comes_of, members}
-use Rattle.udp_site.specs.Turns.{number, asked, answer_to, reply_notice, query_replies, posts_of}
+use Rattle.udp_site.specs.Turns.{number, asked, answer_to, query_replies, posts_of}
 use Rattle.udp_site.specs.Turns.{notices_of, deposit_replies, takes_tree}
 use Rattle.udp_site.specs.inner.Outcomes.{ComesTo}
 use Rattle.udp_site.proofs.Called.{could_be_called}

@@ -4,6 +4,7 @@ use Rattle.std.specs.Prelude.{◌≡◌, ℕ, List, [], ◌∷◌, Bool, true, f
 use Rattle.std.specs.Prelude.{Option, Some, None, Result, Ok, Err}
 use Rattle.std.specs.Option.{option_to_list}
 use Rattle.std.proofs.Common.{inl, inr, refl, ap, sym, ◌∙◌}
+use Rattle.fed_types.specs.declared.bag_id.BagId.{BagId}
 use Rattle.fed_types.specs.Slots.{SlotName}
 use Rattle.cell_device.specs.Devices.{Device}
 use Rattle.bag_tree.specs.declared.fault.TreeFault.{TreeFault}
@@ -13,7 +14,7 @@ use Rattle.records.specs.declared.record.Record.{Record}
 use Rattle.book.specs.OpenBooks.{OpenBook}
 use Rattle.site.specs.declared.answer.Answer.{Answer}
 use Rattle.site.specs.declared.answer.Line.{Line}
-use Rattle.site.specs.declared.answer.Line.TheVariants as lines
+use Rattle.site.specs.declared.answer.Line.TheVariants as site_lines
 use Rattle.site.specs.declared.answer.Reply.{Reply}
 use Rattle.site.specs.declared.fault.SiteFault.{SiteFault}
 use Rattle.site.specs.declared.fault.SiteFault.TheVariants as faults
@@ -21,11 +22,12 @@ use Rattle.site.specs.Answered.{Keeps}
 use Rattle.site.specs.Calls as calls
 use Rattle.site.specs.Calls.{Input, reply_of}
 use Rattle.site.specs.Sites.{OpenSite, effect}
-use Rattle.lines.specs.Notices.{Notice, notice_of}
+use Rattle.lines.specs.declared.notice.Notice.{Notice}
+use Rattle.lines.specs.Notices.{notice_of, reply_notice}
 use Rattle.udp_site.specs.Requests.{Request, Waits, Says, Deposits, Queries, Noise}
 use Rattle.udp_site.specs.Served.{or_one}
 use Rattle.udp_site.specs.Turns.{Serving, Done, IsCalled, Asks, notices_of, proposal_notices}
-use Rattle.udp_site.specs.Turns.{reply_notice, number, takes_tree, proposes, idles_if}
+use Rattle.udp_site.specs.Turns.{number, takes_tree, proposes, idles_if}
 use Rattle.udp_site.specs.Turns.{comes_of, tries, one_more_idle, slot_of}
 use Rattle.udp_site.specs.Rounds.{next_waiting}
 
@@ -36,10 +38,10 @@ impossible e = cc
 line_says_no : (site : ℕ) (input : Input) (line : Option Line)
     → or_one (option_to_list (notice_of site input (Ok line))) ≡ false
 line_says_no site input None = refl
-line_says_no site (calls.Deposits slot checked) (Some (lines.Registered bag)) = refl
-line_says_no site input (Some (lines.Registered bag)) = refl
-line_says_no site input (Some (lines.Known slot bag)) = refl
-line_says_no site input (Some lines.Dropped) = refl
+line_says_no site (calls.Deposits slot checked) (Some (site_lines.Registered bag)) = refl
+line_says_no site input (Some (site_lines.Registered bag)) = refl
+line_says_no site input (Some (site_lines.Known slot bag)) = refl
+line_says_no site input (Some site_lines.Dropped) = refl
 
 proposal_says : (site : ℕ) (input : Input) (result : Result Answer SiteFault)
     → or_one (proposal_notices site input result) ≡ true
@@ -48,7 +50,7 @@ proposal_says site input (Err faults.RoundsSpent) stops = absurd (impossible sto
 proposal_says site input result stops = stops
 
 -- what a query says is of the cell only where the site needs opening
-replied : (site : ℕ) (slot : SlotName) (needs_opening : Bool) (reply : Reply)
+replied : (site : ℕ) (slot : SlotName) (needs_opening : Bool) (reply : Reply BagId)
     (notices : List Notice) → or_one notices ≡ false
     → or_one
     (reply_notice site slot (if needs_opening then Err faults.NeedsOpen else Ok reply) ∷ notices)
@@ -88,7 +90,7 @@ module _ {C : Type 0} (device : C → Device) where
     device_failed is true opened =
         ap (λ (s : OpenSite C). s.book.needs_opening) (is.refused opened).1 ∙ opened
     device_failed is false opened =
-        failed (effect old.site old.session input).commits old.site.book new.site.book
+        failed (effect old.site old.volatile input).commits old.site.book new.site.book
         (is.answered opened).keeps (is.answered opened).gives
 
     needs_open : IsCalled device old input (Err faults.NeedsOpen) new → (needs_opening : Bool)

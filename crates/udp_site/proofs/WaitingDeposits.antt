@@ -46,7 +46,7 @@ known_by_any slot (r ∷ rs) =
     (known_by_any slot rs)
 
 -- the reply is that a bag is known
-abbrev pub is_known : Reply → Bool
+abbrev pub is_known : Reply BagId → Bool
 is_known (replies.Known bag) = true
 is_known reply = false
 
@@ -62,19 +62,19 @@ known_by_reply slot rs = known_by (known_of slot rs) (deposit_of slot rs)
 
 -- what a query replies says whether a bag is known
 pub known_as_replied : (slot : SlotName) (rs : List Record) (shut : Bool)
-    (result : Result Reply SiteFault) (reply : Reply)
+    (result : Result (Reply BagId) SiteFault) (reply : Reply BagId)
     → (shut ≡ false → result ≡ Ok (reply_of slot rs))
     → (shut ≡ true → result ≡ Err faults.NeedsOpen) → result ≡ Ok reply
     → is_known reply ≡ is_some (known_of slot rs)
 known_as_replied slot rs true result reply replied needs_open is =
     absurd (differs (sym is ∙ needs_open refl))
   where
-    differs : ◌≡◌ {A = Result Reply SiteFault} (Ok reply) (Err faults.NeedsOpen) → ⊥
+    differs : ◌≡◌ {A = Result (Reply BagId) SiteFault} (Ok reply) (Err faults.NeedsOpen) → ⊥
     differs e = cc
 known_as_replied slot rs false result reply replied needs_open is =
     ap is_known (same (sym is ∙ replied refl)) ∙ known_by_reply slot rs
   where
-    same : ◌≡◌ {A = Result Reply SiteFault} (Ok reply) (Ok (reply_of slot rs))
+    same : ◌≡◌ {A = Result (Reply BagId) SiteFault} (Ok reply) (Ok (reply_of slot rs))
         → reply ≡ reply_of slot rs
     same e = cc
 

@@ -3,6 +3,7 @@ use Rattle.std.specs.Prelude.{Option, Some, None, Result, Ok, Err}
 use Rattle.bag_tree.specs.declared.fault.TreeFault.{TreeFault}
 use Rattle.bag_tree.specs.declared.fault.TreeFault.TheVariants as trees
 use Rattle.bag_tree.specs.Fault as tree_faults
+use Rattle.fed_types.specs.declared.bag_id.BagId.{BagId}
 use Rattle.bag_check.specs.declared.fault.BagFault.{BagFault}
 use Rattle.bag_check.specs.declared.fault.BagFault.TheVariants as bags
 use Rattle.bag_check.specs.Fault as bag_faults
@@ -12,7 +13,7 @@ use Rattle.dgram.specs.declared.answers.QueryAnswer.{QueryAnswer}
 use Rattle.dgram.specs.declared.answers.QueryAnswer.TheVariants as query
 use Rattle.site.specs.declared.answer.Answer.{Answer}
 use Rattle.site.specs.declared.answer.Line.{Line}
-use Rattle.site.specs.declared.answer.Line.TheVariants as lines
+use Rattle.site.specs.declared.answer.Line.TheVariants as site_lines
 use Rattle.site.specs.declared.answer.Reply.{Reply}
 use Rattle.site.specs.declared.answer.Reply.TheVariants as replies
 use Rattle.site.specs.declared.fault.SiteFault.{SiteFault}
@@ -20,7 +21,7 @@ use Rattle.site.specs.declared.fault.SiteFault.TheVariants as sites
 
 -- the bag is registered; a deposit says nothing else where it isn't refused
 abbrev pub line_answer : Option Line → Option DepositAnswer
-line_answer (Some (lines.Registered bag)) = Some (deposit.Registered bag)
+line_answer (Some (site_lines.Registered bag)) = Some (deposit.Registered bag)
 line_answer line = None
 
 -- the fault of a folder that is no valid bag, by its number
@@ -52,12 +53,12 @@ tree_answer trees.BadPath = None
 tree_answer fault = Some (deposit.Tree (tree_faults.number_of fault))
 
 -- what the site knows of a slot
-abbrev pub reply_answer : Reply → QueryAnswer
+abbrev pub reply_answer : Reply BagId → QueryAnswer
 reply_answer (replies.Known bag) = query.Known bag
 reply_answer (replies.Pending bag) = query.Pending bag
 reply_answer replies.Nothing = query.Nothing
 
 -- a query is refused only where the site needs opening
-abbrev pub query_answer : Result Reply SiteFault → QueryAnswer
+abbrev pub query_answer : Result (Reply BagId) SiteFault → QueryAnswer
 query_answer (Ok reply) = reply_answer reply
 query_answer (Err fault) = query.NeedsOpen

@@ -4,7 +4,8 @@ use Rattle.std.specs.Prelude.{length, take, Option, Result, Ok, Err}
 use Rattle.std.specs.List.{flat_map}
 use Rattle.std.specs.Io.KnownBytes.{Appends}
 use Rattle.site.specs.declared.fault.SiteFault.TheVariants as sites
-use Rattle.lines.specs.Notices.{Notice, Refused}
+use Rattle.lines.specs.declared.notice.Notice.{Notice}
+use Rattle.lines.specs.declared.notice.Notice.TheVariants.{Refused}
 use Rattle.lines.specs.Named.{line_of}
 use Rattle.lines.specs.declared.print_line.Options.{Options}
 use Rattle.lines.specs.Texts.{line_text}

@@ -5,6 +5,7 @@ use Rattle.std.specs.Prelude.{List, [], ◌∷◌, ◌++◌, map, Option, Some, 
 use Rattle.std.specs.Prelude.{slice_get}
 use Rattle.std.specs.List.{filter, flat_map}
 use Rattle.std.specs.Option.{option_to_list}
+use Rattle.fed_types.specs.declared.bag_id.BagId.{BagId}
 use Rattle.fed_types.specs.Sites.{Membership, members_of}
 use Rattle.fed_types.specs.Slots.{SlotName}
 use Rattle.cell_device.specs.Devices.{Device}
@@ -18,7 +19,7 @@ use Rattle.dgram.specs.declared.body.Body.TheVariants as bodies
 use Rattle.dgram.specs.declared.message.Message.{Message}
 use Rattle.dgram.specs.Encoding.{datagram_of}
 use Rattle.records.specs.declared.record.Record.{Record}
-use Rattle.proposer.specs.Sessions.{Session}
+use Rattle.proposer.specs.VolatileStates.{VolatileState}
 use Rattle.site_tables.specs.Contents.{deposits_of, slot_at}
 use Rattle.site.specs.declared.answer.Answer.{Answer}
 use Rattle.site.specs.declared.answer.Line.{Line}
@@ -32,7 +33,9 @@ use Rattle.site.specs.Calls as calls
 use Rattle.site.specs.Calls.{Input, reply_of}
 use Rattle.site.specs.Effects.{Effect}
 use Rattle.site.specs.Sites.{OpenSite, Represents, effect}
-use Rattle.lines.specs.Notices.{Notice, Replied, Refused, Dropped, notice_of}
+use Rattle.lines.specs.declared.notice.Notice.{Notice}
+use Rattle.lines.specs.declared.notice.Notice.TheVariants.{Refused, Dropped}
+use Rattle.lines.specs.Notices.{notice_of, reply_notice}
 use Rattle.udp_site.specs.Traffic.{Post, Taken}
 use Rattle.udp_site.specs.Requests.{Request, Waits, Says, Deposits, Queries, Noise, request_of}
 use Rattle.udp_site.specs.Replies.{deposit_answer, tree_answer, query_answer}
@@ -40,17 +43,17 @@ use Rattle.udp_site.specs.Rounds.{next_waiting}
 
 -- ---- between turns
 
--- the open site, and what it has heard; how many turns were idle; and the place, among its deposits
--- in their order, after that which an idle turn tried last
+-- the open site, and its volatile state; how many turns were idle; and the place, among its
+-- deposits in their order, after that which an idle turn tried last
 pub record Serving (C : Type 0) : Type 0 where
   pub site : OpenSite C
-  pub session : Session
+  pub volatile : VolatileState
   pub idle : ℕ
   pub tried : ℕ
 
 -- a site that begins to serve
-abbrev pub begins : {C : Type 0} → OpenSite C → Session → Serving C
-begins site session = record { site = site; session = session; idle = 0; tried = 0 }
+abbrev pub begins : {C : Type 0} → OpenSite C → VolatileState → Serving C
+begins site volatile = record { site = site; volatile = volatile; idle = 0; tried = 0 }
 
 abbrev pub members : {C : Type 0} → Serving C → Membership
 members s = s.site.book.owner.members
@@ -58,9 +61,9 @@ members s = s.site.book.owner.members
 abbrev pub number : {C : Type 0} → Serving C → ℕ
 number s = s.site.book.owner.site
 
--- it represents what it has heard, unless it needs opening
+-- it represents its volatile state, unless it needs opening
 abbrev pub IsServing : {C : Type 0} → Serving C → Type 0
-IsServing s = s.site.book.needs_opening ≡ false → Represents s.site s.session
+IsServing s = s.site.book.needs_opening ≡ false → Represents s.site s.volatile
 
 -- ---- what it hands out
 
@@ -99,16 +102,12 @@ abbrev pub proposal_notices : (site : ℕ) → Input → Result Answer SiteFault
 proposal_notices site input (Err faults.RoundsSpent) = []
 proposal_notices site input result = notices_of site input result
 
-abbrev pub reply_notice : (site : ℕ) → SlotName → Result Reply SiteFault → Notice
-reply_notice site slot (Ok reply) = Replied site slot reply
-reply_notice site slot (Err fault) = Refused site fault
-
 -- ---- a call
 
--- what the site has heard after a call: a refusal isn't heard
-abbrev pub session_after : Effect → Session → Result Answer SiteFault → Session
-session_after e session (Ok answer) = e.session
-session_after e session (Err fault) = session
+-- the volatile state after a call: a refused one leaves it
+abbrev pub volatile_after : Effect → VolatileState → Result Answer SiteFault → VolatileState
+volatile_after e volatile (Ok answer) = e.volatile
+volatile_after e volatile (Err fault) = volatile
 
 -- The site is called: it answers as the definitions say; or it needs opening, and says so. Nothing
 -- else of what is between turns changes.
@@ -117,11 +116,11 @@ pub record IsCalled
     (result : Result Answer SiteFault) (new : Serving C)
     : Type 0 where
   pub answered : old.site.book.needs_opening ≡ false
-      → IsAnswered device old.site new.site old.session (effect old.site old.session input) result
+      → IsAnswered device old.site new.site old.volatile (effect old.site old.volatile input) result
   pub refused : old.site.book.needs_opening ≡ true
       → (result ≡ Err faults.NeedsOpen) × (new.site ≡ old.site)
-  pub session : new.session
-      ≡ session_after (effect old.site old.session input) old.session result
+  pub volatile : new.volatile
+      ≡ volatile_after (effect old.site old.volatile input) old.volatile result
   pub idle : new.idle ≡ old.idle
   pub tried : new.tried ≡ old.tried
 
@@ -214,20 +213,20 @@ abbrev pub others : {C : Type 0} → Serving C → List ℕ
 others s = filter (λ member. not (member == number s)) (members_of (members s))
 
 -- whom it asks after a query: all others, unless it knows the bag or needs opening
-abbrev pub asked : {C : Type 0} → Serving C → Result Reply SiteFault → List ℕ
+abbrev pub asked : {C : Type 0} → Serving C → Result (Reply BagId) SiteFault → List ℕ
 asked s (Ok (replies.Known bag)) = []
 asked s (Ok reply) = others s
 asked s (Err fault) = []
 
 -- what a query answers
-abbrev pub answer_to : {C : Type 0} → Serving C → SlotName → Result Reply SiteFault
+abbrev pub answer_to : {C : Type 0} → Serving C → SlotName → Result (Reply BagId) SiteFault
 answer_to s slot =
     if s.site.book.needs_opening then Err faults.NeedsOpen
     else Ok (reply_of slot s.site.book.records)
 
 -- the reply to a query
 abbrev pub query_replies :
-    (federation site port : ℕ) → SlotName → Result Reply SiteFault → List Post
+    (federation site port : ℕ) → SlotName → Result (Reply BagId) SiteFault → List Post
 query_replies federation site port slot known =
     replies_to federation port slot (bodies.QueryReply site (query_answer known))
 
@@ -256,7 +255,7 @@ tries s place = record s { tried = place + 1 }
 abbrev pub Refuses : {C : Type 0} → Serving C → Input → Result Answer SiteFault → Type 0
 Refuses old input result =
     old.site.book.needs_opening ≡ false
-    → IsRefused (effect old.site old.session input) result
+    → IsRefused (effect old.site old.volatile input) result
 
 -- it proposes the slot's deposit
 abbrev pub proposing :

@@ -10,12 +10,11 @@
 //! ```
 #![tactic(auto)]
 
-mod arrivals;
-mod asked;
 mod deposits;
 mod fault;
 mod idle_turns;
 mod memory_port;
+mod messages;
 mod pace;
 mod paced_socket;
 mod port;
@@ -23,6 +22,7 @@ mod port_fault;
 mod port_move;
 mod queries;
 mod replies;
+mod requests;
 mod said_lines;
 mod sends;
 mod serve_loop;

@@ -1,7 +1,6 @@
 //! Queries of clients.
 
 ghost use Rattle.std.specs.Prelude.{◌≡◌, ◌≤◌, ◌∷◌, [], false, IsOk};
-ghost use Rattle.fed_types.specs.Sites.{IsSiteNumber};
 ghost use Rattle.udp_site.specs.Turns.{Serving, IsServing, queries, others, asked};
 ghost use Rattle.udp_site.specs.inner.Others.{others_of};
 ghost use Rattle.udp_site.specs.inner.Outcomes.{AsksFor};
@@ -79,9 +78,8 @@ fn ask_others<C: Cell, P: Port>(
         lines.old.items lines.new.items result }
     ensures later { P.failures port.old ≤ P.failures port.new }
 {
-    let count = site.members().count();
-    for earlier in 0..count {
-        ask_other(site, port, ports, lines, slot, member(earlier + 1))?;
+    for member in site.members().sites() {
+        ask_other(site, port, ports, lines, slot, member)?;
     }
     Ok(())
 }
@@ -110,16 +108,5 @@ fn ask_other<C: Cell, P: Port>(
             push_refused(lines, site.number().number(), SiteFault::Memory)?;
             Ok(())
         }
-    }
-}
-
-// The member of this number.
-fn member(number: u8) -> SiteNo
-    requires { IsSiteNumber number }
-    ensures { result ≡ number }
-{
-    match SiteNo::new(number) {
-        Ok(member) => member,
-        Err(_) => unreachable!(),
     }
 }

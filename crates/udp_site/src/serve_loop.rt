@@ -5,7 +5,7 @@ ghost use Rattle.std.specs.Prelude.{OnOk, OnErr, IfOk, IfErr, string_bytes};
 ghost use Rattle.std.specs.List.{flat_map, list_any};
 ghost use Rattle.std.specs.Io.KnownBytes.{Appends};
 ghost use Rattle.cell_device.specs.Calls.{HasCause};
-ghost use Rattle.proposer.specs.Sessions.{Session};
+ghost use Rattle.proposer.specs.VolatileStates.{VolatileState};
 ghost use Rattle.lines.specs.Texts.{line_text};
 ghost use Rattle.udp_site.specs.Failures.{OnlyByFailing};
 ghost use Rattle.udp_site.specs.Served.{Serves, Turned, outside, by_identity};
@@ -41,12 +41,12 @@ pub fn serve<C: Cell, P: Port, F: Folders, W: Write>(
     turns: u32,
     output: &mut W,
 ) -> Result<(), ServeFault>
-    ensures served { (session : Session) → IsServing (begins site.old session)
+    ensures served { (volatile : VolatileState) → IsServing (begins site.old volatile)
         → (end : Serving C) × (done : List Turned) × (end.site ≡ site.new)
         × Serves (turn_of C.device ports.now (F.gives folders.old))
         (outside (P.traffic port.old) (W.contents output.old))
         (outside (P.traffic port.new) (W.contents output.new))
-        (begins site.old session) end turns done result }
+        (begins site.old volatile) end turns done result }
     ensures port { OnlyByFailing ServeFault.Port (P.failures port.old) (P.failures port.new)
         result }
     ensures kept { F.gives folders.new ≡ F.gives folders.old }

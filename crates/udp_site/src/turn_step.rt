@@ -5,9 +5,9 @@ ghost use Rattle.udp_site.specs.Traffic.{taken, From};
 ghost use Rattle.udp_site.specs.Turns.{turn_of};
 ghost use Rattle.udp_site.specs.inner.Servers.{Comes, ComesOfTurn, Keeps, Stays};
 
-use crate::asked::{Asked, asked_by};
 use crate::fault::ServeFault;
 use crate::port::Port;
+use crate::requests::{Asked, asked_by};
 use crate::server::Server;
 use crate::turn::Turn;
 use bag_folders::Folders;

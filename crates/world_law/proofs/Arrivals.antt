@@ -29,17 +29,19 @@ use Rattle.acceptor.specs.Decisions.{prepare_decision, accept_decision}
 use Rattle.learner.specs.LearnedBags.{chosen_by}
 use Rattle.proposer.specs.Proposals.{Current, gathered, highest_prior, bag_of, proposal, ready}
 use Rattle.proposer.specs.Proposals.{completes}
-use Rattle.proposer.specs.Sessions.{Session, hears, promise_message}
+use Rattle.proposer.specs.VolatileStates.{VolatileState, hears, promise_message}
 use Rattle.site.specs.declared.answer.Line.{Line}
-use Rattle.site.specs.declared.answer.Line.TheVariants as lines
+use Rattle.site.specs.declared.answer.Line.TheVariants as site_lines
 use Rattle.site.specs.declared.fault.SiteFault.{SiteFault}
 use Rattle.site.specs.Arrivals.{answer_body, addressees, decided, proposing, learning, telling}
 use Rattle.site.specs.Arrivals.{on_body, is_member, on_arrival}
 use Rattle.site.specs.Calls.{Input, Arrives}
 use Rattle.site.specs.Effects.{Send, to_each, only_says, quiet}
 use Rattle.world_law.specs.Laws.{OnRecord, WasSent, IsChosen, SatisfiesP2c, Report, notice_report}
-use Rattle.lines.specs.Notices.{Notice, Learned, notice_of}
-use Rattle.world_law.specs.Networks.{Network}
+use Rattle.lines.specs.declared.notice.Notice.{Notice}
+use Rattle.lines.specs.declared.notice.Notice.TheVariants.{Learned}
+use Rattle.lines.specs.Notices.{notice_of}
+use Rattle.world_law.specs.Networks.{Network, volatile_in}
 use Rattle.world_law.proofs.Heard.{gathered_heard, gathered_promise, highest_prior_is, prior_of}
 use Rattle.world_law.proofs.Kept.{vote_for, Proposes, IsCurrent, Kept}
 use Rattle.world_law.proofs.Conditions.{given_if, kept_if, and_not, unless_known_is}
@@ -55,22 +57,22 @@ module _ (q : QuorumSystem) (laws : AreQuorums q) (w : Network) (inv : Kept q w)
   abbrev records : List Record
   records = (w.sites n).records
 
-  abbrev old : Session
-  old = (w.sites n).session
+  abbrev old : VolatileState
+  old = volatile_in (w.sites n).mode
 
-  -- what changes nothing of the session, and proposes nothing
+  -- what changes nothing of the volatile state, and proposes nothing
   pub still_deed : (input : Input) (commits : Option Record) (sends : List Send)
       (says : Result (Option Line) SiteFault) (slot : SlotName) (body : Body)
       → ReportsChosen q w (notice_of n input says)
       → Sound q w n (MayDeposit input) commits slot body sends → NoAccept body
       → Deed q w n input
-      (record { commits = commits; sends = sends; says = says; session = old })
+      (record { commits = commits; sends = sends; says = says; volatile = old })
   still_deed input commits sends says slot body reports s other = record {
     slot = slot;
     body = body;
     sound = s;
     recalls =
-        same_recalls q w n (inv.sessions n) commits slot body
+        same_recalls q w n old (inv.volatiles n) commits slot body
         (λ k c bag f i. absurd (not_new body other i));
     reports = reports;
   }
@@ -82,7 +84,7 @@ module _ (q : QuorumSystem) (laws : AreQuorums q) (w : Network) (inv : Kept q w)
     abbrev m : Message
     m = record { slot = slot; body = body }
 
-    abbrev now : Session
+    abbrev now : VolatileState
     now = hears old m
 
     abbrev input : Input
@@ -90,13 +92,13 @@ module _ (q : QuorumSystem) (laws : AreQuorums q) (w : Network) (inv : Kept q w)
 
     now_sent : (e : Message) → Has e now.heard → WasSent w e.slot e.body
     now_sent e h = elim (has_cases old.heard (m ∷ []) h) [
-      | inl before ↦ (inv.sessions n).heard e before
+      | inl before ↦ (inv.volatiles n).heard e before
       | inr new ↦ subst (λ (y : Message). WasSent w y.slot y.body) (has_one new) sent
     ]
 
     now_members : (e : Message) → Has e now.heard → is_member q (body_from e.body) ≡ true
     now_members e h = elim (has_cases old.heard (m ∷ []) h) [
-      | inl before ↦ (inv.sessions n).members e before
+      | inl before ↦ (inv.volatiles n).members e before
       | inr new ↦
           subst (λ (y : Message). is_member q (body_from y.body) ≡ true) (has_one new) member
     ]
@@ -107,13 +109,13 @@ module _ (q : QuorumSystem) (laws : AreQuorums q) (w : Network) (inv : Kept q w)
         → ReportsChosen q w (notice_of n input says)
         → Sound q w n (MayDeposit input) commits slot new sends → NoAccept new
         → Deed q w n input
-        (record { commits = commits; sends = sends; says = says; session = now })
+        (record { commits = commits; sends = sends; says = says; volatile = now })
     plain_deed commits sends says new reports s other = record {
       slot = slot;
       body = new;
       sound = s;
       recalls =
-          hears_recalls q w n laws (inv.sessions n) m sent member commits slot new
+          hears_recalls q w n old laws (inv.volatiles n) m sent member commits slot new
           (λ k c bag f i. absurd (not_new new other i));
       reports = reports;
     }
@@ -153,7 +155,7 @@ module _ (q : QuorumSystem) (laws : AreQuorums q) (w : Network) (inv : Kept q w)
         → Deed q w n input (learning slot o now)
     learning_deed None chosen = quiet_deed
     learning_deed (Some bag) chosen =
-        plain_deed _ [] (Ok (Some (lines.Known slot bag))) (Ask n)
+        plain_deed _ [] (Ok (Some (site_lines.Known slot bag))) (Ask n)
         (learned_chosen (chosen bag refl))
         (keeps_one q w n (MayDeposit input) slot (entry.Known bag) (Ask n) []
         (λ e h. absurd (has_none h)) refl
@@ -248,7 +250,7 @@ module _ (q : QuorumSystem) (laws : AreQuorums q) (w : Network) (inv : Kept q w)
       ps = gathered slot c old.heard ++ p ∷ []
 
       cur : IsCurrent q w n slot old.heard c
-      cur = (inv.sessions n).current slot c is_current
+      cur = (inv.volatiles n).current slot c is_current
 
       -- what counts is now gathered
       now_gathered : gathered slot c now.heard ≡ ps
@@ -276,7 +278,8 @@ module _ (q : QuorumSystem) (laws : AreQuorums q) (w : Network) (inv : Kept q w)
             (carries_each slot (Accept vote) q.members) (ap Some cur.own)
             (λ x g. record { says = proposes x g; own = cur.own; unsent = unsent });
         recalls =
-            hears_recalls q w n laws (inv.sessions n) m sent member None slot (Accept vote) fine;
+            hears_recalls q w n old laws (inv.volatiles n) m sent member None slot (Accept vote)
+            fine;
         reports = reports_nothing;
       }
         where
@@ -339,7 +342,7 @@ module _ (q : QuorumSystem) (laws : AreQuorums q) (w : Network) (inv : Kept q w)
   pub says_deed : (input : Input) (says : Result (Option Line) SiteFault)
       → ReportsChosen q w (notice_of n input says)
       → Deed q w n input
-      (record { commits = None; sends = []; says = says; session = old })
+      (record { commits = None; sends = []; says = says; volatile = old })
   says_deed input says reports =
       still_deed input None [] says any_slot (Ask n) reports
       (nothing_sent q w n (MayDeposit input) any_slot) tt
@@ -347,8 +350,8 @@ module _ (q : QuorumSystem) (laws : AreQuorums q) (w : Network) (inv : Kept q w)
       any_slot : SlotName
       any_slot = record { object = []; version = 0 }
 
-  dropped_deed : (input : Input) → Deed q w n input (only_says lines.Dropped old)
-  dropped_deed input = says_deed input (Ok (Some lines.Dropped)) (reports_plain _ refl)
+  dropped_deed : (input : Input) → Deed q w n input (only_says site_lines.Dropped old)
+  dropped_deed input = says_deed input (Ok (Some site_lines.Dropped)) (reports_plain _ refl)
 
   body_deed : (slot : SlotName) (body : Body) → WasSent w slot body
       → is_member q (body_from body) ≡ true
@@ -396,6 +399,6 @@ module _ (q : QuorumSystem) (laws : AreQuorums q) (w : Network) (inv : Kept q w)
       go : (t : Bool) → is_member q (body_from m.body) ≡ t
           → Deed q w n (Arrives (Some m))
           (cond t (on_body q n records old (hears old m) m.slot m.body)
-          (only_says lines.Dropped old))
+          (only_says site_lines.Dropped old))
       go true e = body_deed m.slot m.body (sent m refl) e
       go false e = dropped_deed (Arrives (Some m))

@@ -17,8 +17,8 @@ use Rattle.records.specs.SlotStates.{used_of, deposit_of, known_of}
 use Rattle.records.proofs.Bounds.{used_bounds}
 use Rattle.dgram.specs.declared.body.Body.TheVariants.{Prepare, Accept, Ask}
 use Rattle.proposer.specs.Proposals.{Current, last_round, next_ballot}
-use Rattle.proposer.specs.Sessions.{Session, with_current}
-use Rattle.site.specs.declared.answer.Line.TheVariants as lines
+use Rattle.proposer.specs.VolatileStates.{VolatileState, with_current}
+use Rattle.site.specs.declared.answer.Line.TheVariants as site_lines
 use Rattle.site.specs.declared.fault.SiteFault.{SiteFault}
 use Rattle.site.specs.declared.fault.SiteFault.TheVariants as faults
 use Rattle.site.specs.Calls.{Input, Deposits, Proposes, Asks, registering, on_deposit}
@@ -26,7 +26,7 @@ use Rattle.site.specs.Calls.{begins_ballot}
 use Rattle.site.specs.Calls.{begins_ballot_if, on_propose, on_ask}
 use Rattle.site.specs.Effects.{to_each, record_of, refuses}
 use Rattle.world_law.specs.Laws.{WasSent}
-use Rattle.world_law.specs.Networks.{Network}
+use Rattle.world_law.specs.Networks.{Network, volatile_in}
 use Rattle.world_law.proofs.Kept as facts
 use Rattle.world_law.proofs.Kept.{vote_for, IsCurrent, Kept}
 use Rattle.world_law.proofs.Step.{Extends, Splits, reports_nothing, reports_plain}
@@ -38,10 +38,10 @@ module _ (q : QuorumSystem) (laws : AreQuorums q) (w : Network) (inv : Kept q w)
   abbrev records : List Record
   records = (w.sites n).records
 
-  abbrev before : Session
-  before = (w.sites n).session
+  abbrev before : VolatileState
+  before = volatile_in (w.sites n).mode
 
-  pub refuses_deed : (input : Input) (fault : SiteFault) → Deed q w n input (refuses fault before)
+  refuses_deed : (input : Input) (fault : SiteFault) → Deed q w n input (refuses fault before)
   refuses_deed input fault = says_deed q laws w inv n input (Err fault) (reports_plain _ refl)
 
   module _ (slot : SlotName) where
@@ -51,13 +51,14 @@ module _ (q : QuorumSystem) (laws : AreQuorums q) (w : Network) (inv : Kept q w)
         → Deed q w n (Deposits slot (Ok bag)) (registering slot own bag fault before)
     registering_deed own bag (Some fault) = refuses_deed (Deposits slot (Ok bag)) fault
     registering_deed None bag None =
-        still_deed q laws w inv n (Deposits slot (Ok bag)) _ [] (Ok (Some (lines.Registered bag)))
+        still_deed q laws w inv n (Deposits slot (Ok bag)) _ []
+        (Ok (Some (site_lines.Registered bag)))
         slot (Ask n) (reports_plain _ refl)
         (keeps_one q w n (MayDeposit (Deposits slot (Ok bag))) slot (entry.Deposit bag) (Ask n) []
         (λ e h. absurd (has_none h)) refl (λ x g. (refl, refl)) (λ x g. tt))
         tt
     registering_deed (Some u) bag None =
-        says_deed q laws w inv n (Deposits slot (Ok bag)) (Ok (Some (lines.Registered bag)))
+        says_deed q laws w inv n (Deposits slot (Ok bag)) (Ok (Some (site_lines.Registered bag)))
         (reports_plain _ refl)
 
     pub deposit_deed : (checked : Result BagId BagFault)
@@ -75,7 +76,7 @@ module _ (q : QuorumSystem) (laws : AreQuorums q) (w : Network) (inv : Kept q w)
       abbrev new : Current
       new = record { ballot = b; heard_before = length before.heard }
 
-      abbrev after : Session
+      abbrev after : VolatileState
       after = with_current before slot b
 
       unsent : (bag : BagId) → ¬ WasSent w slot (Accept (vote_for b bag))
@@ -107,7 +108,7 @@ module _ (q : QuorumSystem) (laws : AreQuorums q) (w : Network) (inv : Kept q w)
               (subst (λ (k : SlotName). IsCurrent q x n k before.heard new)
               ((same_slot_decides slot k).0 e) at_slot)
           go false e f =
-              let old = (inv.sessions n).current k c f in
+              let old = (inv.volatiles n).current k c f in
               record {
                 own = old.own;
                 issued = g.keeps n k _ old.issued;
@@ -128,8 +129,8 @@ module _ (q : QuorumSystem) (laws : AreQuorums q) (w : Network) (inv : Kept q w)
             (λ x g. tt) (λ x g. tt);
         recalls = record {
           recalls = λ x g splits. record {
-            heard = λ d h. sent_extends g ((inv.sessions n).heard d h);
-            members = (inv.sessions n).members;
+            heard = λ d h. sent_extends g ((inv.volatiles n).heard d h);
+            members = (inv.volatiles n).members;
             current = current_now x g splits;
           };
         };

@@ -1,6 +1,6 @@
 -- A command changes no site, or is skipped, or is one event of the network, or is a pump.
 use Rattle.std.proofs.Common.{ℕ, ◌≡◌, ◌≢◌, Bool, true, false, cond, refl, List, [], ◌∷◌, ◌++◌}
-use Rattle.std.proofs.Common.{Option, None, Some}
+use Rattle.std.proofs.Common.{Option, None, Some, inl, sym}
 use Rattle.std.specs.Prelude.{Result, Ok, Err}
 use Rattle.fed_types.specs.declared.bag_id.BagId.{BagId}
 use Rattle.fed_types.specs.Slots.{SlotName}
@@ -69,7 +69,7 @@ module _ (w : World) (number : ℕ) (P : World → Type 0) where
 
     unless_down_is : (named : List ℕ) (mode : Mode) (x : World) → (mode ≢ Down → P x)
         → P (unless_down (record w { named = named }) number mode x)
-    unless_down_is named Up x h = h (λ e. cc)
+    unless_down_is named (Up volatile) x h = h (λ e. cc)
     unless_down_is named NeedsOpening x h = h (λ e. cc)
     unless_down_is named Down x h = skipped named reasons.Down
 
@@ -142,7 +142,7 @@ module _ (w : World) (number : ℕ) (P : World → Type 0) where
 
       start_is : (site : ℕ) (mode : Mode) → P (on_start w number site mode)
       unfolding on_start
-      start_is site Up = skipped w.named reasons.Up
+      start_is site (Up volatile) = skipped w.named reasons.Up
       start_is site NeedsOpening = starts site
       start_is site Down = starts site
 
@@ -163,7 +163,7 @@ module _ (w : World) (number : ℕ) (P : World → Type 0) where
           let same_site : site ≡ k = cc in
           let same_slot : slot ≡ s = cc in
           let found : checked files ≡ Ok bag = cc in
-          let valid = is_valid (facts_of_tree files) (Ok bag) found in
+          let valid = is_valid (facts_of_tree files) (Ok bag) (inl (sym found)) in
           record {
             tree = tree;
             fate = fate;

@@ -16,7 +16,7 @@ use Rattle.dgram.specs.declared.message.Message.{Message}
 use Rattle.dgram.specs.Encoding.{body_from}
 use Rattle.dgram.specs.Heard.{promisers}
 use Rattle.proposer.specs.Proposals.{Current, gathered}
-use Rattle.proposer.specs.Sessions.{Session, hears}
+use Rattle.proposer.specs.VolatileStates.{VolatileState, hears}
 use Rattle.site.specs.Arrivals.{is_member}
 use Rattle.site.specs.Calls.{Input}
 use Rattle.site.specs.Calls as inputs
@@ -39,7 +39,7 @@ pub record Deed (q : QuorumSystem) (w : Network) (n : ℕ) (input : Input) (e : 
   pub slot : SlotName
   pub body : Body
   pub sound : Sound q w n (MayDeposit input) e.commits slot body e.sends
-  pub recalls : Recalls q w n e.commits slot body e.session
+  pub recalls : Recalls q w n e.commits slot body e.volatile
   pub reports : ReportsChosen q w (notice_of n input e.says)
 
 pub some_same : {A : Type 0} {x y : A} → Some x ≡ Some y → x ≡ y
@@ -104,44 +104,44 @@ module _ (q : QuorumSystem) (w : Network) (n : ℕ) (D : Deposits) where
 
 -- ---- what is remembered
 
-module _ (q : QuorumSystem) (w : Network) (n : ℕ) where
+-- at site n, whose volatile state was this one
+module _ (q : QuorumSystem) (w : Network) (n : ℕ) (old : VolatileState) where
   -- where the new messages propose in a current ballot, a quorum is gathered for it
-  abbrev Fine : SlotName → Body → Session → Type 0
-  Fine slot body session =
-      (k : SlotName) (c : Current) (bag : BagId) → session.current k ≡ Some c
-      → IsNew slot body k c.ballot bag → IsQuorum q (promisers (gathered k c session.heard))
+  abbrev Fine : SlotName → Body → VolatileState → Type 0
+  Fine slot body volatile =
+      (k : SlotName) (c : Current) (bag : BagId) → volatile.current k ≡ Some c
+      → IsNew slot body k c.ballot bag → IsQuorum q (promisers (gathered k c volatile.heard))
 
   -- with a member's message that was sent heard besides
-  pub hears_recalls : AreQuorums q → Remembers q w n (w.sites n).session → (m : Message)
+  pub hears_recalls : AreQuorums q → Remembers q w n old → (m : Message)
       → WasSent w m.slot m.body → is_member q (body_from m.body) ≡ true
       → (kept : Option Record) (slot : SlotName) (body : Body)
-      → Fine slot body (hears (w.sites n).session m)
-      → Recalls q w n kept slot body (hears (w.sites n).session m)
+      → Fine slot body (hears old m) → Recalls q w n kept slot body (hears old m)
   hears_recalls laws r m sent member kept slot body fine = record {
     recalls = λ x e splits. record {
-      heard = λ f h. elim (has_cases (w.sites n).session.heard (m ∷ []) h) [
-        | inl old ↦ sent_extends e (r.heard f old)
+      heard = λ f h. elim (has_cases old.heard (m ∷ []) h) [
+        | inl before ↦ sent_extends e (r.heard f before)
         | inr new ↦
             subst (λ (y : Message). WasSent x y.slot y.body) (has_one new) (sent_extends e sent)
       ];
-      members = λ f h. elim (has_cases (w.sites n).session.heard (m ∷ []) h) [
-        | inl old ↦ r.members f old
+      members = λ f h. elim (has_cases old.heard (m ∷ []) h) [
+        | inl before ↦ r.members f before
         | inr new ↦
             subst (λ (y : Message). is_member q (body_from y.body) ≡ true) (has_one new) member
       ];
       current = λ k c f.
-          let old = r.current k c f in
+          let was = r.current k c f in
           record {
-            own = old.own;
-            issued = e.keeps n k _ old.issued;
+            own = was.own;
+            issued = e.keeps n k _ was.issued;
             within =
-                let l = length-append (w.sites n).session.heard (m ∷ []) in
-                let o = old.within in
+                let l = length-append old.heard (m ∷ []) in
+                let o = was.within in
                 omega (arith, l);
             spent = λ bag t. elim (splits k c.ballot bag t) [
               | inl g ↦
-                  laws.grow _ _ (old.spent bag g)
-                  (λ j member h. gathered_stays k c (w.sites n).session.heard m old.within j h)
+                  laws.grow _ _ (was.spent bag g)
+                  (λ j member h. gathered_stays k c old.heard m was.within j h)
               | inr i ↦ fine k c bag f i
             ];
           };
@@ -149,21 +149,20 @@ module _ (q : QuorumSystem) (w : Network) (n : ℕ) where
   }
 
   -- with nothing new
-  pub same_recalls : Remembers q w n (w.sites n).session → (kept : Option Record)
-      (slot : SlotName) (body : Body) → Fine slot body (w.sites n).session
-      → Recalls q w n kept slot body (w.sites n).session
+  pub same_recalls : Remembers q w n old → (kept : Option Record) (slot : SlotName) (body : Body)
+      → Fine slot body old → Recalls q w n kept slot body old
   same_recalls r kept slot body fine = record {
     recalls = λ x e splits. record {
       heard = λ f h. sent_extends e (r.heard f h);
       members = r.members;
       current = λ k c f.
-          let old = r.current k c f in
+          let was = r.current k c f in
           record {
-            own = old.own;
-            issued = e.keeps n k _ old.issued;
-            within = old.within;
+            own = was.own;
+            issued = e.keeps n k _ was.issued;
+            within = was.within;
             spent = λ bag t. elim (splits k c.ballot bag t) [
-              | inl g ↦ old.spent bag g
+              | inl g ↦ was.spent bag g
               | inr i ↦ fine k c bag f i
             ];
           };

@@ -20,8 +20,9 @@ use Rattle.dgram.specs.Heard.{bodies_of, promises_for, promisers, priors, voters
 use Rattle.acceptor.specs.Decisions.{prepare_decision, accept_decision}
 use Rattle.learner.specs.LearnedBags.{chosen_by}
 use Rattle.proposer.specs.Proposals.{next_ballot, gathered, highest_prior, proposal}
-use Rattle.proposer.specs.Sessions.{Session, new_session, hears, with_current, promise_message}
-use Rattle.proposer.specs.Sessions.{refusal_message}
+use Rattle.proposer.specs.VolatileStates.{VolatileState, new_volatile}
+use Rattle.proposer.specs.VolatileStates.{hears, with_current, promise_message}
+use Rattle.proposer.specs.VolatileStates.{refusal_message}
 use Rattle.site.specs.declared.fault.SiteFault.TheVariants as faults
 use Rattle.site.specs.Arrivals.{on_body, on_arrival}
 use Rattle.site.specs.Calls.{on_deposit, on_propose, on_ask, reply_of}
@@ -36,9 +37,9 @@ use Rattle.bag_tree.specs.Tree.{fault_of_added}
 use Rattle.lines.specs.declared.line.Line.{Line}
 use Rattle.lines.specs.declared.line.Line.TheVariants as lines
 use Rattle.lines.specs.declared.line.NamedBag.{NamedBag}
-use Rattle.lines.specs.declared.line.NamedReply.TheVariants as named
+use Rattle.site.specs.declared.answer.Reply.TheVariants as replies
 use Rattle.lines.specs.declared.line.Reason.TheVariants as reasons
-use Rattle.world_law.specs.Networks.{new_site, new_network, outcome, happens, run, Ask}
+use Rattle.world_law.specs.Networks.{Up, new_site, new_network, outcome, happens, run, Ask}
 use Rattle.world_law.specs.Networks.{Deliver}
 use Rattle.lines.specs.Named.{first_tree}
 use Rattle.world_law.specs.Trees.{tree_at, put_tree}
@@ -170,16 +171,16 @@ three_agree = deposit 1 1 ∷ propose 1 ∷ pump 18 ∷ []
 abbrev promise : (site : ℕ) → Message
 promise site = promise_message a site (ballot 1 1) None
 
-abbrev promised_by : (site : ℕ) → Session
-promised_by site = hears new_session (promise site)
+abbrev promised_by : (site : ℕ) → VolatileState
+promised_by site = hears new_volatile (promise site)
 
 -- the quorums of three members of weight 1
 abbrev three : QuorumSystem
 three = quorums_of (record { federation = 7; weights = replicate 3 1 })
 
--- what site 1 of three sends when it is promised its ballot by itself, where it had this session
--- when it issued the ballot, and then heard more
-abbrev sends_of : Session → (Session → Session) → List Send
+-- what site 1 of three sends when it is promised its ballot by itself, where it had this volatile
+-- state when it issued the ballot, and then heard more
+abbrev sends_of : VolatileState → (VolatileState → VolatileState) → List Send
 sends_of before more =
     (on_arrival three 1
     (record { slot = a; body = entry.Deposit (bag 1) }
@@ -196,7 +197,7 @@ pub record Examples : Type 0 where
   -- two votes of four choose nothing, three do
   half_of_four :
       says 4 (deposit 1 1 ∷ propose 1 ∷ pump 7 ∷ delivers (9 ∷ 10 ∷ 13 ∷ 17 ∷ []) ++ query 1 ∷ [])
-      ≡ registered 1 1 ∷ lines.Replied 1 a (named.Pending (named_bag 1)) ∷ []
+      ≡ registered 1 1 ∷ lines.Replied 1 a (replies.Pending (named_bag 1)) ∷ []
   three_of_four :
       says 4 (deposit 1 1 ∷ propose 1 ∷ pump 7 ∷ delivers (9 ∷ 10 ∷ 13 ∷ 17 ∷ 11 ∷ 21 ∷ []))
       ≡ registered 1 1 ∷ known 1 1 ∷ []
@@ -209,10 +210,11 @@ pub record Examples : Type 0 where
       says_of (2 ∷ 1 ∷ 1 ∷ []) (deposit 1 1 ∷ propose 1 ∷ delivers (2 ∷ 3 ∷ 4 ∷ 5 ∷ 6 ∷ 1 ∷ 6 ∷ 8
       ∷ 9 ∷ 10 ∷ 13 ∷ []) ++ query 1 ∷ delivers (7 ∷ 16 ∷ []))
       ≡ registered 1 1 ∷ lines.Skip 16 reasons.Datagram
-      ∷ lines.Replied 1 a (named.Pending (named_bag 1)) ∷ known 1 1 ∷ []
+      ∷ lines.Replied 1 a (replies.Pending (named_bag 1)) ∷ known 1 1 ∷ []
   -- a site that is no member hears nothing, even where a member has asked it
   stranger :
-      ((run three new_network (Ask 1 9 a Whole ∷ Deliver 1 Whole ∷ [])).sites 9).session.heard ≡ []
+      ((run three new_network (Ask 1 9 a Whole ∷ Deliver 1 Whole ∷ [])).sites 9).mode
+      ≡ Up new_volatile
   -- a prior vote wins over the own deposit, which then is another bag than the known one
   prior_wins :
       says 3 (five_turns ++ delivers (7 ∷ 8 ∷ []) ++ deposit 3 2 ∷ propose 3
@@ -237,8 +239,8 @@ pub record Examples : Type 0 where
   -- a promise that was heard before its ballot was issued doesn't count; one that is heard later
   -- does
   early_promise :
-      (sends_of (promised_by 2) (λ session. session) ≡ [])
-      × (length (sends_of new_session (λ session. hears session (promise 2))) ≡ 3)
+      (sends_of (promised_by 2) (λ volatile. volatile) ≡ [])
+      × (length (sends_of new_volatile (λ volatile. hears volatile (promise 2))) ≡ 3)
   -- a vote that is lost was named to nobody; a kept one is named in the next promise; a torn one is
   -- lost
   lost_vote : says 3 (vote_cut_at 0)
@@ -260,8 +262,8 @@ pub record Examples : Type 0 where
       ∷ delivers (15 ∷ 16 ∷ []) ++ deposit 3 2 ∷ deposit 3 1 ∷ query 2 ∷ query 3 ∷ [])
       ≡ registered 1 1 ∷ known 1 1 ∷ lines.Down 3 ∷ lines.Up 3 0 ∷ known 3 1
       ∷ lines.Refused 3 (faults.OtherKnown (bag 1)) ∷ registered 3 1
-      ∷ lines.Replied 2 a named.Nothing
-      ∷ lines.Replied 3 a (named.Known (named_bag 1)) ∷ []
+      ∷ lines.Replied 2 a replies.Nothing
+      ∷ lines.Replied 3 a (replies.Known (named_bag 1)) ∷ []
   -- A commit that fails leaves nothing, and the site needs opening: it refuses all calls and bytes,
   -- and is stopped and opened as ever. A failure where there is no record changes nothing.
   failed_commit :
@@ -269,8 +271,8 @@ pub record Examples : Type 0 where
       ∷ query 1 ∷ does (commands.Call (calls.Propose 1 a) (FailsIn Append 0)) ∷ query 1 ∷ [])
       ≡ lines.Refused 1 faults.Device ∷ lines.Refused 1 faults.NeedsOpen
       ∷ lines.Refused 1 faults.NeedsOpen ∷ lines.Refused 1 faults.NeedsOpen ∷ lines.Up 1 0
-      ∷ lines.Replied 1 a named.Nothing ∷ lines.Refused 1 faults.NoDeposit
-      ∷ lines.Replied 1 a named.Nothing ∷ []
+      ∷ lines.Replied 1 a replies.Nothing ∷ lines.Refused 1 faults.NoDeposit
+      ∷ lines.Replied 1 a replies.Nothing ∷ []
   -- a site stops between two datagrams: the third to the last are never sent
   two_of_three :
       (says 3 (deposit 1 1 ∷ propose 1 ∷ pump 4 ∷ deliver 5 (StopsAfter 2) ∷ start 1 ∷ [])

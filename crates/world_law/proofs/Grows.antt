@@ -14,7 +14,7 @@ use Rattle.dgram.specs.declared.body.Body.TheVariants.{Ask, Known, Deposit, Quer
 use Rattle.dgram.specs.declared.body.Body.TheVariants.{QueryReply}
 use Rattle.dgram.specs.Heard.{promisers}
 use Rattle.proposer.specs.Proposals.{Current, gathered}
-use Rattle.proposer.specs.Sessions.{Session}
+use Rattle.proposer.specs.VolatileStates.{VolatileState}
 use Rattle.site.specs.Effects.{Send}
 use Rattle.world_law.specs.Laws.{OnRecord, WasSent, IsChosenBy, IsChosen, IsPrior, IsBacked}
 use Rattle.world_law.specs.Laws.{SatisfiesP2c}
@@ -120,13 +120,13 @@ module _ {w x : Network} (g : Grows w x) where
 
   -- what a site remembers stays so while no new proposal is in a ballot that is current there, but
   -- one of a quorum
-  pub remembers_grows : (q : QuorumSystem) (n : ℕ) (session : Session)
-      → ((slot : SlotName) (c : Current) (bag : BagId) → session.current slot ≡ Some c
+  pub remembers_grows : (q : QuorumSystem) (n : ℕ) (volatile : VolatileState)
+      → ((slot : SlotName) (c : Current) (bag : BagId) → volatile.current slot ≡ Some c
       → c.ballot.site ≡ n → WasSent x slot (Accept (vote_for c.ballot bag))
       → WasSent w slot (Accept (vote_for c.ballot bag))
-      ⊎ IsQuorum q (promisers (gathered slot c session.heard)))
-      → Remembers q w n session → Remembers q x n session
-  remembers_grows q n session cases r = record {
+      ⊎ IsQuorum q (promisers (gathered slot c volatile.heard)))
+      → Remembers q w n volatile → Remembers q x n volatile
+  remembers_grows q n volatile cases r = record {
     heard = λ m h. sent_grows (r.heard m h);
     members = r.members;
     current = λ slot c e.

@@ -20,7 +20,7 @@ use Rattle.dgram.specs.Heard.{priors}
 use Rattle.dgram.proofs.Heard.{has_message, has_promise}
 use Rattle.proposer.specs.Proposals.{Current, gathered, highest_prior}
 use Rattle.world_law.specs.Laws.{IsNamed, IsHighestPrior}
-use Rattle.proposer.specs.Sessions.{promise_message}
+use Rattle.proposer.specs.VolatileStates.{promise_message}
 use Rattle.proposer.proofs.Gathered.{one_of, gathered-push}
 
 -- what was gathered was heard

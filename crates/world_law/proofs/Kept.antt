@@ -14,11 +14,11 @@ use Rattle.dgram.specs.declared.message.Message.{Message}
 use Rattle.dgram.specs.Encoding.{body_from}
 use Rattle.dgram.specs.Heard.{promisers}
 use Rattle.proposer.specs.Proposals.{Current, gathered}
-use Rattle.proposer.specs.Sessions.{Session}
+use Rattle.proposer.specs.VolatileStates.{VolatileState}
 use Rattle.site.specs.Arrivals.{is_member}
 use Rattle.site.specs.Effects.{Send}
 use Rattle.world_law.specs.Laws.{OnRecord, WasSent, IsChosen, IsPrior, IsBacked}
-use Rattle.world_law.specs.Networks.{Network}
+use Rattle.world_law.specs.Networks.{Network, volatile_in}
 
 -- the vote for a bag in a ballot
 abbrev pub vote_for : BallotNumber → BagId → Vote
@@ -62,16 +62,17 @@ pub record IsCurrent
   pub spent : (bag : BagId) → WasSent w slot (Accept (vote_for c.ballot bag))
       → IsQuorum q (promisers (gathered slot c heard))
 
--- what a site has of its session: what it has heard was sent, by members, and its ballots are
--- current
-pub record Remembers (q : QuorumSystem) (w : Network) (n : ℕ) (session : Session) : Type 0 where
-  pub heard : (m : Message) → Has m session.heard → WasSent w m.slot m.body
-  pub members : (m : Message) → Has m session.heard → is_member q (body_from m.body) ≡ true
-  pub current : (slot : SlotName) (c : Current) → session.current slot ≡ Some c
-      → IsCurrent q w n slot session.heard c
+-- what is so of a site's volatile state: what it has heard was sent, by members, and its ballots
+-- are current
+pub record Remembers (q : QuorumSystem) (w : Network) (n : ℕ)
+    (volatile : VolatileState) : Type 0 where
+  pub heard : (m : Message) → Has m volatile.heard → WasSent w m.slot m.body
+  pub members : (m : Message) → Has m volatile.heard → is_member q (body_from m.body) ≡ true
+  pub current : (slot : SlotName) (c : Current) → volatile.current slot ≡ Some c
+      → IsCurrent q w n slot volatile.heard c
 
 pub record Kept (q : QuorumSystem) (w : Network) : Type 0 where
-  pub sessions : (n : ℕ) → Remembers q w n (w.sites n).session
+  pub volatiles : (n : ℕ) → Remembers q w n (volatile_in (w.sites n).mode)
   pub sent : (d : Send) → Has d w.sent → Says q w d.message.slot d.message.body
   pub records : (n : ℕ) (slot : SlotName) (e : Entry) → OnRecord w n slot e → Means q w slot e
   pub one : (slot : SlotName) (b : BallotNumber) (u v : BagId)

@@ -4,15 +4,14 @@ use Rattle.std.proofs.Common.{[], Option, None, Some}
 use Rattle.fed_types.specs.Lists.{is_in}
 use Rattle.fed_types.specs.Quorums.{QuorumSystem}
 use Rattle.fed_types.specs.Slots.{SlotName}
-use Rattle.site.specs.declared.fault.SiteFault.TheVariants as faults
-use Rattle.site.specs.Calls.{Input, Deposits, Proposes, Asks, Arrives, effect_of}
-use Rattle.site.specs.Effects.{Effect, Send, refuses}
+use Rattle.site.specs.Calls.{Input, Deposits, Proposes, Asks, Arrives}
+use Rattle.site.specs.Effects.{Send}
 use Rattle.schedule.specs.declared.fate.Fate.{Fate}
 use Rattle.schedule.specs.declared.fate.Fate.TheVariants.{Whole}
-use Rattle.world_law.specs.Networks.{Mode, Up, Down, NeedsOpening, SiteState, Network}
+use Rattle.world_law.specs.Networks.{Mode, Up, Down, NeedsOpening, Network}
 use Rattle.world_law.specs.Networks.{Event, Deposit, Propose, Query, Deliver, Raw, Stop, Start}
 use Rattle.world_law.specs.Networks.{SiteOutcome, Happening, happening, nothing, if_member, reaches}
-use Rattle.world_law.specs.Networks.{undergoes, outcome, goes_down, opened}
+use Rattle.world_law.specs.Networks.{step, goes_down, opened}
 use Rattle.world_law.specs.Networks.{takes, replies, datagram_at, arrives, stops, starts, happens}
 use Rattle.world_law.specs.Networks as networks
 use Rattle.world_law.proofs.Step.{site_cases}
@@ -40,18 +39,12 @@ module _ (q : QuorumSystem) (w : Network) (n : ℕ) (stranger : is_in q.members 
         go true e = stays (differs e)
         go false e = refl
 
-    undergoes_stays : n ≢ m → (input : Input) (e : Effect) (fate : Fate)
-        → Stays (undergoes w m input e fate)
-    undergoes_stays other input e fate =
-        other_stays other (outcome m (w.sites m) input e e.commits fate)
-
     reaches_stays : n ≢ m → (mode : Mode) (input : Input) (fate : Fate)
         → Stays (reaches q w m mode input fate)
-    reaches_stays other Up input fate =
-        undergoes_stays other input
-        (effect_of q m (w.sites m).records (w.sites m).session input) fate
+    reaches_stays other (Up volatile) input fate =
+        other_stays other (step q m (w.sites m) (Up volatile) input fate)
     reaches_stays other NeedsOpening input fate =
-        undergoes_stays other input (refuses faults.NeedsOpen (w.sites m).session) fate
+        other_stays other (step q m (w.sites m) NeedsOpening input fate)
     reaches_stays other Down input fate = refl
 
     takes_stays : (input : Input) (fate : Fate) → Stays (takes q w m input fate)
@@ -59,17 +52,17 @@ module _ (q : QuorumSystem) (w : Network) (n : ℕ) (stranger : is_in q.members 
         member_stays _ (λ other. reaches_stays other (w.sites m).mode input fate)
 
     replies_stays : (mode : Mode) (slot : SlotName) → Stays (replies w m mode slot)
-    replies_stays Up slot = refl
+    replies_stays (Up volatile) slot = refl
     replies_stays NeedsOpening slot = refl
     replies_stays Down slot = refl
 
     stops_stays : n ≢ m → (mode : Mode) → Stays (stops w m mode)
-    stops_stays other Up = other_stays other (goes_down m (w.sites m) None [])
+    stops_stays other (Up volatile) = other_stays other (goes_down m (w.sites m) None [])
     stops_stays other NeedsOpening = other_stays other (goes_down m (w.sites m) None [])
     stops_stays other Down = refl
 
     starts_stays : n ≢ m → (mode : Mode) → Stays (starts w m mode)
-    starts_stays other Up = refl
+    starts_stays other (Up volatile) = refl
     starts_stays other NeedsOpening = other_stays other (opened m (w.sites m))
     starts_stays other Down = other_stays other (opened m (w.sites m))
 

@@ -5,7 +5,7 @@ use Rattle.std.proofs.Common.{ap, subst, List, [], length, take, Option, None, S
 use Rattle.std.proofs.Common.{append-nil, ◌∙◌}
 use Rattle.std.specs.Bool.{nat_le}
 use Rattle.fed_types.specs.Lists.{Has, is_in}
-use Rattle.fed_types.specs.Quorums.{QuorumSystem, AreQuorums}
+use Rattle.fed_types.specs.Quorums.{QuorumSystem}
 use Rattle.fed_types.specs.Slots.{SlotName}
 use Rattle.fed_types.specs.Laws.Lists.{has_take, has_none}
 use Rattle.records.specs.declared.entry.Entry.TheVariants as entry
@@ -15,20 +15,20 @@ use Rattle.records.specs.SlotStates.{known_of, deposit_of}
 use Rattle.records.proofs.Bounds.{known_among}
 use Rattle.dgram.specs.declared.body.Body.{Body}
 use Rattle.dgram.specs.declared.body.Body.TheVariants.{Ask}
-use Rattle.proposer.specs.Sessions.{new_session}
+use Rattle.proposer.specs.VolatileStates.{new_volatile}
 use Rattle.site.specs.declared.fault.SiteFault.TheVariants as faults
 use Rattle.site.specs.Calls.{Input, reply_by, reply_of}
 use Rattle.site.specs.Calls.{effect_of}
-use Rattle.site.specs.Effects.{Effect, Send}
+use Rattle.site.specs.Effects.{Effect, Send, refuses}
 use Rattle.schedule.specs.declared.fate.Fate.{Fate}
 use Rattle.schedule.specs.declared.fate.Fate.TheVariants.{Whole, StopsIn, StopsAfter, FailsIn}
 use Rattle.world_law.specs.Laws.{IsChosen, Report, notice_report}
-use Rattle.world_law.specs.Networks.{Mode, Up, Down, NeedsOpening, Network, new_site, new_network}
-use Rattle.world_law.specs.Networks.{Event, Deposit, Propose, Query, Deliver, Raw, Stop, Start}
-use Rattle.lines.specs.Notices.{Notice, Replied, Refused, GoesDown, ComesUp, notice_of}
-use Rattle.world_law.specs.Networks.{SiteOutcome, Happening, happening, outcome, nothing, if_member}
-use Rattle.world_law.specs.Networks.{undergoes, reaches, takes, says, datagram_at, arrives, stops}
-use Rattle.world_law.specs.Networks.{opened, starts, happens, run}
+use Rattle.world_law.specs.Networks.{Mode, Up, Down, NeedsOpening, volatile_in, Network, Happening}
+use Rattle.lines.specs.declared.notice.Notice.{Notice}
+use Rattle.lines.specs.declared.notice.Notice.TheVariants.{Replied, Refused, GoesDown, ComesUp}
+use Rattle.lines.specs.Notices.{notice_of}
+use Rattle.world_law.specs.Networks.{happening, outcome, nothing, if_member, reaches, takes, stops}
+use Rattle.world_law.specs.Networks.{opened, starts}
 use Rattle.world_law.specs.Networks as networks
 use Rattle.world_law.proofs.Kept.{Kept}
 use Rattle.world_law.proofs.Grows.{grows_itself}
@@ -36,7 +36,6 @@ use Rattle.world_law.proofs.Step.{moved, Deposits as Allowed, ReportsChosen, rep
 use Rattle.world_law.proofs.Step.{reports_plain}
 use Rattle.world_law.proofs.Step.{Next, Sound, nothing_recalled, kept_moved}
 use Rattle.world_law.proofs.Deeds.{MayDeposit, Deed, some_same, nothing_sent}
-use Rattle.world_law.proofs.Calls.{refuses_deed}
 
 -- some slot, for what is of none
 any_slot : SlotName
@@ -71,31 +70,32 @@ module _ (q : QuorumSystem) (w : Network) (inv : Kept q w) where
   stays D place = said_kept D place None reports_nothing
 
   module _ (n : ℕ) (D : Allowed) where
-    -- the site loses its session, with what it keeps
+    -- the site loses its volatile state, with what it keeps
     lost_kept : (kept : Option Record) (slot : SlotName) (body : Body) (sends : List Send)
         → Sound q w n D kept slot body sends → (mode : Mode) (notice : Notice)
-        → notice_report notice ≡ None → (some : List Send) → ((d : Send) → Has d some → Has d sends)
-        → Next q w (Some n) D (moved w n kept new_session mode some (Some notice))
-    lost_kept kept slot body sends s mode notice e some among =
-        kept_moved q w n kept new_session mode some (Some notice) D slot body
-        (fewer some among s) inv nothing_recalled (reports_plain notice e)
+        → volatile_in mode ≡ new_volatile → notice_report notice ≡ None → (some : List Send)
+        → ((d : Send) → Has d some → Has d sends)
+        → Next q w (Some n) D (moved w n kept mode some (Some notice))
+    lost_kept kept slot body sends s mode notice lost e some among =
+        kept_moved q w n kept mode some (Some notice) D slot body
+        (fewer some among s) inv (rw lost nothing_recalled) (reports_plain notice e)
 
     -- it keeps nothing
-    idle_kept : (mode : Mode) (notice : Notice) → notice_report notice ≡ None
-        → Next q w (Some n) D (moved w n None new_session mode [] (Some notice))
-    idle_kept mode notice e =
-        lost_kept None any_slot (Ask n) [] (nothing_sent q w n D any_slot) mode notice e []
+    idle_kept : (mode : Mode) (notice : Notice) → volatile_in mode ≡ new_volatile
+        → notice_report notice ≡ None
+        → Next q w (Some n) D (moved w n None mode [] (Some notice))
+    idle_kept mode notice lost e =
+        lost_kept None any_slot (Ask n) [] (nothing_sent q w n D any_slot) mode notice lost e []
         (λ d h. h)
 
     -- it keeps the record, or it doesn't
     left_kept : (r : Record) (slot : SlotName) (body : Body) (sends : List Send)
         → Sound q w n D (Some r) slot body sends → (mode : Mode) (notice : Notice)
-        → notice_report notice ≡ None → (t : Bool)
-        → Next q w (Some n) D
-        (moved w n (cond t (Some r) None) new_session mode [] (Some notice))
-    left_kept r slot body sends s mode notice e true =
-        lost_kept (Some r) slot body sends s mode notice e [] (λ d h. absurd (has_none h))
-    left_kept r slot body sends s mode notice e false = idle_kept mode notice e
+        → volatile_in mode ≡ new_volatile → notice_report notice ≡ None → (t : Bool)
+        → Next q w (Some n) D (moved w n (cond t (Some r) None) mode [] (Some notice))
+    left_kept r slot body sends s mode notice lost e true =
+        lost_kept (Some r) slot body sends s mode notice lost e [] (λ d h. absurd (has_none h))
+    left_kept r slot body sends s mode notice lost e false = idle_kept mode notice lost e
 
     pub member_kept : (h : Happening) → Next q w (Some n) D h
         → Next q w (Some n) D (if_member q w n h)
@@ -109,7 +109,7 @@ module _ (q : QuorumSystem) (w : Network) (inv : Kept q w) where
     pub replies_kept : (slot : SlotName) (mode : Mode)
         → Next q w (Some n) D (networks.replies w n mode slot)
     unfolding reply_of
-    replies_kept slot Up =
+    replies_kept slot (Up volatile) =
         said_kept D (Some n) _
         (go (known_of slot (w.sites n).records) (deposit_of slot (w.sites n).records) refl)
       where
@@ -131,23 +131,23 @@ module _ (q : QuorumSystem) (w : Network) (inv : Kept q w) where
     replies_kept slot Down = stays D (Some n)
 
     pub stops_kept : (mode : Mode) → Next q w (Some n) D (stops w n mode)
-    stops_kept Up = idle_kept Down (GoesDown n) refl
-    stops_kept NeedsOpening = idle_kept Down (GoesDown n) refl
+    stops_kept (Up volatile) = idle_kept Down (GoesDown n) refl refl
+    stops_kept NeedsOpening = idle_kept Down (GoesDown n) refl refl
     stops_kept Down = stays D (Some n)
 
     opened_kept : Next q w (Some n) D (happening w n (opened n (w.sites n)))
     opened_kept =
         subst
         (λ (rs : List Record). Next q w (Some n) D (happening w n (record {
-          site = record { records = rs; session = new_session; mode = Up };
+          site = record { records = rs; mode = Up new_volatile };
           sends = [];
           notice = Some (ComesUp n (length (w.sites n).records));
         })))
         (append-nil (w.sites n).records)
-        (idle_kept Up (ComesUp n (length (w.sites n).records)) refl)
+        (idle_kept (Up new_volatile) (ComesUp n (length (w.sites n).records)) refl refl)
 
     pub starts_kept : (mode : Mode) → Next q w (Some n) D (starts w n mode)
-    starts_kept Up = stays D (Some n)
+    starts_kept (Up volatile) = stays D (Some n)
     starts_kept NeedsOpening = opened_kept
     starts_kept Down = opened_kept
 
@@ -157,16 +157,17 @@ module _ (q : QuorumSystem) (w : Network) (inv : Kept q w) where
     abbrev pub May : Allowed
     May = MayDeposit input
 
-    outcome_kept : (e : Effect) (commits : Option Record) → e.commits ≡ commits
-        → Deed q w n input e → (fate : Fate)
-        → Next q w (Some n) May (happening w n (outcome n (w.sites n) input e commits fate))
+    -- the mode after has the volatile state of the effect
+    outcome_kept : (after : Mode) (e : Effect) (commits : Option Record)
+        → volatile_in after ≡ e.volatile → e.commits ≡ commits → Deed q w n input e → (fate : Fate)
+        → Next q w (Some n) May (happening w n (outcome n (w.sites n) after input e commits fate))
     unfolding outcome
-    outcome_kept e commits is d fate = go commits is fate
+    outcome_kept after e commits now is d fate = go commits is fate
       where
-        whole : Next q w (Some n) May (happening w n (networks.goes_on n (w.sites n) input e))
+        whole : Next q w (Some n) May (happening w n (networks.goes_on n (w.sites n) after input e))
         whole =
-            kept_moved q w n e.commits e.session (w.sites n).mode e.sends
-            (notice_of n input e.says) May d.slot d.body d.sound inv d.recalls d.reports
+            kept_moved q w n e.commits after e.sends (notice_of n input e.says) May d.slot d.body
+            d.sound inv (rw now d.recalls) d.reports
 
         sound_of : (commits : Option Record) → e.commits ≡ commits
             → Sound q w n May commits d.slot d.body e.sends
@@ -174,32 +175,39 @@ module _ (q : QuorumSystem) (w : Network) (inv : Kept q w) where
             subst (λ (o : Option Record). Sound q w n May o d.slot d.body e.sends) is d.sound
 
         go : (commits : Option Record) → e.commits ≡ commits → (fate : Fate)
-            → Next q w (Some n) May (happening w n (outcome n (w.sites n) input e commits fate))
+            → Next q w (Some n) May
+            (happening w n (outcome n (w.sites n) after input e commits fate))
         go commits is Whole = whole
-        go None is (StopsIn device k) = idle_kept n May Down (GoesDown n) refl
+        go None is (StopsIn device k) = idle_kept n May Down (GoesDown n) refl refl
         go (Some r) is (StopsIn device k) =
             left_kept n May r d.slot d.body e.sends (sound_of (Some r) is) Down (GoesDown n) refl
-            (nat_le (length (record_bytes r)) k)
+            refl (nat_le (length (record_bytes r)) k)
         go commits is (StopsAfter j) =
             lost_kept n May commits d.slot d.body e.sends (sound_of commits is) Down (GoesDown n)
-            refl (take j e.sends) (λ f h. has_take j e.sends h)
+            refl refl (take j e.sends) (λ f h. has_take j e.sends h)
         go None is (FailsIn device k) = whole
         go (Some r) is (FailsIn device k) =
             left_kept n May r d.slot d.body e.sends (sound_of (Some r) is) NeedsOpening
-            (Refused n faults.Device) refl (nat_le (length (record_bytes r)) k)
+            (Refused n faults.Device) refl refl (nat_le (length (record_bytes r)) k)
 
-    undergoes_kept : (e : Effect) → Deed q w n input e → (fate : Fate)
-        → Next q w (Some n) May (undergoes w n input e fate)
-    undergoes_kept e d fate = outcome_kept e e.commits refl d fate
+    -- a site that needs opening refuses
+    refuses_deed : Deed q w n input (refuses faults.NeedsOpen new_volatile)
+    refuses_deed = record {
+      slot = any_slot;
+      body = Ask n;
+      sound = nothing_sent q w n May any_slot;
+      recalls = nothing_recalled;
+      reports = reports_plain _ refl;
+    }
 
-    pub takes_kept : AreQuorums q
-        → Deed q w n input (effect_of q n (w.sites n).records (w.sites n).session input)
+    reaches_kept : (mode : Mode)
+        → Deed q w n input (effect_of q n (w.sites n).records (volatile_in mode) input)
+        → (fate : Fate) → Next q w (Some n) May (reaches q w n mode input fate)
+    reaches_kept (Up volatile) d fate = outcome_kept _ _ _ refl refl d fate
+    reaches_kept NeedsOpening d fate = outcome_kept _ _ _ refl refl refuses_deed fate
+    reaches_kept Down d fate = stays May (Some n)
+
+    pub takes_kept :
+        Deed q w n input (effect_of q n (w.sites n).records (volatile_in (w.sites n).mode) input)
         → (fate : Fate) → Next q w (Some n) May (takes q w n input fate)
-    takes_kept laws d fate =
-        member_kept n May (reaches q w n (w.sites n).mode input fate) (go (w.sites n).mode)
-      where
-        go : (mode : Mode) → Next q w (Some n) May (reaches q w n mode input fate)
-        go Up = undergoes_kept _ d fate
-        go NeedsOpening =
-            undergoes_kept _ (refuses_deed q laws w inv n input faults.NeedsOpen) fate
-        go Down = stays May (Some n)
+    takes_kept d fate = member_kept n May _ (reaches_kept (w.sites n).mode d fate)

@@ -8,7 +8,7 @@ use Rattle.fed_types.specs.Quorums.{QuorumSystem, AreQuorums}
 use Rattle.fed_types.specs.Slots.{SlotName}
 use Rattle.fed_types.specs.Laws.Lists.{has_cases, has_one, has_none}
 use Rattle.world_law.specs.Laws.{IsChosen, Report, notice_report, notices_of, ReportsAgree}
-use Rattle.lines.specs.Notices.{Notice}
+use Rattle.lines.specs.declared.notice.Notice.{Notice}
 use Rattle.world_law.specs.Networks.{Network, new_network, Event, happens, run}
 use Rattle.world_law.proofs.Grows.{chosen_grows}
 use Rattle.world_law.proofs.Induction.{chosen_once}

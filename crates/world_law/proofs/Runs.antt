@@ -11,12 +11,8 @@ use Rattle.site.specs.Effects.{Send}
 use Rattle.schedule.specs.declared.fate.Fate.{Fate}
 use Rattle.schedule.specs.declared.fate.Fate.TheVariants.{Whole}
 use Rattle.world_law.specs.Laws.{WasSent, site_of}
-use Rattle.world_law.specs.Networks.{Mode, Up, Down, NeedsOpening, Network, new_site, new_network}
-use Rattle.world_law.specs.Networks.{Event, Deposit, Propose, Query, Deliver, Raw, Stop, Start}
-use Rattle.lines.specs.Notices.{Notice, Replied, Refused, GoesDown, ComesUp, notice_of}
-use Rattle.world_law.specs.Networks.{SiteOutcome, Happening, happening, outcome, nothing, if_member}
-use Rattle.world_law.specs.Networks.{undergoes, reaches, takes, says, datagram_at, arrives, stops}
-use Rattle.world_law.specs.Networks.{opened, starts, happens, run}
+use Rattle.world_law.specs.Networks.{Network, new_site, new_network, Event, Deposit, Propose, Query}
+use Rattle.world_law.specs.Networks.{Deliver, Raw, Stop, Start, datagram_at, arrives, happens, run}
 use Rattle.world_law.specs.Networks as networks
 use Rattle.world_law.proofs.Kept.{Kept}
 use Rattle.world_law.proofs.Step.{Deposits as Allowed}
@@ -42,7 +38,7 @@ module _ (q : QuorumSystem) (w : Network) (inv : Kept q w) where
       → (fate : Fate) → Next q w (option_map (λ d. d.to) o) NoDeposit (arrives q w o fate)
   arrives_kept laws None sent fate = stays q w inv NoDeposit None
   arrives_kept laws (Some d) sent fate =
-      takes_kept q w inv d.to (Arrives (Some d.message)) laws
+      takes_kept q w inv d.to (Arrives (Some d.message))
       (arrival_deed q laws w inv d.to (Some d.message) was_sent) fate
     where
       was_sent : (m : Message) → Some d.message ≡ Some m → WasSent w m.slot m.body
@@ -54,18 +50,17 @@ pub happens_kept : (q : QuorumSystem) → AreQuorums q → (w : Network) → Kep
     → Next q w (site_of w e) (DepositOf e) (happens q w e)
 unfolding happens
 happens_kept q laws w inv (Deposit n slot checked fate) =
-    takes_kept q w inv n (Deposits slot checked) laws (deposit_deed q laws w inv n slot checked)
-    fate
+    takes_kept q w inv n (Deposits slot checked) (deposit_deed q laws w inv n slot checked) fate
 happens_kept q laws w inv (Propose n slot fate) =
-    takes_kept q w inv n (Proposes slot) laws (propose_deed q laws w inv n slot) fate
+    takes_kept q w inv n (Proposes slot) (propose_deed q laws w inv n slot) fate
 happens_kept q laws w inv (networks.Ask n member slot fate) =
-    takes_kept q w inv n (Asks slot member) laws (ask_deed q laws w inv n slot member) fate
+    takes_kept q w inv n (Asks slot member) (ask_deed q laws w inv n slot member) fate
 happens_kept q laws w inv (Query n slot) =
     member_kept q w inv n NoDeposit _ (replies_kept q w inv n NoDeposit slot (w.sites n).mode)
 happens_kept q laws w inv (Deliver k fate) =
     arrives_kept q w inv laws (datagram_at k w.sent) (λ d e. at_number k w.sent d e) fate
 happens_kept q laws w inv (Raw n) =
-    takes_kept q w inv n (Arrives None) laws
+    takes_kept q w inv n (Arrives None)
     (arrival_deed q laws w inv n None (λ m e. absurd (cc e))) Whole
 happens_kept q laws w inv (Stop n) =
     member_kept q w inv n NoDeposit _ (stops_kept q w inv n NoDeposit (w.sites n).mode)
@@ -75,7 +70,7 @@ happens_kept q laws w inv (Start n) =
 pub new_kept : (q : QuorumSystem) → Kept q new_network
 unfolding new_network new_site
 new_kept q = record {
-  sessions = λ n. record {
+  volatiles = λ n. record {
     heard = λ d h. absurd (has_none h);
     members = λ d h. absurd (has_none h);
     current = λ slot c f. absurd (cc f);

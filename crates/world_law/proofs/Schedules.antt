@@ -20,9 +20,11 @@ use Rattle.lines.specs.declared.line.Reason.{Reason}
 use Rattle.world_law.specs.Headline.{reported, IsValidDeposit, DepositedBy}
 use Rattle.world_law.specs.Laws.{OnRecord, IsChosen, Report, notice_report, site_of}
 use Rattle.world_law.specs.Networks.{Network, new_network, new_site, Event, Deposit, Propose, Ask}
-use Rattle.lines.specs.Notices.{Notice, Registered, Learned}
+use Rattle.lines.specs.declared.notice.Notice.{Notice}
+use Rattle.lines.specs.declared.notice.Notice.TheVariants.{Registered, Learned}
 use Rattle.world_law.specs.Networks.{Query, Deliver, Raw, Stop, Start}
-use Rattle.lines.specs.Notices.{Replied, Refused, Dropped, GoesDown, ComesUp}
+use Rattle.lines.specs.declared.notice.Notice.TheVariants.{Replied, Refused, Dropped, GoesDown}
+use Rattle.lines.specs.declared.notice.Notice.TheVariants.{ComesUp}
 use Rattle.world_law.specs.Networks.{Happening}
 use Rattle.world_law.specs.Networks.{happens}
 use Rattle.lines.specs.Named.{SeenBag}

@@ -21,32 +21,26 @@ use Rattle.dgram.specs.declared.body.Body.TheVariants.{QueryReply}
 use Rattle.dgram.specs.Encoding.{body_from}
 use Rattle.dgram.specs.Heard.{promisers}
 use Rattle.proposer.specs.Proposals.{Current, gathered}
-use Rattle.proposer.specs.Sessions.{Session, new_session}
+use Rattle.proposer.specs.VolatileStates.{VolatileState, new_volatile}
 use Rattle.site.specs.Effects.{Send}
 use Rattle.world_law.specs.Laws.{OnRecord, WasSent, IsChosen, Report, notice_report}
-use Rattle.lines.specs.Notices.{Notice}
-use Rattle.world_law.specs.Networks.{Mode, SiteState, Network, SiteOutcome, Happening}
+use Rattle.lines.specs.declared.notice.Notice.{Notice}
+use Rattle.world_law.specs.Networks.{Mode, volatile_in, SiteState, Network, SiteOutcome, Happening}
 use Rattle.world_law.specs.Networks.{happening}
 use Rattle.world_law.proofs.Kept.{vote_for, Promises, Proposes, Says, Means, Remembers, Kept}
 use Rattle.world_law.proofs.Grows.{Grows, says_grows, means_grows, remembers_grows}
 
--- site n adds this record, if there is one, has this session and mode, and sends these
+-- site n adds this record, if there is one, is in this mode, and sends these
 abbrev pub outcome :
-    Network → (n : ℕ) → Option Record → Session → Mode → List Send → Option Notice → SiteOutcome
-outcome w n kept session mode sends notice = record {
-  site = record {
-    records = (w.sites n).records ++ option_to_list kept;
-    session = session;
-    mode = mode;
-  };
+    Network → (n : ℕ) → Option Record → Mode → List Send → Option Notice → SiteOutcome
+outcome w n kept mode sends notice = record {
+  site = record { records = (w.sites n).records ++ option_to_list kept; mode = mode };
   sends = sends;
   notice = notice;
 }
 
-abbrev pub moved :
-    Network → (n : ℕ) → Option Record → Session → Mode → List Send → Option Notice → Happening
-moved w n kept session mode sends notice =
-    happening w n (outcome w n kept session mode sends notice)
+abbrev pub moved : Network → (n : ℕ) → Option Record → Mode → List Send → Option Notice → Happening
+moved w n kept mode sends notice = happening w n (outcome w n kept mode sends notice)
 
 -- what the notice reports was chosen before
 pub record ReportsChosen (q : QuorumSystem) (w : Network) (notice : Option Notice) : Type 0 where
@@ -153,13 +147,13 @@ Splits w x slot body =
 
 pub record Recalls
     (q : QuorumSystem) (w : Network) (n : ℕ) (kept : Option Record) (slot : SlotName) (body : Body)
-    (session : Session)
+    (volatile : VolatileState)
     : Type 0 where
   pub recalls : (x : Network) → Extends w x n kept → Splits w x slot body
-      → Remembers q x n session
+      → Remembers q x n volatile
 
 pub nothing_recalled : {q : QuorumSystem} {w : Network} {n : ℕ} {kept : Option Record}
-    {slot : SlotName} {body : Body} → Recalls q w n kept slot body new_session
+    {slot : SlotName} {body : Body} → Recalls q w n kept slot body new_volatile
 nothing_recalled = record {
   recalls = λ x e s. record {
     heard = λ m h. absurd (has_none h);
@@ -190,16 +184,16 @@ optional_has : {X : Type 0} (xs : List X) (o : Option X) (x : X) → o ≡ Some 
 optional_has xs None x e = absurd (cc e)
 optional_has xs (Some y) x e = let f : y ≡ x = cc in has_right xs (here f)
 
-module _ (q : QuorumSystem) (w : Network) (n : ℕ) (kept : Option Record) (session : Session)
-    (mode : Mode) (sends : List Send) (notice : Option Notice) where
+module _ (q : QuorumSystem) (w : Network) (n : ℕ) (kept : Option Record) (mode : Mode)
+    (sends : List Send) (notice : Option Notice) where
   abbrev next : Happening
-  next = moved w n kept session mode sends notice
+  next = moved w n kept mode sends notice
 
   abbrev x : Network
-  x = (moved w n kept session mode sends notice).network
+  x = (moved w n kept mode sends notice).network
 
   abbrev out : SiteOutcome
-  out = outcome w n kept session mode sends notice
+  out = outcome w n kept mode sends notice
 
   -- a record of x is old, or the new one
   pub record_cases : (k : ℕ) (r : Record) → Has r (x.sites k).records
@@ -296,17 +290,17 @@ module _ (q : QuorumSystem) (w : Network) (n : ℕ) (kept : Option Record) (sess
         let f : vote_for b u ≡ vote_for b v = cc in
         ap (λ (y : Vote). y.bag) f
 
-    module _ (inv : Kept q w) (recalls : Recalls q w n kept slot0 body0 session)
+    module _ (inv : Kept q w) (recalls : Recalls q w n kept slot0 body0 (volatile_in mode))
         (reports : ReportsChosen q w notice) where
-      other_session : (k : ℕ) → k ≢ n → Remembers q x k (w.sites k).session
-      other_session k other =
-          remembers_grows moved_grows q k (w.sites k).session cases (inv.sessions k)
+      other_volatile : (k : ℕ) → k ≢ n → Remembers q x k (volatile_in (w.sites k).mode)
+      other_volatile k other =
+          remembers_grows moved_grows q k (volatile_in (w.sites k).mode) cases (inv.volatiles k)
         where
           cases : (slot : SlotName) (c : Current) (bag : BagId)
-              → (w.sites k).session.current slot ≡ Some c → c.ballot.site ≡ k
+              → (volatile_in (w.sites k).mode).current slot ≡ Some c → c.ballot.site ≡ k
               → WasSent x slot (Accept (vote_for c.ballot bag))
               → WasSent w slot (Accept (vote_for c.ballot bag))
-              ⊎ IsQuorum q (promisers (gathered slot c (w.sites k).session.heard))
+              ⊎ IsQuorum q (promisers (gathered slot c (volatile_in (w.sites k).mode).heard))
           cases slot c bag e own t = elim (splits slot c.ballot bag t) [
             | inl old ↦ inl old
             | inr new ↦ absurd (other (sym own ∙ (proposed slot c.ballot bag new).own))
@@ -314,9 +308,9 @@ module _ (q : QuorumSystem) (w : Network) (n : ℕ) (kept : Option Record) (sess
 
       all_kept : Kept q x
       all_kept = record {
-        sessions = λ k.
-            site_cases (λ t. Remembers q x k t.session) w n k out
-            (λ f. rw f (recalls.recalls x extends splits)) (λ f. other_session k f);
+        volatiles = λ k.
+            site_cases (λ t. Remembers q x k (volatile_in t.mode)) w n k out
+            (λ f. rw f (recalls.recalls x extends splits)) (λ f. other_volatile k f);
         sent = λ d h. elim (has_cases w.sent sends h) [
           | inl old ↦ says_grows moved_grows q d.message.slot d.message.body (inv.sent d old)
           | inr new ↦ says_from d (s.each d new)

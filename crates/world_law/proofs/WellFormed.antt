@@ -11,20 +11,21 @@ use Rattle.fed_types.specs.Laws.Lists.{is_in_decides, has_take, has_cases, has_n
 use Rattle.fed_types.specs.Laws.Sites.{has_sites_to}
 use Rattle.records.specs.declared.record.Record.{Record}
 use Rattle.records.specs.Layout.{record_bytes}
+use Rattle.records.specs.Texts.{kept_record}
 use Rattle.records.specs.Records.{IsRecord, AreRecords}
-use Rattle.proposer.specs.Sessions.{Session, new_session}
+use Rattle.proposer.specs.VolatileStates.{new_volatile}
 use Rattle.site.specs.declared.fault.SiteFault.TheVariants as faults
-use Rattle.site.specs.Calls.{Input, Deposits, Proposes, Asks, Arrives, effect_of}
-use Rattle.site.specs.Effects.{Effect, Send, refuses}
+use Rattle.site.specs.Calls.{Input, Deposits, Proposes, Asks, Arrives}
+use Rattle.site.specs.Effects.{Effect, Send}
 use Rattle.schedule.specs.declared.fate.Fate.{Fate}
 use Rattle.schedule.specs.declared.fate.Fate.TheVariants.{Whole, StopsIn, StopsAfter, FailsIn}
-use Rattle.world_law.specs.Networks.{Mode, Up, Down, NeedsOpening, SiteState, Network, new_site}
-use Rattle.world_law.specs.Networks.{new_network, Event, Deposit, Propose, Query, Deliver, Raw}
-use Rattle.lines.specs.Notices.{Notice, GoesDown}
-use Rattle.world_law.specs.Networks.{Stop, Start, SiteOutcome, Happening}
-use Rattle.world_law.specs.Networks.{happening, outcome}
-use Rattle.world_law.specs.Networks.{nothing, if_member, undergoes, reaches, takes, replies}
-use Rattle.world_law.specs.Networks.{datagram_at, arrives, stops, starts, opened, happens, run}
+use Rattle.lines.specs.declared.notice.Notice.{Notice}
+use Rattle.lines.specs.declared.notice.Notice.TheVariants.{GoesDown}
+use Rattle.world_law.specs.Networks.{Mode, Up, Down, NeedsOpening, volatile_in, SiteState, Network}
+use Rattle.world_law.specs.Networks.{new_site, new_network, Event, Deposit, Propose, Query, Deliver}
+use Rattle.world_law.specs.Networks.{Raw, Stop, Start, SiteOutcome, Happening, happening, outcome}
+use Rattle.world_law.specs.Networks.{nothing, if_member, reaches, takes, replies, datagram_at}
+use Rattle.world_law.specs.Networks.{arrives, stops, starts, opened, happens, run}
 use Rattle.world_law.specs.Networks as networks
 use Rattle.world_law.specs.WellFormed.{MembersAreSites, AreMessages, IsSend, IsWellFormed}
 use Rattle.world_law.specs.WellFormed.{IsWellFormedEvent, AreWellFormedEvents}
@@ -46,7 +47,7 @@ members_are_sites m h n has =
 -- what a site is then, and what it sent, is well-formed
 record IsWellFormedOutcome (o : SiteOutcome) : Type 0 where
   records : AreRecords o.site.records
-  heard : AreMessages o.site.session.heard
+  heard : AreMessages (volatile_in o.site.mode).heard
   sends : (d : Send) → Has d o.sends → IsSend d
 
 module _ (w : Network) (inv : IsWellFormed w) (n : ℕ) where
@@ -59,66 +60,62 @@ module _ (w : Network) (inv : IsWellFormed w) (n : ℕ) where
     records = λ k.
         site_cases (λ s. AreRecords s.records) w n k o (λ e. is.records) (λ e. inv.records k);
     heard = λ k.
-        site_cases (λ s. AreMessages s.session.heard) w n k o (λ e. is.heard) (λ e. inv.heard k);
+        site_cases (λ s. AreMessages (volatile_in s.mode).heard) w n k o (λ e. is.heard)
+        (λ e. inv.heard k);
   }
 
   abbrev s : SiteState
   s = w.sites n
 
   -- a record more, if there is one
-  moved_is : (kept : Option Record) → IfSome kept IsRecord → (session : Session)
-      → AreMessages session.heard → (mode : Mode) (sends : List Send)
+  moved_is : (kept : Option Record) → IfSome kept IsRecord → (mode : Mode)
+      → AreMessages (volatile_in mode).heard → (sends : List Send)
       → ((d : Send) → Has d sends → IsSend d) → (notice : Option Notice)
       → IsWellFormedOutcome (record {
-        site = record {
-          records = s.records ++ option_to_list kept;
-          session = session;
-          mode = mode;
-        };
+        site = record { records = s.records ++ option_to_list kept; mode = mode };
         sends = sends;
         notice = notice;
       })
-  moved_is kept is_kept session heard mode sends each notice = record {
+  moved_is kept is_kept mode heard sends each notice = record {
     records = all_with IsRecord s.records kept (inv.records n) is_kept;
     heard = heard;
     sends = each;
   }
 
-  -- the site loses its session, and sends nothing
-  lost_is : (kept : Option Record) → IfSome kept IsRecord → (mode : Mode) (notice : Option Notice)
+  -- it sends nothing
+  silent_is : (kept : Option Record) → IfSome kept IsRecord → (mode : Mode)
+      → AreMessages (volatile_in mode).heard → (notice : Option Notice)
       → IsWellFormedOutcome (record {
-        site = record {
-          records = s.records ++ option_to_list kept;
-          session = new_session;
-          mode = mode;
-        };
+        site = record { records = s.records ++ option_to_list kept; mode = mode };
         sends = [];
         notice = notice;
       })
-  lost_is kept is_kept mode notice =
-      moved_is kept is_kept new_session tt mode [] (λ d h. absurd (has_none h)) notice
+  silent_is kept is_kept mode heard notice =
+      moved_is kept is_kept mode heard [] (λ d h. absurd (has_none h)) notice
 
-  module _ (input : Input) (e : Effect) (is : IsWellFormedEffect e) where
-    outcome_is : (commits : Option Record) → IfSome commits IsRecord
-        → IsWellFormedOutcome (networks.goes_on n s input e) → (fate : Fate)
-        → IsWellFormedOutcome (outcome n s input e commits fate)
+  -- an effect, where a site that goes on is then in this mode
+  module _ (input : Input) (e : Effect) (is : IsWellFormedEffect e) (after : Mode)
+      (heard : AreMessages (volatile_in after).heard) where
+    whole : IsWellFormedOutcome (networks.goes_on n s after input e)
+    whole = moved_is e.commits is.commits after heard e.sends is.sends _
+
+    kept_is : (k : ℕ) (r : Record) → IsRecord r → IfSome (kept_record k r) IsRecord
+    kept_is k r h = if_given IsRecord (nat_le (length (record_bytes r)) k) (Some r) h
+
+    outcome_is : (commits : Option Record) → IfSome commits IsRecord → (fate : Fate)
+        → IsWellFormed (happening w n (outcome n s after input e commits fate)).network
     unfolding outcome
-    outcome_is commits h whole Whole = whole
-    outcome_is None h whole (StopsIn device k) = lost_is None tt Down _
-    outcome_is (Some r) h whole (StopsIn device k) =
-        lost_is _ (if_given IsRecord (nat_le (length (record_bytes r)) k) (Some r) h) Down _
-    outcome_is commits h whole (StopsAfter j) =
-        moved_is commits h new_session tt Down (take j e.sends)
-        (λ d f. is.sends d (has_take j e.sends f)) _
-    outcome_is None h whole (FailsIn device k) = whole
-    outcome_is (Some r) h whole (FailsIn device k) =
-        lost_is _ (if_given IsRecord (nat_le (length (record_bytes r)) k) (Some r) h) NeedsOpening _
-
-    undergoes_is : (fate : Fate) → IsWellFormed (undergoes w n input e fate).network
-    undergoes_is fate =
-        happening_is _
-        (outcome_is e.commits is.commits
-        (moved_is e.commits is.commits e.session is.heard s.mode e.sends is.sends _) fate)
+    outcome_is commits h fate = happening_is _ (go commits h fate)
+      where
+        go : (commits : Option Record) → IfSome commits IsRecord → (fate : Fate)
+            → IsWellFormedOutcome (outcome n s after input e commits fate)
+        go commits h Whole = whole
+        go None h (StopsIn device k) = silent_is None tt Down tt _
+        go (Some r) h (StopsIn device k) = silent_is _ (kept_is k r h) Down tt _
+        go commits h (StopsAfter j) =
+            moved_is commits h Down tt (take j e.sends) (λ d f. is.sends d (has_take j e.sends f)) _
+        go None h (FailsIn device k) = whole
+        go (Some r) h (FailsIn device k) = silent_is _ (kept_is k r h) NeedsOpening tt _
 
   opened_is : IsWellFormed (happening w n (opened n s)).network
   opened_is = happening_is (opened n s) (record {
@@ -128,17 +125,17 @@ module _ (w : Network) (inv : IsWellFormed w) (n : ℕ) where
   })
 
   starts_is : (mode : Mode) → IsWellFormed (starts w n mode).network
-  starts_is Up = inv
+  starts_is (Up volatile) = inv
   starts_is NeedsOpening = opened_is
   starts_is Down = opened_is
 
   stops_is : (mode : Mode) → IsWellFormed (stops w n mode).network
-  stops_is Up = happening_is _ (lost_is None tt Down (Some (GoesDown n)))
-  stops_is NeedsOpening = happening_is _ (lost_is None tt Down (Some (GoesDown n)))
+  stops_is (Up volatile) = happening_is _ (silent_is None tt Down tt (Some (GoesDown n)))
+  stops_is NeedsOpening = happening_is _ (silent_is None tt Down tt (Some (GoesDown n)))
   stops_is Down = inv
 
   replies_is : (slot : _) (mode : Mode) → IsWellFormed (replies w n mode slot).network
-  replies_is slot Up = inv
+  replies_is slot (Up volatile) = inv
   replies_is slot NeedsOpening = inv
   replies_is slot Down = inv
 
@@ -156,18 +153,18 @@ module _ (w : Network) (inv : IsWellFormed w) (n : ℕ) where
     takes_is : (input : Input) → IsWellFormedInput input → (fate : Fate)
         → IsWellFormed (takes q w n input fate).network
     takes_is input is_input fate =
-        member_is (reaches q w n s.mode input fate) (λ is_site. go is_site s.mode)
+        member_is (reaches q w n s.mode input fate) (λ is_site. go is_site s.mode (inv.heard n))
       where
-        go : IsSiteNumber n → (mode : Mode) → IsWellFormed (reaches q w n mode input fate).network
-        go is_site Up =
-            undergoes_is input (effect_of q n s.records s.session input)
-            (effect_is q members n is_site s.records (inv.records n) s.session (inv.heard n) input
-            is_input)
-            fate
-        go is_site NeedsOpening =
-            undergoes_is input (refuses faults.NeedsOpen s.session)
-            (refuses_is s.session (inv.heard n) faults.NeedsOpen) fate
-        go is_site Down = inv
+        go : IsSiteNumber n → (mode : Mode) → AreMessages (volatile_in mode).heard
+            → IsWellFormed (reaches q w n mode input fate).network
+        go is_site (Up volatile) heard =
+            let is =
+            effect_is q members n is_site s.records (inv.records n) volatile heard input is_input in
+            outcome_is input _ is _ is.heard _ is.commits fate
+        go is_site NeedsOpening heard =
+            let is = refuses_is new_volatile tt faults.NeedsOpen in
+            outcome_is input _ is NeedsOpening tt None tt fate
+        go is_site Down heard = inv
 
 -- ---- events
 

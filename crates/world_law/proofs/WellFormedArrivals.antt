@@ -29,8 +29,8 @@ use Rattle.acceptor.specs.Decisions.{accept_decision}
 use Rattle.learner.specs.LearnedBags.{unless_known, chosen_by, with_vote}
 use Rattle.proposer.specs.Proposals.{Current, gathered, completes, highest_prior, bag_of, proposal}
 use Rattle.proposer.specs.Proposals.{ready}
-use Rattle.proposer.specs.Sessions.{Session, hears}
-use Rattle.site.specs.declared.answer.Line.TheVariants as lines
+use Rattle.proposer.specs.VolatileStates.{VolatileState, hears}
+use Rattle.site.specs.declared.answer.Line.TheVariants as site_lines
 use Rattle.site.specs.Arrivals.{answer_body, addressees, decided, proposing, learning, telling}
 use Rattle.site.specs.Arrivals.{on_body, is_member, on_arrival}
 use Rattle.site.specs.Effects.{quiet, only_says}
@@ -45,10 +45,10 @@ record IsWellFormedDecision (n : ℕ) (d : Decision) : Type 0 where
   entry : IfSome d.entry IsEntry
   body : IsBody (answer_body n d.answer)
 
--- ---- site n, with these records and this session
+-- ---- site n, with these records and this volatile state
 
 module _ (q : QuorumSystem) (members : MembersAreSites q) (n : ℕ) (is_site : IsSiteNumber n)
-    (records : List Record) (are_records : AreRecords records) (old : Session)
+    (records : List Record) (are_records : AreRecords records) (old : VolatileState)
     (are_heard : AreMessages old.heard) where
   module _ (slot : SlotName) (is_slot : IsSlot slot) where
     -- ---- the acceptor
@@ -115,9 +115,9 @@ module _ (q : QuorumSystem) (members : MembersAreSites q) (n : ℕ) (is_site : I
     addressed asker is_asker (answer.Accepted vote) = members
     addressed asker is_asker (answer.Refused asked standing) = one_site asker is_asker
 
-    -- ---- with the session after the message
+    -- ---- with the volatile state after the message
 
-    module _ (now : Session) (now_heard : AreMessages now.heard) where
+    module _ (now : VolatileState) (now_heard : AreMessages now.heard) where
       quiet_is : IsWellFormedEffect (quiet now)
       quiet_is = says_is (quiet now) refl tt now_heard
 
@@ -175,10 +175,10 @@ module _ (q : QuorumSystem) (members : MembersAreSites q) (n : ℕ) (is_site : I
 
   -- ---- a message
 
-  dropped_is : IsWellFormedEffect (only_says lines.Dropped old)
-  dropped_is = says_is (only_says lines.Dropped old) refl tt are_heard
+  dropped_is : IsWellFormedEffect (only_says site_lines.Dropped old)
+  dropped_is = says_is (only_says site_lines.Dropped old) refl tt are_heard
 
-  body_is : (slot : SlotName) → IsSlot slot → (body : Body) → IsBody body → (now : Session)
+  body_is : (slot : SlotName) → IsSlot slot → (body : Body) → IsBody body → (now : VolatileState)
       → AreMessages now.heard → IsWellFormedEffect (on_body q n records old now slot body)
   unfolding on_body
   body_is slot is_slot (Prepare b) is now heard =
@@ -214,7 +214,7 @@ module _ (q : QuorumSystem) (members : MembersAreSites q) (n : ℕ) (is_site : I
       go : (t : Bool)
           → IsWellFormedEffect
           (cond t (on_body q n records old (hears old m) m.slot m.body)
-          (only_says lines.Dropped old))
+          (only_says site_lines.Dropped old))
       go true =
           body_is m.slot h.0 m.body h.1 (hears old m)
           (all_with IsMessage old.heard (Some m) are_heard h)

@@ -20,7 +20,7 @@ use Rattle.records.specs.SlotStates.{deposit_of, known_of}
 use Rattle.dgram.specs.declared.body.Body.TheVariants.{Prepare, Ask}
 use Rattle.dgram.specs.Messages.{IsMessage}
 use Rattle.proposer.specs.Proposals.{last_round, next_ballot}
-use Rattle.proposer.specs.Sessions.{Session}
+use Rattle.proposer.specs.VolatileStates.{VolatileState}
 use Rattle.site.specs.declared.fault.SiteFault.{SiteFault}
 use Rattle.site.specs.Calls.{Input, Deposits, Proposes, Asks, Arrives, effect_of, registering}
 use Rattle.site.specs.Calls.{on_deposit, begins_ballot_if, on_propose, on_ask}
@@ -36,14 +36,14 @@ IsWellFormedInput (Proposes slot) = IsSlot slot
 IsWellFormedInput (Asks slot member) = IsSiteNumber member × IsSlot slot
 IsWellFormedInput (Arrives message) = IfSome message IsMessage
 
-pub refuses_is : (session : Session) → AreMessages session.heard → (fault : SiteFault)
-    → IsWellFormedEffect (refuses fault session)
-refuses_is session heard fault = says_is (refuses fault session) refl tt heard
+pub refuses_is : (volatile : VolatileState) → AreMessages volatile.heard → (fault : SiteFault)
+    → IsWellFormedEffect (refuses fault volatile)
+refuses_is volatile heard fault = says_is (refuses fault volatile) refl tt heard
 
--- ---- site n, with these records and this session
+-- ---- site n, with these records and this volatile state
 
 module _ (q : QuorumSystem) (members : MembersAreSites q) (n : ℕ) (is_site : IsSiteNumber n)
-    (records : List Record) (are_records : AreRecords records) (old : Session)
+    (records : List Record) (are_records : AreRecords records) (old : VolatileState)
     (are_heard : AreMessages old.heard) where
   -- ---- a call
 

@@ -10,7 +10,7 @@ use Rattle.records.specs.declared.entry.Entry.{Entry}
 use Rattle.records.specs.Records.{IsEntry, IsRecord}
 use Rattle.dgram.specs.declared.body.Body.{Body}
 use Rattle.dgram.specs.Messages.{IsBody}
-use Rattle.proposer.specs.Sessions.{Session}
+use Rattle.proposer.specs.VolatileStates.{VolatileState}
 use Rattle.site.specs.Effects.{Effect, Send, to_each, record_of, commits_and_sends}
 use Rattle.world_law.specs.WellFormed.{AreMessages, IsSend}
 
@@ -18,7 +18,7 @@ use Rattle.world_law.specs.WellFormed.{AreMessages, IsSend}
 pub record IsWellFormedEffect (e : Effect) : Type 0 where
   pub commits : IfSome e.commits IsRecord
   pub sends : (d : Send) → Has d e.sends → IsSend d
-  pub heard : AreMessages e.session.heard
+  pub heard : AreMessages e.volatile.heard
 
 -- ---- what is committed and sent
 
@@ -44,16 +44,16 @@ each_is slot is_slot body is_body sites are_sites d h =
 
 pub sends_are : (slot : SlotName) → IsSlot slot → (o : Option Entry) → IfSome o IsEntry
     → (body : Body) → IsBody body → (sites : List ℕ) → AreSites sites
-    → (session : Session) → AreMessages session.heard
-    → IsWellFormedEffect (commits_and_sends slot o body sites session)
-sends_are slot is_slot o is_entry body is_body sites are_sites session heard = record {
+    → (volatile : VolatileState) → AreMessages volatile.heard
+    → IsWellFormedEffect (commits_and_sends slot o body sites volatile)
+sends_are slot is_slot o is_entry body is_body sites are_sites volatile heard = record {
   commits = record_is slot is_slot o is_entry;
   sends = each_is slot is_slot body is_body sites are_sites;
   heard = heard;
 }
 
 -- what sends nothing
-pub says_is : (e : Effect) → e.sends ≡ [] → IfSome e.commits IsRecord → AreMessages e.session.heard
+pub says_is : (e : Effect) → e.sends ≡ [] → IfSome e.commits IsRecord → AreMessages e.volatile.heard
     → IsWellFormedEffect e
 says_is e none commits heard = record {
   commits = commits;

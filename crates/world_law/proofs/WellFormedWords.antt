@@ -21,7 +21,7 @@ use Rattle.dgram.specs.declared.message.Message.{Message}
 use Rattle.dgram.specs.Heard.{PromiseFrom}
 use Rattle.dgram.specs.Messages.{IsPrior, IsMessage}
 use Rattle.proposer.specs.Proposals.{Current, gathered, highest_prior, bag_of}
-use Rattle.proposer.specs.Sessions.{promise_message}
+use Rattle.proposer.specs.VolatileStates.{promise_message}
 use Rattle.world_law.specs.WellFormed.{AreMessages}
 use Rattle.world_law.proofs.Deeds.{some_same}
 use Rattle.world_law.proofs.Heard.{gathered_heard, highest_prior_is}

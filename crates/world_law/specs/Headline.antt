@@ -19,7 +19,7 @@ use Rattle.schedule.specs.declared.fate.Fate.{Fate}
 use Rattle.schedule.specs.Plans.{Plan}
 use Rattle.lines.specs.declared.line.Line.{Line}
 use Rattle.lines.specs.declared.line.Line.TheVariants as lines
-use Rattle.lines.specs.declared.line.NamedReply.TheVariants as named
+use Rattle.site.specs.declared.answer.Reply.TheVariants as replies
 use Rattle.world_law.specs.Laws.{OnRecord, WasSent, Report}
 use Rattle.world_law.specs.Networks.{Down}
 use Rattle.world_law.specs.Trees.{tree_at}
@@ -31,7 +31,7 @@ use Rattle.world_law.specs.Worlds.{first_number, run_of}
 -- what a line reports: a bag that a site has learned, or that it replies as known
 abbrev pub reported : Line → Option Report
 reported (lines.Known site slot bag) = Some (record { slot = slot; bag = bag.bag })
-reported (lines.Replied site slot (named.Known bag)) =
+reported (lines.Replied site slot (replies.Known bag)) =
     Some (record { slot = slot; bag = bag.bag })
 reported _ = None
 

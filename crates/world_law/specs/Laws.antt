@@ -19,7 +19,8 @@ use Rattle.site.specs.declared.answer.Reply.TheVariants as replies
 use Rattle.site.specs.Effects.{Send}
 pub use Rattle.site.specs.Reported.{Report}
 use Rattle.world_law.specs.Networks.{Network, Event, Deposit, Propose, Ask, Query, Deliver, Raw}
-use Rattle.lines.specs.Notices.{Notice, Learned, Replied}
+use Rattle.lines.specs.declared.notice.Notice.{Notice}
+use Rattle.lines.specs.declared.notice.Notice.TheVariants.{Learned, Replied}
 use Rattle.world_law.specs.Networks.{Stop, Start, datagram_at, happens}
 
 -- ---- what is on record, and what was sent
@@ -137,8 +138,8 @@ VotesAreOnRecord w =
     (n : ℕ) (slot : SlotName) (vote : Vote) → WasSent w slot (Accepted n vote)
     → OnRecord w n slot (entry.Vote vote)
 
--- a promise names its site's highest vote below its ballot. Since this is so after
--- any events, it stays so, whatever the site votes for later.
+-- a promise names its site's highest vote below its ballot. Since this is so after any events, it
+-- stays so, whatever the site votes for later.
 abbrev pub PromisesNameHighestVotes : Network → Type 0
 PromisesNameHighestVotes w =
     (n : ℕ) (slot : SlotName) (b : BallotNumber) (prior : Option Vote)

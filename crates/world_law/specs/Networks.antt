@@ -10,27 +10,34 @@ use Rattle.fed_types.specs.Slots.{SlotName}
 use Rattle.bag_check.specs.declared.fault.BagFault.{BagFault}
 use Rattle.records.specs.declared.record.Record.{Record}
 use Rattle.records.specs.Texts.{kept_record}
-use Rattle.proposer.specs.Sessions.{Session, new_session}
+use Rattle.proposer.specs.VolatileStates.{VolatileState, new_volatile}
 use Rattle.site.specs.declared.fault.SiteFault.TheVariants as faults
 use Rattle.site.specs.Calls.{Input, Deposits, Proposes, Asks, Arrives, effect_of, reply_of}
 use Rattle.site.specs.Effects.{Effect, Send, refuses}
-use Rattle.lines.specs.Notices.{Notice, Replied, Refused, GoesDown, ComesUp, notice_of}
+use Rattle.lines.specs.declared.notice.Notice.{Notice}
+use Rattle.lines.specs.declared.notice.Notice.TheVariants.{Replied, Refused, GoesDown, ComesUp}
+use Rattle.lines.specs.Notices.{notice_of}
 use Rattle.schedule.specs.declared.fate.Fate.{Fate}
 use Rattle.schedule.specs.declared.fate.Fate.TheVariants.{Whole, StopsIn, StopsAfter, FailsIn}
 
 -- ---- sites and datagrams
 
--- a site is up; or it is down; or its device has failed, and it needs opening
+-- A site is up, with its volatile state; or it is down; or its device has failed, and it needs
+-- opening. One that isn't up has lost its volatile state.
 pub data Mode : Type 0 where
-  Up : Mode
+  Up : VolatileState → Mode
   Down : Mode
   NeedsOpening : Mode
 
--- What is on its record; what it has heard since it was opened, and which ballots are current; and
--- its mode. One that isn't up has forgotten what it had heard.
+-- what a site in this mode has heard, and which ballots are current
+abbrev pub volatile_in : Mode → VolatileState
+volatile_in (Up volatile) = volatile
+volatile_in Down = new_volatile
+volatile_in NeedsOpening = new_volatile
+
+-- what is on its record, and its mode
 pub record SiteState : Type 0 where
   pub records : List Record
-  pub session : Session
   pub mode : Mode
 
 -- Each site by its number: numbers that are no member's are there too, and `run` leaves them new.
@@ -43,7 +50,7 @@ pub record Network : Type 0 where
 
 -- a site that is up and has no records
 unfoldable pub new_site : SiteState
-new_site = record { records = []; session = new_session; mode = Up }
+new_site = record { records = []; mode = Up new_volatile }
 
 -- every site is new, and nothing was sent
 unfoldable pub new_network : Network
@@ -79,14 +86,10 @@ pub record Happening : Type 0 where
 
 -- ---- a call, under a fate
 
--- the call is done, and the site goes on
-abbrev pub goes_on : (site : ℕ) → SiteState → Input → Effect → SiteOutcome
-goes_on site s input e = record {
-  site = record {
-    records = s.records ++ option_to_list e.commits;
-    session = e.session;
-    mode = s.mode;
-  };
+-- the call is done, and the site goes on in this mode
+abbrev pub goes_on : (site : ℕ) → SiteState → (after : Mode) → Input → Effect → SiteOutcome
+goes_on site s after input e = record {
+  site = record { records = s.records ++ option_to_list e.commits; mode = after };
   sends = e.sends;
   notice = notice_of site input e.says;
 }
@@ -94,11 +97,7 @@ goes_on site s input e = record {
 -- the site is down, with this record more, if there is one, after it has sent these messages
 abbrev pub goes_down : (site : ℕ) → SiteState → Option Record → List Send → SiteOutcome
 goes_down site s kept sends = record {
-  site = record {
-    records = s.records ++ option_to_list kept;
-    session = new_session;
-    mode = Down;
-  };
+  site = record { records = s.records ++ option_to_list kept; mode = Down };
   sends = sends;
   notice = Some (GoesDown site);
 }
@@ -106,27 +105,41 @@ goes_down site s kept sends = record {
 -- the site's device has failed, and keeps this record more, if there is one; nothing was sent
 abbrev pub fails : (site : ℕ) → SiteState → Option Record → SiteOutcome
 fails site s kept = record {
-  site = record {
-    records = s.records ++ option_to_list kept;
-    session = new_session;
-    mode = NeedsOpening;
-  };
+  site = record { records = s.records ++ option_to_list kept; mode = NeedsOpening };
   sends = [];
   notice = Some (Refused site faults.Device);
 }
 
--- What comes of a call under a fate, by the record that the call commits. A stop or a failure in a
--- device call leaves the record where at least as many bytes are kept as it has, and nothing is
--- sent. Where there is no record there is no device call: a stop there is one before any datagram
--- is sent, and a failure changes nothing.
+-- What comes of a call under a fate. `commits` is the record that it commits, if any, and `after`
+-- the mode of a site that goes on. A stop or a failure in a device call leaves the record where at
+-- least as many bytes are kept as it has, and nothing is sent. Where there is no record there is no
+-- device call: a stop there is one before any datagram is sent, and a failure changes nothing.
 unfoldable pub outcome :
-    (site : ℕ) → SiteState → Input → Effect → (commits : Option Record) → Fate → SiteOutcome
-outcome site s input e commits Whole = goes_on site s input e
-outcome site s input e None (StopsIn device k) = goes_down site s None []
-outcome site s input e (Some r) (StopsIn device k) = goes_down site s (kept_record k r) []
-outcome site s input e commits (StopsAfter j) = goes_down site s commits (take j e.sends)
-outcome site s input e None (FailsIn device k) = goes_on site s input e
-outcome site s input e (Some r) (FailsIn device k) = fails site s (kept_record k r)
+    (site : ℕ) → SiteState → (after : Mode) → Input → Effect → (commits : Option Record) → Fate
+    → SiteOutcome
+outcome site s after input e commits Whole = goes_on site s after input e
+outcome site s after input e None (StopsIn device k) = goes_down site s None []
+outcome site s after input e (Some r) (StopsIn device k) = goes_down site s (kept_record k r) []
+outcome site s after input e commits (StopsAfter j) = goes_down site s commits (take j e.sends)
+outcome site s after input e None (FailsIn device k) = goes_on site s after input e
+outcome site s after input e (Some r) (FailsIn device k) = fails site s (kept_record k r)
+
+-- what comes of an effect at a site that is up
+abbrev pub under_fate : (site : ℕ) → SiteState → Input → Effect → Fate → SiteOutcome
+under_fate site s input e fate = outcome site s (Up e.volatile) input e e.commits fate
+
+-- a site that needs opening refuses, and doesn't hear what reaches it
+abbrev pub refuses_all : (site : ℕ) → SiteState → Input → Fate → SiteOutcome
+refuses_all site s input fate =
+    outcome site s NeedsOpening input (refuses faults.NeedsOpen new_volatile) None fate
+
+-- What comes of an input that reaches a site, under a fate: one that is up does what it says; one
+-- that needs opening refuses; of one that is down nothing comes.
+abbrev pub step : QuorumSystem → (site : ℕ) → SiteState → Mode → Input → Fate → SiteOutcome
+step q site s (Up volatile) input fate =
+    under_fate site s input (effect_of q site s.records volatile input) fate
+step q site s NeedsOpening input fate = refuses_all site s input fate
+step q site s Down input fate = record { site = s; sends = []; notice = None }
 
 -- ---- what happens
 
@@ -149,20 +162,10 @@ happening w site o = record {
 abbrev pub if_member : QuorumSystem → Network → (site : ℕ) → Happening → Happening
 if_member q w site h = if is_in q.members site then h else nothing w
 
--- an effect at a site, under a fate
-abbrev pub undergoes : Network → (site : ℕ) → Input → Effect → Fate → Happening
-undergoes w site input e fate =
-    happening w site (outcome site (w.sites site) input e e.commits fate)
-
--- an input reaches a site: one that is up does what it says; one that needs opening refuses, and
--- doesn't hear it; one that is down does nothing
+-- an input reaches a site; where it is down the network is left as it is, and not made anew
 abbrev pub reaches : QuorumSystem → Network → (site : ℕ) → Mode → Input → Fate → Happening
-reaches q w site Up input fate =
-    undergoes w site input
-    (effect_of q site (w.sites site).records (w.sites site).session input) fate
-reaches q w site NeedsOpening input fate =
-    undergoes w site input (refuses faults.NeedsOpen (w.sites site).session) fate
 reaches q w site Down input fate = nothing w
+reaches q w site mode input fate = happening w site (step q site (w.sites site) mode input fate)
 
 abbrev pub takes : QuorumSystem → Network → (site : ℕ) → Input → Fate → Happening
 takes q w site input fate =
@@ -174,7 +177,8 @@ says w notice = record { network = w; sends = []; notice = Some notice }
 
 -- a query: nothing but a reply comes of it
 abbrev pub replies : Network → (site : ℕ) → Mode → SlotName → Happening
-replies w site Up slot = says w (Replied site slot (reply_of slot (w.sites site).records))
+replies w site (Up volatile) slot =
+    says w (Replied site slot (reply_of slot (w.sites site).records))
 replies w site NeedsOpening slot = says w (Refused site faults.NeedsOpen)
 replies w site Down slot = nothing w
 
@@ -196,14 +200,14 @@ stops w site mode = happening w site (goes_down site (w.sites site) None [])
 -- it is up, with the records that it has
 abbrev pub opened : (site : ℕ) → SiteState → SiteOutcome
 opened site s = record {
-  site = record { records = s.records; session = new_session; mode = Up };
+  site = record { records = s.records; mode = Up new_volatile };
   sends = [];
   notice = Some (ComesUp site (length s.records));
 }
 
 -- a site that isn't up is opened
 abbrev pub starts : Network → (site : ℕ) → Mode → Happening
-starts w site Up = nothing w
+starts w site (Up volatile) = nothing w
 starts w site mode = happening w site (opened site (w.sites site))
 
 -- what an event brings about

@@ -11,7 +11,7 @@ use Rattle.dgram.specs.declared.message.Message.{Message}
 use Rattle.dgram.specs.Messages.{IsMessage}
 use Rattle.site.specs.Effects.{Send}
 use Rattle.world_law.specs.Networks.{Network, Event, Deposit, Propose, Ask, Query, Deliver, Raw}
-use Rattle.world_law.specs.Networks.{Stop, Start, new_network, run}
+use Rattle.world_law.specs.Networks.{Stop, Start, volatile_in, new_network, run}
 
 -- the members are numbers of sites
 abbrev pub MembersAreSites : QuorumSystem → Type 0
@@ -29,7 +29,7 @@ IsSend d = IsSiteNumber d.to × IsMessage d.message
 pub record IsWellFormed (w : Network) : Type 0 where
   pub sent : (d : Send) → Has d w.sent → IsSend d
   pub records : (n : ℕ) → AreRecords (w.sites n).records
-  pub heard : (n : ℕ) → AreMessages (w.sites n).session.heard
+  pub heard : (n : ℕ) → AreMessages (volatile_in (w.sites n).mode).heard
 
 -- What an event brings in: a slot, a valid bag's identity, the site that is asked. The site at
 -- which it happens is a member, or nothing comes of it.

@@ -29,7 +29,7 @@ use Rattle.lines.specs.declared.line.Reason.{Reason}
 use Rattle.lines.specs.declared.line.Reason.TheVariants as reasons
 use Rattle.world_law.specs.Networks.{Mode, Up, Down, NeedsOpening, Network, new_network}
 use Rattle.world_law.specs.Networks.{Event, Deposit, Propose, Ask, Query, Deliver, Raw, Stop, Start}
-use Rattle.lines.specs.Notices.{Notice}
+use Rattle.lines.specs.declared.notice.Notice.{Notice}
 use Rattle.world_law.specs.Networks.{datagram_at, happens}
 use Rattle.lines.specs.Named.{SeenBag, line_of}
 use Rattle.world_law.specs.Trees.{NumberedTree, tree_at, put_tree}
@@ -121,7 +121,7 @@ at_member w number site next = if is_member w site then next else skips w number
 
 -- a site mustn't be down, which is asked last
 abbrev pub unless_down : World → (number : ℕ) → Mode → (next : World) → World
-unless_down w number Up next = next
+unless_down w number (Up volatile) next = next
 unless_down w number NeedsOpening next = next
 unless_down w number Down next = skips w number reasons.Down
 
@@ -225,7 +225,7 @@ pumped w number (suc turns) = pumped (on_turn w number (next_unnamed w)) number 
 
 -- `start S` opens a site that isn't up
 unfoldable pub on_start : World → (number site : ℕ) → Mode → World
-on_start w number site Up = skips w number reasons.Up
+on_start w number site (Up volatile) = skips w number reasons.Up
 on_start w number site Down = after_event w (Start site)
 on_start w number site NeedsOpening = after_event w (Start site)
 

@@ -16,13 +16,13 @@ use Rattle.bag_explain.specs.declared.entries.ListingFault.TheVariants as listin
 use Rattle.bag_explain.specs.declared.entry_fault.EntryFault.{EntryFault}
 use Rattle.bag_explain.specs.declared.entry_fault.EntryFault.TheVariants.{Astray, Missing, Wrong}
 use Rattle.bag_explain.specs.Lines.{NumberedFile}
-use Rattle.bag_explain.specs.Listings.{Listing}
+use Rattle.bag_explain.specs.Listings.{NumberedListing}
 use Rattle.bag_explain.specs.Places.{Place, places_of, astray_at, missing_at, wrong_at}
 use Rattle.bag_explain.specs.Places.{malformed_places, repeated_places, unlisted_places}
 use Rattle.bag_explain.specs.Findings.{printed_places}
 
 -- the place of an entry, where it has the fault
-abbrev pub faulty_at : EntryFault → List FileFact → Listing → NumberedFile → List Place
+abbrev pub faulty_at : EntryFault → List FileFact → NumberedListing → NumberedFile → List Place
 faulty_at Astray files listing = astray_at listing
 faulty_at Missing files listing = missing_at files listing
 faulty_at Wrong files listing = wrong_at files listing
@@ -33,7 +33,7 @@ entry_fault_of Missing = MissingFile
 entry_fault_of Wrong = WrongDigest
 
 -- the places of a fault in one manifest
-abbrev pub places_in : ListingFault → List FileFact → Listing → List Place
+abbrev pub places_in : ListingFault → List FileFact → NumberedListing → List Place
 places_in listings.Malformed files listing = malformed_places listing
 places_in (listings.OfEntry fault) files listing =
     flat_map (faulty_at fault files listing) listing.files
@@ -47,7 +47,7 @@ fault_of listings.Repeated = DuplicateEntry
 fault_of listings.Unlisted = UnlistedFile
 
 -- the lines of a fault in these manifests
-abbrev pub printed_in : ListingFault → List FileFact → List Listing → List ℕ
+abbrev pub printed_in : ListingFault → List FileFact → List NumberedListing → List ℕ
 printed_in fault files found =
     flat_map (λ listing. printed_places (fault_of fault) (places_in fault files listing)) found
 
@@ -76,6 +76,6 @@ listing_faults =
     ∷ listings.Unlisted ∷ listings.OfEntry Wrong ∷ []
 
 -- the lines of all faults of what manifests list
-abbrev pub printed_listings : List FileFact → List Listing → List ℕ
+abbrev pub printed_listings : List FileFact → List NumberedListing → List ℕ
 printed_listings files found =
     flat_map (λ fault. printed_in fault files found) listing_faults

@@ -9,7 +9,7 @@ use Rattle.records.specs.declared.record.Record.{Record}
 use Rattle.records.specs.SlotStates.{deposit_of, known_of, vote_of, earlier, higher, with_one}
 use Rattle.records.specs.SlotStates.{if_some}
 use Rattle.records.specs.SlotStates.{deposit_in, known_in, vote_in}
-use Rattle.ledger.specs.declared.listing.Listing.{Listing}
+use Rattle.ledger.specs.declared.version_filter.VersionFilter.{VersionFilter}
 use Rattle.ledger.specs.declared.row.Row.{Row}
 use Rattle.ledger.specs.declared.standing.Standing.{Standing}
 use Rattle.ledger.specs.Ledgers.{listed_line}
@@ -56,8 +56,8 @@ abbrev pub standing_in : Rows Row → SlotName → Standing
 standing_in rows slot = standing_by (row_of empty_row rows slot)
 
 -- its line, where it is listed
-abbrev pub listed_in : Listing → Rows Row → SlotName → List ℕ
-listed_in listing rows slot = listed_line listing slot (standing_in rows slot)
+abbrev pub listed_in : VersionFilter → Rows Row → SlotName → List ℕ
+listed_in wanted rows slot = listed_line wanted slot (standing_in rows slot)
 
 -- the text of what is there, if anything is
 abbrev pub text_if : {X : Type 0} → (X → List ℕ) → Option X → List ℕ

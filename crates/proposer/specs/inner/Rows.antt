@@ -9,12 +9,12 @@ use Rattle.fed_types.specs.Slots.{SlotName, same_slot}
 use Rattle.records.specs.declared.entry.Entry.{Entry}
 use Rattle.records.specs.SlotStates.{if_some, round_in}
 use Rattle.slot_table.specs.Rows as tables
-use Rattle.proposer.specs.declared.round.Promise.{Promise}
-use Rattle.proposer.specs.declared.round.Plan.{Plan}
+use Rattle.proposer.specs.declared.ballot_state.Promise.{Promise}
+use Rattle.proposer.specs.declared.ballot_state.Plan.{Plan}
 use Rattle.proposer.specs.declared.row.Row.{Row}
-use Rattle.proposer.specs.Rounds.{Round}
+use Rattle.proposer.specs.BallotStates.{BallotState}
 use Rattle.proposer.specs.Rows.{begun_in, current_in, row_of}
-use Rattle.proposer.specs.inner.Rounds.{given_bag, after_promise, issued}
+use Rattle.proposer.specs.inner.BallotStates.{given_bag, after_promise, issued}
 
 -- only this slot's row is another
 abbrev pub OnlyAt : (old new : tables.Rows Row) → SlotName → Type 0
@@ -38,10 +38,10 @@ pub record IssuesWaiting (old new : Row) : Type 0 where
   pub begun : new.begun ≡ old.begun
   pub current : current_in new ≡ option_map issued (current_in old)
 
--- whether the round is this one
-abbrev pub is_of_round : ℕ → Option Round → Bool
+-- whether the ballot is of this round
+abbrev pub is_of_round : ℕ → Option BallotState → Bool
 is_of_round number None = false
-is_of_round number (Some round) = round.ballot.round == number
+is_of_round number (Some state) = state.ballot.round == number
 
 -- the row with the round used
 abbrev pub with_round : Row → Option ℕ → Row
@@ -94,14 +94,14 @@ with_begun row plan = record {
   current = row.current;
 }
 
--- a round is begun in a row
-pub record BeginsRound (round : Round) (old new : Row) : Type 0 where
+-- a ballot is begun in a row
+pub record BeginsBallot (state : BallotState) (old new : Row) : Type 0 where
   pub used : new.used ≡ old.used
   pub floor : new.floor ≡ old.floor
   pub current : new.current ≡ old.current
-  pub begun : begun_in new ≡ Some round
+  pub begun : begun_in new ≡ Some state
 
 -- only this slot's row begins it
-abbrev pub BeginsAt : Round → (old new : tables.Rows Row) → SlotName → Type 0
-BeginsAt round old new slot =
-    OnlyAt old new slot × BeginsRound round (row_of old slot) (row_of new slot)
+abbrev pub BeginsAt : BallotState → (old new : tables.Rows Row) → SlotName → Type 0
+BeginsAt state old new slot =
+    OnlyAt old new slot × BeginsBallot state (row_of old slot) (row_of new slot)

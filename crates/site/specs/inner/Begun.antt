@@ -10,7 +10,7 @@ use Rattle.records.specs.declared.record.Record.{Record}
 use Rattle.records.specs.SlotStates.{deposit_of}
 use Rattle.dgram.specs.declared.body.Body.TheVariants.{Prepare}
 use Rattle.proposer.specs.Proposals.{next_ballot}
-use Rattle.proposer.specs.Sessions.{Session}
+use Rattle.proposer.specs.VolatileStates.{VolatileState}
 use Rattle.proposer.specs.UnderWay.{UnderWay, begins}
 use Rattle.site_tables.specs.Contents.{Contents, IsOf, Represents}
 use Rattle.site.specs.declared.answer.Answer.{Answer}
@@ -32,28 +32,28 @@ pub record IsOfBallot
 -- the next ballot is begun with this bag; or none is left; or one is, and memory ran out, before it
 -- was begun or after
 abbrev pub Begins :
-    Owner → Contents → SlotName → (own : BagId) → List Record → Session → UnderWay
+    Owner → Contents → SlotName → (own : BagId) → List Record → VolatileState → UnderWay
     → Result (Record × Answer) SiteFault → Type 0
-Begins owner tables slot own records session under (Ok x) =
+Begins owner tables slot own records volatile under (Ok x) =
     (ballot : BallotNumber)
-    × (next_ballot owner.site slot records session.heard ≡ Some ballot)
+    × (next_ballot owner.site slot records volatile.heard ≡ Some ballot)
     × IsOfBallot owner slot ballot x.0 x.1
-    × Represents tables records session (begins under slot ballot own)
-Begins owner tables slot own records session under (Err faults.RoundsSpent) =
-    (next_ballot owner.site slot records session.heard ≡ None)
-    × Represents tables records session under
-Begins owner tables slot own records session under (Err faults.Memory) =
-    IsSome (next_ballot owner.site slot records session.heard)
-    × (after : UnderWay) × Represents tables records session after
-Begins owner tables slot own records session under (Err fault) = ⊥
+    × Represents tables records volatile (begins under slot ballot own)
+Begins owner tables slot own records volatile under (Err faults.RoundsSpent) =
+    (next_ballot owner.site slot records volatile.heard ≡ None)
+    × Represents tables records volatile under
+Begins owner tables slot own records volatile under (Err faults.Memory) =
+    IsSome (next_ballot owner.site slot records volatile.heard)
+    × (after : UnderWay) × Represents tables records volatile after
+Begins owner tables slot own records volatile under (Err fault) = ⊥
 
--- so it is of each session that the tables represent, where this bag is the slot's deposit
+-- so it is of each volatile state that the tables represent, where this bag is the slot's deposit
 pub record BeginsBallot
     (owner : Owner) (old new : Contents) (slot : SlotName) (own : BagId)
     (result : Result (Record × Answer) SiteFault)
     : Type 0 where
   pub order : (records : List Record) → IsOf old owner records → IsOf new owner records
-  pub begun : (records : List Record) (session : Session) (under : UnderWay)
-      → IsOf old owner records → Represents old records session under
+  pub begun : (records : List Record) (volatile : VolatileState) (under : UnderWay)
+      → IsOf old owner records → Represents old records volatile under
       → deposit_of slot records ≡ Some own
-      → Begins owner new slot own records session under result
+      → Begins owner new slot own records volatile under result

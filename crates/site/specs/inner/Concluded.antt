@@ -9,7 +9,7 @@ use Rattle.book.specs.declared.fault.CommitFault.{CommitFault}
 use Rattle.book.specs.declared.fault.CommitFault.TheVariants as commits
 use Rattle.fed_types.specs.Slots.{SlotName}
 use Rattle.dgram.specs.declared.body.Body.{Body}
-use Rattle.proposer.specs.Sessions.{Session, hears}
+use Rattle.proposer.specs.VolatileStates.{VolatileState, hears}
 use Rattle.proposer.specs.UnderWay.{UnderWay, current_by, current_if, under_way_if}
 use Rattle.proposer.specs.UnderWay.{heard_if, waits}
 use Rattle.site_tables.specs.Contents as tables
@@ -26,21 +26,22 @@ use Rattle.site.specs.Datagrams.{handed_out, datagram}
 use Rattle.site.specs.Effects.{to_each}
 use Rattle.site.specs.Sites.{OpenSite, Represents, IsInOrder}
 
--- the tables, with the records, represent a session and what is under way
-abbrev pub Stands : {C : Type 0} → OpenSite C → Session → UnderWay → Type 0
-Stands s session under = tables.Represents s.tables s.book.records session under
+-- the tables, with the records, represent a volatile state and what is under way
+abbrev pub Stands : {C : Type 0} → OpenSite C → VolatileState → UnderWay → Type 0
+Stands s volatile under = tables.Represents s.tables s.book.records volatile under
 
--- the session, and what is under way, once a record is noted
-abbrev pub noted_session : Session → UnderWay → Record → Session
-noted_session session under r = current_if session r.slot (current_by (under.begun r.slot) r.body)
+-- the volatile state, and what is under way, once a record is noted
+abbrev pub noted_volatile : VolatileState → UnderWay → Record → VolatileState
+noted_volatile volatile under r =
+    current_if volatile r.slot (current_by (under.begun r.slot) r.body)
 
 abbrev pub noted_under : UnderWay → Record → UnderWay
 noted_under under r = under_way_if under r.slot (current_by (under.begun r.slot) r.body)
 
 -- or if there is one
-abbrev pub session_after : Session → UnderWay → Option Record → Session
-session_after session under None = session
-session_after session under (Some r) = noted_session session under r
+abbrev pub volatile_after : VolatileState → UnderWay → Option Record → VolatileState
+volatile_after volatile under None = volatile
+volatile_after volatile under (Some r) = noted_volatile volatile under r
 
 abbrev pub under_after : UnderWay → Option Record → UnderWay
 under_after under None = under
@@ -64,10 +65,11 @@ pub record IsCommitted
     : Type 0 where
   pub book : (IsErrOf result faults.Memory × (new.book ≡ old.book))
       ⊎ Commits device old.book r (committed result) new.book
-  pub stands : OnOk result ((session : Session) (under : UnderWay) → Stands old session under
-      → Stands new (noted_session session under r) (noted_under under r))
-  pub same : OnErr result ((session : Session) (under : UnderWay) → Stands old session under
-      → Stands new session under)
+  pub stands : OnOk result
+      ((volatile : VolatileState) (under : UnderWay) → Stands old volatile under
+      → Stands new (noted_volatile volatile under r) (noted_under under r))
+  pub same : OnErr result ((volatile : VolatileState) (under : UnderWay) → Stands old volatile under
+      → Stands new volatile under)
   pub faults : IfErr result (λ fault. (fault ≡ faults.Memory) ⊎ (fault ≡ faults.Device))
   pub order : IsInOrder old → IsInOrder new
 
@@ -77,10 +79,11 @@ pub record Concludes
     (line : Option Line) (datagrams : List (ℕ × List ℕ)) (result : Result Answer SiteFault)
     : Type 0 where
   pub keeps : Keeps device r result old.book new.book
-  pub stands : OnOk result ((session : Session) (under : UnderWay) → Stands old session under
-      → Stands new (session_after session under r) (under_after under r))
-  pub same : OnErr result ((session : Session) (under : UnderWay) → Stands old session under
-      → Stands new session under)
+  pub stands : OnOk result
+      ((volatile : VolatileState) (under : UnderWay) → Stands old volatile under
+      → Stands new (volatile_after volatile under r) (under_after under r))
+  pub same : OnErr result ((volatile : VolatileState) (under : UnderWay) → Stands old volatile under
+      → Stands new volatile under)
   pub faults : IfErr result (λ fault. (fault ≡ faults.Memory)
       ⊎ ((fault ≡ faults.Device) × IsSome r))
   pub says : (answer : Answer) → result ≡ Ok answer
@@ -102,10 +105,10 @@ pub record Issues
     (datagrams : List (ℕ × List ℕ)) (result : Result Answer SiteFault)
     : Type 0 where
   pub book : new.book ≡ old.book
-  pub heard : OnOk result ((session : Session) (under : UnderWay) → Stands old session under
-      → Stands new (heard_if session (under.waiting slot)) (waits under slot None))
-  pub same : OnErr result ((session : Session) (under : UnderWay) → Stands old session under
-      → Stands new session under)
+  pub heard : OnOk result ((volatile : VolatileState) (under : UnderWay) → Stands old volatile under
+      → Stands new (heard_if volatile (under.waiting slot)) (waits under slot None))
+  pub same : OnErr result ((volatile : VolatileState) (under : UnderWay) → Stands old volatile under
+      → Stands new volatile under)
   pub faults : IfErr result (λ fault. fault ≡ faults.Memory)
   pub says : (answer : Answer) → result ≡ Ok answer
       → (answer.line ≡ None) × (map handed_out answer.sends.items ≡ datagrams)
@@ -115,6 +118,6 @@ abbrev pub HearsBody :
     {C : Type 0} → (C → Device) → (old new : OpenSite C) → SlotName → Body
     → Result Answer SiteFault → Type 0
 HearsBody device old new slot body result =
-    (session : Session) → Represents old session → IsAnswered device old new session
-    (on_body (quorums_of old.book.owner.members) old.book.owner.site old.book.records session
-    (hears session (record { slot = slot; body = body })) slot body) result
+    (volatile : VolatileState) → Represents old volatile → IsAnswered device old new volatile
+    (on_body (quorums_of old.book.owner.members) old.book.owner.site old.book.records volatile
+    (hears volatile (record { slot = slot; body = body })) slot body) result

@@ -3,8 +3,8 @@ use Rattle.std.specs.Prelude.{◌≡◌, ⊤, ℕ, List, [], ◌∷◌, Option, 
 use Rattle.std.specs.declared.alloc.AllocError.{AllocError}
 use Rattle.udp_site.specs.Traffic.{Nothing, From, Move, Took, Failed, Handed, Grows}
 use Rattle.dgram.specs.declared.answers.QueryAnswer.{QueryAnswer}
-use Rattle.site_commands.specs.declared.reply.Reply.{Reply}
-use Rattle.site_commands.specs.declared.reply.Reply.TheVariants.{ToDeposit, ToQuery}
+use Rattle.site_commands.specs.declared.reply.ClientReply.{ClientReply}
+use Rattle.site_commands.specs.declared.reply.ClientReply.TheVariants.{ToDeposit, ToQuery}
 use Rattle.site_commands.specs.declared.reply.Wanted.{Wanted}
 use Rattle.site_commands.specs.Replies.{Question, first_reply}
 use Rattle.site_commands.specs.Exchanges.{OnlyTakes}
@@ -25,13 +25,13 @@ TakesOne before after None = (moves : List Move) × Grows before after moves × 
 
 -- datagrams are taken in, and the first wanted reply is what is heard
 abbrev pub Hears : Question → Wanted → (before after : Option (List Move))
-    → Result (Option Reply) AllocError → Type 0
+    → Result (Option ClientReply) AllocError → Type 0
 Hears q kind before after result =
     (moves : List Move) × Grows before after moves × OnlyTakes moves
     × IfOk result (λ reply. reply ≡ first_reply q kind moves)
 
 -- the answer to a query, if the reply is one
-abbrev pub query_in : Option Reply → Option QueryAnswer
+abbrev pub query_in : Option ClientReply → Option QueryAnswer
 query_in None = None
 query_in (Some (ToDeposit answer)) = None
 query_in (Some (ToQuery answer)) = Some answer

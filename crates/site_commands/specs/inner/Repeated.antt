@@ -5,7 +5,7 @@ use Rattle.std.specs.Option.{option_map}
 use Rattle.std.specs.declared.alloc.AllocError.{AllocError}
 use Rattle.outcomes.specs.declared.program_output.ProgramOutput.{ProgramOutput}
 use Rattle.udp_site.specs.Traffic.{Move, Grows}
-use Rattle.site_commands.specs.declared.reply.Reply.{Reply}
+use Rattle.site_commands.specs.declared.reply.ClientReply.{ClientReply}
 use Rattle.site_commands.specs.declared.until_known.Questions.{Questions}
 use Rattle.site_commands.specs.Replies.{Question, datagram_to}
 use Rattle.site_commands.specs.Repeats.{AreReplies, last_of, until_outcome}
@@ -21,9 +21,9 @@ AreQuestions q path questions =
 
 -- the site was asked, and this was the last reply
 abbrev pub IsLastReply : Question → (path : Option (List ℕ)) → (before after : Option (List Move))
-    → Result (Option Reply) AllocError → Type 0
+    → Result (Option ClientReply) AllocError → Type 0
 IsLastReply q path before after (Ok last) =
-    (replies : List (Option Reply)) × (moves : List Move) × Grows before after moves
+    (replies : List (Option ClientReply)) × (moves : List Move) × Grows before after moves
     × AreReplies q path path replies moves × (last ≡ last_of replies)
 IsLastReply q path before after (Err fault) = IsBrokenOff q path before after
 
@@ -31,7 +31,7 @@ IsLastReply q path before after (Err fault) = IsBrokenOff q path before after
 abbrev pub IsLastAnswer : Question → (path : Option (List ℕ))
     → (before after : Option (List Move)) → Result (Option ProgramOutput) AllocError → Type 0
 IsLastAnswer q path before after (Ok answer) =
-    (replies : List (Option Reply)) × (moves : List Move) × Grows before after moves
+    (replies : List (Option ClientReply)) × (moves : List Move) × Grows before after moves
     × AreReplies q path path replies moves
     × (outcome_if answer ≡ until_outcome q (last_of replies))
 IsLastAnswer q path before after (Err fault) = IsBrokenOff q path before after

@@ -1,8 +1,8 @@
 -- What a datagram asks, in the code's words.
 use Rattle.std.specs.Prelude.{◌≡◌, ℕ, List}
 use Rattle.dgram.specs.Decoded.{message_of}
-use Rattle.udp_site.specs.declared.asked.Asked.{Asked}
-use Rattle.udp_site.specs.declared.asked.Asked.TheVariants as asks
+use Rattle.udp_site.specs.declared.requests.Asked.{Asked}
+use Rattle.udp_site.specs.declared.requests.Asked.TheVariants as asks
 use Rattle.udp_site.specs.Requests.{Says, Deposits, Queries, Noise, request_in}
 
 abbrev pub IsAsked : (federation : ℕ) → List ℕ → Asked → Type 0

@@ -3,7 +3,7 @@ use Rattle.std.specs.Prelude.{◌≡◌, ℕ, List, [], ◌++◌, map, take, Opt
 use Rattle.fed_types.specs.Slots.{SlotName}
 use Rattle.site.specs.Sites.{OpenSite}
 use Rattle.lines.specs.declared.line.Line.{Line}
-use Rattle.lines.specs.Notices.{Notice}
+use Rattle.lines.specs.declared.notice.Notice.{Notice}
 use Rattle.lines.specs.Named.{line_of}
 use Rattle.udp_site.specs.declared.fault.ServeFault.{ServeFault}
 use Rattle.udp_site.specs.declared.fault.ServeFault.TheVariants as faults
@@ -39,7 +39,7 @@ ComesTo coming before after old new site (Err fault) = ⊥
 abbrev pub at : {C : Type 0} → (idle tried : ℕ) → Coming C → Coming C
 at idle tried coming done next = coming done next × (next.idle ≡ idle) × (next.tried ≡ tried)
 
--- these members were asked, and lines say of whom that he wasn't; or memory ran out within
+-- these members were asked, with a line for each that wasn't; or memory ran out within
 abbrev pub AsksFor :
     {C : Type 0} → List ℕ → Serving C → SlotName → List ℕ → (before after : Option (List Move))
     → (old new : List Line) → Result (Unit {0}) ServeFault → Type 0

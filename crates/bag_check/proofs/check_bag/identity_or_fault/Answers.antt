@@ -1,4 +1,4 @@
-use Rattle.std.proofs.Common.{Some, None, ◌∙◌}
+use Rattle.std.proofs.Common.{Some, None, inl, sym, ◌∙◌}
 use Rattle.bag_check.specs.Check.{check_of}
 use Rattle.bag_check.proofs.Steps.{tag_files_are, listings_are, handed_on_as}
 use Rattle.bag_check.proofs.Steps.{faulty_tag_files, not_read, faulty_listing, sound_listing}
@@ -37,7 +37,9 @@ returns c =
     let sound = tag_files_are c.args.facts.now _ _ None same c.payload_exists.ensures
     c.in_default.ensures in
     let found = c.in_ok-listings.listings.items in
-    sound_listing c.args.facts.now sound _ found c.identity.result same c.in_ok-listings.ensures.ok
+    inl (sym
+    (sound_listing c.args.facts.now sound _ found c.identity.result same
+    c.in_ok-listings.ensures.ok
     (listings_are c.args.facts.now _ found c.as_slice.result.now c.in_ok-fault.field-0 same
     c.as_slice.ensures.value c.in_ok-fault.ensures ∙ c.in_default-2.is)
-    c.identity.ensures
+    c.identity.ensures))

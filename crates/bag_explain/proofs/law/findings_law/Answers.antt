@@ -1,5 +1,5 @@
 use Rattle.bag_explain.proofs.LineLaws.{listed_by_line}
-use Rattle.bag_explain.proofs.PlaceLaws.{placed}
+use Rattle.bag_explain.proofs.FaultTests.{placed}
 use Rattle.bag_explain.proofs.FindingLaws.{sound, first, none_valid, valid_none}
 use Rattle.bag_explain.proofs.law.findings_law.Goals as goal
 

@@ -12,27 +12,27 @@ use Rattle.book.proofs.cell_repair.read_cell.Goals as goal
 pub returns-in_err-journal-clause-only : goal.returns-in_err-journal-clause-only
 returns-in_err-journal-clause-only g c = λ said.
     let read = c.in_ok-bytes in
-    answered c.args.owner (g.C.Cell.device c.args.cell.now).image read.bytes.items
+    answered c.args.owner.now (g.C.Cell.device c.args.cell.now).image read.bytes.items
     c.in_err-journal.field-0.0 c.from_residual-in_err-journal.result read.ensures.read
     (λ other says. c.in_err-journal.ensures.only other
-    (subst (λ (b : List ℕ). DecodesTo c.args.owner b other) (sym c.deref.ensures.value) says))
+    (subst (λ (b : List ℕ). DecodesTo c.args.owner.now b other) (sym c.deref.ensures.value) says))
     c.from_residual-in_err-journal.ensures.1 said
 
 -- what was read says the journal's records
 says : (g : Over) (c : After-header g)
-    → ReadSays c.args.owner (g.C.Cell.device c.args.cell.now).image
+    → ReadSays c.args.owner.now (g.C.Cell.device c.args.cell.now).image
     (Ok c.in_ok-journal.journal.records.items)
 says g c =
-    said_seen c.args.owner (g.C.Cell.device c.args.cell.now).image c.in_ok-bytes.bytes.items
+    said_seen c.args.owner.now (g.C.Cell.device c.args.cell.now).image c.in_ok-bytes.bytes.items
     c.deref.result.now c.in_ok-journal.journal.records.items c.in_ok-bytes.ensures.read
     c.deref.ensures.value c.in_ok-journal.ensures.said
 
 -- whatever the repair came to
 leaves : (g : Over) (c : After-repair g)
     → LeavesOnly (g.C.Cell.device c.args.cell.now) (g.C.Cell.device c.repair.new.cell)
-    (LeavesAlike c.args.owner (g.C.Cell.device c.args.cell.now).image)
+    (LeavesAlike c.args.owner.now (g.C.Cell.device c.args.cell.now).image)
 leaves g c =
-    repaired c.args.owner g.C.Cell.device g.met.C.Cell.only_now c.args.cell.now
+    repaired c.args.owner.now g.C.Cell.device g.met.C.Cell.only_now c.args.cell.now
     c.in_ok-bytes.bytes c.in_ok-sync.field-0 c.load.new.self c.sync.new.self c.repair.new.cell
     c.in_ok-journal.journal.records.items (says g (goal.at.After-repair g c).After-header)
     c.in_ok-bytes.ensures.does c.in_ok-sync.ensures.does c.repair.ensures.any_moment
@@ -42,13 +42,14 @@ returns-clause-records g c = says g (goal.at.returns-clause-records g c).After-h
 
 pub returns-clause-durable : goal.returns-clause-durable
 returns-clause-durable g c =
-    leaves_text c.args.owner c.in_ok-journal.journal.records.items
+    leaves_text c.args.owner.now c.in_ok-journal.journal.records.items
     (g.C.Cell.device c.repair.new.cell).image c.in_ok-repair.ensures.repaired
 
 pub returns-in_err-sync-clause-any_moment : goal.returns-in_err-sync-clause-any_moment
 returns-in_err-sync-clause-any_moment g c =
-    synced c.args.owner g.C.Cell.device g.met.C.Cell.only_now c.args.cell.now c.in_ok-bytes.bytes
-    c.sync.result c.load.new.self c.sync.new.self c.in_ok-journal.journal.records.items
+    synced c.args.owner.now g.C.Cell.device g.met.C.Cell.only_now c.args.cell.now
+    c.in_ok-bytes.bytes c.sync.result c.load.new.self c.sync.new.self
+    c.in_ok-journal.journal.records.items
     (says g (goal.at.returns-in_err-sync-clause-any_moment g c).After-header)
     c.in_ok-bytes.ensures.does c.sync.ensures.does
 
@@ -61,5 +62,5 @@ returns-clause-any_moment g c = leaves g (goal.at.returns-clause-any_moment g c)
 
 pub returns-clause-recovers : goal.returns-clause-recovers
 returns-clause-recovers g c =
-    recovers c.args.owner c.in_ok-journal.journal.records.items
+    recovers c.args.owner.now c.in_ok-journal.journal.records.items
     (g.C.Cell.device c.repair.new.cell).image c.in_ok-repair.ensures.repaired

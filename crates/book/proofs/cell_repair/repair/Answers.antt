@@ -12,22 +12,22 @@ use Rattle.book.proofs.cell_repair.repair.Goals as goal
 
 pub returns-in_err-cut_synced-clause-any_moment : goal.returns-in_err-cut_synced-clause-any_moment
 returns-in_err-cut_synced-clause-any_moment g c =
-    cutting c.args.owner c.args.bytes.now c.args.journal.now.records.items c.find_repair-mend.result
-    c.find_repair-mend.ensures g.C.Cell.device g.met.C.Cell.only_now c.args.cell.now
-    c.cut_synced.new.cell c.cut_synced.ensures.any_moment
+    cutting c.args.owner.now c.args.bytes.now c.args.journal.now.records.items
+    c.find_repair-mend.result c.find_repair-mend.ensures g.C.Cell.device g.met.C.Cell.only_now
+    c.args.cell.now c.cut_synced.new.cell c.cut_synced.ensures.any_moment
 
 pub returns-then-mend-header-clause-any_moment : goal.returns-then-mend-header-clause-any_moment
 returns-then-mend-header-clause-any_moment g c =
-    cutting c.args.owner c.args.bytes.now c.args.journal.now.records.items c.find_repair-mend.result
-    c.find_repair-mend.ensures g.C.Cell.device g.met.C.Cell.only_now c.args.cell.now
-    c.cut_synced.new.cell c.cut_synced.ensures.any_moment
+    cutting c.args.owner.now c.args.bytes.now c.args.journal.now.records.items
+    c.find_repair-mend.result c.find_repair-mend.ensures g.C.Cell.device g.met.C.Cell.only_now
+    c.args.cell.now c.cut_synced.new.cell c.cut_synced.ensures.any_moment
 
 pub returns-clause-repaired : goal.returns-clause-repaired
 returns-clause-repaired g c =
     let image : g.row.C.Denot → Option Image = λ cell. (g.C.Cell.device cell).image in
     let mend = c.find_repair-mend in
     let bytes = c.args.bytes.now in
-    let owner = c.args.owner in
+    let owner = c.args.owner.now in
     let rs = c.args.journal.now.records.items in
     let text = take mend.result.keep bytes in
     let same : from c.args.header.now mend.result.from ≡ drop mend.result.from
@@ -49,7 +49,7 @@ returns-clause-any_moment g c =
     let mid = c.cut_synced.new.cell in
     let mend = c.find_repair-mend in
     let bytes = c.args.bytes.now in
-    let owner = c.args.owner in
+    let owner = c.args.owner.now in
     let rs = c.args.journal.now.records.items in
     let text = take mend.result.keep bytes in
     let more = from c.args.header.now mend.result.from in

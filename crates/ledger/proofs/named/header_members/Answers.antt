@@ -9,21 +9,22 @@ use Rattle.ledger.proofs.named.header_members.Goals as goal
 
 pub returns-then-bytes-le-FRONT : goal.returns-then-bytes-le-FRONT
 returns-then-bytes-le-FRONT c =
-    short_has_none c.args.owner c.args.bytes.now c.if-bytes-le-FRONT.true
+    short_has_none c.args.owner.now c.args.bytes.now c.if-bytes-le-FRONT.true
 
 pub returns-then-bytes-end : goal.returns-then-bytes-end
 returns-then-bytes-end c =
-    too_short c.args.owner c.args.bytes.now c.from.result c.from.ensures c.if-bytes-end.true
+    too_short c.args.owner.now c.args.bytes.now c.from.result c.from.ensures c.if-bytes-end.true
 
 pub returns-in_default : goal.returns-in_default
 returns-in_default c = λ has.
     let ok = c.in_default.ensures.ok.1
-    (fit c.args.owner c.args.bytes.now c.from.result c.from.ensures has) in absurd (cc ok)
+    (fit c.args.owner.now c.args.bytes.now c.from.result c.from.ensures has) in absurd (cc ok)
 
 -- the header that is compared is this federation's and site's
-its : (c : goal.After-as_slice) → c.as_slice.result.now ≡ header_of c.args.owner c.in-Ok.members.weights
+its : (c : goal.After-as_slice)
+    → c.as_slice.result.now ≡ header_of c.args.owner.now c.in-Ok.members.weights
 its c = c.as_slice.ensures.value ∙ c.in_ok-header.ensures.bytes
-    ∙ header_under c.args.owner c.in-Ok.members
+    ∙ header_under c.args.owner.now c.in-Ok.members
     (ap (λ (m : Membership). m.federation) c.in-Ok.ensures.value ∙ c.federation.ensures)
 
 pub begins_with-requires : goal.begins_with-requires
@@ -32,7 +33,7 @@ begins_with-requires c =
     let bytes = c.args.bytes.now in
     omega (
       arith,
-      size_of c.args.owner bytes c.as_slice.result.now c.in-Ok.members.weights (its c),
+      size_of c.args.owner.now bytes c.as_slice.result.now c.in-Ok.members.weights (its c),
       ap (λ (m : Membership). length m.weights) c.in-Ok.ensures.value,
       length-take (14 + n - 14) (drop 14 bytes),
       length-drop 14 bytes,
@@ -43,16 +44,16 @@ pub returns-then-begins_with : goal.returns-then-begins_with
 returns-then-begins_with c = record {
   weights = c.in_ok-header.ensures.sound;
   federation = ap (λ (m : Membership). m.federation) c.in-Ok.ensures.value ∙ c.federation.ensures;
-  bytes_are = begun c.args.owner c.args.bytes.now c.as_slice.result.now c.in-Ok.members.weights
+  bytes_are = begun c.args.owner.now c.args.bytes.now c.as_slice.result.now c.in-Ok.members.weights
       (c.as_slice.ensures.value ∙ c.in_ok-header.ensures.bytes
-      ∙ header_under c.args.owner c.in-Ok.members
+      ∙ header_under c.args.owner.now c.in-Ok.members
       (ap (λ (m : Membership). m.federation) c.in-Ok.ensures.value ∙ c.federation.ensures))
       (c.if-begins_with.ensures.0 refl);
 }
 
 pub returns : goal.returns
 returns c = λ has.
-    let owner = c.args.owner in
+    let owner = c.args.owner.now in
     let bytes = c.args.bytes.now in
     let named = c.in-Ok.members.weights in
     let same : named ≡ has.0 = ap (λ (m : Membership). m.weights) c.in-Ok.ensures.value

@@ -6,7 +6,7 @@ use Rattle.ledger.proofs.read.contents_of.Goals as goal
 
 pub text_contents-requires-in-Some-clause-ended : goal.text_contents-requires-in-Some-clause-ended
 text_contents-requires-in-Some-clause-ended c =
-    let owner = c.args.owner in
+    let owner = c.args.owner.now in
     let bytes = c.args.bytes.now in
     let d : HasDamage owner bytes c.in-Some.place =
     subst (IsDamageFound owner bytes) c.in-Some.is c.in_ok-find_damage.ensures in
@@ -14,7 +14,7 @@ text_contents-requires-in-Some-clause-ended c =
 
 pub returns-in-None : goal.returns-in-None
 returns-in-None c =
-    let owner = c.args.owner in
+    let owner = c.args.owner.now in
     let bytes = c.args.bytes.now in
     let e : HasEnd owner bytes =
     subst (IsDamageFound owner bytes) c.in-None.is c.in_ok-find_damage.ensures in
@@ -22,7 +22,7 @@ returns-in-None c =
 
 pub returns-in_ok-text-in-Some : goal.returns-in_ok-text-in-Some
 returns-in_ok-text-in-Some c =
-    let owner = c.args.owner in
+    let owner = c.args.owner.now in
     let bytes = c.args.bytes.now in
     let d : HasDamage owner bytes c.in-Some.place =
     subst (IsDamageFound owner bytes) c.in-Some.is c.in_ok-find_damage.ensures in

@@ -7,7 +7,7 @@ use Rattle.ledger.proofs.read.find_all.Goals as goal
 
 pub found_after-requires : goal.found_after-requires
 found_after-requires c =
-    let owner = c.args.owner in
+    let owner = c.args.owner.now in
     let bytes = c.args.bytes.now in
     let h : HasHeaderOf owner c.in-Some.named bytes =
     subst (λ o. MatchOption o (¬ HasHeader owner bytes) (λ m. HasHeaderOf owner m bytes))
@@ -16,7 +16,7 @@ found_after-requires c =
 
 pub returns-in-Some : goal.returns-in-Some
 returns-in-Some c =
-    let owner = c.args.owner in
+    let owner = c.args.owner.now in
     let bytes = c.args.bytes.now in
     let h : HasHeaderOf owner c.in-Some.named bytes =
     subst (λ o. MatchOption o (¬ HasHeader owner bytes) (λ m. HasHeaderOf owner m bytes))
@@ -26,4 +26,4 @@ returns-in-Some c =
 
 pub find_second-requires-clause-long : goal.find_second-requires-clause-long
 find_second-requires-clause-long c =
-    headed_long c.args.owner c.args.bytes.now c.requires.headed
+    headed_long c.args.owner.now c.args.bytes.now c.requires.headed

@@ -7,7 +7,7 @@ use Rattle.ledger.proofs.read.find_damage.Goals.{in-Ok, in-Err}
 
 pub returns : goal.returns
 returns c =
-    let owner = c.args.owner in
+    let owner = c.args.owner.now in
     let bytes = c.args.bytes.now in
     elim c.match-read_journal.branch [
       | in-Ok w ↦

@@ -9,7 +9,7 @@ use Rattle.ledger.proofs.read.find_second.Goals as goal
 
 pub found_after-requires : goal.found_after-requires
 found_after-requires c =
-    let owner = c.args.owner in
+    let owner = c.args.owner.now in
     let place = 13 + c.pass_sizes-place.result in
     let x = drop place c.args.bytes.now in
     let named = c.in-Some.named in
@@ -27,7 +27,7 @@ found_after-requires c =
 
 pub returns-in-Some : goal.returns-in-Some
 returns-in-Some c =
-    let owner = c.args.owner in
+    let owner = c.args.owner.now in
     let bytes = c.args.bytes.now in
     let pass = c.pass_sizes-place.result in
     let place = 13 + pass in
@@ -44,7 +44,7 @@ returns-in-Some c =
 
 pub returns-in-None : goal.returns-in-None
 returns-in-None c =
-    let owner = c.args.owner in
+    let owner = c.args.owner.now in
     let bytes = c.args.bytes.now in
     let pass = c.pass_sizes-place.result in
     let place = 13 + pass in

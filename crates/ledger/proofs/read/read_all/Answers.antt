@@ -5,7 +5,7 @@ use Rattle.ledger.proofs.read.read_all.Goals as goal
 
 pub returns-in-Ok : goal.returns-in-Ok
 returns-in-Ok c = λ start records rest reaches ends has.
-    let owner = c.args.owner in
+    let owner = c.args.owner.now in
     let bytes = c.args.bytes.now in
     same_items c.in-Ok.journal.records.items (records_of start records)
     (c.in-Ok.ensures.only (Ok (records_of start records))

@@ -7,7 +7,7 @@ use Rattle.ledger.proofs.read.text_contents.Goals as goal
 
 pub returns : goal.returns
 returns c =
-    let owner = c.args.owner in
+    let owner = c.args.owner.now in
     let bytes = c.args.bytes.now in
     let found = c.in_ok-found.found in
     let its : Owner = record { members = found.members; site = owner.site } in

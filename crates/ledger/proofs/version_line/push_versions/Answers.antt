@@ -9,7 +9,7 @@ use Rattle.ledger.proofs.version_line.push_versions.Goals as goal
 pub loop-place-preserved : goal.loop-place-preserved
 loop-place-preserved c =
     let rows = c.args.versions.now.entries in
-    let f = listed_in c.args.listing rows in
+    let f = listed_in c.args.wanted rows in
     let n : ℕ = c.loop-place.place in
     let next : n + 1 ≡ suc n = omega arith in
     c.in_ok-push_at.ensures

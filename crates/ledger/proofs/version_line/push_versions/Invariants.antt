@@ -10,4 +10,4 @@ abbrev pub invariant-loop-place : goal.invariant-loop-place
 invariant-loop-place l =
     string_bytes l.text
     ≡ string_bytes l.initial.text
-    ++ flat_map (listed_in l.listing l.versions.entries) (take l.place (keys_of l.versions.entries))
+    ++ flat_map (listed_in l.wanted l.versions.entries) (take l.place (keys_of l.versions.entries))

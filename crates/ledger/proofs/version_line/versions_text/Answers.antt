@@ -12,5 +12,5 @@ returns c = λ records stands.
     c.in_ok-push_ending.ensures
     ∙ ap (λ bytes. bytes ++ ending_line c.args.ending)
     (c.in_ok-push_versions.ensures
-    ∙ ap (λ bytes. bytes ++ flat_map (listed_in c.args.listing rows) (keys_of rows))
-    c.new-text.ensures.bytes ∙ lines_are c.args.listing rows records stands)
+    ∙ ap (λ bytes. bytes ++ flat_map (listed_in c.args.wanted rows) (keys_of rows))
+    c.new-text.ensures.bytes ∙ lines_are c.args.wanted rows records stands)

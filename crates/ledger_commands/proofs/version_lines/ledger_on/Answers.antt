@@ -17,14 +17,14 @@ returns-in-Ok g c =
     let left = g.R.Read.remaining c.args.cell.now in
     let old = g.W.Write.contents c.args.output.now in
     let new = g.W.Write.contents c.write_output.new.output in
-    let is = is_ledger c.args.listing left last.ending status (string_bytes last.text)
+    let is = is_ledger c.args.wanted left last.ending status (string_bytes last.text)
     c.status_of.ensures c.in-Ok.ensures in
     record {
-      ok = answered (IsLedger c.args.listing) left outcome result old new is
+      ok = answered (IsLedger c.args.wanted) left outcome result old new is
           (subst (λ t. IfOk result (λ given. (given ≡ status) × Appends old new t))
           c.as_str.ensures.value c.write_output.ensures.ok);
       input = search rules;
-      output = stopped (IsLedger c.args.listing) left outcome result old new is
+      output = stopped (IsLedger c.args.wanted) left outcome result old new is
           (subst (λ t. OnErr result ((result ≡ Err ProgramFaults.Output)
           × ((n : ℕ) × Appends old new (take n t))))
           c.as_str.ensures.value c.write_output.ensures.err);

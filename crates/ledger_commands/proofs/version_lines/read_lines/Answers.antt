@@ -15,7 +15,7 @@ returns-in-Ok-eq0 g c =
     (remaining c.read.new.self) i.0 c.read.new.buf c.in-Ok-eq0.field-0 i.1
     c.in-Ok-eq0.ensures.bytes c.in-Ok-eq0.field-0-test (omega arith) in
     at_end (remaining c.args.cell.now) (remaining c.read.new.self) i.0
-    (λ bytes. IsLedgerText c.args.listing bytes last.ending (string_bytes last.text)) end.0 end.1
+    (λ bytes. IsLedgerText c.args.wanted bytes last.ending (string_bytes last.text)) end.0 end.1
     (c.in_ok-end-in-Ok-eq0.ensures i.0 i.2)
 
 pub returns-in-Some : goal.returns-in-Some
@@ -25,10 +25,10 @@ returns-in-Some g c =
     let piece = take c.in-Ok.count c.read.new.buf in
     let last = c.in-Some.last in
     of_all (remaining c.args.cell.now) (remaining c.read.new.self) (i.0 ++ piece)
-    (λ bytes. IsLedgerText c.args.listing bytes last.ending (string_bytes last.text))
+    (λ bytes. IsLedgerText c.args.wanted bytes last.ending (string_bytes last.text))
     (Consumes-trans (remaining c.args.cell.now) (remaining c.reads.cell)
     (remaining c.read.new.self) i.0 piece i.1 c.in-Ok.ensures.bytes.0)
-    (subst (IsNoted c.args.listing c.take.new.self (i.0 ++ piece)) c.in-Some.is
+    (subst (IsNoted c.args.wanted c.take.new.self (i.0 ++ piece)) c.in-Some.is
     (c.in_ok-last-in-Ok.ensures i.0 i.2))
 
 pub reads-preserved : goal.reads-preserved
@@ -45,7 +45,7 @@ reads-preserved g c =
             i.0 ++ piece,
             Consumes-trans a b after i.0 piece i.1 w.in-Ok.ensures.bytes.0,
             subst (λ l. HasNoted l (i.0 ++ piece)) (sym w.lines-is)
-                (subst (IsNoted c.args.listing lines (i.0 ++ piece)) w.in-None.is
+                (subst (IsNoted c.args.wanted lines (i.0 ++ piece)) w.in-None.is
                 (w.in_ok-last-in-Ok.ensures i.0 i.2)),
           )
       | in-Err+else-ne w ↦ (

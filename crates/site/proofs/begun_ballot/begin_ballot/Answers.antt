@@ -16,10 +16,10 @@ returns-in_err-ballot c =
     c.from_residual.result c.in_err-ballot.field-0.0
     (begun_err_of c.from_residual.result (propose_fault c.in_err-ballot.field-0.0)
     c.from_residual.ensures.1) c.in_err-ballot.ensures.same
-    (λ records session under of stands.
-    c.in_err-ballot.ensures.answer c.args.owner.now records session under of stands)
-    (λ records session under of stands.
-    c.in_err-ballot.ensures.spent c.args.owner.now records session under of stands)
+    (λ records volatile under of stands.
+    c.in_err-ballot.ensures.answer c.args.owner.now records volatile under of stands)
+    (λ records volatile under of stands.
+    c.in_err-ballot.ensures.spent c.args.owner.now records volatile under of stands)
 
 pub returns-in_err-slot : goal.returns-in_err-slot
 returns-in_err-slot c =
@@ -28,8 +28,8 @@ returns-in_err-slot c =
     (c.in_ok-ballot.ensures.of c.args.owner.now) c.in_ok-ballot.ensures.begun
     (begun_err_of c.from_residual-in_err-slot.result faults.Memory
     c.from_residual-in_err-slot.ensures.1)
-    (λ records session under of stands.
-    c.in_ok-ballot.ensures.answer c.args.owner.now records session under of stands)
+    (λ records volatile under of stands.
+    c.in_ok-ballot.ensures.answer c.args.owner.now records volatile under of stands)
 
 pub returns-in_err-sends : goal.returns-in_err-sends
 returns-in_err-sends c =
@@ -38,8 +38,8 @@ returns-in_err-sends c =
     (c.in_ok-ballot.ensures.of c.args.owner.now) c.in_ok-ballot.ensures.begun
     (begun_err_of c.from_residual-in_err-sends.result faults.Memory
     c.from_residual-in_err-sends.ensures.1)
-    (λ records session under of stands.
-    c.in_ok-ballot.ensures.answer c.args.owner.now records session under of stands)
+    (λ records volatile under of stands.
+    c.in_ok-ballot.ensures.answer c.args.owner.now records volatile under of stands)
 
 pub returns : goal.returns
 returns c =
@@ -55,5 +55,5 @@ returns c =
           (to_each s (Prepare c.in_ok-ballot.ballot) (members_of c.args.owner.now.members)))
           c.in_ok-slot.ensures;
     })
-    (λ records session under of stands.
-    c.in_ok-ballot.ensures.answer c.args.owner.now records session under of stands)
+    (λ records volatile under of stands.
+    c.in_ok-ballot.ensures.answer c.args.owner.now records volatile under of stands)

@@ -4,7 +4,7 @@ use Rattle.book.specs.declared.fault.CommitFault.{CommitFault}
 use Rattle.site_tables.specs.Contents.{IsOf}
 use Rattle.site_tables.specs.Contents as tables
 use Rattle.site.specs.Faults.{commit_fault}
-use Rattle.site.specs.inner.Concluded.{noted_session, noted_under}
+use Rattle.site.specs.inner.Concluded.{noted_volatile, noted_under}
 use Rattle.site.specs.declared.fault.SiteFault.TheVariants as faults
 use Rattle.site.proofs.Committed.{err_of, not_tried, refused, done}
 use Rattle.site.proofs.commit.commit_and_note.Goals as goal
@@ -47,7 +47,7 @@ returns g c =
     (λ of. subst (λ (r : Record). IsOf c.note.new.self c.args.book.now.owner
     (c.args.book.now.records ++ r ∷ [])) c.in_ok-noted.ensures
     (c.note.ensures.of c.args.book.now.owner c.args.book.now.records of))
-    (λ session under stands. subst (λ (r : Record). tables.Represents c.note.new.self
-    (c.args.book.now.records ++ r ∷ []) (noted_session session under r) (noted_under under r))
+    (λ volatile under stands. subst (λ (r : Record). tables.Represents c.note.new.self
+    (c.args.book.now.records ++ r ∷ []) (noted_volatile volatile under r) (noted_under under r))
     c.in_ok-noted.ensures
-    (c.note.ensures.stands c.args.book.now.records session under stands))
+    (c.note.ensures.stands c.args.book.now.records volatile under stands))

@@ -1,7 +1,7 @@
 use Rattle.std.proofs.Common.{List, Option, Result, Ok, subst}
 use Rattle.std.specs.declared.alloc.AllocError.{AllocError}
 use Rattle.udp_site.specs.Traffic.{Move}
-use Rattle.site_commands.specs.declared.reply.Reply.{Reply}
+use Rattle.site_commands.specs.declared.reply.ClientReply.{ClientReply}
 use Rattle.site_commands.specs.Replies.{question_of}
 use Rattle.site_commands.specs.Exchanges.{IsAsked}
 use Rattle.site_commands.specs.inner.Heard.{Hears}
@@ -12,7 +12,7 @@ use Rattle.site_commands.proofs.exchange.ask.Goals as goal
 
 -- what is heard after the datagram was sent is what is asked
 asked : (g : Over) (c : In-Ok g) (after : Option (List Move))
-    → (result : Result (Option Reply) AllocError)
+    → (result : Result (Option ClientReply) AllocError)
     → Hears (question_of c.args.request.now) c.args.wanted (g.P.Port.traffic c.send.new.self)
     after result
     → IsAsked (question_of c.args.request.now) c.args.wanted c.args.bytes.now
@@ -41,6 +41,6 @@ returns-in-None-Used g c =
     let after = g.P.Port.traffic c.receive_reply-in-None-Used.new.port in
     asked g (goal.at.returns-in-None-Used g c).In-Ok after c.receive_reply-in-None-Used.result
     (hears_more (question_of c.args.request.now) c.args.wanted sent idle after
-    (subst (λ (reply : Option Reply). Hears (question_of c.args.request.now) c.args.wanted sent
+    (subst (λ (reply : Option ClientReply). Hears (question_of c.args.request.now) c.args.wanted sent
     idle (Ok reply)) c.in-None-Used.is-0 c.in_ok-reply.ensures)
     c.receive_reply-in-None-Used.result c.receive_reply-in-None-Used.ensures)

@@ -3,7 +3,7 @@ use Rattle.std.specs.List.{flat_map}
 use Rattle.site.specs.declared.answer.Outgoing.{Outgoing}
 use Rattle.site.specs.declared.fault.SiteFault.TheVariants as sites
 use Rattle.site.specs.Sites.{OpenSite}
-use Rattle.lines.specs.Notices.{Refused}
+use Rattle.lines.specs.declared.notice.Notice.TheVariants.{Refused}
 use Rattle.udp_site.specs.Turns.{Serving, number, outgoing_posts}
 use Rattle.udp_site.specs.inner.Outcomes.{Hands, Notes}
 use Rattle.udp_site.proofs.Questions.{asks_by, isnt_asked, isnt_asked_in_part, not_asked}

@@ -1,15 +1,14 @@
-use Rattle.std.proofs.Common.{◌≡◌, ◌≤◌, Ok}
-use Rattle.fed_types.specs.Sites.{sites_to}
+use Rattle.std.proofs.Common.{◌≡◌, ◌≤◌}
 use Rattle.udp_site.specs.Turns.{Serving, IsServing}
-use Rattle.udp_site.specs.inner.Others.{others_of}
-use Rattle.udp_site.specs.inner.Outcomes.{AsksFor}
+use Rattle.udp_site.proofs.Questions.{AskedBut}
 use Rattle.udp_site.proofs.queries.ask_others.Given as goal
 
 -- the others of the members so far were asked
-abbrev pub invariant-loop-earlier : goal.invariant-loop-earlier
-invariant-loop-earlier g l = record {
-  asked : (old : Serving g.row.C.Denot) → old.site ≡ l.site → IsServing old
-      → AsksFor l.ports old l.slot (others_of old (sites_to l.earlier))
-      (g.P.Port.traffic l.fn.port) (g.P.Port.traffic l.port) l.fn.lines.items l.lines.items (Ok tt);
-  later : g.P.Port.failures l.fn.port ≤ g.P.Port.failures l.port;
-}
+abbrev pub invariant-loop-member : goal.invariant-loop-member
+invariant-loop-member g l =
+    (goal.iterator-loop-member g).can_next l.member-iterator
+    × (goal.iterator-loop-member g).is_finite l.member-iterator
+    × ((old : Serving g.row.C.Denot) → old.site ≡ l.site → IsServing old
+    → AskedBut l.ports old l.slot l.member-iterator (g.P.Port.traffic l.fn.port)
+    (g.P.Port.traffic l.port) l.fn.lines.items l.lines.items)
+    × (g.P.Port.failures l.fn.port ≤ g.P.Port.failures l.port)

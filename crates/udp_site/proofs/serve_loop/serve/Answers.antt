@@ -3,7 +3,7 @@ use Rattle.std.proofs.Common.{rules, refl, arith, ◌∙◌, le_trans}
 use Rattle.cell_device.specs.Devices.{Device}
 use Rattle.bag_tree.specs.declared.fault.TreeFault.{TreeFault}
 use Rattle.bag_tree.specs.Facts.{TreeFacts}
-use Rattle.proposer.specs.Sessions.{Session}
+use Rattle.proposer.specs.VolatileStates.{VolatileState}
 use Rattle.site.specs.Sites.{OpenSite}
 use Rattle.udp_site.specs.declared.fault.ServeFault.{ServeFault}
 use Rattle.udp_site.specs.Traffic.{Move}
@@ -44,25 +44,25 @@ by_rule device ports l gives f before after old site idle tried result same kept
     rw (← same, ← kept) comes
 
 -- the turns so far end where the next one begins
-stands : (g : Over) (c : After-one_turn g) (session : Session)
-    (serving : IsServing (begins c.args.site.now session))
-    → Stands (c.turns.invariant.led session serving).0 c.turns.server.site.now
+stands : (g : Over) (c : After-one_turn g) (volatile : VolatileState)
+    (serving : IsServing (begins c.args.site.now volatile))
+    → Stands (c.turns.invariant.led volatile serving).0 c.turns.server.site.now
     c.turns.server.progress
-stands g c session serving = record {
-  there = (c.turns.invariant.led session serving).2;
-  serves = (c.turns.invariant.led session serving).5;
-  idle = (c.turns.invariant.led session serving).3;
-  tried = (c.turns.invariant.led session serving).4;
-  settled = c.turns.invariant.settled session serving;
+stands g c volatile serving = record {
+  there = (c.turns.invariant.led volatile serving).2;
+  serves = (c.turns.invariant.led volatile serving).5;
+  idle = (c.turns.invariant.led volatile serving).3;
+  tried = (c.turns.invariant.led volatile serving).4;
+  settled = c.turns.invariant.settled volatile serving;
 }
 
 pub turns-init : goal.turns-init
 turns-init g c = record {
   keeps = search rules;
   idle = omega arith;
-  settled = λ session serving place before. absurd (omega (arith, before));
-  led = λ session serving. (
-    begins c.args.site.now session,
+  settled = λ volatile serving place before. absurd (omega (arith, before));
+  led = λ volatile serving. (
+    begins c.args.site.now volatile,
     [],
     refl,
     refl,
@@ -89,10 +89,10 @@ turns-preserved g c = record {
         kept = turn.kept ∙ so_far.kept;
       };
   idle = omega (arith, c.in_ok-one_turn.ensures.count, c.turns.invariant.idle);
-  settled = λ session serving.
-      c.in_ok-one_turn.ensures.settled (c.turns.invariant.led session serving).0
-      (stands g (goal.at.turns-preserved g c).After-one_turn session serving);
-  led = λ session serving.
+  settled = λ volatile serving.
+      c.in_ok-one_turn.ensures.settled (c.turns.invariant.led volatile serving).0
+      (stands g (goal.at.turns-preserved g c).After-one_turn volatile serving);
+  led = λ volatile serving.
       let gives = g.F.Folders.gives c.args.folders.now in
       let rule = turn_of g.C.Cell.device c.args.ports.now gives in
       let before = outside (g.P.Port.traffic c.args.port.now)
@@ -103,8 +103,8 @@ turns-preserved g c = record {
       (g.W.Write.contents c.one_turn.new.output) in
       let was = c.turns.server.progress in
       let is = c.one_turn.new.self.progress in
-      let so_far = c.turns.invariant.led session serving in
-      one_turn_more rule before mid after (begins c.args.site.now session)
+      let so_far = c.turns.invariant.led volatile serving in
+      one_turn_more rule before mid after (begins c.args.site.now volatile)
       c.turns.server.site.now c.one_turn.new.self.site.now was.idle was.tried is.idle is.tried
       c.turns.counter so_far
       (by_rule g.C.Cell.device c.args.ports.now c.turns.server.ports.now gives
@@ -112,11 +112,11 @@ turns-preserved g c = record {
       c.one_turn.new.self.site.now is.idle is.tried (Ok tt) c.turns.invariant.keeps.ports
       c.turns.invariant.keeps.kept
       (c.in_ok-one_turn.ensures.turn so_far.0
-      (stands g (goal.at.turns-preserved g c).After-one_turn session serving)));
+      (stands g (goal.at.turns-preserved g c).After-one_turn volatile serving)));
 }
 
 pub returns-in_err-one_turn-clause-served : goal.returns-in_err-one_turn-clause-served
-returns-in_err-one_turn-clause-served g c session serving =
+returns-in_err-one_turn-clause-served g c volatile serving =
     let gives = g.F.Folders.gives c.args.folders.now in
     let rule = turn_of g.C.Cell.device c.args.ports.now gives in
     let before =
@@ -125,10 +125,10 @@ returns-in_err-one_turn-clause-served g c session serving =
     (g.W.Write.contents c.turns.output) in
     let written = g.W.Write.contents c.one_turn.new.output in
     let after = outside (g.P.Port.traffic c.one_turn.new.self.port.now) written in
-    let start = begins c.args.site.now session in
+    let start = begins c.args.site.now volatile in
     let was = c.turns.server.progress in
     let is = c.one_turn.new.self.progress in
-    let so_far = c.turns.invariant.led session serving in
+    let so_far = c.turns.invariant.led volatile serving in
     let fault = c.in_err-one_turn.field-0.0 in
     given_back rule before start c.args.turns c.from_residual.result g.P.Port.traffic written
     c.one_turn.new.self.port.now _ c.one_turn.new.self.site.now _ (search rules) (search rules)
@@ -143,19 +143,19 @@ returns-in_err-one_turn-clause-served g c session serving =
     c.one_turn.new.self.site.now is.idle is.tried (Err fault) c.turns.invariant.keeps.ports
     c.turns.invariant.keeps.kept
     (c.in_err-one_turn.ensures.turn so_far.0
-    (stands g (goal.at.returns-in_err-one_turn-clause-served g c).After-one_turn session
+    (stands g (goal.at.returns-in_err-one_turn-clause-served g c).After-one_turn volatile
     serving)))))
 
 pub returns-clause-served : goal.returns-clause-served
-returns-clause-served g c session serving =
+returns-clause-served g c volatile serving =
     let rule = turn_of g.C.Cell.device c.args.ports.now (g.F.Folders.gives c.args.folders.now) in
     let before =
     outside (g.P.Port.traffic c.args.port.now) (g.W.Write.contents c.args.output.now) in
     let written = g.W.Write.contents c.turns.output in
-    let start = begins c.args.site.now session in
+    let start = begins c.args.site.now volatile in
     given_back rule before start c.args.turns (Ok tt) g.P.Port.traffic written
     c.turns.server.port.now _ c.turns.server.site.now _ (search rules) (search rules)
     (all_served rule before (outside (g.P.Port.traffic c.turns.server.port.now) written) start
     c.turns.server.site.now c.turns.server.progress.idle c.turns.server.progress.tried
-    c.turns.counter c.args.turns (c.turns.invariant.led session serving)
+    c.turns.counter c.args.turns (c.turns.invariant.led volatile serving)
     (omega (arith, c.turns-test.false)))

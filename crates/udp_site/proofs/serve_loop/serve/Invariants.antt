@@ -1,5 +1,5 @@
 use Rattle.std.specs.Prelude.{◌≤◌}
-use Rattle.proposer.specs.Sessions.{Session}
+use Rattle.proposer.specs.VolatileStates.{VolatileState}
 use Rattle.udp_site.specs.Turns.{IsServing, begins, turn_of}
 use Rattle.udp_site.specs.inner.Servers.{Keeps}
 use Rattle.udp_site.specs.inner.SlotRecords.{AreSettled}
@@ -11,9 +11,9 @@ abbrev pub invariant-turns : goal.invariant-turns
 invariant-turns g l = record {
   keeps : Keeps g.P.Port.failures g.F.Folders.gives l.initial.server l.server;
   idle : l.server.progress.idle ≤ l.counter;
-  settled : (session : Session) → IsServing (begins l.fn.site session)
+  settled : (volatile : VolatileState) → IsServing (begins l.fn.site volatile)
       → AreSettled l.server.site.now.book.records l.server.progress.settled;
-  led : (session : Session) → IsServing (begins l.fn.site session)
+  led : (volatile : VolatileState) → IsServing (begins l.fn.site volatile)
       → SoFar (turn_of g.C.Cell.device l.ports (g.F.Folders.gives l.fn.folders))
       (record {
         traffic = g.P.Port.traffic l.fn.port;
@@ -23,6 +23,6 @@ invariant-turns g l = record {
         traffic = g.P.Port.traffic l.server.port.now;
         written = g.W.Write.contents l.output;
       })
-      (begins l.fn.site session) l.server.site.now l.server.progress.idle l.server.progress.tried
+      (begins l.fn.site volatile) l.server.site.now l.server.progress.idle l.server.progress.tried
       l.counter;
 }

@@ -4,8 +4,8 @@ use Rattle.proposer.proofs.Issued.{issued_stands}
 use Rattle.proposer.proofs.proposer.Proposer.issued.Goals as goal
 
 pub returns-clause-heard : goal.returns-clause-heard
-returns-clause-heard g c records session under stands =
-    issued_stands c.self.inside.table c.issue_in.new.table c.args.slot.now records session under
+returns-clause-heard g c records volatile under stands =
+    issued_stands c.self.inside.table c.issue_in.new.table c.args.slot.now records volatile under
     c.issue_in.ensures.issued
-    (subst (λ (p : ProposerState g.row.Q.Denot). Represents p.rows records session under)
+    (subst (λ (p : ProposerState g.row.Q.Denot). Represents p.rows records volatile under)
     (sym c.self.view_is) stands)

@@ -4,9 +4,9 @@ use Rattle.proposer.proofs.Issued.{noted_stands}
 use Rattle.proposer.proofs.proposer.Proposer.note.Goals as goal
 
 pub returns-clause-noted : goal.returns-clause-noted
-returns-clause-noted g c records session under stands =
+returns-clause-noted g c records volatile under stands =
     noted_stands c.args.self.now.rows c.self.inside.table c.note_in.new.table c.args.new.now
-    records session under
+    records volatile under
     (λ s. ap (λ (p : ProposerState g.row.Q.Denot). row_of p.rows s) c.self.view_is
     ∙ c.reserve.ensures.same s)
     c.note_in.ensures stands

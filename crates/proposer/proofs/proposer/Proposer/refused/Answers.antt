@@ -4,9 +4,9 @@ use Rattle.proposer.proofs.Stands.{refused_stands}
 use Rattle.proposer.proofs.proposer.Proposer.refused.Goals as goal
 
 pub returns-clause-heard : goal.returns-clause-heard
-returns-clause-heard g c from asked records session under stands =
+returns-clause-heard g c from asked records volatile under stands =
     refused_stands c.args.self.now.rows c.self.inside.table c.refuse_in.new.table c.args.slot.now
-    c.round.result from asked c.args.standing records session under
+    c.round.result from asked c.args.standing records volatile under
     (λ s. ap (λ (p : ProposerState g.row.Q.Denot). row_of p.rows s) c.self.view_is
     ∙ c.reserve.ensures.same s)
     c.refuse_in.ensures c.round.ensures.value stands

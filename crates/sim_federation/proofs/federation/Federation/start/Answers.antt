@@ -15,8 +15,9 @@ returns-then-is_up c =
     c.skip.ensures
 
 pub returns : goal.returns
-returns c w is =
+returns c =
     let stations = c.args.self.now.stations.items in
+    then_ok c.tell.result (λ says w is.
     started c.args.self.now _ w c.args.number c.args.place c.take-station.result
     c.in_ok-station.station c.in_ok-station.records
     (lines.Up c.site_at-site.result c.in_ok-station.records) is
@@ -26,4 +27,4 @@ returns c w is =
     c.in_ok-station.ensures.whose c.in_ok-station.ensures.starts
     (ap (λ n. lines.Up n c.in_ok-station.records) (c.site_at-site.ensures w is)) refl
     (put_twice stations c.args.place c.take-station.new.self c.in_ok-station.station) refl refl
-    refl c.in_ok-push.ensures.items
+    refl (says w.seen is.seen)) c.tell.ensures

@@ -1,13 +1,15 @@
 use Rattle.std.proofs.Common.{◌≡◌, refl, sym, ap, subst, get_or}
 use Rattle.lines.specs.declared.line.Line.TheVariants as lines
 use Rattle.sim_stations.specs.declared.station.Station.{Station}
+use Rattle.sim_federation.proofs.Answers.{then_ok}
 use Rattle.sim_federation.proofs.Called.{stopped}
 use Rattle.sim_federation.proofs.Places.{put_twice}
 use Rattle.sim_federation.proofs.federation.Federation.stop.Goals as goal
 
 pub returns : goal.returns
-returns c w is =
+returns c =
     let stations = c.args.self.now.stations.items in
+    then_ok c.tell.result (λ says w is.
     stopped c.args.self.now _ w c.args.number c.args.place c.take-station.result c.stop.result
     (lines.Down c.site_at-site.result) is (sym (c.if-is_down.ensures w is)) c.requires
     (subst (λ (s : Station). s ≡ get_or stations c.args.place s) (sym c.take-station.ensures)
@@ -15,4 +17,4 @@ returns c w is =
     c.stop.ensures.whose c.stop.ensures.stops
     (ap (λ n. lines.Down n) (c.site_at-site.ensures w is)) refl
     (put_twice stations c.args.place c.take-station.new.self c.stop.result) refl refl refl
-    c.in_ok-push.ensures.items
+    (says w.seen is.seen)) c.tell.ensures

@@ -1,7 +1,6 @@
-use Rattle.std.proofs.Common.{◌≡◌, ℕ, refl, ap, sym, subst, get_or, ◌∙◌, ◌++◌}
+use Rattle.std.proofs.Common.{◌≡◌, ℕ, refl, sym, subst, get_or}
 use Rattle.sim_stations.specs.Calls.{input_of}
 use Rattle.sim_stations.specs.declared.station.Station.{Station}
-use Rattle.sim_federation.specs.Said.{lines_said}
 use Rattle.sim_federation.proofs.Answers.{then_all_ok}
 use Rattle.sim_federation.proofs.Called.{undergone}
 use Rattle.sim_federation.proofs.Places.{put_twice}
@@ -18,9 +17,5 @@ returns c =
     c.index_mut.ensures.value)
     c.in_ok-station.ensures.whose c.in_ok-station.ensures.comes refl
     (put_twice stations c.args.place c.take-station.new.self c.in_ok-station.station) refl refl
-    (c.in_ok-tell.ensures w.members.federation w.seen is.seen
-    ∙ ap (λ (site : ℕ). c.args.self.now.lines.items ++ lines_said w.seen site
-    (input_of w.members.federation c.args.call.now) c.in_ok-station.told.said)
-    (c.site_at-site.ensures w is))
-    lines sent named)
+    (c.in_ok-tell.ensures w.seen is.seen) lines sent named)
     c.send_all.ensures.lines c.send_all.ensures.sent c.send_all.ensures.named

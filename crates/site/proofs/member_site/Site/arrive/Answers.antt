@@ -1,6 +1,6 @@
 use Rattle.std.proofs.Common.{Some, refl, sym, subst, ◌∙◌}
 use Rattle.dgram.specs.Decoded.{message_of}
-use Rattle.proposer.specs.Sessions.{Session}
+use Rattle.proposer.specs.VolatileStates.{VolatileState}
 use Rattle.site.specs.Calls.{Arrives}
 use Rattle.site.specs.Sites.{OpenSite, Represents}
 use Rattle.site.proofs.HeardMessages.{drops_bytes}
@@ -19,6 +19,7 @@ returns-in-Some-clause-reported g c opened =
     (Arrives (Some c.in-Some.message)) c.on_message.result
     (c.on_message.ensures.answer some.0 some.1)
   where
-    some : (session : Session) × Represents c.args.self.now session
-    some = subst (λ (s : OpenSite g.row.C.Denot). (session : Session) × Represents s session)
-        c.self.view_is c.self.invariant.session
+    some : (volatile : VolatileState) × Represents c.args.self.now volatile
+    some = subst (λ (s : OpenSite g.row.C.Denot).
+        (volatile : VolatileState) × Represents s volatile)
+        c.self.view_is c.self.invariant.volatile

@@ -1,5 +1,5 @@
 use Rattle.std.proofs.Common.{Some, subst}
-use Rattle.proposer.specs.Sessions.{Session}
+use Rattle.proposer.specs.VolatileStates.{VolatileState}
 use Rattle.site.specs.Calls.{Arrives}
 use Rattle.site.specs.Sites.{OpenSite, Represents}
 use Rattle.site.proofs.Reports.{reported_of}
@@ -11,6 +11,7 @@ returns-then-not-needs_opening-clause-reported g c opened =
     reported_of g.C.Cell.device c.args.self.now c.on_message.new.self some.0
     (Arrives (Some c.args.message)) c.on_message.result (c.on_message.ensures.answer some.0 some.1)
   where
-    some : (session : Session) × Represents c.args.self.now session
-    some = subst (λ (s : OpenSite g.row.C.Denot). (session : Session) × Represents s session)
-        c.self.view_is c.self.invariant.session
+    some : (volatile : VolatileState) × Represents c.args.self.now volatile
+    some = subst (λ (s : OpenSite g.row.C.Denot).
+        (volatile : VolatileState) × Represents s volatile)
+        c.self.view_is c.self.invariant.volatile

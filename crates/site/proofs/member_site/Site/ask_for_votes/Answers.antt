@@ -9,11 +9,11 @@ use Rattle.site.proofs.member_site.Site.ask_for_votes.Goals as goal
 pub invariant_of-self : goal.invariant_of-self
 invariant_of-self g c =
     stays_in_order c.self.inside.book c.self.inside.tables c.issued.new.self c.issued.ensures.of
-    (λ session under stands. (
+    (λ volatile under stands. (
       _,
       (
         _,
-        c.issued.ensures.heard c.self.inside.book.records session under
+        c.issued.ensures.heard c.self.inside.book.records volatile under
             stands,
       ),
     )) c.self.invariant
@@ -22,7 +22,7 @@ pub returns : goal.returns
 returns g c =
     rw (← c.self.view_is) (record {
       book = refl;
-      heard = λ session under stands. c.issued.ensures.heard c.self.inside.book.records session
+      heard = λ volatile under stands. c.issued.ensures.heard c.self.inside.book.records volatile
           under stands;
       same = tt;
       faults = tt;

@@ -2,7 +2,7 @@ use Rattle.std.proofs.Common.{[], Option, Some, IsSome, refl, sym, subst, ◌∙
 use Rattle.fed_types.specs.declared.bag_id.BagId.{BagId}
 use Rattle.records.specs.declared.entry.Entry.TheVariants as entry
 use Rattle.site_tables.specs.Contents.{Contents}
-use Rattle.site.specs.declared.answer.Line.TheVariants as lines
+use Rattle.site.specs.declared.answer.Line.TheVariants as site_lines
 use Rattle.site.specs.declared.fault.SiteFault.TheVariants as faults
 use Rattle.site.specs.inner.Concluded.{Concludes}
 use Rattle.site.proofs.Conclusions.{answer_err_of}
@@ -23,21 +23,21 @@ returns-in_err-bag g c =
     (record { book = c.self.inside.book; tables = c.accepted.new.self }) c.args.slot c.args.from
     c.args.vote c.from_residual.result
     (answer_err_of c.from_residual.result faults.Memory c.from_residual.ensures.1) refl
-    (λ session under stands. (c.in_err-bag.ensures.no_memory c.self.inside.book.owner
-    c.self.inside.book.records session under c.self.invariant.of stands).1)
-    (λ session under stands. c.in_err-bag.ensures.same.stands c.self.inside.book.records session
+    (λ volatile under stands. (c.in_err-bag.ensures.no_memory c.self.inside.book.owner
+    c.self.inside.book.records volatile under c.self.invariant.of stands).1)
+    (λ volatile under stands. c.in_err-bag.ensures.same.stands c.self.inside.book.records volatile
     under stands))
 
 pub invariant_of-self-in-None-1 : goal.invariant_of-self-in-None-1
 invariant_of-self-in-None-1 g c =
     stays_in_order c.self.inside.book c.self.inside.tables c.accepted.new.self
     c.in_ok-bag.ensures.of
-    (λ session under stands. (
+    (λ volatile under stands. (
       _,
       (
         _,
         c.in_ok-bag.ensures.heard c.in-None.is
-            c.self.inside.book.records session under stands,
+            c.self.inside.book.records volatile under stands,
       ),
     )) c.self.invariant
 
@@ -47,13 +47,13 @@ returns-in-Some g c =
     hears_deciding_vote g.C.Cell.device
     (record { book = c.self.inside.book; tables = c.self.inside.tables }) c.learn.new.self
     c.args.slot c.args.from c.args.vote c.in-Some.bag c.learn.result
-    (λ session under stands. sym c.in-Some.is
-    ∙ c.in_ok-bag.ensures.learned c.self.inside.book.owner c.self.inside.book.records session under
+    (λ volatile under stands. sym c.in-Some.is
+    ∙ c.in_ok-bag.ensures.learned c.self.inside.book.owner c.self.inside.book.records volatile under
     c.self.invariant.of stands)
     (subst (λ (t : Contents). Concludes g.C.Cell.device
     (record { book = c.self.inside.book; tables = t }) c.learn.new.self
     (Some (record { slot = c.args.slot; body = entry.Known c.in-Some.bag }))
-    (Some (lines.Known c.args.slot c.in-Some.bag)) [] c.learn.result)
+    (Some (site_lines.Known c.args.slot c.in-Some.bag)) [] c.learn.result)
     (c.in_ok-bag.ensures.unchanged
     (subst (λ (o : Option BagId). IsSome o) (sym c.in-Some.is) refl)) c.learn.ensures))
 
@@ -64,8 +64,8 @@ returns-in-None g c =
     (record { book = c.self.inside.book; tables = c.self.inside.tables })
     (record { book = c.self.inside.book; tables = c.accepted.new.self }) c.args.slot c.args.from
     c.args.vote c.quiet.result c.quiet.ensures refl
-    (λ session under stands. sym c.in-None.is
-    ∙ c.in_ok-bag.ensures.learned c.self.inside.book.owner c.self.inside.book.records session under
+    (λ volatile under stands. sym c.in-None.is
+    ∙ c.in_ok-bag.ensures.learned c.self.inside.book.owner c.self.inside.book.records volatile under
     c.self.invariant.of stands)
-    (λ session under stands. c.in_ok-bag.ensures.heard c.in-None.is c.self.inside.book.records
-    session under stands))
+    (λ volatile under stands. c.in_ok-bag.ensures.heard c.in-None.is c.self.inside.book.records
+    volatile under stands))

@@ -6,11 +6,11 @@ pub invariant_of-self : goal.invariant_of-self
 invariant_of-self g c =
     stays_in_order c.self.inside.book c.self.inside.tables c.promise.new.self
     c.in-Some.ensures.of
-    (λ session under stands. (
+    (λ volatile under stands. (
       _,
       (
         _,
-        c.in-Some.ensures.heard c.self.inside.book.records session under
+        c.in-Some.ensures.heard c.self.inside.book.records volatile under
             stands,
       ),
     )) c.self.invariant
@@ -19,11 +19,11 @@ pub invariant_of-self-in-None-1 : goal.invariant_of-self-in-None-1
 invariant_of-self-in-None-1 g c =
     stays_in_order c.self.inside.book c.self.inside.tables c.promise.new.self
     c.in-None.ensures.of
-    (λ session under stands. (
+    (λ volatile under stands. (
       _,
       (
         _,
-        c.in-None.ensures.heard c.self.inside.book.records session under
+        c.in-None.ensures.heard c.self.inside.book.records volatile under
             stands,
       ),
     )) c.self.invariant
@@ -36,9 +36,9 @@ returns-in-Some g c =
     c.args.slot c.args.from c.args.ballot c.args.prior
     (record { book = c.self.inside.book; tables = c.promise.new.self }) c.in-Some.bag
     c.ask_for_votes.result refl
-    (λ session under stands. c.in-Some.ensures.ready c.self.inside.book.owner
-    c.self.inside.book.records session under c.self.invariant.of stands)
-    (λ session under stands. c.in-Some.ensures.heard c.self.inside.book.records session under
+    (λ volatile under stands. c.in-Some.ensures.ready c.self.inside.book.owner
+    c.self.inside.book.records volatile under c.self.invariant.of stands)
+    (λ volatile under stands. c.in-Some.ensures.heard c.self.inside.book.records volatile under
     stands) c.ask_for_votes.ensures)
 
 pub returns-in-None : goal.returns-in-None
@@ -48,7 +48,7 @@ returns-in-None g c =
     (record { book = c.self.inside.book; tables = c.self.inside.tables })
     (record { book = c.self.inside.book; tables = c.promise.new.self }) c.args.slot c.args.from
     c.args.ballot c.args.prior c.quiet.result c.quiet.ensures refl
-    (λ session under stands. c.in-None.ensures.ready c.self.inside.book.owner
-    c.self.inside.book.records session under c.self.invariant.of stands)
-    (λ session under stands. c.in-None.ensures.heard c.self.inside.book.records session under
+    (λ volatile under stands. c.in-None.ensures.ready c.self.inside.book.owner
+    c.self.inside.book.records volatile under c.self.invariant.of stands)
+    (λ volatile under stands. c.in-None.ensures.heard c.self.inside.book.records volatile under
     stands))

@@ -17,19 +17,20 @@ returns-in_err-refused g c =
     (record { book = c.self.inside.book; tables = c.refused.new.self }) c.args.slot from asked
     c.args.standing c.from_residual.result
     (answer_err_of c.from_residual.result faults.Memory c.from_residual.ensures.1) refl
-    (λ session under stands. c.in_err-refused.ensures.same.stands c.self.inside.book.records session
+    (λ volatile under stands. c.in_err-refused.ensures.same.stands c.self.inside.book.records
+    volatile
     under stands))
 
 pub invariant_of-self-2 : goal.invariant_of-self-2
 invariant_of-self-2 g c =
     stays_in_order c.self.inside.book c.self.inside.tables c.refused.new.self
     c.in_ok-refused.ensures.of
-    (λ session under stands. (
+    (λ volatile under stands. (
       _,
       (
         _,
         c.in_ok-refused.ensures.heard 0 c.args.standing
-            c.self.inside.book.records session under stands,
+            c.self.inside.book.records volatile under stands,
       ),
     )) c.self.invariant
 
@@ -40,5 +41,5 @@ returns g c =
     (record { book = c.self.inside.book; tables = c.self.inside.tables })
     (record { book = c.self.inside.book; tables = c.refused.new.self }) c.args.slot from asked
     c.args.standing c.quiet.result c.quiet.ensures refl
-    (λ session under stands. c.in_ok-refused.ensures.heard from asked c.self.inside.book.records
-    session under stands))
+    (λ volatile under stands. c.in_ok-refused.ensures.heard from asked c.self.inside.book.records
+    volatile under stands))

@@ -9,8 +9,8 @@ use Rattle.site.proofs.Seen.{as_seen}
 use Rattle.site.proofs.member_site.Site.propose.Goals as goal
 
 pub returns-then-is_some-clause-answer : goal.returns-then-is_some-clause-answer
-returns-then-is_some-clause-answer g c opened session stands =
-    known_already g.C.Cell.device c.args.self.now session c.args.slot.now stands
+returns-then-is_some-clause-answer g c opened volatile stands =
+    known_already g.C.Cell.device c.args.self.now volatile c.args.slot.now stands
     (some_of c.known.result (sym c.if-is_some.ensures)).0
     (sym (some_of c.known.result (sym c.if-is_some.ensures)).1
     ∙ as_seen (known_of c.args.slot.now) c.self.view_is (c.known.ensures _ _ c.self.invariant.of))
@@ -22,47 +22,47 @@ start_ballot-requires-clause-deposit g c =
     ∙ c.in-Some.is
 
 pub returns-in-Some-clause-answer : goal.returns-in-Some-clause-answer
-returns-in-Some-clause-answer g c opened session stands =
-    c.start_ballot.ensures.answer session stands
+returns-in-Some-clause-answer g c opened volatile stands =
+    c.start_ballot.ensures.answer volatile stands
     (sym (as_seen (known_of c.args.slot.now) c.self.view_is
     (c.known.ensures _ _ c.self.invariant.of))
     ∙ none_of c.known.result (sym c.if-is_some.ensures))
 
 pub returns-in-Some-clause-needs_open : goal.returns-in-Some-clause-needs_open
 returns-in-Some-clause-needs_open g c =
-    never_needs g.C.Cell.device c.self.view_is c.self.invariant.session
+    never_needs g.C.Cell.device c.self.view_is c.self.invariant.volatile
     (sym c.needs_opening.ensures ∙ c.if-needs_opening.false) c.start_ballot.new.self
-    (λ session. effect c.args.self.now session (Proposes c.args.slot.now)) c.start_ballot.result
-    (λ session stands. c.start_ballot.ensures.answer session stands
+    (λ volatile. effect c.args.self.now volatile (Proposes c.args.slot.now)) c.start_ballot.result
+    (λ volatile stands. c.start_ballot.ensures.answer volatile stands
     (sym (as_seen (known_of c.args.slot.now) c.self.view_is
     (c.known.ensures _ _ c.self.invariant.of))
     ∙ none_of c.known.result (sym c.if-is_some.ensures)))
 
 pub returns-in-None-clause-answer : goal.returns-in-None-clause-answer
-returns-in-None-clause-answer g c opened session stands =
-    no_deposit g.C.Cell.device c.args.self.now session c.args.slot.now stands
+returns-in-None-clause-answer g c opened volatile stands =
+    no_deposit g.C.Cell.device c.args.self.now volatile c.args.slot.now stands
     (sym (none_of c.known.result (sym c.if-is_some.ensures))
     ∙ as_seen (known_of c.args.slot.now) c.self.view_is (c.known.ensures _ _ c.self.invariant.of))
     (sym c.in-None.is ∙ as_seen (deposit_of c.args.slot.now) c.self.view_is
     (c.deposit.ensures _ _ c.self.invariant.of))
 
 pub returns-then-is_some-clause-refused : goal.returns-then-is_some-clause-refused
-returns-then-is_some-clause-refused g c opened session stands =
-    known_refused g.C.Cell.device c.args.self.now session c.args.slot.now stands
+returns-then-is_some-clause-refused g c opened volatile stands =
+    known_refused g.C.Cell.device c.args.self.now volatile c.args.slot.now stands
     (some_of c.known.result (sym c.if-is_some.ensures)).0
     (sym (some_of c.known.result (sym c.if-is_some.ensures)).1
     ∙ as_seen (known_of c.args.slot.now) c.self.view_is (c.known.ensures _ _ c.self.invariant.of))
 
 pub returns-in-Some-clause-refused : goal.returns-in-Some-clause-refused
-returns-in-Some-clause-refused g c opened session stands =
-    c.start_ballot.ensures.refused session stands
+returns-in-Some-clause-refused g c opened volatile stands =
+    c.start_ballot.ensures.refused volatile stands
     (sym (as_seen (known_of c.args.slot.now) c.self.view_is
     (c.known.ensures _ _ c.self.invariant.of))
     ∙ none_of c.known.result (sym c.if-is_some.ensures))
 
 pub returns-in-None-clause-refused : goal.returns-in-None-clause-refused
-returns-in-None-clause-refused g c opened session stands =
-    no_deposit_refused g.C.Cell.device c.args.self.now session c.args.slot.now stands
+returns-in-None-clause-refused g c opened volatile stands =
+    no_deposit_refused g.C.Cell.device c.args.self.now volatile c.args.slot.now stands
     (sym (none_of c.known.result (sym c.if-is_some.ensures))
     ∙ as_seen (known_of c.args.slot.now) c.self.view_is (c.known.ensures _ _ c.self.invariant.of))
     (sym c.in-None.is ∙ as_seen (deposit_of c.args.slot.now) c.self.view_is

@@ -2,7 +2,7 @@ use Rattle.std.proofs.Common.{map, Some, refl, sym, ap, subst, ◌∙◌}
 use Rattle.fed_types.specs.Slots.{SlotName}
 use Rattle.records.specs.declared.entry.Entry.TheVariants as entry
 use Rattle.records.specs.SlotStates.{known_of, deposit_of}
-use Rattle.site.specs.declared.answer.Line.TheVariants as lines
+use Rattle.site.specs.declared.answer.Line.TheVariants as site_lines
 use Rattle.site.specs.Datagrams.{handed_out}
 use Rattle.site.specs.inner.Concluded.{Concludes}
 use Rattle.site.proofs.Registered.{some_of, none_of, deposit_refused, deposited_again, deposited}
@@ -10,8 +10,8 @@ use Rattle.site.proofs.Seen.{as_seen}
 use Rattle.site.proofs.member_site.Site.register.Goals as goal
 
 pub returns-in-Some : goal.returns-in-Some
-returns-in-Some g c session stands =
-    deposit_refused g.C.Cell.device c.args.self.now session c.args.slot.now c.args.bag
+returns-in-Some g c volatile stands =
+    deposit_refused g.C.Cell.device c.args.self.now volatile c.args.slot.now c.args.bag
     c.deposit-own.result c.known.result
     (as_seen (deposit_of c.args.slot.now) c.self.view_is
     (c.deposit-own.ensures _ _ c.self.invariant.of))
@@ -20,9 +20,9 @@ returns-in-Some g c session stands =
     (sym c.deposit_fault.ensures ∙ c.in-Some.is)
 
 pub returns-then-is_some : goal.returns-then-is_some
-returns-then-is_some g c session stands =
+returns-then-is_some g c volatile stands =
     let there = some_of c.deposit-own.result (sym c.if-is_some.ensures) in
-    deposited_again g.C.Cell.device c.args.self.now session c.args.slot.now c.args.bag
+    deposited_again g.C.Cell.device c.args.self.now volatile c.args.slot.now c.args.bag
     c.deposit-own.result c.known.result
     (as_seen (deposit_of c.args.slot.now) c.self.view_is
     (c.deposit-own.ensures _ _ c.self.invariant.of))
@@ -32,8 +32,8 @@ returns-then-is_some g c session stands =
     (ap (map handed_out) c.new-sends.ensures.items)
 
 pub returns : goal.returns
-returns g c session stands =
-    deposited g.C.Cell.device c.args.self.now session c.args.slot.now c.args.bag
+returns g c volatile stands =
+    deposited g.C.Cell.device c.args.self.now volatile c.args.slot.now c.args.bag
     c.deposit-own.result c.known.result
     (as_seen (deposit_of c.args.slot.now) c.self.view_is
     (c.deposit-own.ensures _ _ c.self.invariant.of))
@@ -45,5 +45,5 @@ returns g c session stands =
     (ap (map handed_out) c.new-sends.ensures.items)
     (subst (λ (k : SlotName). Concludes g.C.Cell.device c.args.self.now c.commit_and_answer.new.self
     (Some (record { slot = k; body = entry.Deposit c.args.bag }))
-    (Some (lines.Registered c.args.bag)) (map handed_out c.new-sends.result.items)
+    (Some (site_lines.Registered c.args.bag)) (map handed_out c.new-sends.result.items)
     c.commit_and_answer.result) c.in_ok-copy.ensures c.commit_and_answer.ensures)

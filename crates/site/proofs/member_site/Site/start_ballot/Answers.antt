@@ -19,24 +19,24 @@ invariant_of-self g c =
 
 pub returns-in_err-new : goal.returns-in_err-new
 returns-in_err-new g c = rw (← c.self.view_is) (record {
-  answer = λ session stands known.
+  answer = λ volatile stands known.
       subst (λ (r : Result Answer _). IsAnswered g.C.Cell.device
       (record { book = c.self.inside.book; tables = c.self.inside.tables })
-      (record { book = c.self.inside.book; tables = c.begin_ballot.new.tables }) session
-      (effect (record { book = c.self.inside.book; tables = c.self.inside.tables }) session
+      (record { book = c.self.inside.book; tables = c.begin_ballot.new.tables }) volatile
+      (effect (record { book = c.self.inside.book; tables = c.self.inside.tables }) volatile
       (Proposes c.args.slot.now)) r)
       (sym (answer_err_of c.from_residual.result c.in_err-new.field-0.0 c.from_residual.ensures.1))
       (not_started g.C.Cell.device _
       (record { book = c.self.inside.book; tables = c.begin_ballot.new.tables })
       c.args.slot.now c.args.own refl c.begin_ballot.result c.owner-owner.result
       c.owner-owner.ensures c.begin_ballot.ensures c.self.invariant c.args.self.now c.self.view_is
-      c.requires.deposit session stands known c.in_err-new.field-0.0 c.in_err-new.was);
-  refused = λ session stands known.
+      c.requires.deposit volatile stands known c.in_err-new.field-0.0 c.in_err-new.was);
+  refused = λ volatile stands known.
       refused_or_started g.C.Cell.device _
       (record { book = c.self.inside.book; tables = c.begin_ballot.new.tables })
       c.args.slot.now c.args.own refl c.begin_ballot.result c.owner-owner.result
       c.owner-owner.ensures c.begin_ballot.ensures c.self.invariant c.args.self.now c.self.view_is
-      c.requires.deposit session stands known c.from_residual.result
+      c.requires.deposit volatile stands known c.from_residual.result
       (λ fault. refused_as c.begin_ballot.result c.from_residual.result c.in_err-new.field-0.0 fault
       c.in_err-new.was
       (answer_err_of c.from_residual.result c.in_err-new.field-0.0 c.from_residual.ensures.1));
@@ -52,20 +52,20 @@ invariant_of-self-2 g c =
 
 pub returns : goal.returns
 returns g c = rw (← c.self.view_is) (record {
-  answer = λ session stands known.
+  answer = λ volatile stands known.
       started g.C.Cell.device _
       (record { book = c.self.inside.book; tables = c.begin_ballot.new.tables })
       c.args.slot.now c.args.own refl c.begin_ballot.result c.owner-owner.result
       c.owner-owner.ensures c.begin_ballot.ensures c.self.invariant c.args.self.now c.self.view_is
-      c.requires.deposit session stands known c.commit_and_answer.new.self
+      c.requires.deposit volatile stands known c.commit_and_answer.new.self
       (c.in_ok-new.new, c.in_ok-new.answer) c.commit_and_answer.result c.in_ok-new.was
       c.commit_and_answer.ensures;
-  refused = λ session stands known.
+  refused = λ volatile stands known.
       refused_or_started g.C.Cell.device _
       (record { book = c.self.inside.book; tables = c.begin_ballot.new.tables })
       c.args.slot.now c.args.own refl c.begin_ballot.result c.owner-owner.result
       c.owner-owner.ensures c.begin_ballot.ensures c.self.invariant c.args.self.now c.self.view_is
-      c.requires.deposit session stands known c.commit_and_answer.result
+      c.requires.deposit volatile stands known c.commit_and_answer.result
       (λ fault. not_refused c.begin_ballot.result c.commit_and_answer.result
       (c.in_ok-new.new, c.in_ok-new.answer) fault c.in_ok-new.was);
 })

@@ -7,13 +7,13 @@ use Rattle.site_tables.proofs.tables.Tables.accepted.Goals as goal
 
 pub returns-clause-heard : goal.returns-clause-heard
 returns-clause-heard c = if_ok c.accepted.result c.accepted.ensures.heard
-    (λ o hears none records session under stands.
-    let was = was_inside c.self.view_is records session under stands in
+    (λ o hears none records volatile under stands.
+    let was = was_inside c.self.view_is records volatile under stands in
     record {
       proposer = heard_stands c.self.inside.proposer.rows
           (record { slot = c.args.slot.now; body = Accepted c.args.from c.args.vote })
-          records session under refl (λ b. refl) was.proposer;
+          records volatile under refl (λ b. refl) was.proposer;
       begun = was.begun;
       current = was.current;
-      learner = hears none records session.heard was.learner;
+      learner = hears none records volatile.heard was.learner;
     })

@@ -1,5 +1,7 @@
 use Rattle.std.proofs.Common.{ℕ, Some, ap, subst, ◌∙◌}
-use Rattle.proposer.specs.Faults.{next_or_spent, IsOrMemory}
+use Rattle.fed_types.specs.Faults.{IsOrFault}
+use Rattle.proposer.specs.declared.fault.ProposeFault.TheVariants as proposals
+use Rattle.proposer.specs.Faults.{next_or_spent}
 use Rattle.proposer.specs.Proposals.{next_ballot}
 use Rattle.site_tables.proofs.Begun.{at_deposits}
 use Rattle.site_tables.proofs.Outcomes.{if_ok}
@@ -7,27 +9,27 @@ use Rattle.site_tables.proofs.Inside.{is_inside, was_inside}
 use Rattle.site_tables.proofs.tables.Tables.begin.Goals as goal
 
 pub returns-clause-answer : goal.returns-clause-answer
-returns-clause-answer c owner records session under of stands =
+returns-clause-answer c owner records volatile under of stands =
     let is = is_inside c.self.view_is owner records of in
-    let was = was_inside c.self.view_is records session under stands in
-    subst (λ (site : ℕ). IsOrMemory c.begin.result
-    (next_or_spent (next_ballot site c.args.slot.now records session.heard))) is.proposer_site
-    (c.begin.ensures.answer records session under was.proposer)
+    let was = was_inside c.self.view_is records volatile under stands in
+    subst (λ (site : ℕ). IsOrFault proposals.Memory c.begin.result
+    (next_or_spent (next_ballot site c.args.slot.now records volatile.heard))) is.proposer_site
+    (c.begin.ensures.answer records volatile under was.proposer)
 
 pub returns-clause-spent : goal.returns-clause-spent
-returns-clause-spent c owner records session under of stands none =
+returns-clause-spent c owner records volatile under of stands none =
     let is = is_inside c.self.view_is owner records of in
-    let was = was_inside c.self.view_is records session under stands in
-    c.begin.ensures.spent records session under was.proposer
-    (ap (λ (site : ℕ). next_ballot site c.args.slot.now records session.heard) is.proposer_site
+    let was = was_inside c.self.view_is records volatile under stands in
+    c.begin.ensures.spent records volatile under was.proposer
+    (ap (λ (site : ℕ). next_ballot site c.args.slot.now records volatile.heard) is.proposer_site
     ∙ none)
 
 pub returns-clause-begun : goal.returns-clause-begun
 returns-clause-begun c = if_ok c.begin.result c.begin.ensures.begun
-    (λ ballot begins records session under stands own.
-    let was = was_inside c.self.view_is records session under stands in
+    (λ ballot begins records volatile under stands own.
+    let was = was_inside c.self.view_is records volatile under stands in
     record {
-      proposer = begins records session under was.proposer;
+      proposer = begins records volatile under was.proposer;
       begun = at_deposits under.begun_bag c.args.slot.now (Some c.args.own) records was.begun
           (λ bag e. own ∙ e);
       current = was.current;

@@ -3,12 +3,12 @@ use Rattle.site_tables.proofs.Inside.{was_inside}
 use Rattle.site_tables.proofs.tables.Tables.issued.Goals as goal
 
 pub returns-clause-heard : goal.returns-clause-heard
-returns-clause-heard c records session under stands =
-    let was = was_inside c.self.view_is records session under stands in
+returns-clause-heard c records volatile under stands =
+    let was = was_inside c.self.view_is records volatile under stands in
     record {
-      proposer = c.issued.ensures.heard records session under was.proposer;
+      proposer = c.issued.ensures.heard records volatile under was.proposer;
       begun = was.begun;
       current = was.current;
       learner = learner_hears_waiting c.self.inside.learner.rows c.self.inside.proposer.rows
-          records session under was.proposer was.learner c.args.slot.now;
+          records volatile under was.proposer was.learner c.args.slot.now;
     }

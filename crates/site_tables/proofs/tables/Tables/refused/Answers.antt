@@ -1,5 +1,5 @@
 use Rattle.std.proofs.Common.{refl}
-use Rattle.proposer.specs.Sessions.{refusal_message}
+use Rattle.proposer.specs.VolatileStates.{refusal_message}
 use Rattle.site_tables.proofs.Heard.{learner_hears}
 use Rattle.site_tables.proofs.Outcomes.{on_ok}
 use Rattle.site_tables.proofs.Inside.{was_inside}
@@ -7,12 +7,12 @@ use Rattle.site_tables.proofs.tables.Tables.refused.Goals as goal
 
 pub returns-clause-heard : goal.returns-clause-heard
 returns-clause-heard c = on_ok c.refused.result c.refused.ensures.heard
-    (λ hears from asked records session under stands.
-    let was = was_inside c.self.view_is records session under stands in
+    (λ hears from asked records volatile under stands.
+    let was = was_inside c.self.view_is records volatile under stands in
     record {
-      proposer = hears from asked records session under was.proposer;
+      proposer = hears from asked records volatile under was.proposer;
       begun = was.begun;
       current = was.current;
-      learner = learner_hears c.self.inside.learner.rows records session.heard was.learner
+      learner = learner_hears c.self.inside.learner.rows records volatile.heard was.learner
           (refusal_message c.args.slot.now from asked c.args.standing) (λ v. refl);
     })

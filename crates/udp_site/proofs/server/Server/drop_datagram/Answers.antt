@@ -1,7 +1,7 @@
 use Rattle.std.proofs.Common.{ℕ, [], ◌∷◌, refl, ◌∙◌, sym, ap, subst}
 use Rattle.udp_site.specs.inner.Outcomes.{Notes}
 use Rattle.site.specs.Sites.{OpenSite}
-use Rattle.lines.specs.Notices.{Dropped}
+use Rattle.lines.specs.declared.notice.Notice.TheVariants.{Dropped}
 use Rattle.udp_site.specs.Traffic.{all_handed}
 use Rattle.udp_site.specs.Turns.{drops, number}
 use Rattle.udp_site.proofs.Handed.{no_part, grows_by_no_posts}

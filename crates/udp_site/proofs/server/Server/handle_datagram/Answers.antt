@@ -1,7 +1,7 @@
 use Rattle.std.proofs.Common.{◌≡◌, ℕ, List, subst}
 use Rattle.dgram.specs.Decoded.{message_of}
-use Rattle.udp_site.specs.declared.asked.Asked.{Asked}
-use Rattle.udp_site.specs.declared.asked.Asked.TheVariants as asks
+use Rattle.udp_site.specs.declared.requests.Asked.{Asked}
+use Rattle.udp_site.specs.declared.requests.Asked.TheVariants as asks
 use Rattle.udp_site.specs.Requests.{Says, Deposits, Queries, Noise}
 use Rattle.udp_site.specs.Traffic.{From, all_handed}
 use Rattle.udp_site.specs.Turns.{Serving, members, turn_of}

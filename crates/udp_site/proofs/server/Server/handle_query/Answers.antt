@@ -1,5 +1,6 @@
 use Rattle.std.proofs.Common.{◌≡◌, List, Result, Err, subst, ap, ◌∙◌}
 use Rattle.std.specs.Prelude.{IsErrAnd}
+use Rattle.fed_types.specs.declared.bag_id.BagId.{BagId}
 use Rattle.fed_types.specs.Slots.{SlotName}
 use Rattle.dgram.specs.declared.answers.QueryAnswer.{QueryAnswer}
 use Rattle.dgram.specs.declared.body.Body.TheVariants.{QueryReply}
@@ -61,7 +62,7 @@ returns-clause-comes g c old there serves =
     c.number-from.ensures) c.in_ok-slot.ensures.slot known
     was.lines.now.items c.push_reply.new.lines.items c.in_ok-push_reply.ensures)
     c.ask_unless_known.result
-    (subst (λ (k : Result Reply SiteFault). AsksFor was.ports.now old c.args.slot
+    (subst (λ (k : Result (Reply BagId) SiteFault). AsksFor was.ports.now old c.args.slot
     (asked old k) after end c.push_reply.new.lines.items c.ask_unless_known.new.lines.items
     c.ask_unless_known.result) known
     (subst (λ (slot : SlotName). AsksFor was.ports.now old slot

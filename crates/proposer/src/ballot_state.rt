@@ -1,0 +1,176 @@
+ghost use Rattle.std.specs.Prelude.{◌≡◌, Some, box_value};
+ghost use Rattle.fed_types.specs.Voters.{with_voter};
+ghost use Rattle.proposer.specs.BallotStates.{fresh, state_of};
+ghost use Rattle.proposer.specs.inner.BallotStates.{counted, higher_prior, becomes_quorum, issued};
+ghost use Rattle.proposer.specs.inner.BallotStates.{is_ready, state_after, bag_or, after_promise};
+ghost use Rattle.proposer.specs.inner.BallotStates.{makes_ready};
+
+use fed_types::{BagId, Ballot, Quorums, SiteNo, Vote, Voters};
+use std::marker::Model;
+
+/// A promise: the site that gives it, and the vote that it names.
+#[derive(Clone, Copy, Debug)]
+pub(crate) struct Promise {
+    pub(crate) site: SiteNo,
+    pub(crate) prior: Option<Vote>,
+}
+
+/// A ballot that was begun, and what is seldom asked for once it is current: what is proposed, and
+/// the promise that waits.
+#[derive(Clone, Copy, Debug)]
+pub(crate) struct Plan {
+    pub(crate) ballot: Ballot,
+    /// The bag that is proposed where no vote was named.
+    own: BagId,
+    /// The highest of the votes that were named.
+    best: Option<Vote>,
+    /// The promise that made the proposal ready, until the proposal is issued.
+    pub(crate) waiting: Option<Promise>,
+}
+
+impl Plan {
+    /// The plan of a ballot that nobody has promised.
+    pub(crate) fn new(ballot: Ballot, own: BagId) -> Plan
+        ensures { state_of result ≡ fresh ballot own }
+    {
+        Plan {
+            ballot,
+            own,
+            best: None,
+            waiting: None,
+        }
+    }
+}
+
+/// What was gathered for the current ballot: the sites that promised it, and the highest of the
+/// votes that they named. Most promises are answered by the ballot and those sites alone: only the
+/// rest is boxed. A clause sees a `BallotState` of specs/.
+#[derive(Drop)]
+pub(crate) struct BallotState {
+    ballot: Ballot,
+    promised_by: Voters,
+    pub(crate) plan: Box<Plan>,
+}
+
+impl Model for BallotState {
+    ghost use Rattle.std.specs.Prelude.{box_value};
+    ghost use Rattle.proposer.specs.BallotStates.{BallotState};
+
+    ghost Value = { BallotState };
+
+    ghost view = { λ r. record {
+      ballot = r.ballot;
+      promised_by = r.promised_by;
+      own = (box_value r.plan).own;
+      best = (box_value r.plan).best;
+      waiting = (box_value r.plan).waiting;
+    } };
+}
+
+impl BallotState {
+    /// Of the ballot of this plan, which nobody has promised.
+    pub(crate) fn of(plan: Box<Plan>) -> BallotState
+        ensures { result ≡ state_of (box_value plan) }
+    {
+        BallotState {
+            ballot: plan.ballot,
+            promised_by: Voters::new(),
+            plan,
+        }
+    }
+
+    /// Hears a promise: only one for this ballot counts. Whether it makes the proposal ready.
+    pub(crate) fn promise_for<Q: Quorums>(
+        &mut self,
+        members: &Q,
+        ballot: Ballot,
+        promise: &Promise,
+    ) -> bool
+        ensures state { Some self.new
+            ≡ after_promise (Q.quorum_system members.now) ballot promise.now (Some self.old) }
+        ensures ready { result
+            ≡ makes_ready (Q.quorum_system members.now) ballot promise.now self.old }
+    {
+        self.ballot == ballot && self.promise(members, promise)
+    }
+
+    /// Hears a promise of the ballot: it counts, unless it makes the proposal ready; then it waits.
+    pub(crate) fn promise<Q: Quorums>(&mut self, members: &Q, promise: &Promise) -> bool
+        ensures ready { result ≡ is_ready (Q.quorum_system members.now) self.old promise.now }
+        ensures state { self.new ≡ state_after (Q.quorum_system members.now) self.old promise.now }
+    {
+        let ready = becomes_quorum(members, self.promised_by, self.promised_with(promise.site));
+        if ready {
+            self.plan.waiting = Some(*promise);
+        } else {
+            self.count(promise);
+        }
+        ready
+    }
+
+    /// The bag to propose, with this vote among those that were named.
+    pub(crate) fn bag_with(&self, prior: &Option<Vote>) -> BagId
+        ensures { result ≡ bag_or (higher_prior self.now.best prior.now) self.now.own }
+    {
+        bag_or(higher(self.plan.best, *prior), self.plan.own)
+    }
+
+    /// The promise that waits counts from now on, if one waits.
+    pub(crate) fn issued(&mut self)
+        ensures { self.new ≡ issued self.old }
+    {
+        if let Some(promise) = self.plan.waiting {
+            self.count(&promise);
+            self.plan.waiting = None;
+        }
+    }
+
+    // Counts a promise.
+    fn count(&mut self, promise: &Promise)
+        ensures { self.new ≡ counted self.old promise.now }
+    {
+        self.promised_by = self.promised_with(promise.site);
+        if promise.prior.is_some() {
+            self.plan.best = higher(self.plan.best, promise.prior);
+        }
+    }
+
+    // The sites that promised, and this one.
+    fn promised_with(&self, site: SiteNo) -> Voters
+        ensures { result ≡ with_voter self.now.promised_by site }
+    {
+        let mut sites = self.promised_by;
+        sites.add(site);
+        sites
+    }
+}
+
+// Whether these voters are a quorum, and without the last one they weren't.
+fn becomes_quorum<Q: Quorums>(members: &Q, before: Voters, voters: Voters) -> bool
+    ensures { result ≡ becomes_quorum (Q.quorum_system members.now) before voters }
+{
+    members.is_quorum(&voters) && !members.is_quorum(&before)
+}
+
+// The vote of the greater ballot; of equal ballots the first.
+fn higher(best: Option<Vote>, prior: Option<Vote>) -> Option<Vote>
+    ensures { result ≡ higher_prior best prior }
+{
+    match prior {
+        Some(vote) => match best {
+            Some(best) if best.ballot >= vote.ballot => Some(best),
+            _ => Some(vote),
+        },
+        None => best,
+    }
+}
+
+// The bag of the vote, or the own one.
+fn bag_or(best: Option<Vote>, own: BagId) -> BagId
+    ensures { result ≡ bag_or best own }
+{
+    match best {
+        Some(vote) => vote.bag,
+        None => own,
+    }
+}
