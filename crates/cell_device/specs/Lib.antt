@@ -1,6 +1,6 @@
 -- What a cell promises is read in this order: Images, Fuses, Devices, Time, Calls, States. Memory
--- and FileCells are what the two kinds of cells let one know; inner/ is for private clauses and
--- proofs.
+-- is what is known of a cell in memory; Files is what a file of the system is, and the cell in it.
+-- inner/ is for private clauses and proofs.
 pub mod Images
 pub mod Fuses
 pub mod Devices
@@ -8,6 +8,6 @@ pub mod Time
 pub mod Calls
 pub mod States
 pub mod Memory
-pub mod FileCells
+pub mod Files
 pub mod Faults
 pub mod inner

@@ -1,11 +1,13 @@
--- What is known of a cell in memory: all.
+-- What is known of a cell in memory, and of a file in memory: all.
 use Rattle.std.specs.Prelude.{◌≡◌, ℕ, List, Option, Some, None}
 use Rattle.cell_device.specs.declared.fuse.Fuse.{Fuse}
 use Rattle.cell_device.specs.declared.fuse.FuseState.{FuseState}
 use Rattle.cell_device.specs.declared.fuse.FuseState.TheVariants.{Clear, Burning, Stopped}
 use Rattle.cell_device.specs.declared.memory_cell.MemoryCell.{MemoryCell}
+use Rattle.cell_device.specs.declared.memory_file.MemoryFile.{MemoryFile}
 use Rattle.cell_device.specs.Images.{Image}
 use Rattle.cell_device.specs.Devices.{Device}
+use Rattle.cell_device.specs.Files.{FileState}
 use Rattle.cell_device.specs.inner.Mediums.{medium_image, moment, left_since}
 
 -- its bytes: the synced ones, the newest, and what a read gives
@@ -46,4 +48,13 @@ device_of cell = record {
   moment = moment_of cell;
   left_since = left_since_of cell;
   failures = failures_of cell;
+}
+
+-- all that is known of a file
+abbrev pub file_state : MemoryFile → FileState
+file_state file = record {
+  image = Some (medium_image file.medium);
+  trust = file.trust;
+  moment = moment file.medium;
+  left_since = left_since file.medium;
 }

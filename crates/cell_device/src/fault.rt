@@ -14,6 +14,17 @@ pub enum CellFault {
     Memory,
 }
 
+/// Why the bytes of a file aren't sure to outlive a crash.
+#[derive(Clone, Copy, Debug, PartialEq, Eq, Error)]
+pub enum SyncFault {
+    /// The sync failed: some bytes may not be what was written.
+    #[error("the file can't be synced")]
+    Device,
+    /// The file's path leads to another file, or to none.
+    #[error("the file isn't at its path any more")]
+    Elsewhere,
+}
+
 impl From<AllocError> for CellFault {
     ghost use Rattle.cell_device.specs.declared.fault.CellFault.TheVariants.{Memory};
 

@@ -1,270 +1,239 @@
-use crate::cell::Cell;
-use crate::fault::CellFault;
-use crate::place::Place;
-use std::alloc::Global;
-use std::fs;
-use std::fs::{File, OpenOptions};
-use std::io::{self, ErrorKind, Read, Seek, SeekFrom, Write};
-use std::os::fd::AsRawFd;
-use std::os::unix::fs::OpenOptionsExt;
-use std::path::Path;
+ghost use Rattle.std.specs.Prelude.{◌≡◌, ◌≢◌, true, false};
+ghost use Rattle.cell_device.specs.Files.{HasLength, IsSure, IsSame};
+ghost use Rattle.cell_device.specs.declared.trust.Trust.TheVariants as t;
+ghost use Rattle.cell_device.specs.declared.file_cell.Standing.TheVariants as s;
 
-/// A cell in a file. No contract says what a file holds.
-///
-/// A call that failed may have left bytes that nobody wrote: the system says once that it couldn't
-/// write some, and may then give zeros or old bytes in their place. So where an append, a cut or a
-/// sync has failed, the file is cut back to the bytes that an earlier sync has made sure of. Where
-/// that fails, or where only the path no longer leads to the file, more of them may stay.
-///
-/// A file that was renamed, deleted or replaced while it is open isn't the one that its path leads
-/// to, which another cell may have by now: the next sync fails, and every call after it.
-#[derive(Drop)]
-pub struct FileCell {
-    file: File,
-    place: Place,
-    /// So many of the first bytes are on the disk: the length at the last sync that succeeded, or
-    /// the least one to which the file was cut since.
-    sure: u64,
-    /// The length that the calls gave the file.
-    length: u64,
-    state: State,
-    failures: u64,
-}
+use crate::cell::Cell;
+use crate::cell_file::CellFile;
+use crate::fault::{CellFault, SyncFault};
+use std::alloc::Global;
 
 /// What can be done with the file.
-#[derive(Clone, Copy)]
-enum State {
+#[derive(Clone, Copy, Debug)]
+enum Standing {
     /// It holds what the calls made of it.
     Sound,
     /// A change failed, and so did the cutting back: that is done first.
     CutOwed,
-    /// That failed again, or the path no longer leads to the file as the calls left it: nothing,
-    /// until it is opened anew.
+    /// That failed again, or the file isn't as the calls left it: nothing, until it is opened anew.
     Lost,
 }
 
-impl FileCell {
-    ghost use Rattle.std.specs.Prelude.{◌≡◌, ◌≤◌, IfOk, IfErr};
-    ghost use Rattle.cell_device.specs.declared.fault.CellFault.TheVariants.{Device};
-    ghost use Rattle.cell_device.specs.Calls.{one_more, HasCause};
-    ghost use Rattle.cell_device.specs.FileCells.{failures_of};
+/// A cell in a file.
+///
+/// A call that failed may have left bytes that nobody wrote: the system says once that it couldn't
+/// write some, and may then give zeros or old bytes in their place. So where an append, a cut or a
+/// sync has failed, the file is cut back to the bytes that an earlier sync has made sure of, and
+/// that is synced, before anything else is believed.
+///
+/// A file that was renamed, deleted or replaced while it is open isn't the one that its path leads
+/// to, which another cell may have by now: the next sync fails, and every call after it. So does
+/// the next append or sync to a file whose length isn't the one that the calls gave it.
+#[derive(Drop)]
+pub struct FileCell<F: CellFile> {
+    file: F,
+    /// So many of the first bytes every crash keeps: the length at the last sync that succeeded, or
+    /// the least one to which the file was cut since.
+    sure: u64,
+    /// The length that the calls gave the file.
+    given: u64,
+    standing: Standing,
+    failures: u64,
+    ghost sound: { standing ≡ s.Sound → (F.about file).trust ≡ t.Sound },
+    ghost owed: { standing ≡ s.CutOwed → (F.about file).trust ≢ t.Sound },
+    ghost sure_is: { standing ≢ s.Lost → IsSure sure (F.about file).image },
+    ghost given_is: { standing ≡ s.Sound → HasLength given (F.about file).image },
+    ghost seen_is: { standing ≡ s.CutOwed → HasLength sure (F.about file).image },
+}
 
-    /// The cell in the file of this path, which is created if missing, with rights for its owner
-    /// alone; a path without a folder leads to the present one. It is refused with `Device`
-    /// where it isn't a file, where another cell has it open, or where the system refuses it; or
-    /// with `Memory`.
-    pub fn open(rt: &HostRuntime, path: &str) -> Result<FileCell, CellFault>
-        ensures { IfOk result (λ cell. failures_of cell ≡ 0) }
+impl<F: CellFile> FileCell<F> {
+    ghost use Rattle.std.specs.Prelude.{◌≤◌, IfOk, IfErr, OnOk};
+    ghost use Rattle.std.specs.Option.{ForSome};
+    ghost use Rattle.cell_device.specs.declared.fault.CellFault.TheVariants.{Device};
+    ghost use Rattle.cell_device.specs.Images.{at_rest};
+    ghost use Rattle.cell_device.specs.Calls.{one_more, HasCause};
+
+    /// The cell in this file, all of whose bytes are synced. Where its length can't be had the file
+    /// is handed back.
+    pub fn over(file: F) -> Result<FileCell<F>, (F, CellFault)>
+        requires sound { (F.about file).trust ≡ t.Sound }
+        requires rest { ForSome (F.about file).image (λ i. i ≡ at_rest i.seen) }
+        ensures same { IfOk result (λ cell. IsSame (F.about file) (F.about cell.file)) }
+        ensures failures { IfOk result (λ cell. cell.failures ≡ 0) }
     {
-        match FileCell::open_settled(rt, path) {
-            Ok(cell) => Ok(cell),
-            Err(error) => Err(fault_of(&error)),
+        let mut file = file;
+        match file.length() {
+            Ok(given) => Ok(FileCell {
+                file,
+                sure: given,
+                given,
+                standing: Standing::Sound,
+                failures: 0,
+            }),
+            Err(fault) => Err((file, fault)),
         }
     }
 
-    /// The cell in this file, which outlives a crash, with all that a read of it gives.
-    fn open_settled(rt: &HostRuntime, path: &str) -> io::Result<FileCell>
-        ensures { IfOk result (λ cell. failures_of cell ≡ 0) }
-    {
-        let file = open_locked(rt, path)?;
-        let place = Place::new(rt, path, &file)?;
-        settle(&file)?;
-        let folder = fs::open(rt, folder_of(path))?;
-        folder.sync_all()?;
-        // Before the lock the path may have been led elsewhere: to a file that has replaced this
-        // one, or over a link, where this one lies in another folder than the one that is synced.
-        let sure = place.length()?;
-        Ok(FileCell {
-            file,
-            place,
-            sure,
-            length: sure,
-            state: State::Sound,
-            failures: 0,
-        })
-    }
-
-    /// Cuts the file back, where that is still to be done.
+    /// The file can be used: it is cut back, where that is still to be done.
     fn begin(&mut self) -> Result<(), CellFault>
+        ensures sound { OnOk result (self.new.standing ≡ s.Sound) }
+        ensures same { IsSame (F.about self.old.file) (F.about self.new.file) }
         ensures device { IfErr result (λ fault. fault ≡ Device) }
-        ensures cause { HasCause Device (failures_of self.old) (failures_of self.new) result }
+        ensures cause { HasCause Device self.old.failures self.new.failures result }
     {
-        match self.state {
-            State::Sound => Ok(()),
-            State::Lost => Err(self.fail()),
-            State::CutOwed => match cut_back(&self.file, self.sure) {
-                Ok(()) => {
-                    self.state = State::Sound;
+        match self.standing {
+            Standing::Sound => Ok(()),
+            Standing::Lost => Err(self.fail()),
+            Standing::CutOwed => {
+                if mend(&mut self.file, self.sure) {
+                    self.given = self.sure;
+                    self.standing = Standing::Sound;
                     Ok(())
-                }
-                Err(_) => {
-                    self.state = State::Lost;
+                } else {
+                    self.standing = Standing::Lost;
                     Err(self.fail())
                 }
-            },
+            }
         }
+    }
+
+    /// The file has the length that the calls gave it. One that somebody else has cut is condemned:
+    /// what it lost can't be had back, and no later opening shall take it for whole.
+    #[tactic(auto, using(crate::proofs::Files::unknown))]
+    fn expect_length(&mut self) -> Result<(), CellFault>
+        requires { self.old.standing ≡ s.Sound }
+        ensures sound { OnOk result (self.new.standing ≡ s.Sound) }
+        ensures given { OnOk result (self.new.given ≡ self.old.given) }
+        ensures sure { OnOk result (self.new.sure ≡ self.old.sure) }
+        ensures same { IsSame (F.about self.old.file) (F.about self.new.file) }
+        ensures device { IfErr result (λ fault. fault ≡ Device) }
+        ensures cause { HasCause Device self.old.failures self.new.failures result }
+    {
+        match self.file.length() {
+            Ok(length) if length == self.given => return Ok(()),
+            Ok(length) if length < self.given => self.file.condemn(),
+            // Somebody else has lengthened it, or its length can't be had.
+            _ => {}
+        }
+        self.standing = Standing::Lost;
+        Err(self.fail())
     }
 
     /// A change of the file failed: it is cut back at once, since there may be no next call.
     fn fail_change(&mut self) -> CellFault
+        requires { self.old.standing ≡ s.CutOwed }
         ensures fault { result ≡ Device }
-        ensures later { failures_of self.old ≤ failures_of self.new }
-        ensures count { failures_of self.new ≡ one_more (failures_of self.old) }
+        ensures same { IsSame (F.about self.old.file) (F.about self.new.file) }
+        ensures later { self.old.failures ≤ self.new.failures }
+        ensures count { self.new.failures ≡ one_more self.old.failures }
     {
-        self.length = self.sure;
-        self.state = match cut_back(&self.file, self.sure) {
-            Ok(()) => State::Sound,
-            Err(_) => State::CutOwed,
-        };
+        if mend(&mut self.file, self.sure) {
+            self.given = self.sure;
+            self.standing = Standing::Sound;
+        }
         self.fail()
     }
 
     /// Counts a failure.
     fn fail(&mut self) -> CellFault
         ensures fault { result ≡ Device }
-        ensures later { failures_of self.old ≤ failures_of self.new }
-        ensures count { failures_of self.new ≡ one_more (failures_of self.old) }
+        ensures file { self.new.file ≡ self.old.file }
+        ensures standing { self.new.standing ≡ self.old.standing }
+        ensures later { self.old.failures ≤ self.new.failures }
+        ensures count { self.new.failures ≡ one_more self.old.failures }
     {
         self.failures = self.failures.saturating_add(1);
         CellFault::Device
     }
 }
 
-impl Cell for FileCell {
-    ghost use Rattle.cell_device.specs.FileCells.{device_of};
-    ghost use Rattle.cell_device.specs.inner.Laws.{file_seen_now_of};
+impl<F: CellFile> Cell for FileCell<F> {
+    ghost use Rattle.cell_device.specs.Files.{device_over};
 
-    ghost device = { device_of };
+    ghost device = { λ cell. device_over (F.about cell.file) cell.failures };
 
-    ghost seen_now = { file_seen_now_of };
+    ghost seen_now = { λ cell i known. F.seen_now cell.file i known };
 
-    ghost counts_now = { λ cell t c le now. tt };
+    ghost counts_now = { λ cell t c le now. F.counts_now cell.file t c le now };
 
-    ghost only_now = { λ cell c left. tt };
+    ghost only_now = { λ cell c left. F.only_now cell.file c left };
 
     fn load(&mut self, alloc: Global) -> Result<Vec<u8>, CellFault> {
         self.begin()?;
-        match read_whole(&mut self.file, alloc) {
+        match self.file.read(alloc) {
             Ok(bytes) => Ok(bytes),
-            Err(error) => match fault_of(&error) {
-                CellFault::Memory => Err(CellFault::Memory),
-                CellFault::Device => Err(self.fail()),
-            },
+            Err(CellFault::Memory) => Err(CellFault::Memory),
+            Err(CellFault::Device) => Err(self.fail()),
         }
     }
 
     fn append(&mut self, bytes: &[u8]) -> Result<(), CellFault> {
         self.begin()?;
-        match self.file.write_all(bytes) {
+        self.expect_length()?;
+        let Some(given) = self.given.checked_add(bytes.len() as u64) else {
+            return Err(self.fail());
+        };
+        match self.file.append(bytes) {
             Ok(()) => {
-                self.length = self.length.saturating_add(bytes.len() as u64);
+                self.given = given;
                 Ok(())
             }
-            Err(_) => Err(self.fail_change()),
+            Err(CellFault::Memory) => Err(CellFault::Memory),
+            Err(CellFault::Device) => {
+                self.standing = Standing::CutOwed;
+                Err(self.fail_change())
+            }
         }
     }
 
     fn cut(&mut self, len: usize) -> Result<(), CellFault> {
         self.begin()?;
-        self.sure = self.sure.min(len as u64);
-        self.length = self.length.min(len as u64);
-        match shorten(&self.file, len as u64) {
-            Ok(()) => Ok(()),
-            Err(_) => Err(self.fail_change()),
+        let len_after = len as u64;
+        match self.file.cut(len) {
+            Ok(()) => {
+                self.sure = self.sure.min(len_after);
+                self.given = len_after;
+                Ok(())
+            }
+            Err(CellFault::Memory) => Err(CellFault::Memory),
+            Err(CellFault::Device) => {
+                self.sure = self.sure.min(len_after);
+                self.standing = Standing::CutOwed;
+                Err(self.fail_change())
+            }
         }
     }
 
     fn sync(&mut self) -> Result<(), CellFault> {
         self.begin()?;
-        if self.file.sync_all().is_err() {
-            return Err(self.fail_change());
-        }
-        // After the sync, so that the answer speaks of the file that the path leads to now.
-        match self.place.length() {
-            Ok(length) if length == self.length => {
-                self.sure = length;
+        self.expect_length()?;
+        match self.file.sync() {
+            Ok(()) => {
+                self.sure = self.given;
                 Ok(())
             }
-            // The path leads elsewhere, or somebody else has changed the file's length. A change
-            // that keeps the length is found where the cell is opened next.
-            _ => {
-                self.state = State::Lost;
+            Err(SyncFault::Device) => {
+                self.standing = Standing::CutOwed;
+                Err(self.fail_change())
+            }
+            Err(SyncFault::Elsewhere) => {
+                self.standing = Standing::Lost;
                 Err(self.fail())
             }
         }
     }
 }
 
-/// The file of this path, which no other cell has open.
-fn open_locked(rt: &HostRuntime, path: &str) -> io::Result<File> {
-    // Nothing is made where a link leads nowhere.
-    match fs::symlink_metadata(rt, path) {
-        Ok(there) if !there.is_file() => return Err(ErrorKind::InvalidInput.into()),
-        Ok(_) => {}
-        Err(error) if error.kind() == ErrorKind::NotFound => {}
-        Err(error) => return Err(error),
-    }
-    // Each write goes to the end.
-    let file = OpenOptions::new()
-        .read(true)
-        .append(true)
-        .create(true)
-        .mode(0o600)
-        .open(rt, path)?;
-    file.try_lock()?;
-    Ok(file)
-}
-
-/// What a read of the file gives is on the disk.
-fn settle(file: &File) -> io::Result<()> {
-    file.sync_all()?;
-    // A sync that failed before may have left the system's copies of the bytes other than the disk
-    // has them: they are read again.
-    let advised = libc::posix_fadvise(file.as_raw_fd(), 0, 0, libc::POSIX_FADV_DONTNEED);
-    if advised == 0 {
-        Ok(())
-    } else {
-        Err(io::Error::from_raw_os_error(advised))
-    }
-}
-
-/// The folder that holds the file of this path.
-fn folder_of(path: &str) -> &str {
-    match Path::new(path).parent() {
-        Some(folder) => {
-            let folder = folder.as_str();
-            if folder.is_empty() { "." } else { folder }
-        }
-        None => ".",
-    }
-}
-
-fn read_whole(file: &mut File, alloc: Global) -> io::Result<Vec<u8>> {
-    file.seek(SeekFrom::Start(0))?;
-    let mut bytes = Vec::new(alloc);
-    file.read_to_end(&mut bytes)?;
-    Ok(bytes)
-}
-
-/// Cuts the file to a length, also on the disk.
-fn cut_back(file: &File, len: u64) -> io::Result<()> {
-    shorten(file, len)?;
-    file.sync_all()
-}
-
-/// Cuts the file to a length. It makes nothing longer.
-fn shorten(file: &File, len: u64) -> io::Result<()> {
-    if len < file.metadata()?.len() {
-        file.set_len(len)?;
-    }
-    Ok(())
-}
-
-/// The fault that an error of the system is.
-fn fault_of(error: &io::Error) -> CellFault {
-    if error.kind() == ErrorKind::OutOfMemory {
-        CellFault::Memory
-    } else {
-        CellFault::Device
+/// Cuts the file back, and syncs that.
+fn mend<F: CellFile>(file: &mut F, sure: u64) -> bool
+    requires spoilt { (F.about file.old).trust ≢ t.Sound }
+    requires length { HasLength sure (F.about file.old).image }
+    ensures same { IsSame (F.about file.old) (F.about file.new) }
+    ensures sound { result ≡ true → (F.about file.new).trust ≡ t.Sound }
+    ensures spoilt { result ≡ false → (F.about file.new).trust ≢ t.Sound }
+{
+    match file.cut_back(sure) {
+        Ok(()) => file.sync_cut().is_ok(),
+        Err(_) => false,
     }
 }

@@ -7,16 +7,21 @@
 #![tactic(auto)]
 
 mod cell;
+mod cell_file;
 mod change;
 mod fault;
 mod file_cell;
 mod fuse;
 mod medium;
 mod memory_cell;
-mod place;
+mod memory_file;
+mod trust;
 
 pub use cell::Cell;
-pub use fault::CellFault;
+pub use cell_file::CellFile;
+pub use fault::{CellFault, SyncFault};
 pub use file_cell::FileCell;
 pub use fuse::{Fuse, FuseState, How};
 pub use memory_cell::MemoryCell;
+pub use memory_file::MemoryFile;
+pub use trust::Trust;

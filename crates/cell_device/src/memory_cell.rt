@@ -138,11 +138,11 @@ impl Cell for MemoryCell {
 
     ghost device = { device_of };
 
-    ghost seen_now = { seen_now_of };
+    ghost seen_now = { λ cell. seen_now_of cell.medium };
 
-    ghost counts_now = { counts_now_of };
+    ghost counts_now = { λ cell. counts_now_of cell.medium };
 
-    ghost only_now = { only_now_of };
+    ghost only_now = { λ cell. only_now_of cell.medium };
 
     fn load(&mut self, alloc: Global) -> Result<Vec<u8>, CellFault> {
         self.begin()?;

@@ -1,5 +1,4 @@
--- What a cell in memory may leave now is one of the things that it may have left since; of a cell
--- in a file nothing is known.
+-- What a cell or a file in memory may leave now is one of the things that it may have left since.
 use Rattle.std.specs.Prelude.{◌≡◌, ℕ, ◌+◌, ◌-◌, ◌≤◌, ◌<◌, Bool, true, false, if◌then◌else◌}
 use Rattle.std.specs.Prelude.{List, [], ◌∷◌, length, take, reverse, Option, Some, None}
 use Rattle.std.proofs.Common.{zero, suc, inl, inr, sym, ◌∙◌, ap, subst, arith}
@@ -8,20 +7,17 @@ use Rattle.std.proofs.lemmas.Bool.{cases_eq}
 use Rattle.std.proofs.lemmas.Bool.Decides.{nat_tests}
 use Rattle.cell_device.specs.declared.change.Change.{Change}
 use Rattle.cell_device.specs.declared.medium.Medium.{Medium}
-use Rattle.cell_device.specs.declared.memory_cell.MemoryCell.{MemoryCell}
-use Rattle.cell_device.specs.declared.file_cell.FileCell.{FileCell}
 use Rattle.cell_device.specs.Images.{Image, keeps, Leaves, MayLeave}
 use Rattle.cell_device.specs.inner.Undone.{State, Left, LeftWithin}
-use Rattle.cell_device.specs.inner.Mediums.{state, medium_image}
-use Rattle.cell_device.specs.Memory.{image_of, moment_of, left_since_of}
+use Rattle.cell_device.specs.inner.Mediums.{state, medium_image, moment, left_since}
 
 -- the two cases of `keeps`
-keeps_grown : (k : ℕ) (synced newest : List ℕ) → length synced ≤ length newest
+pub keeps_grown : (k : ℕ) (synced newest : List ℕ) → length synced ≤ length newest
     → keeps k synced newest ≡ take (length synced + k) newest
 unfolding keeps
 keeps_grown k synced newest le = grind (arith, nat_tests)
 
-keeps_shrunk : (k : ℕ) (synced newest : List ℕ) → length newest < length synced
+pub keeps_shrunk : (k : ℕ) (synced newest : List ℕ) → length newest < length synced
     → keeps k synced newest ≡ take (length newest + k) synced
 unfolding keeps
 keeps_shrunk k synced newest lt = grind (arith, nat_tests)
@@ -78,9 +74,8 @@ only_here s (e ∷ changes) zero c none left = left
 only_here s (e ∷ changes) (suc n) c none left = absurd (omega arith)
 
 -- what a read gives is one of the things that it may leave
-seen_first : (cell : MemoryCell) → Leaves (image_of cell) (image_of cell).seen
-seen_first cell =
-    let m = cell.medium in
+seen_first : (m : Medium) → Leaves (medium_image m) (medium_image m).seen
+seen_first m =
     let k = m.seen - m.least in
     let is : m.least + k ≡ m.seen = omega arith in (
       k,
@@ -89,24 +84,18 @@ seen_first cell =
           ∙ take-take m.seen m.most m.buffer.items (omega arith)),
     )
 
-pub seen_now_of : (cell : MemoryCell) (i : Image) → Some (image_of cell) ≡ Some i → Leaves i i.seen
-seen_now_of cell i known = subst (λ (j : Image). Leaves j j.seen) (some_is (image_of cell) i known)
-    (seen_first cell)
+pub seen_now_of : (m : Medium) (i : Image) → Some (medium_image m) ≡ Some i → Leaves i i.seen
+seen_now_of m i known = subst (λ (j : Image). Leaves j j.seen) (some_is (medium_image m) i known)
+    (seen_first m)
   where
     some_is : (a b : Image) → Some a ≡ Some b → a ≡ b
     some_is a b e = cc e
 
-pub counts_now_of : (cell : MemoryCell) (t : ℕ) (c : List ℕ) → t ≤ moment_of cell
-    → MayLeave (Some (image_of cell)) c → left_since_of cell t c
-counts_now_of cell t c le now = here (state cell.medium) (reverse cell.medium.changes.items) _ c
-    (left_first cell.medium c now)
+pub counts_now_of : (m : Medium) (t : ℕ) (c : List ℕ) → t ≤ moment m
+    → MayLeave (Some (medium_image m)) c → left_since m t c
+counts_now_of m t c le now = here (state m) (reverse m.changes.items) _ c (left_first m c now)
 
-pub only_now_of : (cell : MemoryCell) (c : List ℕ) → left_since_of cell (moment_of cell) c
-    → MayLeave (Some (image_of cell)) c
-only_now_of cell c left = first_left cell.medium c
-    (only_here (state cell.medium) (reverse cell.medium.changes.items) _ c (omega arith) left)
-
--- the bytes of a cell in a file aren't known
-pub file_seen_now_of : (cell : FileCell) (i : Image)
-    → let unknown : Option Image = None in unknown ≡ Some i → Leaves i i.seen
-file_seen_now_of cell i known = absurd (cc known)
+pub only_now_of : (m : Medium) (c : List ℕ) → left_since m (moment m) c
+    → MayLeave (Some (medium_image m)) c
+only_now_of m c left = first_left m c
+    (only_here (state m) (reverse m.changes.items) _ c (omega arith) left)

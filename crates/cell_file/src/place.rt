@@ -2,7 +2,7 @@
 
 use std::fs;
 use std::fs::File;
-use std::io::{self, ErrorKind};
+use std::io;
 use std::os::unix::fs::MetadataExt;
 
 /// A path, and the file to which it led. A file that is renamed, deleted or replaced while it is
@@ -27,13 +27,11 @@ impl Place {
         })
     }
 
-    /// The file's length. `NotFound` where the path doesn't lead to it, without a link at its end.
-    pub fn length(&self) -> io::Result<u64> {
-        let about = fs::symlink_metadata(&self.rt, self.path.as_str())?;
-        if about.dev() == self.device && about.ino() == self.inode {
-            Ok(about.len())
-        } else {
-            Err(ErrorKind::NotFound.into())
+    /// Whether the path leads to the file, without a link at its end.
+    pub fn leads_there(&self) -> bool {
+        match fs::symlink_metadata(&self.rt, self.path.as_str()) {
+            Ok(about) => about.dev() == self.device && about.ino() == self.inode,
+            Err(_) => false,
         }
     }
 }

@@ -1,0 +1,123 @@
+use crate::cell_file::CellFile;
+use crate::fault::{CellFault, SyncFault};
+use crate::medium::Medium;
+use crate::trust::Trust;
+use std::alloc::Global;
+
+/// A file in memory, each of whose calls can be made to fail. After a failure a read gives nothing,
+/// until the file was cut back and that is synced.
+#[derive(Drop)]
+pub struct MemoryFile {
+    medium: Medium,
+    trust: Trust,
+    /// Which of the next 64 calls fail: the lowest bit is that of the next one.
+    failing: u64,
+}
+
+impl MemoryFile {
+    ghost use Rattle.std.specs.Prelude.{◌≡◌, Some};
+    ghost use Rattle.cell_device.specs.declared.trust.Trust.TheVariants.{Sound};
+    ghost use Rattle.cell_device.specs.Images.{at_rest};
+    ghost use Rattle.cell_device.specs.Memory.{file_state};
+
+    /// A file with these bytes, all of them synced. Of its next 64 calls those fail whose bit in
+    /// `failing` is 1, and no later one.
+    pub fn new(alloc: Global, bytes: Vec<u8>, failing: u64) -> MemoryFile
+        ensures image { (file_state result).image ≡ Some (at_rest bytes.items) }
+        ensures trust { (file_state result).trust ≡ Sound }
+    {
+        MemoryFile {
+            medium: Medium::new(alloc, bytes),
+            trust: Trust::Sound,
+            failing,
+        }
+    }
+}
+
+// Whether the next call fails, which it then is no more.
+fn fails_next(failing: &mut u64) -> bool {
+    let fails = *failing % 2 == 1;
+    *failing /= 2;
+    fails
+}
+
+impl CellFile for MemoryFile {
+    ghost use Rattle.cell_device.specs.Memory.{file_state};
+    ghost use Rattle.cell_device.specs.inner.Laws.{seen_now_of, counts_now_of, only_now_of};
+
+    ghost about = { file_state };
+
+    ghost seen_now = { λ file. seen_now_of file.medium };
+
+    ghost counts_now = { λ file. counts_now_of file.medium };
+
+    ghost only_now = { λ file. only_now_of file.medium };
+
+    fn read(&mut self, alloc: Global) -> Result<Vec<u8>, CellFault> {
+        if fails_next(&mut self.failing) {
+            return Err(CellFault::Device);
+        }
+        match self.trust {
+            Trust::Sound => Ok(self.medium.bytes().to_vec(alloc)?),
+            Trust::Spoilt | Trust::Mending => Ok(Vec::new(alloc)),
+        }
+    }
+
+    fn length(&mut self) -> Result<u64, CellFault> {
+        if fails_next(&mut self.failing) {
+            return Err(CellFault::Device);
+        }
+        Ok(self.medium.bytes().len() as u64)
+    }
+
+    fn append(&mut self, bytes: &[u8]) -> Result<(), CellFault> {
+        self.medium.append(bytes)?;
+        if fails_next(&mut self.failing) {
+            self.medium.fail(0);
+            self.trust = Trust::Spoilt;
+            return Err(CellFault::Device);
+        }
+        Ok(())
+    }
+
+    fn cut(&mut self, len: usize) -> Result<(), CellFault> {
+        self.medium.cut(len)?;
+        if fails_next(&mut self.failing) {
+            self.medium.fail(0);
+            self.trust = Trust::Spoilt;
+            return Err(CellFault::Device);
+        }
+        Ok(())
+    }
+
+    fn sync(&mut self) -> Result<(), SyncFault> {
+        if fails_next(&mut self.failing) {
+            self.medium.fail(0);
+            self.trust = Trust::Spoilt;
+            return Err(SyncFault::Device);
+        }
+        self.medium.settle();
+        Ok(())
+    }
+
+    fn cut_back(&mut self, _len: u64) -> Result<(), CellFault> {
+        if fails_next(&mut self.failing) {
+            self.trust = Trust::Spoilt;
+            return Err(CellFault::Device);
+        }
+        self.trust = Trust::Mending;
+        Ok(())
+    }
+
+    fn sync_cut(&mut self) -> Result<(), CellFault> {
+        if fails_next(&mut self.failing) {
+            self.trust = Trust::Spoilt;
+            return Err(CellFault::Device);
+        }
+        self.trust = Trust::Sound;
+        Ok(())
+    }
+
+    // Nobody else has it.
+    fn condemn(&mut self) {}
+}

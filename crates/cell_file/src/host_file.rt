@@ -1,0 +1,163 @@
+use crate::place::Place;
+use crate::text_end::find_text_end;
+use cell_device::{CellFault, CellFile, SyncFault, Trust};
+use std::alloc::Global;
+use std::fs::File;
+use std::io::{self, ErrorKind, Read, Seek, SeekFrom, Write};
+
+/// A file of the system, to which each write goes at the end. No contract says what it holds.
+#[derive(Drop)]
+pub struct HostFile {
+    file: File,
+    place: Place,
+    trust: Trust,
+    alloc: Global,
+}
+
+impl HostFile {
+    ghost use Rattle.std.specs.Prelude.{◌≡◌};
+    ghost use Rattle.cell_device.specs.declared.trust.Trust.TheVariants.{Sound};
+    ghost use Rattle.cell_file.specs.HostFiles.{file_state};
+
+    /// The open file at this place, all of whose bytes are on the disk.
+    pub(crate) fn new(alloc: Global, file: File, place: Place) -> HostFile
+        ensures { (file_state result).trust ≡ Sound }
+    {
+        HostFile {
+            file,
+            place,
+            trust: Trust::Sound,
+            alloc,
+        }
+    }
+}
+
+impl CellFile for HostFile {
+    ghost use Rattle.cell_file.specs.HostFiles.{file_state};
+
+    ghost about = { file_state };
+
+    ghost seen_now = { λ file i known. absurd (cc known) };
+
+    ghost counts_now = { λ file t c le now. tt };
+
+    ghost only_now = { λ file c left. tt };
+
+    fn read(&mut self, alloc: Global) -> Result<Vec<u8>, CellFault> {
+        match read_whole(&mut self.file, alloc) {
+            Ok(bytes) => Ok(bytes),
+            Err(error) if error.kind() == ErrorKind::OutOfMemory => Err(CellFault::Memory),
+            Err(_) => Err(CellFault::Device),
+        }
+    }
+
+    fn length(&mut self) -> Result<u64, CellFault> {
+        match self.file.metadata() {
+            Ok(about) => Ok(about.len()),
+            Err(_) => Err(CellFault::Device),
+        }
+    }
+
+    fn append(&mut self, bytes: &[u8]) -> Result<(), CellFault> {
+        match self.file.write_all(bytes) {
+            Ok(()) => Ok(()),
+            Err(_) => {
+                self.trust = Trust::Spoilt;
+                Err(CellFault::Device)
+            }
+        }
+    }
+
+    fn cut(&mut self, len: usize) -> Result<(), CellFault> {
+        match shorten(&self.file, len as u64) {
+            Ok(()) => Ok(()),
+            Err(_) => {
+                self.trust = Trust::Spoilt;
+                Err(CellFault::Device)
+            }
+        }
+    }
+
+    fn sync(&mut self) -> Result<(), SyncFault> {
+        if self.file.sync_all().is_err() {
+            self.trust = Trust::Spoilt;
+            return Err(SyncFault::Device);
+        }
+        // After the sync, so that the answer speaks of the file that the path leads to now.
+        if !self.place.leads_there() {
+            self.trust = Trust::Spoilt;
+            return Err(SyncFault::Elsewhere);
+        }
+        Ok(())
+    }
+
+    fn cut_back(&mut self, len: u64) -> Result<(), CellFault> {
+        match shorten_anew(&mut self.file, len) {
+            Ok(()) => {
+                self.trust = Trust::Mending;
+                Ok(())
+            }
+            Err(_) => {
+                self.trust = Trust::Spoilt;
+                Err(CellFault::Device)
+            }
+        }
+    }
+
+    fn sync_cut(&mut self) -> Result<(), CellFault> {
+        match self.file.sync_all() {
+            Ok(()) => {
+                self.trust = Trust::Sound;
+                Ok(())
+            }
+            Err(_) => {
+                self.trust = Trust::Spoilt;
+                Err(CellFault::Device)
+            }
+        }
+    }
+
+    // Where it fails the file stays as it was cut: nobody can do more.
+    fn condemn(&mut self) {
+        let _ = mark_damaged(&mut self.file, self.alloc);
+    }
+}
+
+/// All the bytes of the file.
+fn read_whole(file: &mut File, alloc: Global) -> io::Result<Vec<u8>> {
+    file.seek(SeekFrom::Start(0))?;
+    let mut bytes = Vec::new(alloc);
+    file.read_to_end(&mut bytes)?;
+    Ok(bytes)
+}
+
+/// Cuts the file to a length. It makes nothing longer: a shorter file is an error.
+fn shorten(file: &File, len: u64) -> io::Result<()> {
+    if file.metadata()?.len() < len {
+        return Err(ErrorKind::InvalidInput.into());
+    }
+    file.set_len(len)
+}
+
+/// The same after a failure. Where the file seems to have the length already, it may have another
+/// on the disk, and a cut that changes nothing might not be written: so it gets a byte first.
+fn shorten_anew(file: &mut File, len: u64) -> io::Result<()> {
+    if file.metadata()?.len() == len {
+        file.write_all(&[0])?;
+    }
+    shorten(file, len)
+}
+
+/// Two zero bytes are damage wherever a record might begin: no record has the length 0, and no
+/// header begins so.
+const DAMAGE: [u8; 2] = [0, 0];
+
+/// Cuts a cell that somebody else has cut to its whole records, and puts damage after them: every
+/// opening finds that, and none takes the cell for whole.
+fn mark_damaged(file: &mut File, alloc: Global) -> io::Result<()> {
+    let bytes = read_whole(file, alloc)?;
+    let end = find_text_end(alloc, &bytes)?;
+    file.set_len(end as u64)?;
+    file.write_all(&DAMAGE)?;
+    file.sync_all()
+}

@@ -1,0 +1,21 @@
+//! Cells in files of the system: `cell_device::FileCell` over the system's calls. No contract says
+//! what a file of the system holds; this crate makes the calls, and nothing more.
+//!
+//! ```
+//! match open_cell(rt, path, Creation::Never) {
+//!     Ok(cell) => Ok(cell),
+//!     Err(Unopened::Memory) => Err(Stop::Memory),
+//!     Err(Unopened::InUse | Unopened::Device) => Err(Stop::CellUnopened),
+//! }
+//! ```
+#![tactic(auto)]
+
+mod host_file;
+mod opening;
+mod place;
+mod text_end;
+mod unopened;
+
+pub use host_file::HostFile;
+pub use opening::{Creation, open_cell};
+pub use unopened::Unopened;
