@@ -1,5 +1,5 @@
 -- What every crash keeps of a file, and how many bytes a read gives, after a call.
-use Rattle.std.proofs.Common.{◌≡◌, inl, inr, ⊎_elim, ℕ, ◌+◌, ◌≤◌, ◌<◌, min, List, ◌++◌, length, take}
+use Rattle.std.proofs.Common.{◌≡◌, inl, inr, ℕ, ◌+◌, ◌≤◌, ◌<◌, min, List, ◌++◌, length, take}
 use Rattle.std.proofs.Common.{Option, Some, None, Result, Err, refl, sym, ◌∙◌, ap, subst, arith}
 use Rattle.std.proofs.Common.{length-append, length-take}
 use Rattle.std.specs.Prelude.{option_map, ◌≢◌}
@@ -104,7 +104,7 @@ failed_sure n tried old new each is = (
 )
 
 module _ (n : ℕ) (old : Option Image) (leaves : (i : Image) → old ≡ Some i → Leaves i i.seen)
-  (sure : IsSure n old)
+    (sure : IsSure n old)
   where
     each_appended : (bytes : List ℕ) → AllowsAppend old → (i : Image) → old ≡ Some i
         → n ≡ sure_of (with_bytes bytes i)

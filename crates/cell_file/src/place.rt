@@ -1,9 +1,8 @@
 //! Where a file lies.
 
-use std::fs;
 use std::fs::File;
-use std::io;
 use std::os::unix::fs::MetadataExt;
+use std::{fs, io};
 
 /// A path, and the file to which it led. A file that is renamed, deleted or replaced while it is
 /// open goes on, but another that is opened by its path is not the same.

@@ -1,4 +1,4 @@
-use Rattle.std.proofs.Common.{◌∙◌, subst}
+use Rattle.std.proofs.Common.{◌∙◌}
 use Rattle.cell_device.proofs.Files.{sure_at_rest, length_same}
 use Rattle.cell_device.proofs.file_cell.FileCell.over.Goals as goal
 

@@ -1,6 +1,5 @@
-use Rattle.std.proofs.Common.{◌∙◌, ◌≡◌, min, Option, sym, subst}
-use Rattle.cell_device.specs.Images.{Image, AllowsCut, cut_to}
-use Rattle.cell_device.specs.Files.{IsSure, HasLength}
+use Rattle.std.proofs.Common.{sym, subst}
+use Rattle.cell_device.specs.Images.{AllowsCut, cut_to}
 use Rattle.cell_device.proofs.Files.{sure_after_cut, not_cut, length_cut, changed_device}
 use Rattle.cell_device.proofs.file_cell.FileCellCell.cut.Goals as goal
 
