@@ -16,6 +16,10 @@ mod place;
 mod text_end;
 mod unopened;
 
+use cell_device::FileCell;
 pub use host_file::HostFile;
 pub use opening::{Creation, open_cell};
 pub use unopened::Unopened;
+
+/// A cell in a file of the system.
+pub type DiskCell = FileCell<HostFile>;

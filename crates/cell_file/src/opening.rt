@@ -4,6 +4,7 @@ ghost use Rattle.std.specs.Prelude.{◌≡◌, IfOk};
 ghost use Rattle.cell_device.specs.declared.trust.Trust.TheVariants.{Sound};
 ghost use Rattle.cell_file.specs.HostFiles.{file_state};
 
+use crate::DiskCell;
 use crate::host_file::HostFile;
 use crate::place::Place;
 use crate::unopened::{Unopened, unlocked_by, unopened_by};
@@ -25,11 +26,7 @@ pub enum Creation {
 
 /// The cell in the file of this path; a path without a folder leads to the present one. What a read
 /// of it gives is on the disk, and nobody else has it open as a cell, until it is dropped.
-pub fn open_cell(
-    rt: &HostRuntime,
-    path: &str,
-    creation: Creation,
-) -> Result<FileCell<HostFile>, Unopened> {
+pub fn open_cell(rt: &HostRuntime, path: &str, creation: Creation) -> Result<DiskCell, Unopened> {
     let file = open_locked(rt, path, creation)?;
     match settle(rt, path, file) {
         Ok(file) => over(file),
@@ -38,7 +35,7 @@ pub fn open_cell(
 }
 
 // The cell in this file.
-fn over(file: HostFile) -> Result<FileCell<HostFile>, Unopened>
+fn over(file: HostFile) -> Result<DiskCell, Unopened>
     requires { (file_state file).trust ≡ Sound }
 {
     match FileCell::over(file) {

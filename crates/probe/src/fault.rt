@@ -1,5 +1,6 @@
 use book::{CommitFault, OpenFault};
 use cell_device::CellFault;
+use cell_file::Unopened;
 use dgram::DgramFault;
 use fed_types::TypeFault;
 use hex::FromHexError;
@@ -82,6 +83,15 @@ impl From<DgramFault> for Fault {
         match e {
             DgramFault::Memory => Fault::Memory,
             DgramFault::NotOurs | DgramFault::Malformed => Fault::Wrong,
+        }
+    }
+}
+
+impl From<Unopened> for Fault {
+    fn from(e: Unopened) -> Fault {
+        match e {
+            Unopened::InUse | Unopened::Device => Fault::Device,
+            Unopened::Memory => Fault::Memory,
         }
     }
 }

@@ -5,7 +5,7 @@ use crate::fault::Fault;
 use crate::opened_cells::{owner, push_opening};
 use crate::records_text::push_records;
 use book::{Book, CommitFault};
-use cell_device::FileCell;
+use cell_file::{Creation, DiskCell, open_cell};
 use fed_types::SiteNo;
 use std::alloc::Global;
 
@@ -20,13 +20,13 @@ pub fn opened_line(rt: &HostRuntime, path: &str, site: SiteNo) -> Result<String,
 
 fn push_opened(rt: &HostRuntime, text: &mut String, path: &str, site: SiteNo) -> Result<(), Fault> {
     let owner = owner(site)?;
-    push_opening(rt.alloc(), text, FileCell::open(rt, path)?, owner)
+    push_opening(rt.alloc(), text, open_cell(rt, path, Creation::IfMissing)?, owner)
 }
 
 /// The book of the site's journal in this file.
-pub fn open_book(rt: &HostRuntime, path: &str, site: SiteNo) -> Result<Book<FileCell>, Fault> {
+pub fn open_book(rt: &HostRuntime, path: &str, site: SiteNo) -> Result<Book<DiskCell>, Fault> {
     let owner = owner(site)?;
-    match Book::open(rt.alloc(), FileCell::open(rt, path)?, owner) {
+    match Book::open(rt.alloc(), open_cell(rt, path, Creation::IfMissing)?, owner) {
         Ok(book) => Ok(book),
         Err((cell, fault)) => {
             drop(cell);
@@ -36,7 +36,7 @@ pub fn open_book(rt: &HostRuntime, path: &str, site: SiteNo) -> Result<Book<File
 }
 
 /// Commits the Vote. `ok` or the fault.
-pub fn commit_word(alloc: Global, book: &mut Book<FileCell>) -> Result<&'static str, Fault> {
+pub fn commit_word(alloc: Global, book: &mut Book<DiskCell>) -> Result<&'static str, Fault> {
     match book.commit(vote(alloc)?) {
         Ok(()) => Ok("ok"),
         Err(CommitFault::Device) => Ok("Device"),
@@ -57,7 +57,7 @@ pub fn commit_line(rt: &HostRuntime, path: &str, site: SiteNo) -> Result<String,
     }
 }
 
-fn push_commit(alloc: Global, text: &mut String, book: &mut Book<FileCell>) -> Result<(), Fault> {
+fn push_commit(alloc: Global, text: &mut String, book: &mut Book<DiskCell>) -> Result<(), Fault> {
     let said = commit_word(alloc, book)?;
     write!(text, "{said} | ")?;
     push_records(text, book.records())?;

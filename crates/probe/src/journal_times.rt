@@ -6,7 +6,8 @@ use crate::fault::Fault;
 use crate::files::open_book;
 use crate::opened_cells::owner;
 use book::{Book, Entry, Record, Round};
-use cell_device::{Cell, CellFault, FileCell};
+use cell_device::{Cell, CellFault};
+use cell_file::{Creation, DiskCell, open_cell};
 use fields::CHECKSUM_BYTES;
 use records::header;
 use std::alloc::Global;
@@ -25,7 +26,7 @@ pub fn commits_line(rt: &HostRuntime, path: &str, count: u32) -> Result<String, 
 }
 
 /// The seconds in which the Vote is committed so often.
-fn time_commits(rt: &HostRuntime, book: &mut Book<FileCell>, count: u32) -> Result<f64, Fault> {
+fn time_commits(rt: &HostRuntime, book: &mut Book<DiskCell>, count: u32) -> Result<f64, Fault> {
     let start = Instant::now(rt)?;
     for _ in 0..count {
         book.commit(vote(rt.alloc())?)?;
@@ -61,13 +62,13 @@ pub fn filled_line(rt: &HostRuntime, path: &str, count: u32) -> Result<String, F
 
 fn write_journal(rt: &HostRuntime, path: &str, records: &[u8]) -> Result<(), Fault> {
     let header = header(rt.alloc(), &owner(site()?)?)?;
-    let mut cell = FileCell::open(rt, path)?;
+    let mut cell = open_cell(rt, path, Creation::IfMissing)?;
     let written = append_all(&mut cell, &header, records);
     drop(cell);
     Ok(written?)
 }
 
-fn append_all(cell: &mut FileCell, header: &[u8], records: &[u8]) -> Result<(), CellFault> {
+fn append_all(cell: &mut DiskCell, header: &[u8], records: &[u8]) -> Result<(), CellFault> {
     cell.append(header)?;
     cell.append(records)?;
     cell.sync()

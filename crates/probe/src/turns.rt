@@ -6,7 +6,7 @@ use crate::files::commit_word;
 use crate::opened_cells::owner;
 use crate::records_text::push_records;
 use book::{Book, OpenFault, Owner};
-use cell_device::FileCell;
+use cell_file::{Creation, DiskCell, open_cell};
 use fed_types::SiteNo;
 use std::alloc::Global;
 use std::io;
@@ -14,14 +14,14 @@ use std::io;
 /// A site's book, or else the cell in which it was refused.
 #[derive(Drop)]
 struct Journal {
-    book: Option<Book<FileCell>>,
-    cell: Option<FileCell>,
+    book: Option<Book<DiskCell>>,
+    cell: Option<DiskCell>,
 }
 
 /// Opens the site's journal in this file, and says its records; then it does what the lines ask.
 /// `open` opens the journal again over the same cell.
 pub fn answer_turns(rt: &HostRuntime, path: &str, site: SiteNo) -> Result<(), Fault> {
-    let cell = FileCell::open(rt, path)?;
+    let cell = open_cell(rt, path, Creation::IfMissing)?;
     let mut journal = Journal {
         book: None,
         cell: Some(cell),
@@ -104,7 +104,7 @@ impl Journal {
         }
     }
 
-    fn open_over(&mut self, alloc: Global, cell: FileCell, owner: Owner) -> Option<OpenFault> {
+    fn open_over(&mut self, alloc: Global, cell: DiskCell, owner: Owner) -> Option<OpenFault> {
         match Book::open(alloc, cell, owner) {
             Ok(book) => self.keep_book(book),
             Err((cell, fault)) => self.refuse(cell, fault),
@@ -118,17 +118,17 @@ impl Journal {
         }
     }
 
-    fn keep_book(&mut self, book: Book<FileCell>) -> Option<OpenFault> {
+    fn keep_book(&mut self, book: Book<DiskCell>) -> Option<OpenFault> {
         drop(self.book.replace(book));
         None
     }
 
-    fn refuse(&mut self, cell: FileCell, fault: OpenFault) -> Option<OpenFault> {
+    fn refuse(&mut self, cell: DiskCell, fault: OpenFault) -> Option<OpenFault> {
         self.keep_cell(cell);
         Some(fault)
     }
 
-    fn keep_cell(&mut self, cell: FileCell) {
+    fn keep_cell(&mut self, cell: DiskCell) {
         drop(self.cell.replace(cell));
     }
 
