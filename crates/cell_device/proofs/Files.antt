@@ -151,11 +151,11 @@ length_appended n m bytes old new len more is =
     became (λ (i : Image). m ≡ length i.seen) (with_bytes bytes) old new is
     (λ i e. omega (arith, more, len i e, length-append i.seen bytes))
 
-pub length_cut : (len : ℕ) (old new : Option Image) → AllowsCut len old
-    → new ≡ option_map (cut_to len) old → HasLength len new
-length_cut len old new allows is =
-    became (λ (i : Image). len ≡ length i.seen) (cut_to len) old new is
-    (λ i e. omega (arith, length-take len i.seen, (subst (AllowsCut len) e allows).1))
+pub length_cut : (n len : ℕ) (old new : Option Image) → HasLength n old
+    → new ≡ option_map (cut_to len) old → HasLength (min n len) new
+length_cut n len old new has is =
+    became (λ (i : Image). min n len ≡ length i.seen) (cut_to len) old new is
+    (λ i e. omega (arith, length-take len i.seen, has i e))
 
 pub synced : (n : ℕ) (old new : Option Image) → HasLength n old
     → new ≡ option_map all_synced old → IsSure n new × HasLength n new

@@ -188,16 +188,16 @@ impl<F: CellFile> Cell for FileCell<F> {
 
     fn cut(&mut self, len: usize) -> Result<(), CellFault> {
         self.begin()?;
-        let len_after = len as u64;
+        let most = len as u64;
         match self.file.cut(len) {
             Ok(()) => {
-                self.sure = self.sure.min(len_after);
-                self.given = len_after;
+                self.sure = self.sure.min(most);
+                self.given = self.given.min(most);
                 Ok(())
             }
             Err(CellFault::Memory) => Err(CellFault::Memory),
             Err(CellFault::Device) => {
-                self.sure = self.sure.min(len_after);
+                self.sure = self.sure.min(most);
                 self.standing = Standing::CutOwed;
                 Err(self.fail_change())
             }

@@ -131,21 +131,26 @@ fn read_whole(file: &mut File, alloc: Global) -> io::Result<Vec<u8>> {
     Ok(bytes)
 }
 
-/// Cuts the file to a length. It makes nothing longer: a shorter file is an error.
+/// Cuts the file to a length. It makes nothing longer.
 fn shorten(file: &File, len: u64) -> io::Result<()> {
-    if file.metadata()?.len() < len {
-        return Err(ErrorKind::InvalidInput.into());
+    if len < file.metadata()?.len() {
+        file.set_len(len)?;
     }
-    file.set_len(len)
+    Ok(())
 }
 
-/// The same after a failure. Where the file seems to have the length already, it may have another
-/// on the disk, and a cut that changes nothing might not be written: so it gets a byte first.
+/// The same after a failure, where a shorter file is an error. Where the file seems to have the
+/// length already it may have another on the disk, and a cut that changes nothing might not be
+/// written: so it gets a byte first.
 fn shorten_anew(file: &mut File, len: u64) -> io::Result<()> {
-    if file.metadata()?.len() == len {
+    let now = file.metadata()?.len();
+    if now < len {
+        return Err(ErrorKind::InvalidInput.into());
+    }
+    if now == len {
         file.write_all(&[0])?;
     }
-    shorten(file, len)
+    file.set_len(len)
 }
 
 /// Two zero bytes are damage wherever a record might begin: no record has the length 0, and no

@@ -17,7 +17,9 @@ invariant_of-self g c =
           (sure_after_cut cell.sure old (g.met.F.CellFile.seen_now cell.file)
           (cell.sure_is (λ l. absurd (cc (l, sound)))) c.args.len new allows
           c.in-Ok.ensures.does.image);
-      given_is = λ e. length_cut c.args.len old new allows c.in-Ok.ensures.does.image;
+      given_is = λ e. rw c.min-self-in-Ok.ensures
+          (length_cut cell.given c.args.len old new (cell.given_is sound)
+          c.in-Ok.ensures.does.image);
       seen_is = λ e. absurd (cc (e, sound));
     }
 
