@@ -84,7 +84,7 @@ fn new_stations(alloc: Global, members: &Members) -> Result<Vec<Station>, AllocE
     Ok(stations)
 }
 
-// The new site of this number.
+// The new station of this site.
 fn new_station(alloc: Global, members: &Members, site: SiteNo) -> Result<Station, AllocError>
     ensures { IfOk result (λ station. IsStation members.now site station new_site) }
 {
