@@ -15,8 +15,8 @@ most_unsynced = 1
 abbrev pub synced_records : List Record → List Record
 synced_records records = take (length records - most_unsynced) records
 
--- the cell of a site that has opened it: a text that is synced, and at most one record after it
--- that isn't
+-- the cell of a site that has opened it, and whose commits haven't failed since: a text that is
+-- synced, and at most one record after it that isn't
 abbrev pub IsInUse : Owner → Image → Type 0
 IsInUse owner i =
     (records : List Record) × (text : List ℕ) × IsTextOf owner records text

@@ -11,8 +11,8 @@ use Rattle.cell_device.specs.Files.{FileState, HasLength, IsSure, sure_of, spoil
 use Rattle.cell_device.specs.Files.{IsChanged, Changes, Syncs}
 use Rattle.cell_device.specs.declared.fault.CellFault.{CellFault}
 use Rattle.cell_device.specs.declared.fault.CellFault.TheVariants as faults
-use Rattle.cell_device.specs.declared.fault.SyncFault.{SyncFault}
-use Rattle.cell_device.specs.declared.fault.SyncFault.TheVariants as sync_faults
+use Rattle.cell_device.specs.declared.fault.FileFault.{FileFault}
+use Rattle.cell_device.specs.declared.fault.FileFault.TheVariants as file_faults
 use Rattle.cell_device.specs.declared.trust.Trust.TheVariants.{Spoilt}
 use Rattle.cell_device.specs.inner.Laws.{keeps_grown, keeps_shrunk}
 
@@ -172,7 +172,7 @@ pub changed_device : (what : Image → Image) (old new : FileState) (r : Result 
 changed_device what old new r does is =
     subst (λ (x : Result (Unit {0}) CellFault). Changes what old new x) is does
 
-pub synced_device : (old new : FileState) (r : Result (Unit {0}) SyncFault) → Syncs old new r
-    → r ≡ Err sync_faults.Device → IsChanged (spoilt same_image) Spoilt old new
+pub synced_device : (old new : FileState) (r : Result (Unit {0}) FileFault) → Syncs old new r
+    → r ≡ Err file_faults.Device → IsChanged (spoilt same_image) Spoilt old new
 synced_device old new r does is =
-    subst (λ (x : Result (Unit {0}) SyncFault). Syncs old new x) is does
+    subst (λ (x : Result (Unit {0}) FileFault). Syncs old new x) is does

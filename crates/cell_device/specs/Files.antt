@@ -1,6 +1,6 @@
--- What a file of the system is, and what the calls make of it. Each call may fail. After a failure
--- neither a read nor a sync says anything, until the file was cut to what every crash keeps, and
--- that is synced: the system says only once that it couldn't write.
+-- What a file of the system is, and what the calls make of it. Each call may fail. After an append,
+-- a cut or a sync that failed neither a read nor a sync says anything, until the file was cut to what
+-- every crash keeps, and that is synced: the system says only once that it couldn't write.
 use Rattle.std.specs.Prelude.{◌≡◌, ℕ, List, length, Option, None, Result, Ok, Err, option_map}
 use Rattle.std.specs.Option.{ForSome}
 use Rattle.cell_device.specs.Images.{Image, MayLeave, keeps}
@@ -9,10 +9,10 @@ use Rattle.cell_device.specs.Time.{Elapses}
 use Rattle.cell_device.specs.Devices.{Device}
 use Rattle.cell_device.specs.declared.fault.CellFault.{CellFault}
 use Rattle.cell_device.specs.declared.fault.CellFault.TheVariants as faults
-use Rattle.cell_device.specs.declared.fault.SyncFault.{SyncFault}
-use Rattle.cell_device.specs.declared.fault.SyncFault.TheVariants as sync_faults
+use Rattle.cell_device.specs.declared.fault.FileFault.{FileFault}
+use Rattle.cell_device.specs.declared.fault.FileFault.TheVariants as file_faults
 use Rattle.cell_device.specs.declared.trust.Trust.{Trust}
-use Rattle.cell_device.specs.declared.trust.Trust.TheVariants.{Sound, Spoilt}
+use Rattle.cell_device.specs.declared.trust.Trust.TheVariants.{Sound, Spoilt, Mending}
 
 -- its bytes, where they are known; whether its calls can be believed; the moment; and what a crash
 -- at some moment from that one on may have left
@@ -22,11 +22,11 @@ pub record FileState : Type 1 where
   pub moment : ℕ
   pub left_since : ℕ → List ℕ → Type 0
 
--- so many bytes a read gives, where they are known
+-- a read gives n bytes, where they are known
 abbrev pub HasLength : ℕ → Option Image → Type 0
 HasLength n image = ForSome image (λ i. n ≡ length i.seen)
 
--- so many of the first bytes every crash keeps, whatever fails
+-- every crash keeps at least so many of the first bytes, whatever fails
 abbrev pub sure_of : Image → ℕ
 sure_of i = length (keeps 0 i.synced i.newest)
 
@@ -42,7 +42,7 @@ pub record IsSame (old new : FileState) : Type 0 where
   pub nothing_else : (t : ℕ) (c : List ℕ) → new.left_since t c → old.left_since t c
   pub nothing_less : (t : ℕ) (c : List ℕ) → old.left_since t c → new.left_since t c
 
--- the same, and it can now be believed so far
+-- the same, and now it can be believed so far
 pub record IsStill (trust : Trust) (old new : FileState) : Type 0 where
   pub same : IsSame old new
   pub trust_is : new.trust ≡ trust
@@ -65,11 +65,23 @@ Changes done old new (Ok x) = IsChanged done Sound old new
 Changes done old new (Err faults.Memory) = IsChanged same_image Sound old new
 Changes done old new (Err faults.Device) = IsChanged (spoilt done) Spoilt old new
 
--- a sync; where the path leads elsewhere, nothing of the file is said
-abbrev pub Syncs : {T : Type 0} → (old new : FileState) → Result T SyncFault → Type 0
+-- nobody else cuts a file whose bytes are known
+abbrev pub IsCutByOthers : (old new : FileState) → Type 0
+IsCutByOthers old new = IsStill Spoilt old new × (old.image ≡ None)
+
+-- a sync; where the path leads elsewhere, it says nothing of the file
+abbrev pub Syncs : {T : Type 0} → (old new : FileState) → Result T FileFault → Type 0
 Syncs old new (Ok x) = IsChanged all_synced Sound old new
-Syncs old new (Err sync_faults.Device) = IsChanged (spoilt same_image) Spoilt old new
-Syncs old new (Err sync_faults.Elsewhere) = IsStill Spoilt old new
+Syncs old new (Err file_faults.Device) = IsChanged (spoilt same_image) Spoilt old new
+Syncs old new (Err file_faults.Elsewhere) = IsStill Spoilt old new
+Syncs old new (Err file_faults.Shorter) = IsCutByOthers old new
+
+-- the cutting back of a file that can't be believed
+abbrev pub CutsBack : {T : Type 0} → (old new : FileState) → Result T FileFault → Type 0
+CutsBack old new (Ok x) = IsStill Mending old new
+CutsBack old new (Err file_faults.Device) = IsStill Spoilt old new
+CutsBack old new (Err file_faults.Elsewhere) = IsStill Spoilt old new
+CutsBack old new (Err file_faults.Shorter) = IsCutByOthers old new
 
 -- ---- the cell in it
 

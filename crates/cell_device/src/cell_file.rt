@@ -3,13 +3,13 @@ ghost use Rattle.cell_device.specs.declared.trust.Trust.TheVariants.{Sound, Spoi
 ghost use Rattle.cell_device.specs.Images.{Image, Leaves, MayLeave, AllowsAppend, AllowsCut};
 ghost use Rattle.cell_device.specs.Images.{with_bytes, cut_to};
 ghost use Rattle.cell_device.specs.Calls.{IsRead};
-ghost use Rattle.cell_device.specs.Files.{FileState, IsStill, HasLength, Changes, Syncs};
+ghost use Rattle.cell_device.specs.Files.{FileState, IsStill, HasLength, Changes};
+ghost use Rattle.cell_device.specs.Files.{Syncs, CutsBack};
 
-use crate::fault::{CellFault, SyncFault};
+use crate::fault::{CellFault, FileFault};
 use std::alloc::Global;
 
-/// A file, as the system's calls show it. Each of them may fail, with `Device`. What a cell needs
-/// of a file beyond that it does itself, so an implementation makes the calls and nothing more.
+/// A file, as the system's calls show it. Each of them may fail. The cell does all else itself.
 pub trait CellFile {
     // Its bytes, where they are known, whether it can be believed, and what crashes may have left.
     ghost about: { Self → FileState };
@@ -38,19 +38,20 @@ pub trait CellFile {
         requires allowed { AllowsCut len (about self.old).image }
         ensures does { Changes (cut_to len) (about self.old) (about self.new) result };
 
-    /// After it, a crash leaves what a read gives.
-    fn sync(&mut self) -> Result<(), SyncFault>
+    /// After it, a crash leaves what a read gives. It looks, once that is done, whether the file is
+    /// still at its path and as long as it was left. `Elsewhere` comes before `Device`: of a file
+    /// that was moved away nothing is cut.
+    fn sync(&mut self, len: u64) -> Result<(), FileFault>
         requires sound { (about self.old).trust ≡ Sound }
+        requires length { HasLength len (about self.old).image }
         ensures does { Syncs (about self.old) (about self.new) result };
 
     /// After a failure, cuts the file to the length that every crash keeps. The cut is made even
-    /// where the file seems to have that length. It makes nothing longer: a file that is shorter is
-    /// a failure.
-    fn cut_back(&mut self, len: u64) -> Result<(), CellFault>
+    /// where the file seems to have that length. It makes nothing longer.
+    fn cut_back(&mut self, len: u64) -> Result<(), FileFault>
         requires spoilt { (about self.old).trust ≢ Sound }
         requires length { HasLength len (about self.old).image }
-        ensures cut { OnOk result (IsStill Mending (about self.old) (about self.new)) }
-        ensures failed { OnErr result (IsStill Spoilt (about self.old) (about self.new)) };
+        ensures does { CutsBack (about self.old) (about self.new) result };
 
     /// After that, syncs it. Without the cut a sync that succeeds would say nothing.
     fn sync_cut(&mut self) -> Result<(), CellFault>
@@ -58,7 +59,7 @@ pub trait CellFile {
         ensures synced { OnOk result (IsStill Sound (about self.old) (about self.new)) }
         ensures failed { OnErr result (IsStill Spoilt (about self.old) (about self.new)) };
 
-    /// Somebody else has cut the file, which no file does whose bytes are known: it is changed so
+    /// Somebody else has cut the file, which happens to none whose bytes are known: it is changed so
     /// that whoever opens it from now on finds it damaged.
     fn condemn(&mut self)
         requires unknown { (about self.old).image ≡ None }

@@ -14,15 +14,18 @@ pub enum CellFault {
     Memory,
 }
 
-/// Why the bytes of a file aren't sure to outlive a crash.
+/// Why a file isn't as its calls left it, or can't be made so.
 #[derive(Clone, Copy, Debug, PartialEq, Eq, Error)]
-pub enum SyncFault {
-    /// The sync failed: some bytes may not be what was written.
-    #[error("the file can't be synced")]
+pub enum FileFault {
+    /// A call failed: some bytes may not be what was written.
+    #[error("a call of the file failed")]
     Device,
-    /// The file's path leads to another file, or to none.
-    #[error("the file isn't at its path any more")]
+    /// The file's path leads to another file or to none, or somebody else has made it longer.
+    #[error("the file at its path isn't the one that was left there")]
     Elsewhere,
+    /// It is shorter: somebody else has cut it.
+    #[error("somebody else has cut the file")]
+    Shorter,
 }
 
 impl From<AllocError> for CellFault {

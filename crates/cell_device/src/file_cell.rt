@@ -1,11 +1,12 @@
 ghost use Rattle.std.specs.Prelude.{◌≡◌, ◌≢◌, true, false};
 ghost use Rattle.cell_device.specs.Files.{HasLength, IsSure, IsSame};
 ghost use Rattle.cell_device.specs.declared.trust.Trust.TheVariants as t;
+ghost use Rattle.cell_device.specs.declared.file_cell.Mended.TheVariants as m;
 ghost use Rattle.cell_device.specs.declared.file_cell.Standing.TheVariants as s;
 
 use crate::cell::Cell;
 use crate::cell_file::CellFile;
-use crate::fault::{CellFault, SyncFault};
+use crate::fault::{CellFault, FileFault};
 use std::alloc::Global;
 
 /// What can be done with the file.
@@ -13,9 +14,10 @@ use std::alloc::Global;
 enum Standing {
     /// It holds what the calls made of it.
     Sound,
-    /// A change failed, and so did the cutting back: that is done first.
+    /// A change or a sync failed, and it wasn't cut back since: that is done first.
     CutOwed,
-    /// That failed again, or the file isn't as the calls left it: nothing, until it is opened anew.
+    /// The cutting back failed twice, or the file isn't as the calls left it: nothing, until it is
+    /// opened anew.
     Lost,
 }
 
@@ -85,7 +87,7 @@ impl<F: CellFile> FileCell<F> {
             Standing::Sound => Ok(()),
             Standing::Lost => Err(self.fail()),
             Standing::CutOwed => {
-                if mend(&mut self.file, self.sure) {
+                if mend(&mut self.file, self.sure) == Mended::Done {
                     self.given = self.sure;
                     self.standing = Standing::Sound;
                     Ok(())
@@ -119,17 +121,22 @@ impl<F: CellFile> FileCell<F> {
         Err(self.fail())
     }
 
-    /// A change of the file failed: it is cut back at once, since there may be no next call.
-    fn fail_change(&mut self) -> CellFault
+    /// A change or a sync of the file failed: it is cut back at once, since there may be no next
+    /// call.
+    fn fail_and_mend(&mut self) -> CellFault
         requires { self.old.standing ≡ s.CutOwed }
         ensures fault { result ≡ Device }
         ensures same { IsSame (F.about self.old.file) (F.about self.new.file) }
         ensures later { self.old.failures ≤ self.new.failures }
         ensures count { self.new.failures ≡ one_more self.old.failures }
     {
-        if mend(&mut self.file, self.sure) {
-            self.given = self.sure;
-            self.standing = Standing::Sound;
+        match mend(&mut self.file, self.sure) {
+            Mended::Done => {
+                self.given = self.sure;
+                self.standing = Standing::Sound;
+            }
+            Mended::Owed => {}
+            Mended::Never => self.standing = Standing::Lost,
         }
         self.fail()
     }
@@ -181,13 +188,14 @@ impl<F: CellFile> Cell for FileCell<F> {
             Err(CellFault::Memory) => Err(CellFault::Memory),
             Err(CellFault::Device) => {
                 self.standing = Standing::CutOwed;
-                Err(self.fail_change())
+                Err(self.fail_and_mend())
             }
         }
     }
 
     fn cut(&mut self, len: usize) -> Result<(), CellFault> {
         self.begin()?;
+        self.expect_length()?;
         let most = len as u64;
         match self.file.cut(len) {
             Ok(()) => {
@@ -199,7 +207,7 @@ impl<F: CellFile> Cell for FileCell<F> {
             Err(CellFault::Device) => {
                 self.sure = self.sure.min(most);
                 self.standing = Standing::CutOwed;
-                Err(self.fail_change())
+                Err(self.fail_and_mend())
             }
         }
     }
@@ -207,16 +215,21 @@ impl<F: CellFile> Cell for FileCell<F> {
     fn sync(&mut self) -> Result<(), CellFault> {
         self.begin()?;
         self.expect_length()?;
-        match self.file.sync() {
+        match self.file.sync(self.given) {
             Ok(()) => {
                 self.sure = self.given;
                 Ok(())
             }
-            Err(SyncFault::Device) => {
+            Err(FileFault::Device) => {
                 self.standing = Standing::CutOwed;
-                Err(self.fail_change())
+                Err(self.fail_and_mend())
             }
-            Err(SyncFault::Elsewhere) => {
+            Err(FileFault::Elsewhere) => {
+                self.standing = Standing::Lost;
+                Err(self.fail())
+            }
+            Err(FileFault::Shorter) => {
+                self.file.condemn();
                 self.standing = Standing::Lost;
                 Err(self.fail())
             }
@@ -224,16 +237,44 @@ impl<F: CellFile> Cell for FileCell<F> {
     }
 }
 
+/// Whether a file was cut back.
+#[derive(Clone, Copy, Debug, PartialEq, Eq)]
+enum Mended {
+    Done,
+    /// That failed, and may be tried again.
+    Owed,
+    /// It can't be: somebody else has cut it further.
+    Never,
+}
+
 /// Cuts the file back, and syncs that.
-fn mend<F: CellFile>(file: &mut F, sure: u64) -> bool
+fn mend<F: CellFile>(file: &mut F, sure: u64) -> Mended
     requires spoilt { (F.about file.old).trust ≢ t.Sound }
     requires length { HasLength sure (F.about file.old).image }
     ensures same { IsSame (F.about file.old) (F.about file.new) }
-    ensures sound { result ≡ true → (F.about file.new).trust ≡ t.Sound }
-    ensures spoilt { result ≡ false → (F.about file.new).trust ≢ t.Sound }
+    ensures sound { result ≡ m.Done → (F.about file.new).trust ≡ t.Sound }
+    ensures spoilt { result ≢ m.Done → (F.about file.new).trust ≢ t.Sound }
 {
     match file.cut_back(sure) {
-        Ok(()) => file.sync_cut().is_ok(),
-        Err(_) => false,
+        Ok(()) => synced(file),
+        Err(FileFault::Shorter) => {
+            file.condemn();
+            Mended::Never
+        }
+        Err(FileFault::Device | FileFault::Elsewhere) => Mended::Owed,
+    }
+}
+
+// Syncs a file that was cut back.
+fn synced<F: CellFile>(file: &mut F) -> Mended
+    requires mending { (F.about file.old).trust ≡ t.Mending }
+    ensures same { IsSame (F.about file.old) (F.about file.new) }
+    ensures sound { result ≡ m.Done → (F.about file.new).trust ≡ t.Sound }
+    ensures spoilt { result ≢ m.Done → (F.about file.new).trust ≢ t.Sound }
+{
+    if file.sync_cut().is_ok() {
+        Mended::Done
+    } else {
+        Mended::Owed
     }
 }

@@ -19,7 +19,7 @@ mod trust;
 
 pub use cell::Cell;
 pub use cell_file::CellFile;
-pub use fault::{CellFault, SyncFault};
+pub use fault::{CellFault, FileFault};
 pub use file_cell::FileCell;
 pub use fuse::{Fuse, FuseState, How};
 pub use memory_cell::MemoryCell;

@@ -1,10 +1,10 @@
 use crate::cell_file::CellFile;
-use crate::fault::{CellFault, SyncFault};
+use crate::fault::{CellFault, FileFault};
 use crate::medium::Medium;
 use crate::trust::Trust;
 use std::alloc::Global;
 
-/// A file in memory, each of whose calls can be made to fail. After a failure a read gives nothing,
+/// A file in memory, each of whose calls can be made to fail. After a failure a read gives no bytes,
 /// until the file was cut back and that is synced.
 #[derive(Drop)]
 pub struct MemoryFile {
@@ -34,7 +34,7 @@ impl MemoryFile {
     }
 }
 
-// Whether the next call fails, which it then is no more.
+// Whether this call fails; the next call has the next bit.
 fn fails_next(failing: &mut u64) -> bool {
     let fails = *failing % 2 == 1;
     *failing /= 2;
@@ -71,8 +71,9 @@ impl CellFile for MemoryFile {
     }
 
     fn append(&mut self, bytes: &[u8]) -> Result<(), CellFault> {
+        let fails = fails_next(&mut self.failing);
         self.medium.append(bytes)?;
-        if fails_next(&mut self.failing) {
+        if fails {
             self.medium.fail(0);
             self.trust = Trust::Spoilt;
             return Err(CellFault::Device);
@@ -81,8 +82,9 @@ impl CellFile for MemoryFile {
     }
 
     fn cut(&mut self, len: usize) -> Result<(), CellFault> {
+        let fails = fails_next(&mut self.failing);
         self.medium.cut(len)?;
-        if fails_next(&mut self.failing) {
+        if fails {
             self.medium.fail(0);
             self.trust = Trust::Spoilt;
             return Err(CellFault::Device);
@@ -90,20 +92,20 @@ impl CellFile for MemoryFile {
         Ok(())
     }
 
-    fn sync(&mut self) -> Result<(), SyncFault> {
+    fn sync(&mut self, _len: u64) -> Result<(), FileFault> {
         if fails_next(&mut self.failing) {
             self.medium.fail(0);
             self.trust = Trust::Spoilt;
-            return Err(SyncFault::Device);
+            return Err(FileFault::Device);
         }
         self.medium.settle();
         Ok(())
     }
 
-    fn cut_back(&mut self, _len: u64) -> Result<(), CellFault> {
+    fn cut_back(&mut self, _len: u64) -> Result<(), FileFault> {
         if fails_next(&mut self.failing) {
             self.trust = Trust::Spoilt;
-            return Err(CellFault::Device);
+            return Err(FileFault::Device);
         }
         self.trust = Trust::Mending;
         Ok(())

@@ -1,6 +1,6 @@
 use crate::place::Place;
 use crate::text_end::find_text_end;
-use cell_device::{CellFault, CellFile, SyncFault, Trust};
+use cell_device::{CellFault, CellFile, FileFault, Trust};
 use std::alloc::Global;
 use std::fs::File;
 use std::io::{self, ErrorKind, Read, Seek, SeekFrom, Write};
@@ -78,28 +78,27 @@ impl CellFile for HostFile {
         }
     }
 
-    fn sync(&mut self) -> Result<(), SyncFault> {
-        if self.file.sync_all().is_err() {
-            self.trust = Trust::Spoilt;
-            return Err(SyncFault::Device);
-        }
+    fn sync(&mut self, len: u64) -> Result<(), FileFault> {
+        let synced = self.file.sync_all();
         // After the sync, so that the answer speaks of the file that the path leads to now.
-        if !self.place.leads_there() {
-            self.trust = Trust::Spoilt;
-            return Err(SyncFault::Elsewhere);
+        match after_sync(self.place.length(), len, synced.is_ok()) {
+            Ok(()) => Ok(()),
+            Err(fault) => {
+                self.trust = Trust::Spoilt;
+                Err(fault)
+            }
         }
-        Ok(())
     }
 
-    fn cut_back(&mut self, len: u64) -> Result<(), CellFault> {
-        match shorten_anew(&mut self.file, len) {
+    fn cut_back(&mut self, len: u64) -> Result<(), FileFault> {
+        match shorten_anew(&self.file, len) {
             Ok(()) => {
                 self.trust = Trust::Mending;
                 Ok(())
             }
-            Err(_) => {
+            Err(fault) => {
                 self.trust = Trust::Spoilt;
-                Err(CellFault::Device)
+                Err(fault)
             }
         }
     }
@@ -139,30 +138,63 @@ fn shorten(file: &File, len: u64) -> io::Result<()> {
     Ok(())
 }
 
-/// The same after a failure, where a shorter file is an error. Where the file seems to have the
-/// length already it may have another on the disk, and a cut that changes nothing might not be
-/// written: so it gets a byte first.
-fn shorten_anew(file: &mut File, len: u64) -> io::Result<()> {
-    let now = file.metadata()?.len();
-    if now < len {
-        return Err(ErrorKind::InvalidInput.into());
+/// The same after a failure. Where the file seems to have the length already it may have another on
+/// the disk, and a cut that changes nothing might not be written: so it gets a byte more first. That
+/// needs no room on the disk.
+fn shorten_anew(file: &File, len: u64) -> Result<(), FileFault> {
+    let Ok(about) = file.metadata() else {
+        return Err(FileFault::Device);
+    };
+    if about.len() < len {
+        return Err(FileFault::Shorter);
     }
-    if now == len {
-        file.write_all(&[0])?;
+    if about.len() == len && file.set_len(len.saturating_add(1)).is_err() {
+        return Err(FileFault::Device);
     }
-    file.set_len(len)
+    match file.set_len(len) {
+        Ok(()) => Ok(()),
+        Err(_) => Err(FileFault::Device),
+    }
 }
 
-/// Two zero bytes are damage wherever a record might begin: no record has the length 0, and no
+/// What a sync answers after which the file at its path has this length, where it was left with
+/// `len` bytes.
+fn after_sync(found: Option<u64>, len: u64, is_synced: bool) -> Result<(), FileFault> {
+    match found {
+        None => Err(FileFault::Elsewhere),
+        Some(now) if now < len => Err(FileFault::Shorter),
+        Some(now) if now > len && is_synced => Err(FileFault::Elsewhere),
+        Some(_) if is_synced => Ok(()),
+        Some(_) => Err(FileFault::Device),
+    }
+}
+
+/// So many zero bytes are damage wherever a record may begin: no record has the length 0, and no
 /// header begins so.
-const DAMAGE: [u8; 2] = [0, 0];
+const DAMAGE: u64 = 2;
+
+/// So many complete any record that was cut, and make another one of it, whose checksum is wrong.
+const LONGEST: u64 = 600;
 
 /// Cuts a cell that somebody else has cut to its whole records, and puts damage after them: every
-/// opening finds that, and none takes the cell for whole.
+/// opening finds that, and none takes the cell for whole. The zeros need no room on the disk.
 fn mark_damaged(file: &mut File, alloc: Global) -> io::Result<()> {
-    let bytes = read_whole(file, alloc)?;
-    let end = find_text_end(alloc, &bytes)?;
-    file.set_len(end as u64)?;
-    file.write_all(&DAMAGE)?;
+    match records_end(file, alloc) {
+        Ok(end) => {
+            file.set_len(end)?;
+            file.set_len(end.saturating_add(DAMAGE))?;
+        }
+        // Where the records end can't be found. In the older layout, which has no checksums, the
+        // zeros may complete a record: they are better than a cell that seems whole.
+        Err(_) => {
+            let len = file.metadata()?.len();
+            file.set_len(len.saturating_add(LONGEST))?;
+        }
+    }
     file.sync_all()
+}
+
+fn records_end(file: &mut File, alloc: Global) -> io::Result<u64> {
+    let bytes = read_whole(file, alloc)?;
+    Ok(find_text_end(alloc, &bytes)? as u64)
 }

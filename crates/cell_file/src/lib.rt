@@ -1,5 +1,6 @@
 //! Cells in files of the system: `cell_device::FileCell` over the system's calls. No contract says
-//! what a file of the system holds; this crate makes the calls, and nothing more.
+//! what a file of the system holds, so this crate does little beside making the calls: it looks at
+//! lengths and paths, and marks a cell that somebody else has cut.
 //!
 //! ```
 //! match open_cell(rt, path, Creation::Never) {

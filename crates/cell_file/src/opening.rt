@@ -85,7 +85,7 @@ fn settle(rt: &HostRuntime, path: &str, file: File) -> io::Result<HostFile>
     folder.sync_all()?;
     // Before the lock the path may have been led elsewhere: to a file that has replaced this one,
     // or over a link, where this one lies in another folder than the one that is synced.
-    if !place.leads_there() {
+    if place.length().is_none() {
         return Err(ErrorKind::NotFound.into());
     }
     Ok(HostFile::new(rt.alloc(), file, place))

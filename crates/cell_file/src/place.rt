@@ -26,11 +26,13 @@ impl Place {
         })
     }
 
-    /// Whether the path leads to the file, without a link at its end.
-    pub fn leads_there(&self) -> bool {
+    /// The file's length; none where the path doesn't lead to it, without a link at its end.
+    pub fn length(&self) -> Option<u64> {
         match fs::symlink_metadata(&self.rt, self.path.as_str()) {
-            Ok(about) => about.dev() == self.device && about.ino() == self.inode,
-            Err(_) => false,
+            Ok(about) if about.dev() == self.device && about.ino() == self.inode => {
+                Some(about.len())
+            }
+            _ => None,
         }
     }
 }

@@ -1,16 +1,17 @@
-use Rattle.std.proofs.Common.{sym, subst}
+use Rattle.std.proofs.Common.{◌∙◌, sym, subst}
 use Rattle.cell_device.specs.Images.{AllowsCut, cut_to}
 use Rattle.cell_device.proofs.Files.{sure_after_cut, not_cut, length_cut, changed_device}
 use Rattle.cell_device.proofs.file_cell.FileCellCell.cut.Goals as goal
 
 pub invariant_of-self : goal.invariant_of-self
 invariant_of-self g c =
-    let cell = c.begin.new.self in
-    let sound = c.in_ok-begin.ensures.sound in
+    let cell = c.expect_length.new.self in
+    let sound = c.in_ok-expect_length.ensures.sound in
     let old = (g.F.CellFile.about cell.file).image in
     let new = (g.F.CellFile.about c.cut.new.self).image in
     let allows : AllowsCut c.args.len old =
-    subst (AllowsCut c.args.len) (sym c.in_ok-begin.ensures.same.image) c.requires in record {
+    subst (AllowsCut c.args.len)
+    (sym (c.in_ok-expect_length.ensures.same.image ∙ c.in_ok-begin.ensures.same.image)) c.requires in record {
       sound = λ e. c.in-Ok.ensures.does.trust_is;
       owed = λ e. absurd (cc (e, sound));
       sure_is = λ e. rw c.min-self.ensures
@@ -25,12 +26,13 @@ invariant_of-self g c =
 
 pub invariant_of-self-in-Err-Device : goal.invariant_of-self-in-Err-Device
 invariant_of-self-in-Err-Device g c =
-    let cell = c.begin.new.self in
-    let sound = c.in_ok-begin.ensures.sound in
+    let cell = c.expect_length.new.self in
+    let sound = c.in_ok-expect_length.ensures.sound in
     let old = (g.F.CellFile.about cell.file).image in
     let new = (g.F.CellFile.about c.cut.new.self).image in
     let allows : AllowsCut c.args.len old =
-    subst (AllowsCut c.args.len) (sym c.in_ok-begin.ensures.same.image) c.requires in
+    subst (AllowsCut c.args.len)
+    (sym (c.in_ok-expect_length.ensures.same.image ∙ c.in_ok-begin.ensures.same.image)) c.requires in
     let does = changed_device (cut_to c.args.len) (g.F.CellFile.about cell.file)
     (g.F.CellFile.about c.cut.new.self) c.cut.result c.cut.ensures.does
     (cc (c.in-Err-Device.is, c.in-Err-Device.field-0-is)) in
