@@ -7,7 +7,7 @@ use Rattle.std.specs.Option.{ForSome}
 use Rattle.std.proofs.lemmas.Bool.{cases_lt}
 use Rattle.cell_device.specs.Images.{Image, Leaves, AllowsAppend, AllowsCut, keeps}
 use Rattle.cell_device.specs.Images.{at_rest, with_bytes, cut_to, all_synced, same_image}
-use Rattle.cell_device.specs.Files.{FileState, HasLength, IsSure, sure_of, spoilt}
+use Rattle.cell_device.specs.Files.{FileState, HasLength, IsSame, IsSure, sure_of, spoilt}
 use Rattle.cell_device.specs.Files.{IsChanged, Changes, Syncs}
 use Rattle.cell_device.specs.declared.fault.CellFault.{CellFault}
 use Rattle.cell_device.specs.declared.fault.CellFault.TheVariants as faults
@@ -77,6 +77,15 @@ became P what (Some i) new is each = λ j e. subst P (same (what i) j new is e) 
   where
     same : (a b : Image) (o : Option Image) → o ≡ Some a → o ≡ Some b → a ≡ b
     same a b o is e = cc (is, e)
+
+-- the same, and then the same again
+pub then_same : (a b c : FileState) → IsSame a b → IsSame b c → IsSame a c
+then_same a b c first second = record {
+  image = second.image ∙ first.image;
+  moment = second.moment ∙ first.moment;
+  nothing_else = λ t bytes left. first.nothing_else t bytes (second.nothing_else t bytes left);
+  nothing_less = λ t bytes left. second.nothing_less t bytes (first.nothing_less t bytes left);
+}
 
 -- no image has two lengths
 pub unknown : (n m : ℕ) (image : Option Image) → HasLength n image → HasLength m image → n ≢ m

@@ -62,8 +62,8 @@ pub trait CellFile {
     /// Somebody else has cut the file, which happens to none whose bytes are known: it is changed so
     /// that whoever opens it from now on finds it damaged.
     fn condemn(&mut self)
-        requires unknown { (about self.old).image ≡ None }
-        ensures still { IsStill (about self.old).trust (about self.old) (about self.new) };
+        ensures still { (about self.old).image ≡ None
+            → IsStill (about self.old).trust (about self.old) (about self.new) };
 
     // What a read gives, or will, is among what a crash now may leave.
     ghost seen_now: { (file : Self) (i : Image) → (about file).image ≡ Some i → Leaves i i.seen };

@@ -112,13 +112,18 @@ impl<F: CellFile> FileCell<F> {
         ensures cause { HasCause Device self.old.failures self.new.failures result }
     {
         match self.file.length() {
-            Ok(length) if length == self.given => return Ok(()),
-            Ok(length) if length < self.given => self.file.condemn(),
+            Ok(length) if length == self.given => Ok(()),
+            Ok(length) if length < self.given => {
+                self.standing = Standing::Lost;
+                self.file.condemn();
+                Err(self.fail())
+            }
             // Somebody else has lengthened it, or its length can't be had.
-            _ => {}
+            _ => {
+                self.standing = Standing::Lost;
+                Err(self.fail())
+            }
         }
-        self.standing = Standing::Lost;
-        Err(self.fail())
     }
 
     /// A change or a sync of the file failed: it is cut back at once, since there may be no next
@@ -229,8 +234,8 @@ impl<F: CellFile> Cell for FileCell<F> {
                 Err(self.fail())
             }
             Err(FileFault::Shorter) => {
-                self.file.condemn();
                 self.standing = Standing::Lost;
+                self.file.condemn();
                 Err(self.fail())
             }
         }
