@@ -1,7 +1,7 @@
 -- One more record of a cell, and what is found of one more version.
 use Rattle.std.proofs.Common.{◌≡◌, ℕ, ◌+◌, ◌<◌, List, [], ◌∷◌, ◌++◌, length, take, get_or, refl}
-use Rattle.std.proofs.Common.{sym, ap, subst, ◌∙◌, append_assoc, Option, Some, None, Result, Ok}
-use Rattle.std.proofs.Common.{Err, IfSome}
+use Rattle.std.proofs.Common.{sym, ap, subst, ◌∙◌, append_assoc, Result, Ok}
+use Rattle.std.proofs.Common.{Err}
 use Rattle.std.proofs.lemmas.List.{map_push, take_more}
 use Rattle.std.proofs.lemmas.List.Sums.{fold-append}
 use Rattle.std.specs.Prelude.{map, OnOk}

@@ -1,6 +1,6 @@
 -- What is counted of a cell, part by part.
-use Rattle.std.proofs.Common.{◌≡◌, ◌⊎◌, ◌≢◌, ℕ, List, [], ◌++◌, Option, None, Some, refl, sym, ap}
-use Rattle.std.proofs.Common.{◌∙◌, subst, inl, inr, append_assoc, append-nil}
+use Rattle.std.proofs.Common.{◌≡◌, ◌⊎◌, ℕ, List, [], ◌++◌, Option, None, Some, refl, sym}
+use Rattle.std.proofs.Common.{ap, ◌∙◌, subst, inl, inr, append_assoc, append-nil, true}
 use Rattle.std.proofs.lemmas.List.{map-append}
 use Rattle.std.specs.Prelude.{IsSome, is_some, IfOk, Result, Ok, Err}
 use Rattle.std.specs.declared.alloc.AllocError.{AllocError}
@@ -14,6 +14,7 @@ use Rattle.ledger.specs.declared.ending.Ending.TheVariants as endings
 use Rattle.ledger.specs.declared.part.Head.{Head}
 use Rattle.ledger.specs.declared.part.LastPart.{LastPart}
 use Rattle.ledger.specs.declared.part.Part.{Part}
+use Rattle.ledger.specs.Cells.{Said}
 use Rattle.ledger.specs.Parts.{Told, nothing, and_part, told_of, Fits, HasTold, HasToldBy, IsWhole}
 use Rattle.ledger.specs.Parts.{IsDamaged, TellsLast}
 use Rattle.audit.specs.Evidence.{SiteRecord}
@@ -22,24 +23,33 @@ use Rattle.audit_command.specs.declared.cell_reading.CellReading.{CellReading}
 use Rattle.audit_command.specs.declared.evidence.Evidence.{Evidence}
 use Rattle.audit_command.specs.declared.standing.Standing.{Standing}
 use Rattle.audit_command.specs.declared.standing.Standing.TheVariants.{Unknown, Member, Foreign}
-use Rattle.audit_command.specs.CellReadings.{IsMembers, IsReadingOf, damage_of, head_of, of_site}
+use Rattle.audit_command.specs.CellReadings.{IsMembers, IsReadingOf, all_but, damage_of, head_of}
+use Rattle.audit_command.specs.CellReadings.{of_site}
 use Rattle.audit_command.specs.inner.Gathered.{IsEvidence}
-use Rattle.audit_command.specs.inner.Standings.{IsStanding, IsStandingAfter, HasStanding}
+use Rattle.audit_command.specs.inner.Standings.{IsStanding, IsStandingAfter, HasStanding, IsSplit}
 use Rattle.audit_command.specs.inner.Standings.{counted_as, fault_of, HasCounted, IsCounted}
 use Rattle.audit_command.specs.inner.Standings.{IsLastCounted, IsPartCounted}
+use Rattle.audit_command.proofs.SplitRecords.{none_split, split_on, split_is, nothing_sure}
 
 -- ---- records are told of a cell alone whose head is
 
 abbrev IsSound : Told → Type 0
 IsSound told = (told ≡ nothing) ⊎ IsSome told.head
 
-headed : (told : Told) (head : Head) → told.head ≡ Some head → IsSome told.head
-headed told head is = ap is_some is
+-- that head names the weights, while more may come
+abbrev IsNamed : Told → Type 0
+IsNamed told =
+    (told ≡ nothing)
+    ⊎ ((owner : Owner) × (told.head ≡ Some (record { owner = owner; names_weights = true })))
 
-told_so_far : (o : Option Owner) (passed : ℕ) (kept taken : List ℕ) (told : Told)
-    → HasToldBy o passed kept taken told → IsSound told
-told_so_far None passed kept taken told h = inl h.1
-told_so_far (Some owner) passed kept taken told h = inr (headed told _ h.head_is)
+named_so_far : (o : Option Owner) (passed : ℕ) (kept taken : List ℕ) (told : Told)
+    → HasToldBy o passed kept taken told → IsNamed told
+named_so_far None passed kept taken told h = inl h.1
+named_so_far (Some owner) passed kept taken told h = inr (owner, h.head_is)
+
+sound_so_far : (told : Told) → IsNamed told → IsSound told
+sound_so_far told (inl none) = inl none
+sound_so_far told (inr (owner, is)) = inr (ap is_some is)
 
 all_told : (bytes : List ℕ) (told : Told) (ending : Ending) → IsWhole bytes told ending
     → IsSound told
@@ -62,6 +72,17 @@ more_counted (Member site) records more =
     map-append (λ r. record { site = site; kept = r }) records more
 more_counted Foreign records more = refl
 
+-- whose a cell is whose header names the weights doesn't depend on its records
+still_members : (members : Membership) (head : Head) (owner : Owner) (records more : List Record)
+    → head ≡ record { owner = owner; names_weights = true }
+    → IsMembers members head records → IsMembers members head more
+still_members members head owner records more is h =
+    subst (λ (h : Head). IsMembers members h more) (sym is)
+    (subst (λ (h : Head). IsMembers members h records) is h)
+
+some_is : (a b : Head) → ◌≡◌ {A = Option Head} (Some a) (Some b) → a ≡ b
+some_is a b e = cc e
+
 module _ (members : Membership) (told : Told) (records : List Record) where
   abbrev joined : Option Head → Told
   joined head = record {
@@ -69,55 +90,83 @@ module _ (members : Membership) (told : Told) (records : List Record) where
     records = told.records ++ records;
   }
 
-  abbrev IsJoined : (before after : Standing) → Option Head → Type 0
-  IsJoined before after head =
-      HasStanding members (joined head) after
-      × (counted_as after (told.records ++ records)
-      ≡ counted_as before told.records ++ counted_as after records)
+  -- whose it is now; of what was counted before it makes no difference
+  abbrev IsJoined : (sure : List Record) (before after : Standing) → Option Head → Type 0
+  IsJoined sure before after head =
+      HasStanding members (joined head) after × (counted_as before sure ≡ counted_as after sure)
 
-  -- without a head the standing stays
-  headless : (before : Standing) → HasStanding members told before → IsSound (joined None)
-      → IsJoined before before None
-  headless Unknown h (inl none) = (none, refl)
-  headless Unknown h (inr some) =
-      absurd (cc (sym some ∙ ap (λ (t : Told). is_some (option_or t.head None)) h))
-  headless (Member site) h sound = (
-    (h.0, ap (λ (head : Option Head). option_or head None) h.1, h.2),
-    more_counted (Member site) told.records records,
-  )
-  headless Foreign h sound =
-      ((h.0, ap (λ (head : Option Head). option_or head None) h.1, h.2), refl)
+  module _ (sure : List Record) (none_sure : told ≡ nothing → sure ≡ []) where
+    -- without a head the standing stays
+    headless : (before : Standing) → HasStanding members told before → IsNamed told
+        → IsSound (joined None) → IsJoined sure before before None
+    headless Unknown h named (inl none) = (none, refl)
+    headless Unknown h named (inr some) =
+        absurd (cc (sym some ∙ ap (λ (t : Told). is_some (option_or t.head None)) h))
+    headless (Member site) (head, is, h) (inl none) sound =
+        absurd (cc (sym is ∙ ap (λ (t : Told). t.head) none))
+    headless (Member site) (head, is, (its, of)) (inr (owner, named)) sound = (
+      (
+        head,
+        ap (λ (head : Option Head). option_or head None) is,
+        (
+          still_members members head owner told.records (told.records ++ records)
+              (some_is head _ (sym is ∙ named)) its,
+          of,
+        ),
+      ),
+      refl,
+    )
+    headless Foreign (head, is, h) (inl none) sound =
+        absurd (cc (sym is ∙ ap (λ (t : Told). t.head) none))
+    headless Foreign (head, is, not) (inr (owner, named)) sound = (
+      (
+        head,
+        ap (λ (head : Option Head). option_or head None) is,
+        λ its. not (still_members members head owner (told.records ++ records) told.records
+            (some_is head _ (sym is ∙ named)) its),
+      ),
+      refl,
+    )
 
-  -- nothing was told before the head
-  with_head : (before after : Standing) (head : Head) → told ≡ nothing
-      → IsStanding members head after → IsJoined before after (Some head)
-  with_head before after head none standing = (stands after standing, counted)
-    where
-      head_is : option_or told.head (Some head) ≡ Some head
-      head_is = ap (λ (t : Told). option_or t.head (Some head)) none
+    -- nothing was told before the head
+    with_head : (before after : Standing) (head : Head) → told ≡ nothing
+        → IsStanding members head records after → IsJoined sure before after (Some head)
+    with_head before after head none standing = (stands after standing, counted)
+      where
+        head_is : option_or told.head (Some head) ≡ Some head
+        head_is = ap (λ (t : Told). option_or t.head (Some head)) none
 
-      stands : (after : Standing) → IsStanding members head after
-          → HasStanding members (joined (Some head)) after
-      stands Unknown h = absurd h
-      stands (Member site) h = (head, head_is, h)
-      stands Foreign h = (head, head_is, h)
+        records_are : records ≡ told.records ++ records
+        records_are = ap (λ (t : Told). t.records ++ records) (sym none)
 
-      counted : counted_as after (told.records ++ records)
-          ≡ counted_as before told.records ++ counted_as after records
-      counted = ap (λ (t : Told). counted_as after (t.records ++ records)) none
-          ∙ ap (λ (front : List SiteRecord). front ++ counted_as after records)
-          (sym (none_counted before)
-          ∙ ap (λ (t : Told). counted_as before t.records) (sym none))
+        stands : (after : Standing) → IsStanding members head records after
+            → HasStanding members (joined (Some head)) after
+        stands Unknown h = absurd h
+        stands (Member site) h = (
+          head,
+          head_is,
+          subst (λ (rs : List Record). IsStanding members head rs (Member site)) records_are h,
+        )
+        stands Foreign h = (
+          head,
+          head_is,
+          subst (λ (rs : List Record). IsStanding members head rs Foreign) records_are h,
+        )
 
-  next_part : (before after : Standing) (head : Option Head) → HasStanding members told before
-      → (told ≡ nothing) ⊎ (head ≡ None) → IsSound (joined head)
-      → IsStandingAfter members before head after → IsJoined before after head
-  next_part before after None h fits sound same =
-      subst (λ (after : Standing). IsJoined before after None) (sym same)
-      (headless before h sound)
-  next_part before after (Some head) h (inl none) sound standing =
-      with_head before after head none standing
-  next_part before after (Some head) h (inr e) sound standing = absurd (cc e)
+        counted : counted_as before sure ≡ counted_as after sure
+        counted = ap (counted_as before) (none_sure none) ∙ none_counted before
+            ∙ sym (none_counted after) ∙ ap (counted_as after) (sym (none_sure none))
+
+    next_part : (before after : Standing) (head : Option Head)
+        → HasStanding members told before → IsNamed told
+        → (told ≡ nothing) ⊎ (head ≡ None) → IsSound (joined head)
+        → IsStandingAfter members before head records after → IsJoined sure before after head
+    next_part before after None h named fits sound same =
+        subst (λ (after : Standing). IsJoined sure before after None) (sym same)
+        (headless before h named sound)
+    next_part before after (Some head) h named (inl none) sound standing =
+        with_head before after head none standing
+    next_part before after (Some head) h named (inr e) sound standing = absurd (cc e)
 
 -- what is counted in two steps
 in_two : (members : Membership) (evidence : Evidence) (given first next all : List SiteRecord)
@@ -128,95 +177,164 @@ in_two members evidence given first next all is h =
     (subst (IsEvidence members evidence) (append_assoc given first next) h)
 
 -- a cell of which nothing was read
-pub none_read : (members : Membership) (evidence : Evidence) (given : List SiteRecord)
-    (reading : CellReading) → reading.standing ≡ Unknown → HasTold reading.reader [] nothing
-    → IsEvidence members evidence given → HasCounted members reading evidence [] given
-none_read members evidence given reading is told h = (
+pub none_read : (members : Membership) (unsure : ℕ) (evidence : Evidence)
+    (given : List SiteRecord) (reading : CellReading) → reading.standing ≡ Unknown
+    → HasTold reading.reader [] nothing → reading.last.unsure ≡ unsure
+    → reading.last.records.items ≡ [] → IsEvidence members evidence given
+    → HasCounted members unsure reading evidence [] given
+none_read members unsure evidence given reading is told most none h = (
   nothing,
-  told,
-  subst (HasStanding members nothing) (sym is) refl,
-  subst (λ (s : Standing). IsEvidence members evidence (given ++ counted_as s [])) (sym is)
-      (subst (IsEvidence members evidence) (sym (append-nil given)) h),
+  [],
+  record {
+    told_is = told;
+    standing_is = subst (HasStanding members nothing) (sym is) refl;
+    unsure_is = most;
+    split = none_split unsure reading.last.records.items none;
+    counted =
+        subst (λ (s : Standing). IsEvidence members evidence (given ++ counted_as s [])) (sym is)
+        (subst (IsEvidence members evidence) (sym (append-nil given)) h);
+  },
 )
 
--- a part was counted
-module _ (members : Membership) (old new : Evidence) (taken : List ℕ) (given : List SiteRecord)
-    (reading : CellReading) (had : HasCounted members reading old taken given) where
+-- a part was counted, after which the reader is this one
+module _ (members : Membership) (unsure : ℕ) (old new : Evidence) (taken : List ℕ)
+    (given : List SiteRecord) (before : CellReading)
+    (had : HasCounted members unsure before old taken given) (reader : CellReader)
+    (after : CellReading) where
   abbrev told : Told
   told = had.0
 
-  pub part_counted : (after : CellReading) (bytes : List ℕ) (part : Part)
-      → Fits told part × HasTold after.reader bytes (and_part told part)
-      → IsPartCounted members old new reading.standing part.head part.records.items after.standing
-      → HasCounted members after new bytes given
-  part_counted after bytes part tells h =
-      let is = next_part members told part.records.items reading.standing after.standing part.head
-      had.2 tells.0
-      (told_so_far after.reader.owner after.reader.passed after.reader.bytes.items bytes
-      (and_part told part) tells.1) h.0 in (
-        and_part told part,
-        tells.1,
-        is.0,
-        in_two members new given (counted_as reading.standing told.records)
-            (counted_as after.standing part.records.items) _ is.1 (h.1 members _ had.3),
+  abbrev sure : List Record
+  sure = had.1
+
+  abbrev between : CellReading
+  between = record { reader = reader; standing = before.standing; last = before.last }
+
+  is_named : IsNamed told
+  is_named = named_so_far before.reader.owner before.reader.passed before.reader.bytes.items taken
+      told had.2.told_is
+
+  -- what is told, and sure, with this part
+  abbrev now_told : Part → Told
+  now_told part = and_part told part
+
+  record IsCountedWith (part : Part) (all : List Record) : Type 0 where
+    standing_is : HasStanding members (now_told part) after.standing
+    unsure_is : after.last.unsure ≡ unsure
+    split : IsSplit unsure (now_told part).records all after.last.records.items
+    counted : IsEvidence members new (given ++ counted_as after.standing all)
+
+  with_part : (part : Part) (more : List Record) → Fits told part → IsSound (now_told part)
+      → IsPartCounted members old new between after part more
+      → IsCountedWith part (sure ++ more)
+  with_part part more fits sound h =
+      let is = next_part members told part.records.items sure
+      (λ none. nothing_sure unsure told.records sure before.last.records.items
+      (ap (λ (t : Told). t.records) none) had.2.split)
+      before.standing after.standing part.head had.2.standing_is is_named fits sound h.standing_is in
+      record {
+        standing_is = is.0;
+        unsure_is = h.unsure_is ∙ had.2.unsure_is;
+        split = split_on unsure told.records sure before.last.records.items part.records.items more
+            after.last.records.items had.2.split
+            (subst (λ (n : ℕ). IsSplit n (before.last.records.items ++ part.records.items) more
+            after.last.records.items) had.2.unsure_is h.split);
+        counted = in_two members new given (counted_as before.standing sure)
+            (counted_as after.standing more) (counted_as after.standing (sure ++ more))
+            (more_counted after.standing sure more
+            ∙ ap (λ (first : List SiteRecord). first ++ counted_as after.standing more)
+            (sym is.1)) (h.counted members _ had.2.counted);
+      }
+
+  pub part_counted : (bytes : List ℕ) (part : Part)
+      → Fits told part × HasTold reader bytes (and_part told part)
+      → (more : List Record) × IsPartCounted members old new between after part more
+      → HasCounted members unsure after new bytes given
+  part_counted bytes part tells (more, h) =
+      let sound = sound_so_far (now_told part) (named_so_far reader.owner reader.passed
+      reader.bytes.items bytes (now_told part) tells.1) in
+      let is = with_part part more tells.0 sound h in (
+        now_told part,
+        sure ++ more,
+        record {
+          told_is = subst (λ (r : CellReader). HasTold r bytes (now_told part)) (sym h.reader_is)
+              tells.1;
+          standing_is = is.standing_is;
+          unsure_is = is.unsure_is;
+          split = is.split;
+          counted = is.counted;
+        },
       )
 
   -- and the last one
   pub last_counted : (bytes : List ℕ) (last : LastPart) (fault : Option CellDefect)
       → TellsLast bytes told last
-      → IsLastCounted members old new reading.standing last fault
-      → IsCounted members new bytes given fault
-  last_counted bytes last fault tells (after, h, is_fault) =
-      let all = and_part told last.part in
-      let is = next_part members told last.part.records.items reading.standing after
-      last.part.head had.2 tells.0 (all_told bytes all last.ending tells.1) h.0 in (
-        counted_as after all.records,
+      → IsLastCounted members old new between after last fault
+      → IsCounted members unsure new bytes given fault
+  last_counted bytes last fault tells ((more, h), is_fault) =
+      let all = now_told last.part in
+      let is = with_part last.part more tells.0 (all_told bytes all last.ending tells.1) h in
+      let counted : sure ++ more ≡ all_but unsure all.records =
+      split_is unsure all.records (sure ++ more) after.last.records.items is.split in (
+        counted_as after.standing (sure ++ more),
         subst
-            (λ (f : Option CellDefect). IsReadingOf members bytes f (counted_as after all.records))
-            (sym is_fault) (read members bytes all last.ending after tells.1 is.0),
-        in_two members new given (counted_as reading.standing told.records)
-            (counted_as after last.part.records.items) _ is.1 (h.1 members _ had.3),
+            (λ (f : Option CellDefect). IsReadingOf members unsure bytes f
+            (counted_as after.standing (sure ++ more))) (sym is_fault)
+            (subst
+            (λ (rs : List Record). IsReadingOf members unsure bytes
+            (fault_of after.standing last.ending) (counted_as after.standing rs)) (sym counted)
+            (read members unsure bytes all last.ending after.standing tells.1 is.standing_is)),
+        is.counted,
       )
     where
-      some_is : (a b : Head) → ◌≡◌ {A = Option Head} (Some a) (Some b) → a ≡ b
-      some_is a b e = cc e
-
       no_head : (all : Told) (head : Head) → all ≡ nothing → all.head ≡ Some head → ⊥
       no_head all head none is = cc (sym is ∙ ap (λ (t : Told). t.head) none)
 
-      read : (members : Membership) (bytes : List ℕ) (all : Told) (ending : Ending)
+      same_head : (all : Told) (head : Head) (said : Said) → all ≡ told_of said
+          → all.head ≡ Some head → head ≡ head_of said
+      same_head all head said t its =
+          some_is head (head_of said) (sym its ∙ ap (λ (t : Told). t.head) t)
+
+      read : (members : Membership) (unsure : ℕ) (bytes : List ℕ) (all : Told) (ending : Ending)
           (standing : Standing) → IsWhole bytes all ending → HasStanding members all standing
-          → IsReadingOf members bytes (fault_of standing ending)
-          (counted_as standing all.records)
-      read members bytes all ending Unknown (inl (said, is, e, t)) none =
+          → IsReadingOf members unsure bytes (fault_of standing ending)
+          (counted_as standing (all_but unsure all.records))
+      read members unsure bytes all ending Unknown (inl (said, is, e, t)) none =
           absurd (cc (sym (ap (λ (t : Told). t.head) t) ∙ ap (λ (t : Told). t.head) none))
-      read members bytes all ending (Member site) (inl (said, is, e, t)) (head, its, (its_members, of)) =
-          let same : head ≡ head_of said =
-          some_is head (head_of said) (sym its ∙ ap (λ (t : Told). t.head) t) in
+      read members unsure bytes all ending (Member site) (inl (said, is, e, t)) (head, its, (its_members, of)) =
+          let same = same_head all head said t its in
+          let records : all.records ≡ said.records = ap (λ (t : Told). t.records) t in
           inr (
             said,
             is,
             inl (
-              subst (IsMembers members) same its_members,
+              subst (IsMembers members (head_of said)) records
+                  (subst (λ (h : Head). IsMembers members h all.records) same its_members),
               ap damage_of (sym e),
-              ap (λ (n : ℕ). of_site n all.records)
+              ap (λ (n : ℕ). of_site n (all_but unsure all.records))
                   (of ∙ ap (λ (h : Head). h.owner.site) same)
-                  ∙ ap (λ (t : Told). of_site said.owner.site t.records) t,
+                  ∙ ap (λ (rs : List Record). of_site said.owner.site (all_but unsure rs)) records,
             ),
           )
-      read members bytes all ending Foreign (inl (said, is, e, t)) (head, its, not) =
-          let same : head ≡ head_of said =
-          some_is head (head_of said) (sym its ∙ ap (λ (t : Told). t.head) t) in
+      read members unsure bytes all ending Foreign (inl (said, is, e, t)) (head, its, not) =
+          let same = same_head all head said t its in
+          let records : all.records ≡ said.records = ap (λ (t : Told). t.records) t in
           inr (
             said,
             is,
-            inr (λ its_members. not (subst (IsMembers members) (sym same) its_members), refl, refl),
+            inr (
+              λ its_members. not
+                  (subst (λ (h : Head). IsMembers members h all.records) (sym same)
+                  (subst (IsMembers members (head_of said)) (sym records) its_members)),
+              refl,
+              refl,
+            ),
           )
-      read members bytes all ending Unknown (inr (no_owner, ends, t)) none =
+      read members unsure bytes all ending Unknown (inr (no_owner, ends, t)) none =
           inl (no_owner, (refl, refl))
-      read members bytes all ending (Member site) (inr (no_owner, ends, t)) (head, its, h) =
+      read members unsure bytes all ending (Member site) (inr (no_owner, ends, t)) (head, its, h) =
           absurd (no_head all head t its)
-      read members bytes all ending Foreign (inr (no_owner, ends, t)) (head, its, h) =
+      read members unsure bytes all ending Foreign (inr (no_owner, ends, t)) (head, its, h) =
           absurd (no_head all head t its)
 
 -- of a damaged cell something is amiss
@@ -231,15 +349,16 @@ damage_amiss standing ending (place, is) =
     by Foreign = refl
 
 -- where the cell ends
-pub end_counted : (members : Membership) (old new : Evidence) (reading : CellReading)
+pub end_counted : (members : Membership) (old new : Evidence) (before after : CellReading)
     (last : LastPart)
-    → ((taken : List ℕ) (told : Told) → HasTold reading.reader taken told
+    → ((taken : List ℕ) (told : Told) → HasTold before.reader taken told
     → TellsLast taken told last)
     → (result : Result (Option CellDefect) AllocError)
-    → IfOk result (IsLastCounted members old new reading.standing last)
-    → IfOk result (λ fault. (taken : List ℕ) (given : List SiteRecord)
-    → HasCounted members reading old taken given → IsCounted members new taken given fault)
-end_counted members old new reading last tells (Err e) h = tt
-end_counted members old new reading last tells (Ok fault) h = λ taken given had.
-    last_counted members old new taken given reading had taken last fault
-    (tells taken had.0 had.1) h
+    → IfOk result (IsLastCounted members old new before after last)
+    → IfOk result (λ fault. (unsure : ℕ) (taken : List ℕ) (given : List SiteRecord)
+    → HasCounted members unsure before old taken given
+    → IsCounted members unsure new taken given fault)
+end_counted members old new before after last tells (Err e) h = tt
+end_counted members old new before after last tells (Ok fault) h = λ unsure taken given had.
+    last_counted members unsure old new taken given before had before.reader after taken last fault
+    (tells taken had.0 had.2.told_is) h

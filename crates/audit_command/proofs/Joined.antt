@@ -15,7 +15,8 @@ use Rattle.audit_command.specs.declared.gathered.Gathered.{Gathered}
 use Rattle.audit_command.specs.declared.version.Version.{Version}
 use Rattle.audit_command.specs.Audits.{IsRead, AreReadings, all_used, status_of}
 use Rattle.audit_command.specs.Files.{Files}
-use Rattle.audit_command.specs.Lines.{reading_line, version_line, counts_line, audit_text}
+use Rattle.audit_command.specs.Lines.{reading_line, use_line, version_line, counts_line}
+use Rattle.audit_command.specs.Lines.{audit_text}
 use Rattle.audit_command.specs.CellReadings.{Reading, all_given}
 use Rattle.audit_command.specs.Versions.{count_of, is_conflict}
 use Rattle.audit_command.specs.inner.Gathered.{IsEvidence, IsGathered}
@@ -34,13 +35,16 @@ and_true false = refl
 pub one_reading : (members : Membership) (old new : Gathered) (readings : List Reading)
     (r : Reading) → IsGathered members old readings
     → IsEvidence members new.evidence (all_given readings ++ r.given)
+    → string_bytes new.in_use ≡ string_bytes old.in_use ++ use_line r
     → string_bytes new.text ≡ string_bytes old.text ++ reading_line r
     → new.all_used ≡ (old.all_used && is_none r.fault)
     → IsGathered members new (readings ++ r ∷ [])
-one_reading members old new readings r is evidence text used = record {
+one_reading members old new readings r is evidence in_use text used = record {
   evidence =
       subst (λ (given : List SiteRecord). IsEvidence members new.evidence given)
       (sym (joined (λ (r : Reading). r.given) readings r)) evidence;
+  in_use_is = in_use ∙ ap (λ (lines : List ℕ). lines ++ use_line r) is.in_use_is
+      ∙ sym (joined use_line readings r);
   text_is = text ∙ ap (λ (lines : List ℕ). lines ++ reading_line r) is.text_is
       ∙ sym (joined reading_line readings r);
   used = used ∙ ap (λ (t : Bool). t && is_none r.fault) is.used
@@ -74,13 +78,17 @@ status_as used n readings versions same count =
     ap (λ (t : Bool). cond (t && n == 0) 0 1) same
     ∙ ap (λ (k : ℕ). cond (all_used readings && k == 0) 0 1) count
 
-pub text_as : (readings : List Reading) (versions : List Version) (first next last : List ℕ)
-    → first ≡ flat_map reading_line readings
+pub text_as : (readings : List Reading) (versions : List Version)
+    (in_use faults shown first next last : List ℕ) → in_use ≡ flat_map use_line readings
+    → faults ≡ flat_map reading_line readings → shown ≡ faults → first ≡ in_use ++ shown
     → next ≡ first ++ flat_map version_line versions → last ≡ next ++ counts_line versions
     → last ≡ audit_text readings versions
 unfolding audit_text
-text_as readings versions first next last is more counts =
+text_as readings versions in_use faults shown first next last uses is same both more counts =
+    let rest = flat_map version_line versions ++ counts_line versions in
     counts ∙ ap (λ (text : List ℕ). text ++ counts_line versions) more
     ∙ append_assoc first (flat_map version_line versions) (counts_line versions)
-    ∙ ap
-    (λ (text : List ℕ). text ++ (flat_map version_line versions ++ counts_line versions)) is
+    ∙ ap (λ (text : List ℕ). text ++ rest) both
+    ∙ append_assoc in_use shown rest
+    ∙ ap (λ (text : List ℕ). text ++ (shown ++ rest)) uses
+    ∙ ap (λ (text : List ℕ). flat_map use_line readings ++ (text ++ rest)) (same ∙ is)

@@ -1,5 +1,6 @@
 pub mod Counted
 pub mod CountedParts
 pub mod Joined
+pub mod SplitRecords
 pub mod TakenBytes
 pub mod WrittenAnswers

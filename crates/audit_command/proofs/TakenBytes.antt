@@ -7,8 +7,8 @@ use Rattle.fed_types.specs.Sites.{Membership}
 use Rattle.audit.specs.Evidence.{SiteRecord}
 use Rattle.audit_command.specs.declared.cell_defect.CellDefect.{CellDefect}
 use Rattle.audit_command.specs.declared.evidence.Evidence.{Evidence}
-use Rattle.audit_command.specs.CellReadings.{IsReadingOf, IsReadingOfFile, or_unread}
-use Rattle.audit_command.specs.Files.{FileBytes, Gives}
+use Rattle.audit_command.specs.CellReadings.{IsReadingOf, IsReadingOfBytes, or_unread}
+use Rattle.audit_command.specs.Files.{FileBytes, Gives, with_bytes}
 use Rattle.audit_command.specs.inner.Gathered.{IsEvidence}
 use Rattle.audit_command.specs.inner.Standings.{IsCounted, IsUnreadCounted}
 
@@ -21,7 +21,7 @@ if_ok P Q (Err e) f h = tt
 abbrev pub IsTaken : (first now : Option FileBytes) → List ℕ → Type 0
 IsTaken first now taken =
     IfSome first (λ file. (rest : List ℕ) × (file.bytes ≡ taken ++ rest)
-    × (now ≡ Some (record { bytes = rest; is_whole = file.is_whole })))
+    × (now ≡ Some (with_bytes file rest)))
 
 pub none_taken : (first : Option FileBytes) → IsTaken first first []
 none_taken None = tt
@@ -47,66 +47,67 @@ module _ (now after : Option FileBytes) (taken piece : List ℕ) where
       → file.bytes ≡ taken
   all_of file rest none is = is ∙ ap (λ (b : List ℕ). taken ++ b) none ∙ append-nil taken
 
-  module _ (members : Membership) (evidence : Evidence) (given : List SiteRecord) where
-    -- what the end of a cell gives
-    abbrev IsFileCounted : Option FileBytes → Option CellDefect → Type 0
-    IsFileCounted first fault =
-        (counted : List SiteRecord)
-        × IfSome first (λ file. IsReadingOfFile members (Some file) fault counted)
-        × IsEvidence members evidence (given ++ counted)
+  module _ (members : Membership) (unsure : ℕ) (evidence : Evidence) (given : List SiteRecord)
+    where
+      -- what the end of a cell gives
+      abbrev IsFileCounted : Option FileBytes → Option CellDefect → Type 0
+      IsFileCounted first fault =
+          (counted : List SiteRecord)
+          × IfSome first (λ file. IsReadingOfBytes members unsure file fault counted)
+          × IsEvidence members evidence (given ++ counted)
 
-    -- the file has ended
-    pub ended : (first : Option FileBytes) (fault : Option CellDefect) → IsTaken first now taken
-        → 0 < length piece → IfSome now (λ file. Gives file piece (Some 0) after)
-        → IsCounted members evidence taken given fault → IsFileCounted first fault
-    ended None fault h some gives (counted, reading, is) = (counted, tt, is)
-    ended (Some file) fault (rest, bytes, now_is) some gives (counted, reading, is) =
-        let end = subst (λ (o : Option FileBytes). IfSome o
-        (λ file. Gives file piece (Some 0) after)) now_is gives some in (
-          counted,
-          (
-            fault,
-            subst (λ (b : List ℕ). IsReadingOf members b fault counted)
-                (sym (all_of file rest end.0 bytes)) reading,
-            ap (λ (whole : Bool). or_unread whole fault) (sym end.1),
-          ),
-          is,
-        )
+      -- the file has ended
+      pub ended : (first : Option FileBytes) (fault : Option CellDefect) → IsTaken first now taken
+          → 0 < length piece → IfSome now (λ file. Gives file piece (Some 0) after)
+          → IsCounted members unsure evidence taken given fault → IsFileCounted first fault
+      ended None fault h some gives (counted, reading, is) = (counted, tt, is)
+      ended (Some file) fault (rest, bytes, now_is) some gives (counted, reading, is) =
+          let end = subst (λ (o : Option FileBytes). IfSome o
+          (λ file. Gives file piece (Some 0) after)) now_is gives some in (
+            counted,
+            (
+              fault,
+              subst (λ (b : List ℕ). IsReadingOf members unsure b fault counted)
+                  (sym (all_of file rest end.0 bytes)) reading,
+              ap (λ (whole : Bool). or_unread whole fault) (sym end.1),
+            ),
+            is,
+          )
 
-    -- reading it failed
-    pub failed : (first : Option FileBytes) (fault : Option CellDefect) → IsTaken first now taken
-        → IfSome now (λ file. Gives file piece None after)
-        → IsUnreadCounted members evidence taken given fault → IsFileCounted first fault
-    failed None fault h gives (found, (counted, reading, is), fault_is) = (counted, tt, is)
-    failed (Some file) fault (rest, bytes, now_is) gives (found, (counted, reading, is), fault_is) =
-        let end = subst (λ (o : Option FileBytes). IfSome o
-        (λ file. Gives file piece None after)) now_is gives in (
-          counted,
-          (
-            found,
-            subst (λ (b : List ℕ). IsReadingOf members b found counted)
-                (sym (all_of file rest end.0 bytes)) reading,
-            fault_is ∙ ap (λ (whole : Bool). or_unread whole found) (sym end.1),
-          ),
-          is,
-        )
+      -- reading it failed
+      pub failed : (first : Option FileBytes) (fault : Option CellDefect) → IsTaken first now taken
+          → IfSome now (λ file. Gives file piece None after)
+          → IsUnreadCounted members unsure evidence taken given fault → IsFileCounted first fault
+      failed None fault h gives (found, (counted, reading, is), fault_is) = (counted, tt, is)
+      failed (Some file) fault (rest, bytes, now_is) gives (found, (counted, reading, is), fault_is) =
+          let end = subst (λ (o : Option FileBytes). IfSome o
+          (λ file. Gives file piece None after)) now_is gives in (
+            counted,
+            (
+              found,
+              subst (λ (b : List ℕ). IsReadingOf members unsure b found counted)
+                  (sym (all_of file rest end.0 bytes)) reading,
+              fault_is ∙ ap (λ (whole : Bool). or_unread whole found) (sym end.1),
+            ),
+            is,
+          )
 
 -- something is amiss, whatever follows
-pub amiss : (members : Membership) (evidence : Evidence) (given : List SiteRecord)
+pub amiss : (members : Membership) (unsure : ℕ) (evidence : Evidence) (given : List SiteRecord)
     (first now : Option FileBytes) (taken : List ℕ) (fault : Option CellDefect)
     → IsTaken first now taken → IsSome fault
-    → ((more : List ℕ) → IsCounted members evidence (taken ++ more) given fault)
+    → ((more : List ℕ) → IsCounted members unsure evidence (taken ++ more) given fault)
     → (counted : List SiteRecord)
-    × IfSome first (λ file. IsReadingOfFile members (Some file) fault counted)
+    × IfSome first (λ file. IsReadingOfBytes members unsure file fault counted)
     × IsEvidence members evidence (given ++ counted)
-amiss members evidence given None now taken fault h some counts =
+amiss members unsure evidence given None now taken fault h some counts =
     let it = counts [] in (it.0, tt, it.2)
-amiss members evidence given (Some file) now taken fault (rest, bytes, now_is) some counts =
+amiss members unsure evidence given (Some file) now taken fault (rest, bytes, now_is) some counts =
     let it = counts rest in (
       it.0,
       (
         fault,
-        subst (λ (b : List ℕ). IsReadingOf members b fault it.0) (sym bytes) it.1,
+        subst (λ (b : List ℕ). IsReadingOf members unsure b fault it.0) (sym bytes) it.1,
         same file.is_whole fault some,
       ),
       it.2,

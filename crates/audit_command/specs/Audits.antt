@@ -14,7 +14,7 @@ use Rattle.audit_command.specs.Versions.{AreVersions, count_of, is_conflict}
 -- this is a reading of the file of its path
 abbrev pub IsRead : Membership → Files → Reading → Type 0
 IsRead members files r =
-    IfSome (files r.path) (λ file. IsReadingOfFile members file r.fault r.given)
+    IfSome (files r.path) (λ file. IsReadingOfFile members file r.in_use r.fault r.given)
 
 -- these are readings of the files of these paths, in order
 pub record AreReadings (members : Membership) (files : Files) (paths : List (List ℕ))

@@ -1,9 +1,10 @@
 -- What the cells that an auditor was given are good for: what is amiss with each, and which of its
 -- records are counted.
-use Rattle.std.specs.Prelude.{◌≡◌, ◌⊎◌, ◌≤◌, ℕ, IsTrue, Bool, true, false, List, [], map}
+use Rattle.std.specs.Prelude.{◌≡◌, ◌⊎◌, ◌≤◌, ◌-◌, ℕ, Bool, true, false, List, [], length, map, take}
 use Rattle.std.specs.Prelude.{Option, Some, None}
-use Rattle.std.specs.List.{flat_map}
+use Rattle.std.specs.List.{All, flat_map}
 use Rattle.std.specs.Option.{option_or}
+use Rattle.book.specs.Unsynced.{most_unsynced}
 use Rattle.fed_types.specs.Sites.{Membership, count_of}
 use Rattle.records.specs.declared.record.Record.{Record}
 use Rattle.ledger.specs.declared.ending.Ending.{Ending}
@@ -12,7 +13,8 @@ use Rattle.ledger.specs.declared.part.Head.{Head}
 use Rattle.ledger.specs.Cells.{HasNoOwner, Said, IsSaid}
 use Rattle.audit.specs.Evidence.{SiteRecord}
 use Rattle.audit_command.specs.declared.cell_defect.CellDefect.{CellDefect}
-use Rattle.audit_command.specs.declared.cell_defect.CellDefect.TheVariants.{Unread, Foreign, Damaged}
+use Rattle.audit_command.specs.declared.cell_defect.CellDefect.TheVariants.{Unread, Foreign}
+use Rattle.audit_command.specs.declared.cell_defect.CellDefect.TheVariants.{Damaged}
 use Rattle.audit_command.specs.Files.{FileBytes}
 
 -- the records of a site's cell
@@ -23,13 +25,19 @@ of_site site records = map (λ r. record { site = site; kept = r }) records
 abbrev pub head_of : Said → Head
 head_of said = record { owner = said.owner; names_weights = said.names_weights }
 
--- the cell is one of the federation's: of its number, of one of its members, and of its weights,
--- where it names any
-abbrev pub IsMembers : Membership → Head → Type 0
-IsMembers members head =
+-- The weights of a cell are the members': those that its header names; where none does, all are 1,
+-- of however many members, and a cell without records has promised nothing under any.
+abbrev pub HasWeights : Membership → (names_weights : Bool) → List ℕ → List Record → Type 0
+HasWeights members true weights records = weights ≡ members.weights
+HasWeights members false weights records = (records ≡ []) ⊎ All (λ w. w ≡ 1) members.weights
+
+-- a cell of these records is one of the federation's: of its number, of one of its members, and of
+-- its weights
+abbrev pub IsMembers : Membership → Head → List Record → Type 0
+IsMembers members head records =
     (head.owner.members.federation ≡ members.federation)
     × (head.owner.site ≤ count_of members)
-    × (IsTrue head.names_weights → head.owner.members.weights ≡ members.weights)
+    × HasWeights members head.names_weights head.owner.members.weights records
 
 -- nothing is amiss with a torn tail: a crash leaves one, and so does a site that is writing
 abbrev pub damage_of : Ending → Option CellDefect
@@ -37,39 +45,60 @@ damage_of endings.Whole = None
 damage_of (endings.Torn count) = None
 damage_of (endings.Damaged place) = Some (Damaged place)
 
--- of a cell of the federation all records are counted, those before the damage too; of another none
-abbrev pub IsWorth : Membership → Said → Option CellDefect → List SiteRecord → Type 0
-IsWorth members said fault given =
-    (IsMembers members (head_of said) × (fault ≡ damage_of said.ending)
-    × (given ≡ of_site said.owner.site said.records))
-    ⊎ (¬ IsMembers members (head_of said) × (fault ≡ Some Foreign) × (given ≡ []))
+-- all records but so many of the last
+abbrev pub all_but : ℕ → List Record → List Record
+all_but unsure records = take (length records - unsure) records
+
+-- Of a cell of the federation all records are counted but so many of the last; where it is damaged,
+-- of those before the damage. Of another none is.
+abbrev pub IsWorth : Membership → (unsure : ℕ) → Said → Option CellDefect → List SiteRecord
+    → Type 0
+IsWorth members unsure said fault given =
+    (IsMembers members (head_of said) said.records × (fault ≡ damage_of said.ending)
+    × (given ≡ of_site said.owner.site (all_but unsure said.records)))
+    ⊎ (¬ IsMembers members (head_of said) said.records × (fault ≡ Some Foreign) × (given ≡ []))
 
 -- nothing can be said of a cell
 abbrev pub SaysNothing : Option CellDefect → List SiteRecord → Type 0
 SaysNothing fault given = (fault ≡ Some Unread) × (given ≡ [])
 
 -- what is amiss with a cell of these bytes, and what is counted of it
-abbrev pub IsReadingOf : Membership → List ℕ → Option CellDefect → List SiteRecord → Type 0
-IsReadingOf members bytes fault given =
+abbrev pub IsReadingOf : Membership → (unsure : ℕ) → List ℕ → Option CellDefect → List SiteRecord
+    → Type 0
+IsReadingOf members unsure bytes fault given =
     (HasNoOwner bytes × SaysNothing fault given)
-    ⊎ ((said : Said) × IsSaid bytes said × IsWorth members said fault given)
+    ⊎ ((said : Said) × IsSaid bytes said × IsWorth members unsure said fault given)
 
 -- where reading failed, that is amiss, if nothing else is
 abbrev pub or_unread : (is_whole : Bool) → Option CellDefect → Option CellDefect
 or_unread true fault = fault
 or_unread false fault = option_or fault (Some Unread)
 
--- of a file, none if it can't be opened: of one that can't be read to its end what was read counts
-abbrev pub IsReadingOfFile : Membership → Option FileBytes → Option CellDefect → List SiteRecord
-    → Type 0
-IsReadingOfFile members None fault given = SaysNothing fault given
-IsReadingOfFile members (Some file) fault given =
-    (found : Option CellDefect) × IsReadingOf members file.bytes found given
+-- the same of what reading a file gives: where it fails, what was read before counts
+abbrev pub IsReadingOfBytes : Membership → (unsure : ℕ) → FileBytes → Option CellDefect
+    → List SiteRecord → Type 0
+IsReadingOfBytes members unsure file fault given =
+    (found : Option CellDefect) × IsReadingOf members unsure file.bytes found given
     × (fault ≡ or_unread file.is_whole found)
 
--- a cell by the path of its file, what is amiss with it, and what is counted of it
+-- How many of the last records aren't counted, since a crash may lose them: of a cell that is in
+-- use as many as its site may not have synced. A cell that isn't was synced before it was read.
+abbrev pub unsure_of : (in_use : Bool) → ℕ
+unsure_of true = most_unsynced
+unsure_of false = 0
+
+-- of a file, none if it can't be opened: whether it is in use, what is amiss, and what is counted
+abbrev pub IsReadingOfFile : Membership → Option FileBytes → (in_use : Bool) → Option CellDefect
+    → List SiteRecord → Type 0
+IsReadingOfFile members None in_use fault given = (in_use ≡ false) × SaysNothing fault given
+IsReadingOfFile members (Some file) in_use fault given =
+    (in_use ≡ file.in_use) × IsReadingOfBytes members (unsure_of in_use) file fault given
+
+-- a cell by the path of its file, whether it is in use, what is amiss with it, and what is counted
+-- of it
 pub record Reading : Type 0 where
   pub path : List ℕ
+  pub in_use : Bool
   pub fault : Option CellDefect
   pub given : List SiteRecord
 

@@ -2,14 +2,20 @@
 use Rattle.std.specs.Prelude.{◌≡◌, ◌<◌, ℕ, zero, suc, Bool, true, false, List, [], ◌++◌, length}
 use Rattle.std.specs.Prelude.{take, Option, Some, None}
 
--- what reading a file gives: its bytes, and whether it ends after them, or else reading fails there
+-- What reading a file gives: its bytes, and whether it ends after them, or else reading fails
+-- there. A file that is in use is held by a site, which may not have synced its last records.
 pub record FileBytes : Type 0 where
   pub bytes : List ℕ
   pub is_whole : Bool
+  pub in_use : Bool
 
 -- what the files of these paths give, where that is known; none inside where one can't be opened
 abbrev pub Files : Type 0
 Files = List ℕ → Option (Option FileBytes)
+
+-- the same file, of which these bytes are left to read
+abbrev pub with_bytes : FileBytes → List ℕ → FileBytes
+with_bytes file rest = record { bytes = rest; is_whole = file.is_whole; in_use = file.in_use }
 
 -- Of a file that gives this, a read into a piece fails; or it gives none, at the end; or the next
 -- bytes, and the others come after.
@@ -19,4 +25,4 @@ Gives file piece (Some zero) after =
     0 < length piece → (file.bytes ≡ []) × (file.is_whole ≡ true)
 Gives file piece (Some (suc n)) after =
     (rest : List ℕ) × (file.bytes ≡ take (suc n) piece ++ rest)
-    × (after ≡ Some (record { bytes = rest; is_whole = file.is_whole }))
+    × (after ≡ Some (with_bytes file rest))

@@ -1,6 +1,6 @@
--- The text of an audit: a line for each cell that can't be used as it is, one for each version, and
--- how many there are of each kind.
-use Rattle.std.specs.Prelude.{ℕ, List, [], ◌∷◌, ◌++◌, codes, Option, Some, None}
+-- The text of an audit: a line for each cell that is in use, one for each that can't be used as it
+-- is, one for each version, and how many there are of each kind.
+use Rattle.std.specs.Prelude.{ℕ, Bool, true, false, List, [], ◌∷◌, ◌++◌, codes, Option, Some, None}
 use Rattle.std.specs.List.{flat_map}
 use Rattle.std.specs.Fmt.{decimal}
 use Rattle.hex.specs.Hex.{encode_lower}
@@ -17,6 +17,18 @@ use Rattle.audit_command.specs.CellReadings.{Reading}
 use Rattle.audit_command.specs.Versions.{is_chosen, is_known, is_open, is_conflict, count_of}
 
 -- ---- cells
+
+-- the cell of this path is in use
+unfoldable pub in_use_line : List ℕ → List ℕ
+in_use_line path = codes "in-use " ++ (escaped_text path ++ 10 ∷ [])
+
+-- of one that isn't, that isn't said
+abbrev pub in_use_line_if : List ℕ → (in_use : Bool) → List ℕ
+in_use_line_if path false = []
+in_use_line_if path true = in_use_line path
+
+abbrev pub use_line : Reading → List ℕ
+use_line r = in_use_line_if r.path r.in_use
 
 abbrev pub fault_word : CellDefect → List ℕ
 fault_word faults.Unread = codes "unread "
@@ -81,4 +93,5 @@ counts_line versions =
 
 unfoldable pub audit_text : List Reading → List Version → List ℕ
 audit_text readings versions =
-    flat_map reading_line readings ++ (flat_map version_line versions ++ counts_line versions)
+    flat_map use_line readings ++ (flat_map reading_line readings
+    ++ (flat_map version_line versions ++ counts_line versions))

@@ -1,30 +1,39 @@
 //! The arguments of the command `audit`.
 
-use clap::{Arg, ArgMatches, Command};
+use clap::{Arg, ArgAction, ArgMatches, Command};
 use site_commands::members_argument;
 use std::alloc::{AllocError, Global};
 
 const ABOUT: &str = "Says which bags the cells of several sites prove to be chosen";
 
 const EXAMPLE: &str =
-    "Cells may be in use, or copies: each is read without a lock, and never changed. Two cells of one
-site count as one. For each version, in the order in which the cells name them, it prints
+    "Cells may be in use: of such a cell each whole record but the last is counted, since a crash
+may take that one back. A cell that no site holds is synced before it is read, and a site that
+starts meanwhile waits for that. No cell is changed. Cells may be copies, but a copy of a cell in
+use can't be recognised as one: copy a cell while its site is stopped, or audit the cell itself.
+Two cells of one site count as one.
+
+First it prints
+  in-use CELL               for each cell that is in use; it changes no status
+and then for each cell that can't be used as it is:
+  unread CELL               it can't be opened, synced or read, or begins with no header; what was
+                            read before a fault is used
+  foreign CELL              it is of another federation, of no member, or of other weights; where
+                            no header names any, each is 1. Nothing of it is used
+  damaged CELL OFFSET       it is damaged from this byte on; what comes before is used
+For each version, in the order in which the cells name them:
   chosen OBJ V HEX R S      members with more than half of all weight have a vote for this bag on
                             record, in the ballot of round R of site S: no other bag is ever known
   known OBJ V HEX           a cell says that this bag is known; these cells don't show why
   open OBJ V                these cells show no bag
   conflict OBJ V HEX HEX    they show two bags: a site's cell was lost, replaced or altered
-and finally how many of each there are: C chosen, K known, O open, X conflicts. Before that there is
-a line for each cell that can't be used as it is:
-  unread CELL               it can't be read, or begins with no header; what was read before a
-                            fault is used
-  foreign CELL              it is of another federation, of no member, or of other weights;
-                            nothing of it is used
-  damaged CELL OFFSET       it is damaged from this byte on; what comes before is used
+and finally how many of each there are: C chosen, K known, O open, X conflicts.
 
-The exit status is 0 where there is no conflict, and no such line; 1 where there is, or a last line
-says `members unread`, `members line N` or `memory`, or standard output can't be written; and 2 for
-a mistake in the arguments.
+With --words standard error says of each cell whether it is in use, or why it can't be opened.
+
+The exit status is 0 where there is no conflict, and each cell can be used as it is; 1 where that
+isn't so, or a last line says `members unread`, `members line N` or `memory`, or standard output
+can't be written; and 2 for a mistake in the arguments.
 
 Example:
   bagpaxos audit --members members cell.1 cell.2 cell.3";
@@ -35,6 +44,8 @@ pub struct AuditTask<'a> {
     pub members: &'a str,
     /// The paths of the cells.
     pub cells: Vec<&'a str>,
+    /// Whether to say in words how each cell was opened.
+    pub words: bool,
 }
 
 /// What these arguments of the command ask for.
@@ -46,8 +57,13 @@ pub fn audit_task<'a>(
     if let Some(paths) = matches.get_strs("CELL") {
         cells.extend_from_slice(paths)?;
     }
+    let words = matches.get_flag("words");
     match matches.get_str("members") {
-        Some(members) => Ok(Some(AuditTask { members, cells })),
+        Some(members) => Ok(Some(AuditTask {
+            members,
+            cells,
+            words,
+        })),
         None => Ok(None),
     }
 }
@@ -58,9 +74,14 @@ pub fn audit_command<'a>(alloc: Global) -> Result<Command<'a>, AllocError> {
         .required(true)
         .num_args(1..)
         .help("The files of the cells");
+    let words = Arg::new(alloc, "words")
+        .long("words")
+        .action(ArgAction::SetTrue)
+        .help("Say on standard error in words how each cell was opened");
     Command::new(alloc, "audit")
         .about(ABOUT)
         .after_help(EXAMPLE)
         .arg(members_argument(alloc))?
+        .arg(words)?
         .arg(cells)
 }

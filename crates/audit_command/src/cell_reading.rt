@@ -1,20 +1,22 @@
 //! A cell that is read piece by piece: its records are counted, and forgotten.
 
-ghost use Rattle.std.specs.Prelude.{◌≡◌, ◌++◌, ℕ, List, [], IfOk, IfSome, OnOk};
+ghost use Rattle.std.specs.Prelude.{◌++◌, ℕ, List, [], IfOk, IfSome, OnOk};
 ghost use Rattle.fed_types.specs.Sites.{Membership};
 ghost use Rattle.audit.specs.Evidence.{SiteRecord};
-ghost use Rattle.audit_command.specs.CellReadings.{IsReadingOfFile};
+ghost use Rattle.records.specs.declared.record.Record.{Record};
+ghost use Rattle.audit_command.specs.CellReadings.{IsReadingOfBytes};
 ghost use Rattle.audit_command.specs.inner.Gathered.{IsEvidence};
 ghost use Rattle.audit_command.specs.inner.Standings.{Adds, counted_as, HasCounted, IsCounted};
-ghost use Rattle.audit_command.specs.inner.Standings.{IsLastCounted, IsProgress};
+ghost use Rattle.audit_command.specs.inner.Standings.{IsLastCounted, IsPartCounted, IsProgress};
 ghost use Rattle.audit_command.specs.inner.Standings.{IsUnreadCounted};
 
 use crate::cell_defect::CellDefect;
 use crate::cell_files::CellFiles;
 use crate::evidence::{Evidence, add_records};
+use crate::last_records::LastRecords;
 use crate::standing::{Standing, fault_of, standing_after};
 use fed_types::Members;
-use ledger::{CellReader, LastPart, Parts};
+use ledger::{CellReader, LastPart, Part, Parts};
 use records::Record;
 use std::alloc::{AllocError, Global};
 
@@ -26,6 +28,7 @@ const PIECE: usize = 8192;
 pub(crate) struct CellReading {
     reader: CellReader,
     standing: Standing,
+    last: LastRecords,
 }
 
 /// How far a cell was read.
@@ -51,31 +54,51 @@ fn add_counted(
     }
 }
 
-// Counts the records of the last part, and gives what is amiss with the cell.
-fn count_last(
-    alloc: Global,
-    members: &Members,
-    evidence: &mut Evidence,
-    before: Standing,
-    last: &LastPart,
-) -> Result<Option<CellDefect>, AllocError>
-    ensures { IfOk result (IsLastCounted members.now evidence.old evidence.new before last.now) }
-{
-    let after = standing_after(members, before, &last.part.head);
-    add_counted(alloc, evidence, &after, &last.part.records)?;
-    Ok(fault_of(&after, last.ending))
-}
-
 impl CellReading {
-    /// That of a cell of which nothing was read.
-    fn new(alloc: Global) -> CellReading
+    /// That of a cell of which nothing was read, and so many of the last records aren't counted.
+    fn new(alloc: Global, unsure: usize) -> CellReading
         ensures { (members : Membership) (evidence : Evidence) (given : List SiteRecord)
-            → IsEvidence members evidence given → HasCounted members result evidence [] given }
+            → IsEvidence members evidence given
+            → HasCounted members unsure result evidence [] given }
     {
         CellReading {
             reader: CellReader::new(alloc),
             standing: Standing::Unknown,
+            last: LastRecords::new(alloc, unsure),
         }
+    }
+
+    // Counts the records of a part, and those before it that aren't among the last any more.
+    fn count_part(
+        &mut self,
+        alloc: Global,
+        members: &Members,
+        evidence: &mut Evidence,
+        part: Part,
+    ) -> Result<(), AllocError>
+        ensures { OnOk result ((sure : List Record)
+            × IsPartCounted members.now evidence.old evidence.new self.old self.new part sure) }
+    {
+        let Part { head, records } = part;
+        self.standing = standing_after(members, self.standing, &head, &records);
+        let sure = self.last.pass(alloc, records)?;
+        add_counted(alloc, evidence, &self.standing, &sure)
+    }
+
+    // Counts those of the last part, and gives what is amiss with the cell.
+    fn count_last(
+        &mut self,
+        alloc: Global,
+        members: &Members,
+        evidence: &mut Evidence,
+        last: LastPart,
+    ) -> Result<Option<CellDefect>, AllocError>
+        ensures { IfOk result
+            (IsLastCounted members.now evidence.old evidence.new self.old self.new last) }
+    {
+        let LastPart { part, ending } = last;
+        self.count_part(alloc, members, evidence, part)?;
+        Ok(fault_of(&self.standing, ending))
     }
 
     // Counts what the next bytes say.
@@ -86,18 +109,18 @@ impl CellReading {
         evidence: &mut Evidence,
         piece: &[u8],
     ) -> Result<Progress, AllocError>
-        ensures { IfOk result (λ progress. (taken : List ℕ) (given : List SiteRecord)
-            → HasCounted members.now self.old evidence.old taken given
-            → IsProgress members.now self.new evidence.new (taken ++ piece.now) given progress) }
+        ensures { IfOk result (λ progress. (unsure : ℕ) (taken : List ℕ) (given : List SiteRecord)
+            → HasCounted members.now unsure self.old evidence.old taken given
+            → IsProgress members.now unsure self.new evidence.new (taken ++ piece.now) given
+            progress) }
     {
         match self.reader.take(alloc, piece)? {
             Parts::More(part) => {
-                self.standing = standing_after(members, self.standing, &part.head);
-                add_counted(alloc, evidence, &self.standing, &part.records)?;
+                self.count_part(alloc, members, evidence, part)?;
                 Ok(Progress::More)
             }
             Parts::Last(last) => {
-                let fault = count_last(alloc, members, evidence, self.standing, &last)?;
+                let fault = self.count_last(alloc, members, evidence, last)?;
                 Ok(Progress::Ended(fault))
             }
         }
@@ -105,36 +128,37 @@ impl CellReading {
 
     // Counts what is left, where the cell ends, and gives what is amiss with it.
     fn end(
-        &self,
+        &mut self,
         alloc: Global,
         members: &Members,
         evidence: &mut Evidence,
     ) -> Result<Option<CellDefect>, AllocError>
-        ensures { IfOk result (λ fault. (taken : List ℕ) (given : List SiteRecord)
-            → HasCounted members.now self.now evidence.old taken given
-            → IsCounted members.now evidence.new taken given fault) }
+        ensures { IfOk result (λ fault. (unsure : ℕ) (taken : List ℕ) (given : List SiteRecord)
+            → HasCounted members.now unsure self.old evidence.old taken given
+            → IsCounted members.now unsure evidence.new taken given fault) }
     {
         let last = self.reader.end(alloc)?;
-        count_last(alloc, members, evidence, self.standing, &last)
+        self.count_last(alloc, members, evidence, last)
     }
 }
 
-/// Reads a cell to its end, or to where reading fails, counts what it says, and gives what is amiss
-/// with it.
+/// Reads a cell to its end, or to where reading fails, counts what it says but for so many of the
+/// last records, and gives what is amiss with it.
 pub(crate) fn read_cell<F: CellFiles>(
     alloc: Global,
     members: &Members,
     files: &F,
     cell: &mut F::Cell,
+    unsure: usize,
     evidence: &mut Evidence,
 ) -> Result<Option<CellDefect>, AllocError>
     ensures { IfOk result (λ fault. (given : List SiteRecord)
         → IsEvidence members.now evidence.old given → (counted : List SiteRecord)
         × IfSome (F.left cell.old)
-        (λ file. IsReadingOfFile members.now (Some file) fault counted)
+        (λ file. IsReadingOfBytes members.now unsure file fault counted)
         × IsEvidence members.now evidence.new (given ++ counted)) }
 {
-    let mut reading = CellReading::new(alloc);
+    let mut reading = CellReading::new(alloc, unsure);
     let mut piece = [0u8; PIECE];
     'reads: for _ in 0..u64::MAX {
         match files.read(cell, &mut piece) {
@@ -143,7 +167,7 @@ pub(crate) fn read_cell<F: CellFiles>(
                 Progress::Ended(fault) => return Ok(fault),
                 Progress::More => {}
             },
-            None => return unread_end(alloc, members, &reading, evidence),
+            None => return unread_end(alloc, members, &mut reading, evidence),
         }
     }
     // No cell has so many bytes.
@@ -154,12 +178,12 @@ pub(crate) fn read_cell<F: CellFiles>(
 fn unread_end(
     alloc: Global,
     members: &Members,
-    reading: &CellReading,
+    reading: &mut CellReading,
     evidence: &mut Evidence,
 ) -> Result<Option<CellDefect>, AllocError>
-    ensures { IfOk result (λ fault. (taken : List ℕ) (given : List SiteRecord)
-        → HasCounted members.now reading.now evidence.old taken given
-        → IsUnreadCounted members.now evidence.new taken given fault) }
+    ensures { IfOk result (λ fault. (unsure : ℕ) (taken : List ℕ) (given : List SiteRecord)
+        → HasCounted members.now unsure reading.old evidence.old taken given
+        → IsUnreadCounted members.now unsure evidence.new taken given fault) }
 {
     let fault = reading.end(alloc, members, evidence)?;
     Ok(fault.or(Some(CellDefect::Unread)))

@@ -15,8 +15,8 @@ use outcomes::{ProgramFault, ProgramOutput, write_output};
 use std::alloc::{AllocError, Global};
 use std::io::Write;
 
-/// Reads the cells of these paths, and writes what is amiss with each, what they show together of
-/// each version, and how many there are of each kind. The exit status is 0 where nothing is amiss
+/// Reads the cells of these paths, and writes which are in use, what is amiss with each, what they
+/// show together of each version, and how many there are of each kind. The exit status is 0 where nothing is amiss
 /// and there is no conflict, and else 1. Where memory runs out, the line `memory` is written alone,
 /// and the status is 1.
 pub fn audit_on<F: CellFiles, W: Write>(
@@ -53,7 +53,8 @@ fn answer_to<F: CellFiles>(
 {
     let gathered = gather(alloc, members, files, paths)?;
     let versions = versions_of(alloc, &gathered.evidence)?;
-    let mut text = gathered.text;
+    let mut text = gathered.in_use;
+    text.push_str(gathered.text.as_str())?;
     push_versions(alloc, &mut text, &versions)?;
     push_counts(&mut text, &versions)?;
     let status = status_of(gathered.all_used, count_conflicts(&versions));

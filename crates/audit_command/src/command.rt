@@ -7,13 +7,17 @@ use outcomes::ProgramFault;
 use site_commands::{members_at, write_stop};
 use std::io;
 
-/// Prints what the cells show together, to standard output.
+/// Prints what the cells show together, to standard output, and on standard error in words how each
+/// was opened, where that is asked for.
 pub fn print_audit(rt: &HostRuntime, task: &AuditTask<'_>) -> Result<u8, ProgramFault> {
     let mut output = io::writer(rt);
     match members_at(rt, task.members) {
         Ok(file) => {
             let members = file.members();
-            let files = DiskCells { rt };
+            let files = DiskCells {
+                rt,
+                words: task.words,
+            };
             audit_on(rt.alloc(), &members, &files, &task.cells, &mut output)
         }
         Err(stop) => write_stop(rt.alloc(), &mut output, stop),

@@ -1,49 +1,137 @@
 //! Cells in their files.
 
+ghost use Rattle.std.specs.Prelude.{◌≤◌, length, IfSome};
+
 use crate::cell_files::CellFiles;
+use crate::cell_words::say_opened;
 use std::alloc::AllocError;
-use std::fs::{self, File};
+use std::fs::{self, File, TryLockError};
 use std::io::{self, ErrorKind, Read};
+use std::os::fd::AsRawFd;
 
 /// The files of the disk, each opened for reading alone. No contract says what they have.
 #[derive(Clone, Copy)]
 pub(crate) struct DiskCells<'a> {
     pub(crate) rt: &'a HostRuntime,
+    /// Whether standard error says of each cell how it was opened.
+    pub(crate) words: bool,
 }
 
-impl DiskCells<'_> {
-    // What isn't a file isn't opened: opening a pipe would wait.
-    fn open_file(&self, path: &str) -> io::Result<File> {
-        if !fs::metadata(self.rt, path)?.is_file() {
-            return Err(ErrorKind::InvalidInput.into());
-        }
-        File::open(self.rt, path)
-    }
+/// A cell's file that was opened, as far as it was read.
+#[derive(Drop)]
+pub(crate) struct DiskCell {
+    file: File,
+    /// Whether a site holds its lock. Where none does, this file does, shared: no site can open the
+    /// cell until it is dropped.
+    pub(crate) in_use: bool,
+    /// At most so many more bytes are read.
+    unread: u64,
 }
 
 impl CellFiles for DiskCells<'_> {
-    type Cell = File;
+    type Cell = DiskCell;
 
-    fn open(&self, path: &str) -> Result<Option<File>, AllocError> {
-        match self.open_file(path) {
-            Ok(file) => Ok(Some(file)),
+    fn open(&self, path: &str) -> Result<Option<DiskCell>, AllocError> {
+        let opened = open_cell(self.rt, path);
+        if self.words {
+            say_opened(self.rt, path, &opened);
+        }
+        match opened {
+            Ok(cell) => Ok(Some(cell)),
             Err(error) if error.kind() == ErrorKind::OutOfMemory => Err(AllocError),
             Err(_) => Ok(None),
         }
     }
 
-    // Reads that were interrupted are tried again.
-    fn read(&self, cell: &mut File, piece: &mut [u8]) -> Option<usize> {
-        'reads: for _ in 0..u32::MAX {
-            match cell.read(piece) {
-                Ok(count) => return Some(count),
-                Err(error) => {
-                    if error.kind() != ErrorKind::Interrupted {
-                        return None;
-                    }
+    fn is_in_use(&self, cell: &DiskCell) -> bool {
+        cell.in_use
+    }
+
+    fn read(&self, cell: &mut DiskCell, piece: &mut [u8]) -> Option<usize> {
+        let room = room_for(cell.unread, piece.len());
+        let count = read_some(&mut cell.file, &mut piece[..room])?;
+        cell.unread = cell.unread.saturating_sub(count as u64);
+        Some(count)
+    }
+}
+
+/// Opens the file of this path for reading as a cell.
+fn open_cell(rt: &HostRuntime, path: &str) -> io::Result<DiskCell> {
+    let file = open_file(rt, path)?;
+    if is_locked(&file)? {
+        // By now its site has synced all of these records but the last, if that: it syncs before
+        // it appends the next. What comes after them isn't read. So where the site cuts the last
+        // one off, since it couldn't be synced, and appends others in its place, none of those
+        // counts that may be mixed with it.
+        let unread = file.metadata()?.len();
+        return Ok(DiskCell {
+            file,
+            in_use: true,
+            unread,
+        });
+    }
+    settle(&file)?;
+    Ok(DiskCell {
+        file,
+        in_use: false,
+        unread: u64::MAX,
+    })
+}
+
+/// What isn't a file isn't opened: opening a pipe would wait.
+fn open_file(rt: &HostRuntime, path: &str) -> io::Result<File> {
+    if !fs::metadata(rt, path)?.is_file() {
+        return Err(ErrorKind::InvalidInput.into());
+    }
+    File::open(rt, path)
+}
+
+/// Whether a site holds the file's lock. Where none does, this file holds it, shared.
+fn is_locked(file: &File) -> io::Result<bool> {
+    match file.try_lock_shared() {
+        Ok(()) => Ok(false),
+        Err(TryLockError::WouldBlock) => Ok(true),
+        Err(TryLockError::Error(error)) => Err(error),
+    }
+}
+
+/// What a read of the file gives is on the disk.
+fn settle(file: &File) -> io::Result<()> {
+    file.sync_all()?;
+    // A sync that failed before may have left the system's copies of the bytes other than the disk
+    // has them: they are read again.
+    let advised = libc::posix_fadvise(file.as_raw_fd(), 0, 0, libc::POSIX_FADV_DONTNEED);
+    if advised == 0 {
+        Ok(())
+    } else {
+        Err(io::Error::from_raw_os_error(advised))
+    }
+}
+
+/// How many bytes are read at once into a piece of so many.
+fn room_for(unread: u64, len: usize) -> usize
+    ensures { result ≤ len }
+{
+    if unread < len as u64 {
+        unread as usize
+    } else {
+        len
+    }
+}
+
+/// Reads some bytes; none where reading fails. Reads that were interrupted are tried again.
+fn read_some(file: &mut File, piece: &mut [u8]) -> Option<usize>
+    ensures { IfSome result (λ count. count ≤ length piece.new) }
+{
+    'reads: for _ in 0..u32::MAX {
+        match file.read(piece) {
+            Ok(count) => return Some(count),
+            Err(error) => {
+                if error.kind() != ErrorKind::Interrupted {
+                    return None;
                 }
             }
         }
-        None
     }
+    None
 }

@@ -1,19 +1,22 @@
 //! The cells are read, one after another.
 
 ghost use Rattle.std.specs.Prelude.{◌≡◌, ◌&&◌, ◌++◌, ◌∷◌, [], List, map, IfOk, OnOk, is_none};
-ghost use Rattle.std.specs.Prelude.{IfSome};
+ghost use Rattle.std.specs.Prelude.{IfSome, Some};
 ghost use Rattle.audit.specs.Evidence.{SiteRecord};
 ghost use Rattle.words.specs.Pushes.{Pushes};
 ghost use Rattle.audit_command.specs.Audits.{AreReadings, IsRead};
-ghost use Rattle.audit_command.specs.Lines.{line_if};
+ghost use Rattle.audit_command.specs.Lines.{in_use_line_if, line_if};
 ghost use Rattle.audit_command.specs.CellReadings.{Reading, IsReadingOfFile};
 ghost use Rattle.audit_command.specs.inner.Gathered.{IsEvidence, IsGathered};
 
 use crate::cell_defect::CellDefect;
 use crate::cell_files::CellFiles;
 use crate::cell_reading::read_cell;
+use crate::cell_state::CellState;
 use crate::evidence::{Evidence, no_evidence};
 use crate::finding_lines::push_fault;
+use crate::in_use_line::push_in_use;
+use crate::last_records::unsure_of;
 use fed_types::Members;
 use std::alloc::{AllocError, Global};
 
@@ -21,6 +24,8 @@ use std::alloc::{AllocError, Global};
 #[derive(Drop)]
 pub(crate) struct Gathered {
     pub(crate) evidence: Evidence,
+    /// The lines of the cells that are in use.
+    pub(crate) in_use: String,
     /// The lines of the cells that can't be used as they are.
     pub(crate) text: String,
     /// Whether there is no such line.
@@ -33,28 +38,62 @@ fn nothing_gathered(alloc: Global, members: Members) -> Gathered
 {
     Gathered {
         evidence: no_evidence(alloc, members),
+        in_use: String::new(alloc),
         text: String::new(alloc),
         all_used: true,
     }
 }
 
-// Reads the cell of a path, counts what it says, and gives what is amiss with it.
+// Reads a cell that was opened, counts what it says, and gives what else is said of it.
+fn add_records_in<F: CellFiles>(
+    alloc: Global,
+    members: &Members,
+    files: &F,
+    evidence: &mut Evidence,
+    cell: &mut F::Cell,
+) -> Result<CellState, AllocError>
+    ensures { IfOk result (λ state. (given : List SiteRecord)
+        → IsEvidence members.now evidence.old given → (counted : List SiteRecord)
+        × IfSome (F.left cell.old)
+        (λ file. IsReadingOfFile members.now (Some file) state.in_use state.fault counted)
+        × IsEvidence members.now evidence.new (given ++ counted)) }
+{
+    let in_use = files.is_in_use(cell);
+    let fault = read_cell(alloc, members, files, cell, unsure_of(in_use), evidence)?;
+    Ok(CellState { in_use, fault })
+}
+
+// The same of the cell of a path.
 fn add_records_of<F: CellFiles>(
     alloc: Global,
     members: &Members,
     files: &F,
     evidence: &mut Evidence,
     path: &str,
-) -> Result<Option<CellDefect>, AllocError>
-    ensures { IfOk result (λ fault. (given : List SiteRecord)
+) -> Result<CellState, AllocError>
+    ensures { IfOk result (λ state. (given : List SiteRecord)
         → IsEvidence members.now evidence.old given → (counted : List SiteRecord)
         × IfSome (F.bytes_at files.now path.now)
-        (λ file. IsReadingOfFile members.now file fault counted)
+        (λ file. IsReadingOfFile members.now file state.in_use state.fault counted)
         × IsEvidence members.now evidence.new (given ++ counted)) }
 {
     match files.open(path)? {
-        Some(mut cell) => read_cell(alloc, members, files, &mut cell, evidence),
-        None => Ok(Some(CellDefect::Unread)),
+        Some(mut cell) => add_records_in(alloc, members, files, evidence, &mut cell),
+        None => Ok(CellState {
+            in_use: false,
+            fault: Some(CellDefect::Unread),
+        }),
+    }
+}
+
+// That a cell is in use, if it is.
+fn add_use(text: &mut String, path: &str, in_use: bool) -> Result<(), AllocError>
+    ensures { Pushes result text.old text.new (in_use_line_if path.now in_use) }
+{
+    if in_use {
+        push_in_use(text, path)
+    } else {
+        Ok(())
     }
 }
 
@@ -89,9 +128,10 @@ fn add_cell<F: CellFiles>(
         × IsRead members.now (F.bytes_at files.now) r
         × IsGathered members.now gathered.new (readings ++ r ∷ [])) }
 {
-    let fault = add_records_of(alloc, members, files, &mut gathered.evidence, path)?;
-    add_fault(&mut gathered.text, path, fault)?;
-    gathered.all_used = still_used(gathered.all_used, fault);
+    let state = add_records_of(alloc, members, files, &mut gathered.evidence, path)?;
+    add_use(&mut gathered.in_use, path, state.in_use)?;
+    add_fault(&mut gathered.text, path, state.fault)?;
+    gathered.all_used = still_used(gathered.all_used, state.fault);
     Ok(())
 }
 

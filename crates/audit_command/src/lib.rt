@@ -9,6 +9,8 @@ mod arguments;
 mod cell_defect;
 mod cell_files;
 mod cell_reading;
+mod cell_state;
+mod cell_words;
 mod cells_audit;
 mod command;
 mod counts;
@@ -16,6 +18,8 @@ mod disk_cells;
 mod evidence;
 mod finding_lines;
 mod gathered;
+mod in_use_line;
+mod last_records;
 mod standing;
 mod version;
 

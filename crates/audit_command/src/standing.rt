@@ -1,12 +1,14 @@
 //! Whose a cell is, and what is amiss with it.
 
 ghost use Rattle.std.specs.Prelude.{◌≡◌, ◌↔◌, IsTrue, option_map};
-ghost use Rattle.audit_command.specs.CellReadings.{IsMembers, damage_of};
+ghost use Rattle.std.specs.List.{All};
+ghost use Rattle.audit_command.specs.CellReadings.{HasWeights, IsMembers, damage_of};
 ghost use Rattle.audit_command.specs.inner.Standings.{IsStanding, IsStandingAfter, fault_of};
 
 use crate::cell_defect::CellDefect;
 use fed_types::{Members, SiteNo};
 use ledger::{Ending, Head};
+use records::Record;
 
 /// Whose a cell is, by what was read of it.
 #[derive(Clone, Copy, Debug)]
@@ -19,33 +21,56 @@ pub(crate) enum Standing {
     Foreign,
 }
 
-// Whether a cell of this head is one of the federation's.
-fn is_members(members: &Members, head: &Head) -> bool
-    ensures { IsTrue result ↔ IsMembers members.now head.now }
+// Whether all weights are 1.
+fn are_ones(weights: &[u8]) -> bool
+    ensures { IsTrue result ↔ All (λ w. w ≡ 1) weights.now }
+{
+    weights.iter().all(|weight| *weight == 1)
+}
+
+// Whether the weights of a cell of this head and these records are the members'.
+fn has_weights(members: &Members, head: &Head, records: &[Record]) -> bool
+    ensures { IsTrue result ↔ HasWeights members.now head.now.names_weights
+        head.now.owner.members.weights records.now }
+{
+    if head.names_weights {
+        return head.owner.members.weights() == members.weights();
+    }
+    records.is_empty() || are_ones(members.weights())
+}
+
+// Whether a cell of this head and these records is one of the federation's.
+fn is_members(members: &Members, head: &Head, records: &[Record]) -> bool
+    ensures { IsTrue result ↔ IsMembers members.now head.now records.now }
 {
     let owner = &head.owner;
     owner.members.federation() == members.federation()
         && members.has(owner.site)
-        && (!head.names_weights || owner.members.weights() == members.weights())
+        && has_weights(members, head, records)
 }
 
-// Whose a cell of this head is.
-fn standing_of(members: &Members, head: &Head) -> Standing
-    ensures { IsStanding members.now head.now result }
+// Whose a cell of this head and these records is.
+fn standing_of(members: &Members, head: &Head, records: &[Record]) -> Standing
+    ensures { IsStanding members.now head.now records.now result }
 {
-    if is_members(members, head) {
+    if is_members(members, head, records) {
         Standing::Member(head.owner.site)
     } else {
         Standing::Foreign
     }
 }
 
-/// Whose a cell is after a part that has this head.
-pub(crate) fn standing_after(members: &Members, before: Standing, head: &Option<Head>) -> Standing
-    ensures { IsStandingAfter members.now before head.now result }
+/// Whose a cell is after a part that has this head and these records.
+pub(crate) fn standing_after(
+    members: &Members,
+    before: Standing,
+    head: &Option<Head>,
+    records: &[Record],
+) -> Standing
+    ensures { IsStandingAfter members.now before head.now records.now result }
 {
     match head {
-        Some(head) => standing_of(members, head),
+        Some(head) => standing_of(members, head, records),
         None => before,
     }
 }

@@ -1,10 +1,12 @@
 -- A cell that is being read: whose it is, and what is counted of it.
-use Rattle.std.specs.Prelude.{◌≡◌, false, IsSome, ℕ, List, [], ◌++◌, Option, Some, None}
+use Rattle.std.specs.Prelude.{◌≡◌, ◌-◌, false, IsSome, ℕ, List, [], ◌++◌, length, Option, Some}
+use Rattle.std.specs.Prelude.{None}
 use Rattle.fed_types.specs.Sites.{Membership}
 use Rattle.records.specs.declared.record.Record.{Record}
 use Rattle.ledger.specs.declared.ending.Ending.{Ending}
 use Rattle.ledger.specs.declared.part.Head.{Head}
 use Rattle.ledger.specs.declared.part.LastPart.{LastPart}
+use Rattle.ledger.specs.declared.part.Part.{Part}
 use Rattle.ledger.specs.Parts.{Told, nothing, HasTold}
 use Rattle.audit.specs.Evidence.{SiteRecord}
 use Rattle.audit_command.specs.declared.cell_defect.CellDefect.{CellDefect}
@@ -21,24 +23,25 @@ use Rattle.audit_command.specs.inner.Gathered.{IsEvidence}
 
 -- ---- whose it is
 
--- whose a cell of this head is
-abbrev pub IsStanding : Membership → Head → Standing → Type 0
-IsStanding members head Unknown = ⊥
-IsStanding members head (Member site) = IsMembers members head × (site ≡ head.owner.site)
-IsStanding members head Foreign = ¬ IsMembers members head
+-- whose a cell of this head and these records is
+abbrev pub IsStanding : Membership → Head → List Record → Standing → Type 0
+IsStanding members head records Unknown = ⊥
+IsStanding members head records (Member site) =
+    IsMembers members head records × (site ≡ head.owner.site)
+IsStanding members head records Foreign = ¬ IsMembers members head records
 
--- whose it is after a part that has this head
-abbrev pub IsStandingAfter : Membership → Standing → Option Head → Standing → Type 0
-IsStandingAfter members before None after = after ≡ before
-IsStandingAfter members before (Some head) after = IsStanding members head after
+-- whose it is after a part that has this head and these records
+abbrev pub IsStandingAfter : Membership → Standing → Option Head → List Record → Standing → Type 0
+IsStandingAfter members before None records after = after ≡ before
+IsStandingAfter members before (Some head) records after = IsStanding members head records after
 
 -- whose it is by all that was told
 abbrev pub HasStanding : Membership → Told → Standing → Type 0
 HasStanding members told Unknown = told ≡ nothing
 HasStanding members told (Member site) =
-    (head : Head) × (told.head ≡ Some head) × IsStanding members head (Member site)
+    (head : Head) × (told.head ≡ Some head) × IsStanding members head told.records (Member site)
 HasStanding members told Foreign =
-    (head : Head) × (told.head ≡ Some head) × IsStanding members head Foreign
+    (head : Head) × (told.head ≡ Some head) × IsStanding members head told.records Foreign
 
 -- ---- what of it counts
 
@@ -60,48 +63,68 @@ Adds old new more =
     (members : Membership) (given : List SiteRecord) → IsEvidence members old given
     → IsEvidence members new (given ++ more)
 
--- the records of a part were counted, after which the cell is this one's
-abbrev pub IsPartCounted : Membership → (old new : Evidence) → Standing → Option Head
-    → List Record → Standing → Type 0
-IsPartCounted members old new before head records after =
-    IsStandingAfter members before head after × Adds old new (counted_as after records)
+-- these records are so many that were counted, and the last, of which that isn't sure
+pub record IsSplit (unsure : ℕ) (records counted last : List Record) : Type 0 where
+  pub parts_are : records ≡ counted ++ last
+  pub length_is : length counted ≡ length records - unsure
 
--- those of the last one, and this is amiss
-abbrev pub IsLastCounted : Membership → (old new : Evidence) → Standing → LastPart
-    → Option CellDefect → Type 0
-IsLastCounted members old new before last fault =
-    (after : Standing)
-    × IsPartCounted members old new before last.part.head last.part.records.items after
-    × (fault ≡ fault_of after last.ending)
+-- A part was counted: of the last records before it and its own, those of which it is sure now.
+pub record IsPartCounted (members : Membership) (old new : Evidence) (before after : CellReading)
+    (part : Part) (sure : List Record) : Type 0 where
+  pub reader_is : after.reader ≡ before.reader
+  pub standing_is : IsStandingAfter members before.standing part.head part.records.items
+      after.standing
+  pub unsure_is : after.last.unsure ≡ before.last.unsure
+  pub split : IsSplit before.last.unsure (before.last.records.items ++ part.records.items) sure
+      after.last.records.items
+  pub counted : Adds old new (counted_as after.standing sure)
+
+-- the last part was, and this is amiss
+abbrev pub IsLastCounted : Membership → (old new : Evidence) → (before after : CellReading)
+    → LastPart → Option CellDefect → Type 0
+IsLastCounted members old new before after last fault =
+    ((sure : List Record) × IsPartCounted members old new before after last.part sure)
+    × (fault ≡ fault_of after.standing last.ending)
 
 -- ---- between two pieces
 
--- these bytes were taken, and what they tell was counted after this
-abbrev pub HasCounted : Membership → CellReading → Evidence → (taken : List ℕ)
+-- of what was told so much is sure, and was counted after this
+pub record CountsTold (members : Membership) (unsure : ℕ) (reading : CellReading)
+    (evidence : Evidence) (taken : List ℕ) (given : List SiteRecord) (told : Told)
+    (sure : List Record) : Type 0 where
+  pub told_is : HasTold reading.reader taken told
+  pub standing_is : HasStanding members told reading.standing
+  pub unsure_is : reading.last.unsure ≡ unsure
+  pub split : IsSplit unsure told.records sure reading.last.records.items
+  pub counted : IsEvidence members evidence (given ++ counted_as reading.standing sure)
+
+-- these bytes were taken, and what they tell was counted after this, but for so many of the last
+-- records
+abbrev pub HasCounted : Membership → (unsure : ℕ) → CellReading → Evidence → (taken : List ℕ)
     → (given : List SiteRecord) → Type 0
-HasCounted members reading evidence taken given =
-    (told : Told) × HasTold reading.reader taken told
-    × HasStanding members told reading.standing
-    × IsEvidence members evidence (given ++ counted_as reading.standing told.records)
+HasCounted members unsure reading evidence taken given =
+    (told : Told) × (sure : List Record)
+    × CountsTold members unsure reading evidence taken given told sure
 
 -- this is amiss with a cell that says all that its bytes do, and what counts of it was counted
-abbrev pub IsCounted : Membership → Evidence → (bytes : List ℕ) → (given : List SiteRecord)
-    → Option CellDefect → Type 0
-IsCounted members evidence bytes given fault =
-    (counted : List SiteRecord) × IsReadingOf members bytes fault counted
+abbrev pub IsCounted : Membership → (unsure : ℕ) → Evidence → (bytes : List ℕ)
+    → (given : List SiteRecord) → Option CellDefect → Type 0
+IsCounted members unsure evidence bytes given fault =
+    (counted : List SiteRecord) × IsReadingOf members unsure bytes fault counted
     × IsEvidence members evidence (given ++ counted)
 
 -- after one more piece it goes on; or something is amiss, whatever follows
-abbrev pub IsProgress : Membership → CellReading → Evidence → (taken : List ℕ)
+abbrev pub IsProgress : Membership → (unsure : ℕ) → CellReading → Evidence → (taken : List ℕ)
     → (given : List SiteRecord) → Progress → Type 0
-IsProgress members reading evidence taken given More =
-    HasCounted members reading evidence taken given
-IsProgress members reading evidence taken given (Ended fault) =
-    IsSome fault × ((more : List ℕ) → IsCounted members evidence (taken ++ more) given fault)
+IsProgress members unsure reading evidence taken given More =
+    HasCounted members unsure reading evidence taken given
+IsProgress members unsure reading evidence taken given (Ended fault) =
+    IsSome fault
+    × ((more : List ℕ) → IsCounted members unsure evidence (taken ++ more) given fault)
 
 -- the same of a cell of which nothing can be read after these bytes
-abbrev pub IsUnreadCounted : Membership → Evidence → (first : List ℕ) → (given : List SiteRecord)
-    → Option CellDefect → Type 0
-IsUnreadCounted members evidence first given fault =
-    (found : Option CellDefect) × IsCounted members evidence first given found
+abbrev pub IsUnreadCounted : Membership → (unsure : ℕ) → Evidence → (first : List ℕ)
+    → (given : List SiteRecord) → Option CellDefect → Type 0
+IsUnreadCounted members unsure evidence first given fault =
+    (found : Option CellDefect) × IsCounted members unsure evidence first given found
     × (fault ≡ or_unread false found)

@@ -1,7 +1,7 @@
 use Rattle.std.proofs.Common.{◌++◌, ℕ, arith, subst, take, IfSome, Some}
 use Rattle.audit_command.specs.Files.{Gives}
 use Rattle.audit_command.specs.inner.Standings.{IsProgress}
-use Rattle.audit_command.proofs.TakenBytes.{amiss, ended, failed, if_ok, more_taken, none_taken}
+use Rattle.audit_command.proofs.TakenBytes.{amiss, ended, failed, if_ok, more_taken}
 use Rattle.audit_command.proofs.cell_reading.read_cell.Goals as goal
 
 pub returns-in-Some-eq0 : goal.returns-in-Some-eq0
@@ -12,10 +12,11 @@ returns-in-Some-eq0 g c =
     let after = left c.read.new.cell in
     let piece = c.read.new.piece in
     if_ok _ _ c.end.result
-    (λ fault counts given is. ended now after i.0 piece c.args.members.now c.end.new.evidence
-    given (left c.args.cell.now) fault i.1 (omega arith)
+    (λ fault counts given is. ended now after i.0 piece c.args.members.now c.args.unsure
+    c.end.new.evidence given (left c.args.cell.now) fault i.1 (omega arith)
     (subst (λ (n : ℕ). IfSome now (λ file. Gives file piece (Some n) after))
-    c.in-Some-eq0.field-0-test c.in-Some-eq0.ensures.bytes) (counts i.0 given (i.2 given is)))
+    c.in-Some-eq0.field-0-test c.in-Some-eq0.ensures.bytes)
+    (counts c.args.unsure i.0 given (i.2 given is)))
     c.end.ensures
 
 pub returns-in-Ended : goal.returns-in-Ended
@@ -28,9 +29,9 @@ returns-in-Ended g c =
     let evidence = c.take.new.evidence in
     λ given is.
     let progress = subst
-    (IsProgress c.args.members.now c.take.new.self evidence (i.0 ++ piece) given)
-    c.in-Ended.is (c.in_ok-fault-in-Some.ensures i.0 given (i.2 given is)) in
-    amiss c.args.members.now evidence given first after (i.0 ++ piece) c.in-Ended.fault
+    (IsProgress c.args.members.now c.args.unsure c.take.new.self evidence (i.0 ++ piece) given)
+    c.in-Ended.is (c.in_ok-fault-in-Some.ensures c.args.unsure i.0 given (i.2 given is)) in
+    amiss c.args.members.now c.args.unsure evidence given first after (i.0 ++ piece) c.in-Ended.fault
     (more_taken (left c.reads.cell) after i.0 c.read.new.piece first c.in-Some.count i.1
     c.in-Some.count-test.1 c.in-Some.ensures.bytes) progress.0 progress.1
 
@@ -40,8 +41,9 @@ returns-in-None g c =
     let i = c.reads.invariant in
     if_ok _ _ c.unread_end.result
     (λ fault counts given is. failed (left c.reads.cell) (left c.read.new.cell) i.0
-    c.read.new.piece c.args.members.now c.unread_end.new.evidence given (left c.args.cell.now)
-    fault i.1 c.in-None.ensures.bytes (counts i.0 given (i.2 given is))) c.unread_end.ensures
+    c.read.new.piece c.args.members.now c.args.unsure c.unread_end.new.evidence given
+    (left c.args.cell.now) fault i.1 c.in-None.ensures.bytes
+    (counts c.args.unsure i.0 given (i.2 given is))) c.unread_end.ensures
 
 pub reads-preserved : goal.reads-preserved
 reads-preserved g c =
@@ -54,6 +56,7 @@ reads-preserved g c =
       more_taken (left c.reads.cell) after i.0 c.read.new.piece first c.in-Some.count i.1
           c.in-Some.count-test.1 c.in-Some.ensures.bytes,
       λ given is. subst
-          (IsProgress c.args.members.now c.take.new.self c.take.new.evidence (i.0 ++ piece) given)
-          c.in-More.is (c.in_ok-fault-in-Some.ensures i.0 given (i.2 given is)),
+          (IsProgress c.args.members.now c.args.unsure c.take.new.self c.take.new.evidence
+          (i.0 ++ piece) given)
+          c.in-More.is (c.in_ok-fault-in-Some.ensures c.args.unsure i.0 given (i.2 given is)),
     )

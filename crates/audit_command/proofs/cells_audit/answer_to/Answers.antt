@@ -15,6 +15,7 @@ returns g c =
     let read = c.in_ok-gathered.ensures in
     let readings = read.0 in
     let versions : List Version = c.in_ok-versions.versions.items in
+    let first = string_bytes c.push_str.new.self in
     let lines = string_bytes c.push_versions.new.text in
     record {
       readings = readings;
@@ -24,10 +25,12 @@ returns g c =
       status_is = c.status_of-status.ensures
           ∙ status_as gathered.all_used c.count_conflicts.result readings versions read.2.used
           (c.count_conflicts.ensures ∙ ap (count_of is_conflict) c.deref-3.ensures.value);
-      text_is = text_as readings versions (string_bytes gathered.text) lines
-          (string_bytes c.push_counts.new.text) read.2.text_is
+      text_is = text_as readings versions (string_bytes gathered.in_use)
+          (string_bytes gathered.text) c.as_str.result.now first lines
+          (string_bytes c.push_counts.new.text) read.2.in_use_is read.2.text_is
+          c.as_str.ensures.value c.in_ok-push_str.ensures.bytes
           (c.in_ok-push_versions.ensures
-          ∙ ap (λ (vs : List Version). string_bytes gathered.text ++ flat_map version_line vs)
+          ∙ ap (λ (vs : List Version). first ++ flat_map version_line vs)
           c.deref.ensures.value)
           (c.in_ok-push_counts.ensures
           ∙ ap (λ (vs : List Version). lines ++ counts_line vs) c.deref-2.ensures.value);

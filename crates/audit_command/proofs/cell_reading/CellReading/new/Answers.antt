@@ -5,5 +5,6 @@ use Rattle.audit_command.proofs.cell_reading.CellReading.new.Goals as goal
 
 pub returns : goal.returns
 returns c = λ members evidence given is.
-    none_read members evidence given (record { reader = c.new.result; standing = Unknown }) refl
-    c.new.ensures is
+    none_read members c.args.unsure evidence given
+    (record { reader = c.new.result; standing = Unknown; last = c.new-2.result }) refl
+    c.new.ensures c.new-2.ensures.unsure c.new-2.ensures.records is
