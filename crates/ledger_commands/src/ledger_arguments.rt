@@ -7,8 +7,10 @@ use std::alloc::{AllocError, Global};
 const ABOUT: &str = "Prints what a site's cell says of each version: which bag is known";
 
 const EXAMPLE: &str =
-    "The cell may be in use, or a copy: it is read without a lock, and never changed. It prints a
-line for each version, in the order in which the versions come first in the cell:
+    "The cell may be in use, or a copy: it is read without a lock, and never changed. The newest record
+of a cell in use may not be synced yet, and a crash may take it back: the lines say what the bytes
+are as they are read. A `known` line is true even so: the votes that chose its bag are synced.
+It prints a line for each version, in the order in which the versions come first in the cell:
   known OBJ V HEX           the site knows that this bag was chosen
   pending OBJ V HEX         it knows of none, and has registered this bag as its own deposit
   voted OBJ V HEX           no known bag and no deposit; it voted for this, in its greatest ballot

@@ -1,3 +1,4 @@
 pub mod Heard
 pub mod Written
 pub mod Repeated
+pub mod BegunCells

@@ -1,6 +1,8 @@
--- Read in this order: Paths (folders below one); Replies (what a client asks, and which datagrams
--- are the site's reply), Exchanges (what a client's port does), Answers (what the client is told),
--- Repeats (one that asks until a bag is known). inner/ is for private contracts and proofs.
+-- Read in this order: FirstStarts (how a start begins with its cell); Paths (folders below one);
+-- Replies (what a client asks, and which datagrams are the site's reply), Exchanges (what a
+-- client's port does), Answers (what the client is told), Repeats (one that asks until a bag is
+-- known). inner/ is for private contracts and proofs.
+pub mod FirstStarts
 pub mod Paths
 pub mod Replies
 pub mod Exchanges

@@ -7,15 +7,18 @@
 //! ```
 #![tactic(auto)]
 
+mod cell_opening;
 mod client;
 mod client_answer;
 mod client_command;
 mod exchange;
 mod file_members;
+mod first_start;
 mod folders_below;
 mod member_list;
 mod member_words;
 mod members_arguments;
+mod noted_ending;
 mod printed_members;
 mod reply;
 mod request;
@@ -30,6 +33,7 @@ mod until_known;
 pub use client::{ask_for_bag, send_on};
 pub use client_command::send_to_site;
 pub use file_members::{members_at, port_of};
+pub use first_start::{Unprepared, prepare_cell};
 pub use members_arguments::{MembersTask, members_command, members_task};
 pub use printed_members::print_members;
 pub use reply::{ClientReply, Wanted};

@@ -2,30 +2,48 @@
 
 ghost use Rattle.std.specs.Prelude.{◌≡◌, IfOk};
 
+use crate::cell_opening::cell_of;
 use crate::file_members::{expect_listed, members_at, port_of, ports_of};
 use crate::folders_below::FoldersBelow;
+use crate::noted_ending::note_ending;
 use crate::service::{Service, open_and_serve};
 use crate::site_arguments::SiteTask;
 use crate::stop::{Stop, write_stop};
 use crate::udp_socket::socket;
 use bag_folders::{DiskFolders, Folders};
-use cell_device::{CellFault, FileCell};
+use cell_file::DiskCell;
 use fed_types::Members;
 use outcomes::ProgramFault;
+use records::Owner;
 use site_log::{LoggedFolders, LoggedOutput, LoggedPort, SiteLog};
 use site_words::{Asked, SpokenOutput};
-use std::alloc::AllocError;
-use std::fs::{self, File};
-use std::io;
 use std::io::{ErrorKind, Printer, Write};
+use std::{fs, io};
 use udp_site::{Port, UdpPort};
 
-/// Serves as the arguments say. The lines are written to standard output.
+/// Serves as the arguments say. The lines are written to standard output. Where a log is asked for,
+/// it is opened before all else, so that it has what ends the site.
 pub fn serve_site(rt: &HostRuntime, task: &SiteTask<'_>) -> Result<u8, ProgramFault> {
-    let mut output = output_of(rt, task);
+    let Some(path) = task.log else {
+        return equip_and_serve(rt, task, None, &mut output_of(rt, task));
+    };
+    let log = SiteLog::open(rt, path, task.number);
+    let mut output = LoggedOutput::new(&log, output_of(rt, task));
+    let answer = equip_and_serve(rt, task, Some(&log), &mut output);
+    note_ending(rt.alloc(), &log, answer);
+    answer
+}
+
+// Serves, or says what is missing.
+fn equip_and_serve<W: Write>(
+    rt: &HostRuntime,
+    task: &SiteTask<'_>,
+    log: Option<&SiteLog<'_>>,
+    output: &mut W,
+) -> Result<u8, ProgramFault> {
     match equip(rt, task) {
-        Ok(means) => serve_with(rt, task, means, &mut output),
-        Err(stop) => write_stop(rt.alloc(), &mut output, stop),
+        Ok(means) => serve_with(rt, task, means, log, output),
+        Err(stop) => write_stop(rt.alloc(), output, stop),
     }
 }
 
@@ -53,7 +71,7 @@ struct Means<P, F> {
     members: Members,
     ports: Vec<u16>,
     folders: F,
-    cell: FileCell,
+    cell: DiskCell,
     port: P,
 }
 
@@ -72,7 +90,8 @@ fn equip<'a>(rt: &HostRuntime, task: &SiteTask<'a>) -> Result<Means<UdpPort, Bag
     let ports = ports_of(rt.alloc(), &file)?;
     let members = file.members();
     let folders = folders_of(rt, task)?;
-    let cell = cell_of(rt, task)?;
+    let site = task.number;
+    let cell = cell_of(rt, task, &Owner { members, site })?;
     let port = socket(rt, members.federation(), port_number, task.waits)?;
     Ok(Means {
         members,
@@ -83,28 +102,27 @@ fn equip<'a>(rt: &HostRuntime, task: &SiteTask<'a>) -> Result<Means<UdpPort, Bag
     })
 }
 
-// Serves, with a log where one is asked for.
+// Serves, with the log, if there is one.
 fn serve_with<W: Write>(
     rt: &HostRuntime,
     task: &SiteTask<'_>,
     means: Means<UdpPort, BagFolders<'_>>,
+    log: Option<&SiteLog<'_>>,
     output: &mut W,
 ) -> Result<u8, ProgramFault> {
-    let Some(path) = task.log else {
-        return serve_by(rt, task, means, None, output);
-    };
-    match SiteLog::open(rt, path, means.members, task.number, means.port.port()) {
-        Ok(log) => serve_logged(rt, task, means, &log),
-        Err(AllocError) => write_stop(rt.alloc(), output, Stop::Memory),
+    match log {
+        Some(log) => serve_logged(rt, task, means, log, output),
+        None => serve_by(rt, task, means, None, output),
     }
 }
 
-// Serves, while the log is told of all that comes, can't be read, or is written.
-fn serve_logged(
+// Serves, while the log is told of all that comes or can't be read.
+fn serve_logged<'a, W: Write>(
     rt: &HostRuntime,
     task: &SiteTask<'_>,
     means: Means<UdpPort, BagFolders<'_>>,
-    log: &SiteLog,
+    log: &'a SiteLog<'a>,
+    output: &mut W,
 ) -> Result<u8, ProgramFault> {
     let Means {
         members,
@@ -113,6 +131,7 @@ fn serve_logged(
         cell,
         port,
     } = means;
+    log.is_at(members, port.port());
     let means = Means {
         members,
         ports,
@@ -120,8 +139,7 @@ fn serve_logged(
         cell,
         port: LoggedPort::new(log, port),
     };
-    let mut output = LoggedOutput::new(log, output_of(rt, task));
-    serve_by(rt, task, means, Some(log), &mut output)
+    serve_by(rt, task, means, Some(log), output)
 }
 
 // Serves by these means.
@@ -129,7 +147,7 @@ fn serve_by<P: Port + Drop, F: Folders + Drop, W: Write>(
     rt: &HostRuntime,
     task: &SiteTask<'_>,
     means: Means<P, F>,
-    log: Option<&SiteLog>,
+    log: Option<&SiteLog<'_>>,
     output: &mut W,
 ) -> Result<u8, ProgramFault> {
     let Means {
@@ -174,32 +192,6 @@ fn find_folder(rt: &HostRuntime, path: &str) -> Result<(), Stop> {
         Ok(_) => Err(Stop::BagsUnread),
         Err(error) if error.kind() == ErrorKind::OutOfMemory => Err(Stop::Memory),
         Err(_) => Err(Stop::BagsUnread),
-    }
-}
-
-// The cell that the arguments name.
-fn cell_of(rt: &HostRuntime, task: &SiteTask<'_>) -> Result<FileCell, Stop> {
-    if task.existing {
-        find_cell(rt, task.cell)?;
-    }
-    cell_at(rt, task.cell)
-}
-
-// Whether there is a file at this path. Between this and the cell's opening it may go.
-fn find_cell(rt: &HostRuntime, path: &str) -> Result<(), Stop> {
-    match File::open(rt, path) {
-        Ok(_) => Ok(()),
-        Err(error) if error.kind() == ErrorKind::OutOfMemory => Err(Stop::Memory),
-        Err(_) => Err(Stop::CellUnopened),
-    }
-}
-
-// The cell in the file of this path.
-fn cell_at(rt: &HostRuntime, path: &str) -> Result<FileCell, Stop> {
-    match FileCell::open(rt, path) {
-        Ok(cell) => Ok(cell),
-        Err(CellFault::Device) => Err(Stop::CellUnopened),
-        Err(CellFault::Memory) => Err(Stop::Memory),
     }
 }
 

@@ -21,7 +21,7 @@ pub struct Service<'a> {
     pub ports: &'a [u16],
     pub turns: Turns,
     /// The log that is told when it begins, if there is one.
-    pub log: Option<&'a SiteLog>,
+    pub log: Option<&'a SiteLog<'a>>,
 }
 
 /// Opens the site of this number, and serves its turns. Its lines are written, and the exit

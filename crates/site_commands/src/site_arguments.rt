@@ -33,11 +33,14 @@ under way.
 With --bags a path that is absolute or has `..` in it is refused as a missing folder (21).
 
 With --log each line is also written to a file, which grows: after the time in UTC and the port
-from which came what it is about (`-` in a turn in which nothing came). After `refused` comes what
-was asked for, and a folder that can't be read has a line of its own:
+from which came what it is about (`-` where nothing came). After `refused` comes what was asked for,
+and a folder that can't be read has a line of its own. The log is opened before all else, so it has
+the last line of a site that doesn't begin to serve, too; after each last line it says why in words:
   TIME - serves site 1 of 3, federation 7, port 42001, 12 records, 3 known
   TIME 51234 refused 1 10 14 deposit OBJ V PATH
   TIME 51234 unread 1 21 deposit OBJ V PATH PLACE
+  TIME - open 3
+  TIME - why: the cell is damaged; keep the file; the site is lost, and the others go on
 Where the log can't be written, standard error says so once, and the site goes on.
 
 With --words standard error has a line after each line `refused` or `dropped`, and after the one
@@ -50,8 +53,8 @@ The exit status is 0 after the last turn; 1 where a last line says why it stoppe
                     with --listed: the federation's number doesn't come from the file's list
   not a member      the members file has no such site
   bags unread       with --bags: it isn't a folder
-  open 4            the cell's file can't be opened or read, another process has it open, or it
-                    isn't there, with --existing
+  open 4            the cell's file can't be opened, read or written, or another process has it
+                    open for five seconds; with --existing, it isn't there, or its header isn't
   socket            the site's port can't be had
   open N            the cell is of another federation (1) or site (2), damaged (3), or of members
                     with other weights (6); 5: no memory
@@ -211,7 +214,7 @@ fn existing_argument<'a>(alloc: Global) -> Arg<'a> {
     Arg::new(alloc, "existing")
         .long("existing")
         .action(ArgAction::SetTrue)
-        .help("Don't make the cell: where it is missing, end with `open 4`")
+        .help("Don't make the cell: where it or its header is missing, end with `open 4`")
 }
 
 fn bags_argument<'a>(alloc: Global) -> Arg<'a> {
@@ -223,7 +226,7 @@ fn bags_argument<'a>(alloc: Global) -> Arg<'a> {
 
 fn log_argument<'a>(alloc: Global) -> Arg<'a> {
     Arg::new(alloc, "log").long("log").value_name("FILE").help(
-        "Append what it prints to this file, with the time and who asked",
+        "Append what it prints to this file, with the time, who asked and why it ends",
     )
 }
 

@@ -1,11 +1,11 @@
-//! The log of a site that serves: what it prints, with the time, the sender and, for what is
-//! refused, the request. It stands around a port, folders and an output, whose contracts it keeps.
+//! The log of a site: what it prints, with the time, the sender and, for what is refused, the
+//! request; and in the end why it ended. It stands around a port, folders and an output, whose
+//! contracts it keeps.
 //!
 //! ```
-//! match SiteLog::open(rt, path, means.members, task.number, means.port.port()) {
-//!     Ok(log) => serve_logged(rt, task, means, &log),
-//!     Err(AllocError) => write_stop(rt.alloc(), output, Stop::Memory),
-//! }
+//! let log = SiteLog::open(rt, path, task.number);
+//! let mut output = LoggedOutput::new(&log, output_of(rt, task));
+//! let answer = equip_and_serve(rt, task, Some(&log), &mut output);
 //! ```
 #![tactic(auto)]
 

@@ -8,13 +8,13 @@ use bag_tree::{Facts, TreeFault};
 /// the folders.
 #[derive(Drop)]
 pub struct LoggedFolders<'a, F> {
-    log: &'a SiteLog,
+    log: &'a SiteLog<'a>,
     folders: F,
 }
 
 impl<'a, F: Folders> LoggedFolders<'a, F> {
     /// These folders, with this log.
-    pub fn new(log: &'a SiteLog, folders: F) -> LoggedFolders<'a, F> {
+    pub fn new(log: &'a SiteLog<'a>, folders: F) -> LoggedFolders<'a, F> {
         LoggedFolders { log, folders }
     }
 }

@@ -6,13 +6,13 @@ use std::io::{Result, Write};
 /// An output that tells the log what was written. Otherwise it delegates to it.
 #[derive(Drop)]
 pub struct LoggedOutput<'a, W> {
-    log: &'a SiteLog,
+    log: &'a SiteLog<'a>,
     output: W,
 }
 
 impl<'a, W: Write> LoggedOutput<'a, W> {
     /// This output, with this log.
-    pub fn new(log: &'a SiteLog, output: W) -> LoggedOutput<'a, W> {
+    pub fn new(log: &'a SiteLog<'a>, output: W) -> LoggedOutput<'a, W> {
         LoggedOutput { log, output }
     }
 }

@@ -6,13 +6,13 @@ use udp_site::{Port, PortFault, Turn};
 /// A port that tells the log what came. Otherwise it delegates to it.
 #[derive(Drop)]
 pub struct LoggedPort<'a, P> {
-    log: &'a SiteLog,
+    log: &'a SiteLog<'a>,
     port: P,
 }
 
 impl<'a, P: Port> LoggedPort<'a, P> {
     /// This port, with this log.
-    pub fn new(log: &'a SiteLog, port: P) -> LoggedPort<'a, P> {
+    pub fn new(log: &'a SiteLog<'a>, port: P) -> LoggedPort<'a, P> {
         LoggedPort { log, port }
     }
 }

@@ -6,62 +6,90 @@ use crate::request_text::{push_word, request_text};
 use bag_tree::TreeFault;
 use fed_types::{Members, SiteNo};
 use records::{Entry, Record};
-use std::alloc::{AllocError, Global};
+use std::alloc::AllocError;
 use std::cell::RefCell;
 use udp_site::Turn;
 
-/// A log of a site that serves, in a file. What can't be noted, out of memory or room, is left
-/// out: the site goes on.
+/// A log of a site, in a file. What can't be noted, out of memory or room, is left out: the site
+/// goes on.
 #[derive(Drop)]
-pub struct SiteLog {
-    rt: HostRuntime,
-    members: Members,
+pub struct SiteLog<'a> {
+    rt: &'a HostRuntime,
     number: SiteNo,
-    port: u16,
     state: RefCell<State>,
+}
+
+/// Where a site serves.
+#[derive(Clone, Copy)]
+struct Place {
+    members: Members,
+    port: u16,
 }
 
 /// What the next line needs.
 #[derive(Drop)]
 struct State {
     file: LogFile,
+    /// Where the site serves; none before it does.
+    place: Option<Place>,
     /// The port from which came what the site does now; none in an idle turn.
     from: Option<u16>,
     /// What came.
     bytes: Vec<u8>,
     /// The beginning of a line of the site's that isn't ended.
     begun: String,
+    /// The last line that is ended; empty before the first, and after one that couldn't be noted.
+    last: String,
 }
 
-impl SiteLog {
-    /// A log of the site of this number, which serves at this port, in the file of this path.
-    pub fn open(
-        rt: &HostRuntime,
-        path: &str,
-        members: Members,
-        number: SiteNo,
-        port: u16,
-    ) -> Result<SiteLog, AllocError> {
+impl<'a> SiteLog<'a> {
+    /// A log of the site of this number, in the file of this path.
+    pub fn open(rt: &'a HostRuntime, path: &str, number: SiteNo) -> SiteLog<'a> {
         let state = State {
             file: LogFile::open(rt, path),
+            place: None,
             from: None,
             bytes: Vec::new(rt.alloc()),
             begun: String::new(rt.alloc()),
+            last: String::new(rt.alloc()),
         };
-        Ok(SiteLog {
-            rt: rt.clone()?,
-            members,
+        SiteLog {
+            rt,
             number,
-            port,
             state: RefCell::new(state),
-        })
+        }
     }
 
-    /// The site begins to serve, with these records.
+    /// The site is one of these members, and has this port.
+    pub fn is_at(&self, members: Members, port: u16) {
+        if let Ok(mut state) = self.state.try_borrow_mut() {
+            state.place = Some(Place { members, port });
+        }
+    }
+
+    /// The site begins to serve, with these records, at the port that it has.
     pub fn begins(&self, records: &[Record]) {
         if let Ok(mut state) = self.state.try_borrow_mut() {
-            let line = self.beginning(records);
-            append(&self.rt, &mut state, line);
+            if let Some(place) = state.place {
+                let line = self.beginning(place, records);
+                append(self.rt, &mut state, line);
+            }
+        }
+    }
+
+    /// The site has ended, for the reason that these words say.
+    pub fn ends(&self, why: &str) {
+        if let Ok(mut state) = self.state.try_borrow_mut() {
+            let line = self.why_line(why);
+            append(self.rt, &mut state, line);
+        }
+    }
+
+    /// The last line that the site has written; empty where there is none, or it wasn't noted.
+    pub fn last_line(&self) -> Result<String, AllocError> {
+        match self.state.try_borrow_mut() {
+            Ok(state) => String::from_str(self.rt.alloc(), state.last.as_str()),
+            Err(_) => Ok(String::new(self.rt.alloc())),
         }
     }
 
@@ -76,7 +104,7 @@ impl SiteLog {
     pub(crate) fn unread(&self, fault: TreeFault, place: Option<&str>) {
         if let Ok(mut state) = self.state.try_borrow_mut() {
             let line = self.unread_line(&state, fault, place);
-            append(&self.rt, &mut state, line);
+            append(self.rt, &mut state, line);
         }
     }
 
@@ -86,6 +114,8 @@ impl SiteLog {
             // Without room for all of it nothing is noted.
             if state.begun.reserve(text.len()).is_ok() {
                 self.take_text(&mut state, text);
+            } else {
+                state.last.clear();
             }
         }
     }
@@ -95,7 +125,8 @@ impl SiteLog {
         for byte in text {
             if *byte == b'\n' {
                 let line = self.line_of(state);
-                append(&self.rt, state, line);
+                append(self.rt, state, line);
+                std::mem::swap(&mut state.begun, &mut state.last);
                 state.begun.clear();
             } else {
                 let _ = state.begun.push(char::from(*byte));
@@ -104,12 +135,12 @@ impl SiteLog {
     }
 
     // `serves site S of N, federation F, port P, R records, K known`
-    fn beginning(&self, records: &[Record]) -> Result<String, AllocError> {
+    fn beginning(&self, place: Place, records: &[Record]) -> Result<String, AllocError> {
+        let Place { members, port } = place;
         let mut line = self.heading(None)?;
         let site = self.number.number();
-        let count = self.members.count();
-        let federation = self.members.federation();
-        let port = self.port;
+        let count = members.count();
+        let federation = members.federation();
         write!(
             line,
             "serves site {site} of {count}, federation {federation}, port {port}, "
@@ -117,6 +148,13 @@ impl SiteLog {
         let kept = records.len();
         let known = records.iter().filter(|it| is_known(it)).count();
         write!(line, "{kept} records, {known} known")?;
+        Ok(line)
+    }
+
+    // `why: WORDS`
+    fn why_line(&self, why: &str) -> Result<String, AllocError> {
+        let mut line = self.heading(None)?;
+        write!(line, "why: {why}")?;
         Ok(line)
     }
 
@@ -149,7 +187,10 @@ impl SiteLog {
     }
 
     fn push_request(&self, line: &mut String, state: &State) -> Result<(), AllocError> {
-        let federation = self.members.federation();
+        let Some(place) = state.place else {
+            return Ok(());
+        };
+        let federation = place.members.federation();
         let request = request_text(self.rt.alloc(), federation, state.bytes.as_slice())?;
         if request.is_empty() {
             return Ok(());
@@ -161,7 +202,7 @@ impl SiteLog {
     // The time, and the port from which came what the line is about; `-` where nothing came.
     fn heading(&self, from: Option<u16>) -> Result<String, AllocError> {
         let alloc = self.rt.alloc();
-        let moment = moment_text(alloc, &self.rt)?;
+        let moment = moment_text(alloc, self.rt)?;
         match from {
             Some(port) => format!(in alloc; "{moment} {port} "),
             None => format!(in alloc; "{moment} - "),
