@@ -7,8 +7,8 @@ use std::alloc::AllocError;
 ///
 /// - A cell that isn't in use was synced before its first byte is read, with the bytes that are
 ///   read, and no site can open it until it is dropped here.
-/// - Of one that is in use no byte is read that was appended after `open` returned. So of the
-///   records that are read all but those that its site hadn't synced by then were synced.
+/// - Of one that is in use no byte is read that was appended after `open` returned. So all records
+///   that are read were synced, but for as many of the last as a site may not have synced.
 pub trait CellFiles {
     ghost use Rattle.std.specs.Prelude.{◌≡◌, ◌≤◌, ℕ, List, Option, Some, None, IfOk, IfSome};
     ghost use Rattle.std.specs.Prelude.{length, option_map};
