@@ -231,7 +231,8 @@ module _ (members : Membership) (unsure : ℕ) (old new : Evidence) (taken : Lis
       let is = next_part members told part.records.items sure
       (λ none. nothing_sure unsure told.records sure before.last.records.items
       (ap (λ (t : Told). t.records) none) had.2.split)
-      before.standing after.standing part.head had.2.standing_is is_named fits sound h.standing_is in
+      before.standing after.standing part.head had.2.standing_is is_named fits sound
+      h.standing_is in
       record {
         standing_is = is.0;
         unsure_is = h.unsure_is ∙ had.2.unsure_is;
@@ -301,7 +302,8 @@ module _ (members : Membership) (unsure : ℕ) (old new : Evidence) (taken : Lis
           (counted_as standing (all_but unsure all.records))
       read members unsure bytes all ending Unknown (inl (said, is, e, t)) none =
           absurd (cc (sym (ap (λ (t : Told). t.head) t) ∙ ap (λ (t : Told). t.head) none))
-      read members unsure bytes all ending (Member site) (inl (said, is, e, t)) (head, its, (its_members, of)) =
+      read members unsure bytes all ending (Member site) (inl (said, is, e, t))
+          (head, its, (its_members, of)) =
           let same = same_head all head said t its in
           let records : all.records ≡ said.records = ap (λ (t : Told). t.records) t in
           inr (

@@ -79,7 +79,8 @@ module _ (now after : Option FileBytes) (taken piece : List ℕ) where
           → IfSome now (λ file. Gives file piece None after)
           → IsUnreadCounted members unsure evidence taken given fault → IsFileCounted first fault
       failed None fault h gives (found, (counted, reading, is), fault_is) = (counted, tt, is)
-      failed (Some file) fault (rest, bytes, now_is) gives (found, (counted, reading, is), fault_is) =
+      failed (Some file) fault (rest, bytes, now_is) gives
+          (found, (counted, reading, is), fault_is) =
           let end = subst (λ (o : Option FileBytes). IfSome o
           (λ file. Gives file piece None after)) now_is gives in (
             counted,

@@ -1,6 +1,6 @@
 -- What the cells that an auditor was given are good for: what is amiss with each, and which of its
 -- records are counted.
-use Rattle.std.specs.Prelude.{◌≡◌, ◌⊎◌, ◌≤◌, ◌-◌, ℕ, Bool, true, false, List, [], length, map, take}
+use Rattle.std.specs.Prelude.{◌≡◌, ◌⊎◌, ◌≤◌, ◌-◌, ◌||◌, ℕ, Bool, true, false, List, [], length, map, take}
 use Rattle.std.specs.Prelude.{Option, Some, None}
 use Rattle.std.specs.List.{All, flat_map}
 use Rattle.std.specs.Option.{option_or}
@@ -87,12 +87,20 @@ abbrev pub unsure_of : (in_use : Bool) → ℕ
 unsure_of true = most_unsynced
 unsure_of false = 0
 
--- of a file, none if it can't be opened: whether it is in use, what is amiss, and what is counted
+-- what is counted of a file may be sure to outlive a crash; else nothing of it counts
+abbrev pub IsReadingIf : (sure : Bool) → Membership → (in_use : Bool) → FileBytes
+    → Option CellDefect → List SiteRecord → Type 0
+IsReadingIf true members in_use file fault given =
+    IsReadingOfBytes members (unsure_of in_use) file fault given
+IsReadingIf false members in_use file fault given = SaysNothing fault given
+
+-- of a file, none if it can't be opened: whether it is in use, what is amiss, and what is counted;
+-- one that isn't in use counts only if it can be synced
 abbrev pub IsReadingOfFile : Membership → Option FileBytes → (in_use : Bool) → Option CellDefect
     → List SiteRecord → Type 0
 IsReadingOfFile members None in_use fault given = (in_use ≡ false) × SaysNothing fault given
 IsReadingOfFile members (Some file) in_use fault given =
-    (in_use ≡ file.in_use) × IsReadingOfBytes members (unsure_of in_use) file fault given
+    (in_use ≡ file.in_use) × IsReadingIf (in_use || file.can_sync) members in_use file fault given
 
 -- a cell by the path of its file, whether it is in use, what is amiss with it, and what is counted
 -- of it

@@ -4,10 +4,12 @@ use Rattle.std.specs.Prelude.{take, Option, Some, None}
 
 -- What reading a file gives: its bytes, and whether it ends after them, or else reading fails
 -- there. A file that is in use is held by a site, which may not have synced its last records.
+-- Another may have some that nobody has synced: whether syncing it succeeds.
 pub record FileBytes : Type 0 where
   pub bytes : List ℕ
   pub is_whole : Bool
   pub in_use : Bool
+  pub can_sync : Bool
 
 -- what the files of these paths give, where that is known; none inside where one can't be opened
 abbrev pub Files : Type 0
@@ -15,7 +17,7 @@ Files = List ℕ → Option (Option FileBytes)
 
 -- the same file, of which these bytes are left to read
 abbrev pub with_bytes : FileBytes → List ℕ → FileBytes
-with_bytes file rest = record { bytes = rest; is_whole = file.is_whole; in_use = file.in_use }
+with_bytes file rest = record file { bytes = rest }
 
 -- Of a file that gives this, a read into a piece fails; or it gives none, at the end; or the next
 -- bytes, and the others come after.

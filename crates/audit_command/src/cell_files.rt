@@ -5,10 +5,10 @@ use std::alloc::AllocError;
 /// What is counted of a cell has to outlive a crash. So an implementation owes this, of which no
 /// clause can speak:
 ///
-/// - A cell that isn't in use was synced before its first byte is read, with the bytes that are
-///   read, and no site can open it until it is dropped here.
-/// - Of one that is in use no byte is read that was appended after `open` returned. So of the
-///   records that are read all but those that its site hadn't synced by then were synced.
+/// - A cell that isn't in use is on the disk as it is read, once `sync` has said so, and no site can
+///   open it until it is dropped here.
+/// - Of one that is in use no byte is read that was appended after `open` returned. So all records
+///   that are read were synced, but for as many of the last as a site may not have synced.
 pub trait CellFiles {
     ghost use Rattle.std.specs.Prelude.{◌≡◌, ◌≤◌, ℕ, List, Option, Some, None, IfOk, IfSome};
     ghost use Rattle.std.specs.Prelude.{length, option_map};
@@ -23,8 +23,8 @@ pub trait CellFiles {
     // What reading a cell gives from here on, where that is known.
     ghost left: { Self.Cell → Option FileBytes } = { λ _. None };
 
-    /// Opens the file of this path; none where it can't be opened, or isn't in use and can't be
-    /// synced. It fails only where memory runs out.
+    /// Opens the file of this path; none where that can't be done. It fails only where memory runs
+    /// out.
     fn open(&self, path: &str) -> Result<Option<Self::Cell>, AllocError>
         ensures { IfOk result (λ cell. IfSome (bytes_at self.now path.now)
             (λ file. option_map left cell ≡ option_map (λ it. Some it) file)) };
@@ -32,6 +32,11 @@ pub trait CellFiles {
     /// Whether the cell was in use when it was opened: a site held it.
     fn is_in_use(&self, cell: &Self::Cell) -> bool
         ensures { IfSome (left cell.now) (λ file. result ≡ file.in_use) };
+
+    /// Syncs a cell that isn't in use, of this path, before it is read, and says whether that was
+    /// done.
+    fn sync(&self, cell: &Self::Cell, path: &str) -> bool
+        ensures { IfSome (left cell.now) (λ file. result ≡ file.can_sync) };
 
     /// Reads the next bytes of a cell into a piece that isn't empty, and gives how many: 0 at its
     /// end, and none where reading fails.

@@ -1,4 +1,4 @@
-//! How a cell was opened, in words.
+//! How a cell was opened and synced, in words.
 
 use crate::disk_cells::DiskCell;
 use code_words::push_name;
@@ -11,24 +11,42 @@ const IN_USE: &str =
 const FREE: &str =
     " isn't in use: it was synced before it was read, and each of its records can be counted";
 
-/// Says on standard error how the cell of this path was opened. Where standard error can't be
-/// written, or memory runs out, nobody is told.
+/// Says on standard error that the cell of this path is in use, or why it can't be opened. Where
+/// standard error can't be written, or memory runs out, nobody is told.
 pub(crate) fn say_opened(rt: &HostRuntime, path: &str, opened: &io::Result<DiskCell>) {
+    match opened {
+        Ok(cell) if !cell.in_use => {}
+        Ok(_) => say(rt, path, None, IN_USE),
+        Err(error) => say(rt, path, Some(error), ""),
+    }
+}
+
+/// Says likewise that it was synced, or why it can't be.
+pub(crate) fn say_synced(rt: &HostRuntime, path: &str, synced: &io::Result<()>) {
+    match synced {
+        Ok(()) => say(rt, path, None, FREE),
+        Err(error) => say(rt, path, Some(error), ""),
+    }
+}
+
+fn say(rt: &HostRuntime, path: &str, error: Option<&io::Error>, state: &str) {
     let mut text = String::new(rt.alloc());
-    if push_opened(&mut text, path, opened).is_ok() {
+    if push_state(&mut text, path, error, state).is_ok() {
         let _ = rt.eprintln(text.as_str());
     }
 }
 
-fn push_opened(
+// Appends the cell's path, and why it isn't read, or else its state.
+fn push_state(
     text: &mut String,
     path: &str,
-    opened: &io::Result<DiskCell>,
+    error: Option<&io::Error>,
+    state: &str,
 ) -> Result<(), AllocError> {
     push_name(text, path)?;
-    match opened {
-        Ok(cell) => text.push_str(if cell.in_use { IN_USE } else { FREE }),
-        Err(error) => push_error(text, error),
+    match error {
+        None => text.push_str(state),
+        Some(error) => push_error(text, error),
     }
 }
 

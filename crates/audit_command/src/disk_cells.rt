@@ -3,7 +3,7 @@
 ghost use Rattle.std.specs.Prelude.{◌≤◌, length, IfSome};
 
 use crate::cell_files::CellFiles;
-use crate::cell_words::say_opened;
+use crate::cell_words::{say_opened, say_synced};
 use std::alloc::AllocError;
 use std::fs::{self, File, TryLockError};
 use std::io::{self, ErrorKind, Read};
@@ -47,6 +47,14 @@ impl CellFiles for DiskCells<'_> {
         cell.in_use
     }
 
+    fn sync(&self, cell: &DiskCell, path: &str) -> bool {
+        let synced = settle(&cell.file);
+        if self.words {
+            say_synced(self.rt, path, &synced);
+        }
+        synced.is_ok()
+    }
+
     fn read(&self, cell: &mut DiskCell, piece: &mut [u8]) -> Option<usize> {
         let room = room_for(cell.unread, piece.len());
         let count = read_some(&mut cell.file, &mut piece[..room])?;
@@ -70,7 +78,6 @@ fn open_cell(rt: &HostRuntime, path: &str) -> io::Result<DiskCell> {
             unread,
         });
     }
-    settle(&file)?;
     Ok(DiskCell {
         file,
         in_use: false,

@@ -1,7 +1,8 @@
 //! The cells are read, one after another.
 
 ghost use Rattle.std.specs.Prelude.{◌≡◌, ◌&&◌, ◌++◌, ◌∷◌, [], List, map, IfOk, OnOk, is_none};
-ghost use Rattle.std.specs.Prelude.{IfSome, Some};
+ghost use Rattle.std.specs.Prelude.{IfSome, Some, false, ◌||◌};
+ghost use Rattle.audit_command.specs.declared.cell_defect.CellDefect.TheVariants as CellDefect;
 ghost use Rattle.audit.specs.Evidence.{SiteRecord};
 ghost use Rattle.words.specs.Pushes.{Pushes};
 ghost use Rattle.audit_command.specs.Audits.{AreReadings, IsRead};
@@ -51,6 +52,7 @@ fn add_records_in<F: CellFiles>(
     files: &F,
     evidence: &mut Evidence,
     cell: &mut F::Cell,
+    path: &str,
 ) -> Result<CellState, AllocError>
     ensures { IfOk result (λ state. (given : List SiteRecord)
         → IsEvidence members.now evidence.old given → (counted : List SiteRecord)
@@ -59,8 +61,29 @@ fn add_records_in<F: CellFiles>(
         × IsEvidence members.now evidence.new (given ++ counted)) }
 {
     let in_use = files.is_in_use(cell);
+    if !is_sure(files, cell, path, in_use) {
+        return Ok(unread());
+    }
     let fault = read_cell(alloc, members, files, cell, unsure_of(in_use), evidence)?;
     Ok(CellState { in_use, fault })
+}
+
+// Whether what is counted of a cell is sure to outlive a crash: one that isn't in use is synced.
+fn is_sure<F: CellFiles>(files: &F, cell: &F::Cell, path: &str, in_use: bool) -> bool
+    ensures { IfSome (F.left cell.now) (λ file. result ≡ (in_use || file.can_sync)) }
+{
+    in_use || files.sync(cell, path)
+}
+
+// Of a cell of which nothing is counted.
+fn unread() -> CellState
+    ensures in_use { result.in_use ≡ false }
+    ensures fault { result.fault ≡ Some CellDefect.Unread }
+{
+    CellState {
+        in_use: false,
+        fault: Some(CellDefect::Unread),
+    }
 }
 
 // The same of the cell of a path.
@@ -78,11 +101,8 @@ fn add_records_of<F: CellFiles>(
         × IsEvidence members.now evidence.new (given ++ counted)) }
 {
     match files.open(path)? {
-        Some(mut cell) => add_records_in(alloc, members, files, evidence, &mut cell),
-        None => Ok(CellState {
-            in_use: false,
-            fault: Some(CellDefect::Unread),
-        }),
+        Some(mut cell) => add_records_in(alloc, members, files, evidence, &mut cell, path),
+        None => Ok(unread()),
     }
 }
 

@@ -31,8 +31,8 @@ returns-in-Ended g c =
     let progress = subst
     (IsProgress c.args.members.now c.args.unsure c.take.new.self evidence (i.0 ++ piece) given)
     c.in-Ended.is (c.in_ok-fault-in-Some.ensures c.args.unsure i.0 given (i.2 given is)) in
-    amiss c.args.members.now c.args.unsure evidence given first after (i.0 ++ piece) c.in-Ended.fault
-    (more_taken (left c.reads.cell) after i.0 c.read.new.piece first c.in-Some.count i.1
+    amiss c.args.members.now c.args.unsure evidence given first after (i.0 ++ piece)
+    c.in-Ended.fault (more_taken (left c.reads.cell) after i.0 c.read.new.piece first c.in-Some.count i.1
     c.in-Some.count-test.1 c.in-Some.ensures.bytes) progress.0 progress.1
 
 pub returns-in-None : goal.returns-in-None
