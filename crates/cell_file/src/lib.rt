@@ -3,10 +3,11 @@
 //! lengths and paths, and marks a cell that somebody else has cut.
 //!
 //! ```
-//! match open_cell(rt, path, Creation::Never) {
-//!     Ok(cell) => Ok(cell),
-//!     Err(Unopened::Memory) => Err(Stop::Memory),
-//!     Err(Unopened::InUse | Unopened::Device) => Err(Stop::CellUnopened),
+//! match open_cell(rt, path, creation) {
+//!     Err(Unopened::InUse) if has_time(rt, &start) => {
+//!         thread::sleep(rt, Duration::from_millis(PAUSE));
+//!     }
+//!     answer => return answer,
 //! }
 //! ```
 #![tactic(auto)]

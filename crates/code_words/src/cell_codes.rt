@@ -21,7 +21,7 @@ pub static OPEN: [Meaning; 6] = [
     },
     Meaning {
         code: "open 4",
-        words: "the cell can't be opened or read, or another process has it open",
+        words: "the cell can't be opened or read, is in use, or has lost its header",
         advice: "look at the path, the rights, the mount, and for a second process",
     },
     Meaning {

@@ -3,7 +3,7 @@
 use crate::meaning::Meaning;
 
 /// What these lines say.
-pub static OTHERS: [Meaning; 19] = [
+pub static OTHERS: [Meaning; 20] = [
     Meaning {
         code: "memory",
         words: "memory ran out",
@@ -80,8 +80,13 @@ pub static OTHERS: [Meaning; 19] = [
         advice: "make the list anew from a cell",
     },
     Meaning {
+        code: "in-use CELL",
+        words: "a site has the cell open, so its last record isn't counted",
+        advice: "",
+    },
+    Meaning {
         code: "unread CELL",
-        words: "the cell can't be read, or begins with no header",
+        words: "the cell can't be read or synced, or begins with no header",
         advice: "look at the path and the rights",
     },
     Meaning {

@@ -20,7 +20,12 @@ pub fn opened_line(rt: &HostRuntime, path: &str, site: SiteNo) -> Result<String,
 
 fn push_opened(rt: &HostRuntime, text: &mut String, path: &str, site: SiteNo) -> Result<(), Fault> {
     let owner = owner(site)?;
-    push_opening(rt.alloc(), text, open_cell(rt, path, Creation::IfMissing)?, owner)
+    push_opening(
+        rt.alloc(),
+        text,
+        open_cell(rt, path, Creation::IfMissing)?,
+        owner,
+    )
 }
 
 /// The book of the site's journal in this file.

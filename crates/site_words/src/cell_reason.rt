@@ -10,7 +10,8 @@ const IN_USE: &str =
     " is in use by another process; one site, one cell: see which one runs already";
 
 const UNUSABLE: &str =
-    " can't be opened, written or synced; look at its rights, its folder's and the disk";
+    " can't be opened, written or synced, or --existing finds no whole header in it; look at its \
+    rights, its folder's and the disk, and keep the file";
 
 /// Appends the path of a cell and why it can't be opened.
 pub(crate) fn push_cell_reason(
