@@ -25,7 +25,7 @@ class Traced:
 
     def __init__(self, trace, options, words, **how):
         self.trace = pathlib.Path(trace)
-        self.process = subprocess.Popen(traced_words(trace, options, words), **how)
+        self.process = subprocess.Popen(traced_words(self.trace, options, words), **how)
 
     def is_stopped(self):
         """Whether it stops for the first time within a minute, or has."""
@@ -62,6 +62,8 @@ class TracedSite(Traced, Served):
 
 
 def traced_words(trace, options, words):
+    """The words that run a program under strace; what an earlier one has traced there is gone."""
+    trace.unlink(missing_ok=True)
     return ["strace", "-o", trace, *map(str, options), *words]
 
 
