@@ -166,7 +166,7 @@ def why_wrong_log(lines):
         said = line.split(" ", 2)[2]
         # After a refusal comes the request. A folder may find no memory to be read.
         known = " ".join(said.split()[:3]) if said.startswith("refused") else said
-        if known not in lines and not said.startswith(("serves ", "unread 1 27 ")):
+        if known not in lines and not said.startswith(("serves ", "unread 1 27 ", "why: ")):
             return f"a line of the log: {line}"
     return None
 
