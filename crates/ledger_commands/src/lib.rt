@@ -13,7 +13,6 @@ mod journal_of_file;
 mod ledger_arguments;
 mod ledger_of_file;
 mod status;
-mod steady_cell;
 mod version_lines;
 
 pub use journal::journal_on;
