@@ -4,8 +4,9 @@ ghost use Rattle.std.specs.Prelude.{◌≤◌, length, IfSome};
 
 use crate::cell_files::CellFiles;
 use crate::cell_words::{say_opened, say_synced};
+use ledger::LiveCell;
 use std::alloc::AllocError;
-use std::fs::{self, File, TryLockError};
+use std::fs::{File, TryLockError};
 use std::io::{self, ErrorKind, Read};
 use std::os::fd::AsRawFd;
 
@@ -20,7 +21,7 @@ pub(crate) struct DiskCells<'a> {
 /// A cell's file that was opened, as far as it was read.
 #[derive(Drop)]
 pub(crate) struct DiskCell {
-    file: File,
+    bytes: LiveCell,
     /// Whether a site holds its lock. Where none does, this file does, shared: no site can open the
     /// cell until it is dropped.
     pub(crate) in_use: bool,
@@ -48,7 +49,7 @@ impl CellFiles for DiskCells<'_> {
     }
 
     fn sync(&self, cell: &DiskCell, path: &str) -> bool {
-        let synced = settle(&cell.file);
+        let synced = settle(cell.bytes.file());
         if self.words {
             say_synced(self.rt, path, &synced);
         }
@@ -57,7 +58,7 @@ impl CellFiles for DiskCells<'_> {
 
     fn read(&self, cell: &mut DiskCell, piece: &mut [u8]) -> Option<usize> {
         let room = room_for(cell.unread, piece.len());
-        let count = read_some(&mut cell.file, &mut piece[..room])?;
+        let count = read_some(&mut cell.bytes, &mut piece[..room])?;
         cell.unread = cell.unread.saturating_sub(count as u64);
         Some(count)
     }
@@ -65,32 +66,24 @@ impl CellFiles for DiskCells<'_> {
 
 /// Opens the file of this path for reading as a cell.
 fn open_cell(rt: &HostRuntime, path: &str) -> io::Result<DiskCell> {
-    let file = open_file(rt, path)?;
-    if is_locked(&file)? {
+    let bytes = LiveCell::open(rt, path)?;
+    if is_locked(bytes.file())? {
         // By now its site has synced all of these records but the last, if that: it syncs before
         // it appends the next. What comes after them isn't read. So where the site cuts the last
         // one off, since it couldn't be synced, and appends others in its place, none of those
         // counts that may be mixed with it.
-        let unread = file.metadata()?.len();
+        let unread = bytes.file().metadata()?.len();
         return Ok(DiskCell {
-            file,
+            bytes,
             in_use: true,
             unread,
         });
     }
     Ok(DiskCell {
-        file,
+        bytes,
         in_use: false,
         unread: u64::MAX,
     })
-}
-
-/// What isn't a file isn't opened: opening a pipe would wait.
-fn open_file(rt: &HostRuntime, path: &str) -> io::Result<File> {
-    if !fs::metadata(rt, path)?.is_file() {
-        return Err(ErrorKind::InvalidInput.into());
-    }
-    File::open(rt, path)
 }
 
 /// Whether a site holds the file's lock. Where none does, this file holds it, shared.
@@ -127,11 +120,11 @@ fn room_for(unread: u64, len: usize) -> usize
 }
 
 /// Reads some bytes; none where reading fails. Reads that were interrupted are tried again.
-fn read_some(file: &mut File, piece: &mut [u8]) -> Option<usize>
+fn read_some(bytes: &mut LiveCell, piece: &mut [u8]) -> Option<usize>
     ensures { IfSome result (λ count. count ≤ length piece.new) }
 {
     'reads: for _ in 0..u32::MAX {
-        match file.read(piece) {
+        match bytes.read(piece) {
             Ok(count) => return Some(count),
             Err(error) => {
                 if error.kind() != ErrorKind::Interrupted {

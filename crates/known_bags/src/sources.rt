@@ -7,11 +7,10 @@ ghost use Rattle.known_bags.specs.inner.Sources.{end_of, AreOfContents};
 
 use crate::known_bag::KnownBag;
 use crate::known_lines::{ListFault, push_known_lines};
-use ledger::{Contents, Ending, headless_ending, read_contents};
+use ledger::{Contents, Ending, LiveCell, headless_ending, read_contents};
 use outcomes::{ReadFault, read_all};
 use records::{Entry, Record};
 use std::alloc::{AllocError, Global};
-use std::fs::{self, File};
 use std::io::ErrorKind;
 
 /// Why a source can't be used.
@@ -135,12 +134,7 @@ fn push_record(alloc: Global, bags: &mut Vec<KnownBag>, kept: &Record) -> Result
 /// All bytes of the file of this path; `Unread` or `Memory` where it can't be read. What isn't a
 /// file is refused before it is opened: opening a pipe would wait.
 pub fn source_bytes(rt: &HostRuntime, path: &str) -> Result<Vec<u8>, SourceFault> {
-    match fs::metadata(rt, path) {
-        Ok(found) if found.is_file() => {}
-        Ok(_) => return Err(SourceFault::Unread),
-        Err(error) => return Err(fault_of(error.kind())),
-    }
-    match File::open(rt, path) {
+    match LiveCell::open(rt, path) {
         Ok(mut file) => match read_all(rt.alloc(), &mut file) {
             Ok(bytes) => Ok(bytes),
             Err(ReadFault::Input) => Err(SourceFault::Unread),

@@ -1,8 +1,8 @@
 //! The command `journal`: over the file of a cell.
 
-use crate::cell_file::open_cell;
 use crate::journal::journal_on;
 use crate::journal_arguments::JournalTask;
+use ledger::LiveCell;
 use outcomes::{ProgramFault, write_output};
 use std::io;
 use std::io::{ErrorKind, Write};
@@ -12,7 +12,7 @@ const UNREAD: &str = "open 4\n";
 /// Prints what the cell says, to standard output: where it can't be read, `open 4`, as `site` does.
 pub fn print_journal(rt: &HostRuntime, task: &JournalTask<'_>) -> Result<u8, ProgramFault> {
     let mut output = io::writer(rt);
-    match open_cell(rt, task.cell) {
+    match LiveCell::open(rt, task.cell) {
         Ok(mut cell) => match journal_on(rt.alloc(), &mut cell, &mut output) {
             Err(ProgramFault::Input) => write_output(&mut output, 1, UNREAD),
             answer => answer,

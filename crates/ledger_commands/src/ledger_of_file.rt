@@ -1,8 +1,8 @@
 //! The command `ledger`: over the file of a cell.
 
-use crate::cell_file::open_cell;
 use crate::ledger_arguments::LedgerTask;
 use crate::version_lines::ledger_on;
+use ledger::LiveCell;
 use outcomes::{ProgramFault, write_output};
 use std::io;
 use std::io::{ErrorKind, Write};
@@ -13,7 +13,7 @@ const UNREAD: &str = "open 4\n";
 /// as `site` does.
 pub fn print_ledger(rt: &HostRuntime, task: &LedgerTask<'_>) -> Result<u8, ProgramFault> {
     let mut output = io::writer(rt);
-    match open_cell(rt, task.cell) {
+    match LiveCell::open(rt, task.cell) {
         Ok(mut cell) => match ledger_on(rt.alloc(), &mut cell, &mut output, task.wanted) {
             Err(ProgramFault::Input) => write_output(&mut output, 1, UNREAD),
             answer => answer,

@@ -6,7 +6,6 @@
 //! ```
 #![tactic(auto)]
 
-mod cell_file;
 mod journal;
 mod journal_arguments;
 mod journal_of_file;
