@@ -37,6 +37,7 @@ fn output_of<'a>(
         bags: None,
         path: task.path,
         wait: task.wait,
+        until_known: task.until_known,
     };
     let asked = if task.words { Some(asked) } else { None };
     SpokenOutput::new(rt, asked, io::writer(rt))

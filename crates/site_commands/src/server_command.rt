@@ -60,6 +60,7 @@ fn output_of<'a>(
         bags: task.bags,
         path: None,
         wait: task.waits.first,
+        until_known: None,
     };
     let asked = if task.words { Some(asked) } else { None };
     SpokenOutput::new(rt, asked, io::writer(rt))

@@ -15,4 +15,6 @@ pub struct Asked<'a> {
     pub path: Option<&'a str>,
     /// How many milliseconds an answer is waited for.
     pub wait: u32,
+    /// For how many seconds the site is asked until it knows the bag, if it is.
+    pub until_known: Option<u32>,
 }

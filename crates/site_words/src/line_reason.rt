@@ -24,6 +24,7 @@ pub(crate) fn push_reason(
         "no answer" => push_silence(rt, text, asked),
         "socket" => push_socket(rt, text, asked),
         "open 4" => push_cell(rt, text, asked),
+        _ if is_undecided(line) => push_in_vain(text, asked),
         _ => push_meaning(rt, text, asked, line),
     }
 }
@@ -116,6 +117,24 @@ fn push_silence(rt: &HostRuntime, text: &mut String, asked: &Asked<'_>) -> Resul
         );
     }
     text.push_str("; it is down, or may be reading a large bag: see whether it runs, and ask again")
+}
+
+// Whether a site replies that it knows no bag.
+fn is_undecided(line: &str) -> bool {
+    line.starts_with("reply ") && matches!(line.split(' ').nth(4), Some("pending" | "nothing"))
+}
+
+// Appends why a site may know no bag, where it was asked until it does.
+fn push_in_vain(text: &mut String, asked: &Asked<'_>) -> Result<(), AllocError> {
+    let Some(seconds) = asked.until_known else {
+        return Ok(());
+    };
+    let site = asked.site;
+    write!(
+        text,
+        "site {site} answers, and no bag was known after {seconds} s: sites with more than half of \
+        all weight have to run and to hear each other; its log says since when it heard no majority"
+    )
 }
 
 fn push_socket(rt: &HostRuntime, text: &mut String, asked: &Asked<'_>) -> Result<(), AllocError> {
