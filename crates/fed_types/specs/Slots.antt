@@ -1,5 +1,8 @@
 -- Slots: an object's name and a version.
 use Rattle.std.specs.Prelude.{ℕ, ◌≤◌, List, length, Bool, ◌==◌, ◌&&◌, bytes_eq}
+use Rattle.std.specs.declared.cmp.Ordering.{Ordering}
+use Rattle.std.specs.Cmp.Lexicographic.{slice_cmp}
+use Rattle.std.specs.Ordering.{nat_cmp, then_cmp, on}
 use Rattle.fed_types.specs.Limits.{longest_object}
 
 -- a slot by the bytes of its object's name, and its version
@@ -22,3 +25,7 @@ IsSlotName s = IsObjectName s.object × (1 ≤ s.version)
 -- whether two slots are one: the same version of the same object
 unfoldable pub same_slot : SlotName → SlotName → Bool
 same_slot a b = (a.version == b.version) && bytes_eq a.object b.object
+
+-- the order of slots: by object, and then by version
+unfoldable pub slot_cmp : SlotName → SlotName → Ordering
+slot_cmp = then_cmp (on (λ s. s.object) (slice_cmp nat_cmp)) (on (λ s. s.version) nat_cmp)

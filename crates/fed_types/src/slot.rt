@@ -1,12 +1,16 @@
 ghost use Rattle.std.specs.Prelude.{◌≡◌, ◌≤◌, ◌↔◌, ◌++◌, length, string_bytes, IsOk, IfOk, IsErrOf};
+ghost use Rattle.std.specs.Prelude.{refl};
+ghost use Rattle.std.specs.Ordering.{as_partial_cmp};
 ghost use Rattle.std.specs.Hash as fed;
 ghost use Rattle.fed_types.specs.Limits.{greatest_version};
-ghost use Rattle.fed_types.specs.Slots.{IsObjectName, same_slot, slot_name};
+ghost use Rattle.fed_types.specs.Slots.{IsObjectName, same_slot, slot_cmp, slot_name};
 ghost use Rattle.fed_types.specs.Laws.Slots.{same_slot_laws, same_slot_equivalence, same_slot_hash};
+ghost use Rattle.fed_types.specs.Laws.Slots.{slot_cmp_total, slot_cmp_partial, slot_eq_ties};
 
 use crate::limits::LONGEST_OBJECT;
 use crate::type_fault::TypeFault;
 use std::alloc::{AllocError, Global};
+use std::cmp::Ordering;
 use std::hash::{Hash, Hasher};
 use std::marker::Model;
 
@@ -101,5 +105,31 @@ impl Hash for Slot {
     fn hash<H: Hasher>(&self, state: &mut H) {
         self.object.hash(state);
         self.version.hash(state);
+    }
+}
+
+impl Ord for Slot {
+    ghost cmp = { slot_cmp };
+
+    ghost total = { slot_cmp_total };
+
+    ghost matches_partial_cmp = { λ a b. refl };
+
+    ghost matches_eq = { slot_eq_ties };
+
+    #[tactic(auto, unfolding(crate::specs::Slots::slot_cmp))]
+    fn cmp(&self, other: &Slot) -> Ordering {
+        let by_object = self.object.cmp(&other.object);
+        by_object.then(self.version.cmp(&other.version))
+    }
+}
+
+impl PartialOrd for Slot {
+    ghost partial_cmp = { as_partial_cmp slot_cmp };
+
+    ghost laws = { slot_cmp_partial };
+
+    fn partial_cmp(&self, other: &Slot) -> Option<Ordering> {
+        Some(self.cmp(other))
     }
 }

@@ -4,8 +4,8 @@ ghost use Rattle.dgram.specs.Heard.{same_vote};
 ghost use Rattle.learner.specs.LearnerStates.{voters_for_vote, IsCountedWith};
 
 use fed_types::{Vote, Voters};
-use indexmap::IndexMap;
 use std::alloc::{AllocError, Global};
+use std::collections::BTreeMap;
 use std::marker::Model;
 
 /// The votes of a slot beside the one that was heard of first, and the sites that were heard to
@@ -13,7 +13,7 @@ use std::marker::Model;
 /// their voters.
 #[derive(Drop)]
 pub(crate) struct Others {
-    map: Option<Box<IndexMap<Vote, Voters>>>,
+    map: Option<Box<BTreeMap<Vote, Voters>>>,
 }
 
 impl Model for Others {
@@ -40,10 +40,7 @@ impl Others {
     {
         match &self.map {
             None => Voters::new(),
-            Some(map) => match map.get(vote) {
-                Some(voters) => *voters,
-                None => Voters::new(),
-            },
+            Some(map) => voters_in(map, vote),
         }
     }
 
@@ -68,8 +65,18 @@ impl Others {
     }
 }
 
+// The sites that cast this vote.
+fn voters_in(map: &BTreeMap<Vote, Voters>, vote: &Vote) -> Voters
+    ensures { result ≡ voters_for_vote map.now.entries vote.now }
+{
+    match map.get(vote) {
+        Some(voters) => *voters,
+        None => Voters::new(),
+    }
+}
+
 // These are the sites that cast this vote.
-fn set_in(map: &mut IndexMap<Vote, Voters>, vote: Vote, voters: Voters) -> Result<(), AllocError>
+fn set_in(map: &mut BTreeMap<Vote, Voters>, vote: Vote, voters: Voters) -> Result<(), AllocError>
     ensures ok { OnOk result (IsCountedWith map.old.entries map.new.entries vote voters) }
     ensures err { OnErr result (map.new.entries ≡ map.old.entries) }
     ensures memory { OnErr result (lookup (same_vote vote) map.old.entries ≡ None) }
@@ -85,10 +92,10 @@ fn map_of(
     alloc: Global,
     vote: Vote,
     voters: Voters,
-) -> Result<Box<IndexMap<Vote, Voters>>, AllocError>
+) -> Result<Box<BTreeMap<Vote, Voters>>, AllocError>
     ensures { IfOk result (λ map. IsCountedWith [] (box_value map).entries vote voters) }
 {
-    let mut map = IndexMap::new(alloc);
+    let mut map = BTreeMap::new(alloc);
     set_in(&mut map, vote, voters)?;
     Ok(Box::new(alloc, map)?)
 }

@@ -7,6 +7,8 @@
 //! ```
 #![tactic(auto)]
 
+mod listed_rows;
 mod slot_table;
 
+pub use listed_rows::ListedRows;
 pub use slot_table::SlotTable;

@@ -1,21 +1,23 @@
 ghost use Rattle.std.specs.Borrow.{sem};
-ghost use Rattle.std.specs.Prelude.{◌≡◌, [], OnOk, OnErr, IsSome, IsOk};
+ghost use Rattle.std.specs.Prelude.{◌≡◌, [], OnOk, OnErr, is_some, IsSome, IsOk};
 ghost use Rattle.std.specs.Option.{option_copied, option_copied_mut};
 ghost use Rattle.fed_types.specs.Slots.{SlotName};
 ghost use Rattle.slot_table.specs.Lends.{lends_row};
-ghost use Rattle.slot_table.specs.Rows.{row_at, row_of, HasRoomFor, HasRooms, HasSameRows};
+ghost use Rattle.slot_table.specs.Rows.{row_at, row_of, IsWith, HasRoomFor, HasRooms, HasSameRows};
 
 use fed_types::Slot;
-use indexmap::IndexMap;
 use std::alloc::{AllocError, Global};
+use std::collections::BTreeMap;
 use std::marker::Model;
 
-/// A row for each slot that has one, found in constant time. A clause sees the slots and their
-/// rows.
+/// A row for each slot that has one. A clause sees the slots and their rows.
+///
+/// It is found in a time that grows with the logarithm of how many there are, whatever the slots
+/// are: names may be chosen by an adversary, and so the table isn't a hashed one.
 #[derive(Drop)]
 pub struct SlotTable<R: Drop> {
     alloc: Global,
-    rows: IndexMap<Slot, R>,
+    rows: BTreeMap<Slot, R>,
 }
 
 impl<R: Drop> Model for SlotTable<R> {
@@ -33,7 +35,7 @@ impl<R: Drop> SlotTable<R> {
     {
         SlotTable {
             alloc,
-            rows: IndexMap::new(alloc),
+            rows: BTreeMap::new(alloc),
         }
     }
 
@@ -52,6 +54,17 @@ impl<R: Drop> SlotTable<R> {
         self.rows.get_mut(slot)
     }
 
+    /// Gives the slot this row, in the place of the one that it has, if it has one.
+    pub fn put(&mut self, slot: Slot, row: R) -> Result<(), AllocError>
+        ensures ok { OnOk result (IsWith self.old self.new slot row) }
+        ensures err { OnErr result (self.new ≡ self.old) }
+    {
+        match self.rows.insert(slot, row) {
+            Ok(_) => Ok(()),
+            Err(_) => Err(AllocError),
+        }
+    }
+
     /// Gives the slot this row if it has none, so that a change of its row takes no memory.
     pub fn reserve(&mut self, slot: &Slot, empty: R) -> Result<(), AllocError>
         ensures present { OnOk result (IsSome (row_at self.new slot.now)) }
@@ -61,13 +74,17 @@ impl<R: Drop> SlotTable<R> {
         ensures same { (s : SlotName) → row_of empty self.new s ≡ row_of empty self.old s }
         ensures succeeds { IsSome (row_at self.old slot.now) → IsOk result }
     {
-        if self.rows.contains_key(slot) {
+        if self.has(slot) {
             return Ok(());
         }
         let key = slot.copy(self.alloc)?;
-        match self.rows.insert(key, empty) {
-            Ok(_) => Ok(()),
-            Err(_) => Err(AllocError),
-        }
+        self.put(key, empty)
+    }
+
+    /// Whether the slot has a row.
+    pub fn has(&self, slot: &Slot) -> bool
+        ensures { result ≡ is_some (row_at self.now slot.now) }
+    {
+        self.rows.contains_key(slot)
     }
 }

@@ -1,12 +1,21 @@
--- The laws of `==` of slots.
-use Rattle.std.specs.Prelude.{◌≡◌, ℕ, List, ◌==◌, ◌++◌, true, bytes_eq, Decides}
-use Rattle.std.proofs.Common.{ap, eq-eqb}
+-- The laws of `==` of slots, and of their order.
+use Rattle.std.specs.Prelude.{◌≡◌, ℕ, List, Bool, true, ◌==◌, ◌&&◌, ◌++◌, bytes_eq, Decides, refl}
+use Rattle.std.proofs.Common.{arith, ap, sym, ◌∙◌, eq-eqb}
+use Rattle.std.proofs.Math.Path.{fun_ext}
+use Rattle.std.specs.declared.cmp.Ordering.{Ordering}
+use Rattle.std.specs.declared.cmp.Ordering.TheVariants.{Less, Equal, Greater}
 use Rattle.std.specs.Cmp.{IsPartialEquivalence, IsEquivalence, partial_equiv_from_equiv}
+use Rattle.std.specs.Cmp.{IsTotalOrder, IsPartialOrder, partial_order_from_agreeing_total}
+use Rattle.std.specs.Cmp.Lexicographic.{slice_cmp}
+use Rattle.std.specs.Ordering.{as_partial_cmp, eq_by_cmp, is_eq, nat_cmp, ordering_then}
 use Rattle.std.specs.Hash as fed
 use Rattle.std.proofs.lemmas.Bool.{and_parts, and_from, eqb-true}
+use Rattle.std.proofs.lemmas.Bool.Decides.{nat_tests}
 use Rattle.std.proofs.lemmas.Cmp.{and_equiv, on_equiv, nat_eq_equiv, nat_list_eq_equiv}
+use Rattle.std.proofs.lemmas.Cmp.{then_total, on_total, nat_cmp_total, nat_list_cmp_total}
+use Rattle.std.proofs.lemmas.Map.Text.{is_eq-slice_cmp}
 use Rattle.std.proofs.lemmas.Slice.Eq.{bytes_eq-Decides}
-use Rattle.fed_types.specs.Slots.{SlotName, same_slot, slot_name}
+use Rattle.fed_types.specs.Slots.{SlotName, same_slot, slot_cmp, slot_name}
 
 -- `==` of slots is an equivalence
 pub same_slot_equivalence : IsEquivalence same_slot
@@ -40,3 +49,43 @@ pub same_slot_hash : (a b : SlotName) → same_slot a b ≡ true
     → fed.str a.object ++ fed.u32 a.version ≡ fed.str b.object ++ fed.u32 b.version
 same_slot_hash a b e =
     ap (λ (s : SlotName). fed.str s.object ++ fed.u32 s.version) ((same_slot_decides a b).0 e)
+
+-- the order is total
+pub slot_cmp_total : IsTotalOrder slot_cmp
+unfolding slot_cmp
+slot_cmp_total =
+    then_total (on_total (λ s. s.object) nat_list_cmp_total)
+    (on_total (λ s. s.version) nat_cmp_total)
+
+-- two answers in turn are one of equality where both are
+both_equal : (o p : Ordering) → is_eq p && is_eq o ≡ is_eq (ordering_then o p)
+both_equal Less Less = refl
+both_equal Less Equal = refl
+both_equal Less Greater = refl
+both_equal Equal Less = refl
+both_equal Equal Equal = refl
+both_equal Equal Greater = refl
+both_equal Greater Less = refl
+both_equal Greater Equal = refl
+both_equal Greater Greater = refl
+
+same_number : (a b : ℕ) → (a == b) ≡ is_eq (nat_cmp a b)
+same_number a b = grind (arith, nat_tests)
+
+-- slots are equal exactly where the order answers so
+pub slot_eq_ties : (a b : SlotName) → same_slot a b ≡ is_eq (slot_cmp a b)
+unfolding same_slot slot_cmp
+slot_eq_ties a b =
+    ap (λ (t : Bool). t && bytes_eq a.object b.object) (same_number a.version b.version)
+    ∙ ap (λ (t : Bool). is_eq (nat_cmp a.version b.version) && t)
+    (sym (is_eq-slice_cmp a.object b.object))
+    ∙ both_equal (slice_cmp nat_cmp a.object b.object) (nat_cmp a.version b.version)
+
+-- so what an ordered table asks of two slots is whether they are the same
+pub same_by_order : eq_by_cmp slot_cmp ≡ same_slot
+same_by_order = fun_ext (λ a. fun_ext (λ b. sym (slot_eq_ties a b)))
+
+-- `partial_cmp` answers what the order does
+pub slot_cmp_partial : IsPartialOrder same_slot (as_partial_cmp slot_cmp)
+slot_cmp_partial =
+    partial_order_from_agreeing_total slot_cmp slot_cmp_total (λ a b. refl) slot_eq_ties
