@@ -1,5 +1,7 @@
 pub mod DistinctLemmas
-pub mod SiteLemmas
 pub mod EndLemmas
-pub mod ReadLemmas
+pub mod Halves
 pub mod LawLemmas
+pub mod ReadLemmas
+pub mod SiteLemmas
+pub mod Written

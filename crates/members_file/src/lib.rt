@@ -17,10 +17,15 @@ mod line;
 mod listed_site;
 mod member_sites;
 mod members_fault;
+mod new_federation;
+mod number;
 mod read;
+mod text;
 
-pub use law::members_files_law;
+pub use law::{members_files_law, new_numbers_law};
 pub use listed_site::ListedSite;
 pub use member_sites::MemberSites;
 pub use members_fault::MembersFault;
+pub use new_federation::new_list;
+pub use number::{digest_of, is_listed};
 pub use read::read_members;

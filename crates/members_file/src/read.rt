@@ -48,8 +48,8 @@ fn read_sites(alloc: Global, text: &[u8]) -> Result<(Vec<ListedSite>, &[u8]), Al
     Ok((sites, rest))
 }
 
-// The weight of each site, in order.
-fn weights_of(alloc: Global, sites: &[ListedSite]) -> Result<Vec<u8>, AllocError>
+/// The weight of each site, in order.
+pub(crate) fn weights_of(alloc: Global, sites: &[ListedSite]) -> Result<Vec<u8>, AllocError>
     ensures { IfOk result (λ weights. weights.items ≡ weights_of sites.now) }
 {
     sites.iter().map(|site| site.weight).collect(alloc)

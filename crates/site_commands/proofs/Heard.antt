@@ -17,7 +17,7 @@ use Rattle.site_commands.specs.declared.reply.ClientReply.{ClientReply}
 use Rattle.site_commands.specs.declared.reply.ClientReply.TheVariants.{ToDeposit, ToQuery}
 use Rattle.site_commands.specs.declared.reply.Wanted.{Wanted}
 use Rattle.site_commands.specs.declared.reply.Wanted.TheVariants as wanted
-use Rattle.site_commands.specs.Replies.{Question, datagram_to, reply_by, reply_of, reply_in}
+use Rattle.site_commands.specs.Replies.{Question, datagram_to, reply_by, reply_of, reply_from}
 use Rattle.site_commands.specs.Replies.{reply_at, first_reply}
 use Rattle.site_commands.specs.Exchanges.{OnlyTakes, Asks, IsAsked, IsAskedForBag}
 use Rattle.site_commands.specs.inner.Heard.{BringsNone, TakesOne, Hears, query_in}
@@ -96,17 +96,17 @@ module _ (q : Question) (kind : Wanted) where
       (moves, grows, none_takes moves none, none_replies q kind moves none)
 
   -- a datagram came
-  pub hears_one : (a b : Option (List Move)) (bytes : List ℕ) → TakesOne a b (Some bytes)
-      → (result : Result (Option ClientReply) AllocError)
-      → IfOk result (λ r. r ≡ reply_in q kind bytes)
+  pub hears_one : (a b : Option (List Move)) (port : ℕ) (bytes : List ℕ)
+      → TakesOne a b (Some (port, bytes)) → (result : Result (Option ClientReply) AllocError)
+      → IfOk result (λ r. r ≡ reply_from q kind port bytes)
       → Hears q kind a b result
-  hears_one a b bytes (port, grows) result is =
+  hears_one a b port bytes grows result is =
       (Took (From port bytes) ∷ [], grows, tt, go result is)
     where
       go : (result : Result (Option ClientReply) AllocError)
-          → IfOk result (λ r. r ≡ reply_in q kind bytes)
-          → IfOk result (λ r. r ≡ option_or (reply_in q kind bytes) None)
-      go (Ok reply) is = is ∙ or_none (reply_in q kind bytes)
+          → IfOk result (λ r. r ≡ reply_from q kind port bytes)
+          → IfOk result (λ r. r ≡ option_or (reply_from q kind port bytes) None)
+      go (Ok reply) is = is ∙ or_none (reply_from q kind port bytes)
       go (Err fault) is = tt
 
 -- an error has no value
@@ -169,7 +169,8 @@ of_query q None = none_of_query
 of_query q (Some m) = of_query_if (same_slot m.slot q.slot) _ (by_query q.to m.body)
 
 at_query : (q : Question) (move : Move) → IsOfQuery (reply_at q wanted.ToQuery move)
-at_query q (Took (From port bytes)) = of_query q (message_of q.federation bytes)
+at_query q (Took (From port bytes)) =
+    of_query_if (port == q.target) _ (of_query q (message_of q.federation bytes))
 at_query q (Took Nothing) = none_of_query
 at_query q Failed = none_of_query
 at_query q (Handed post) = none_of_query

@@ -67,13 +67,17 @@ abbrev pub reply_of : Question → Wanted → Option Message → Option ClientRe
 reply_of q kind None = None
 reply_of q kind (Some m) = if same_slot m.slot q.slot then reply_by q.to kind m.body else None
 
--- the same in the bytes of a datagram, whichever port it comes from
+-- the same in the bytes of a datagram
 abbrev pub reply_in : Question → Wanted → List ℕ → Option ClientReply
 reply_in q kind bytes = reply_of q kind (message_of q.federation bytes)
 
--- the same in what a port does
+-- the same in a datagram that comes from this port: one from another than was asked has none
+abbrev pub reply_from : Question → Wanted → (port : ℕ) → List ℕ → Option ClientReply
+reply_from q kind port bytes = if port == q.target then reply_in q kind bytes else None
+
+-- the same in what the client's port does
 abbrev pub reply_at : Question → Wanted → Move → Option ClientReply
-reply_at q kind (Took (From port bytes)) = reply_in q kind bytes
+reply_at q kind (Took (From port bytes)) = reply_from q kind port bytes
 reply_at q kind (Took Nothing) = None
 reply_at q kind Failed = None
 reply_at q kind (Handed post) = None

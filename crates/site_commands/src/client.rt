@@ -18,9 +18,10 @@ use udp_site::Port;
 
 /// Sends a deposit of the folder of this path to a site, or without a path a query, and writes the
 /// answer as one line: `registered ..` or `reply ..` with status 0, `refused N CODE` with status 1.
-/// It is the first datagram that is the reply of this site for this slot. Where nothing came in one
-/// turn, the port failed or sixteen other datagrams came, the line is `no answer`, with status 1.
-/// Where memory runs out, it is `memory`, with status 1.
+/// It is the first datagram that comes from the site's port and is the reply of this site for this
+/// slot. Where nothing came in one turn, the port failed or sixteen other datagrams came, from
+/// whichever port, the line is `no answer`, with status 1. Where memory runs out, it is `memory`,
+/// with status 1.
 pub fn send_on<P: Port, W: Write>(
     alloc: Global,
     port: &mut P,

@@ -6,13 +6,15 @@ ghost use Rattle.site_commands.specs.Replies.{question_of, datagram_to};
 ghost use Rattle.site_commands.specs.Exchanges.{IsAsked};
 ghost use Rattle.site_commands.specs.inner.Heard.{TakesOne, Hears};
 
-use crate::reply::{ClientReply, Wanted, reply_in};
+use crate::reply::{ClientReply, Wanted, reply_from};
 use crate::request::Request;
 use dgram::{Body, FolderPath, LONGEST_DATAGRAM, Message, encode};
 use std::alloc::{AllocError, Global};
 use udp_site::{Port, Turn};
 
-/// How many datagrams are taken in, of which one is to be the answer.
+/// How many datagrams are taken in, of which one is to be the answer. What comes from another port
+/// is no answer, but counts: so strangers who send without end cost a client its answer, not its
+/// time.
 const MOST_DATAGRAMS: u32 = 16;
 
 /// Whether a port was used before. There a turn is idle at once, if the port's wait has passed
@@ -77,23 +79,24 @@ fn receive_reply<P: Port>(
         (P.traffic port.old) (P.traffic port.new) result }
 {
     for _ in 0..MOST_DATAGRAMS {
-        let Some(bytes) = next_datagram(port) else {
+        let Some((from, bytes)) = next_datagram(port) else {
             return Ok(None);
         };
-        if let Some(reply) = reply_in(alloc, request, wanted, bytes.as_slice())? {
+        if let Some(reply) = reply_from(alloc, request, wanted, from, bytes.as_slice())? {
             return Ok(Some(reply));
         }
     }
     Ok(None)
 }
 
-// The bytes of the next datagram, if one comes before the turn is over.
-fn next_datagram<P: Port>(port: &mut P) -> Option<Vec<u8>>
+// The next datagram, if one comes before the turn is over: the port that it came from, and its
+// bytes.
+fn next_datagram<P: Port>(port: &mut P) -> Option<(u16, Vec<u8>)>
     ensures { TakesOne (P.traffic port.old) (P.traffic port.new)
-        (option_map (λ bytes. bytes.items) result) }
+        (option_map (λ datagram. (datagram.0, datagram.1.items)) result) }
 {
     match port.receive() {
-        Ok(Turn::Got(_, bytes)) => Some(bytes),
+        Ok(Turn::Got(from, bytes)) => Some((from, bytes)),
         Ok(Turn::Idle) | Err(_) => None,
     }
 }

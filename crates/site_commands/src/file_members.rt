@@ -1,9 +1,8 @@
 //! The members file that the arguments name.
 
-use crate::member_list::number_of;
 use crate::stop::Stop;
 use fed_types::SiteNo;
-use members_file::{MemberSites, MembersFault, read_members};
+use members_file::{MemberSites, MembersFault, is_listed, read_members};
 use outcomes::{ReadFault, read_within};
 use std::alloc::{AllocError, Global};
 use std::fs::{File, Files};
@@ -35,11 +34,12 @@ fn members_in<R: Read>(alloc: Global, input: &mut R) -> Result<MemberSites, Stop
     }
 }
 
-/// Refuses a file that was cut or changed: the federation's number has to come from its list.
+/// Refuses a file that was cut, or has other weights: the federation's number has to come from its
+/// list.
 pub(crate) fn expect_listed(alloc: Global, members: &MemberSites) -> Result<(), Stop> {
-    match number_of(alloc, members.sites()) {
-        Ok(number) if number == members.members().federation() => Ok(()),
-        Ok(_) => Err(Stop::OtherList),
+    match is_listed(alloc, members) {
+        Ok(true) => Ok(()),
+        Ok(false) => Err(Stop::OtherList),
         Err(AllocError) => Err(Stop::Memory),
     }
 }

@@ -15,7 +15,6 @@ mod exchange;
 mod file_members;
 mod first_start;
 mod folders_below;
-mod member_list;
 mod member_words;
 mod members_arguments;
 mod noted_ending;

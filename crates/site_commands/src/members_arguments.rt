@@ -10,21 +10,24 @@ const EXAMPLE: &str = "Of a members file it prints
   ok F N Q HEX      the federation's number, the number of its sites, the weight that decides, and
                     a digest of what the file says. Sites with different digests mustn't be run
                     together: compare it before the first start, and after every copy of the file.
-With --new it prints a members file for sites on these ports, that of site 1 first, each with its
-weight where one is given. The federation's number comes from this list, so that sites with
-another list are of another federation: they don't hear each other, nor open each other's cells.
-With --listed a file whose number doesn't come from its list is refused, as one that was cut.
+With --new it prints the members file of a new federation, with sites on these ports, that of site 1
+first, each with its weight where one is given. Half of the federation's number is random: so no two
+federations are the same, even on the same ports, and their sites don't hear each other, nor open
+each other's cells. The other half comes from the list: from the number of sites and their weights.
+With --listed a file whose number doesn't come from its list is refused, as one that was cut. Ports
+aren't in it: they may be changed, in all copies of the file, while no site runs.
 
 The exit status is 0; 1 where the last line says what is amiss:
   members unread        the members file can't be read
   members line N        line N of the members file is at fault
   members other list    with --listed: the federation's number doesn't come from this list
   memory                out of memory
-or where standard output can't be written; and 2 for a mistake in the arguments.
+or where standard output can't be written, or the system has no random numbers for --new, and
+standard error says so; and 2 for a mistake in the arguments.
 
 Examples:
-  bagpaxos members --new 42001 42002 42003 > members
-  bagpaxos members --new 42001:2 42002 42003 > members
+  bagpaxos members --new 5011 5012 5013 > members
+  bagpaxos members --new 5011:2 5012 5013 > members
   bagpaxos members members";
 
 /// A members file to read, or to write.

@@ -1,40 +1,53 @@
 //! The command `members`.
 
 use crate::file_members::{expect_listed, members_at};
-use crate::member_list::{digest_of, members_text};
 use crate::member_words::sites_in;
 use crate::members_arguments::MembersTask;
 use crate::stop::{Stop, write_stop};
-use members_file::MemberSites;
+use members_file::{MemberSites, digest_of, new_list};
 use outcomes::{ProgramFault, write_output};
 use std::alloc::{AllocError, Global};
 use std::io;
+use std::random::RandomSource;
 
 /// Prints what a members file says, or a members file.
 pub fn print_members(rt: &HostRuntime, task: &MembersTask<'_>) -> Result<u8, ProgramFault> {
-    let mut output = io::writer(rt);
-    match text_for(rt, task) {
-        Ok(text) => write_output(&mut output, 0, text.as_str()),
-        Err(stop) => write_stop(rt.alloc(), &mut output, stop),
-    }
-}
-
-fn text_for(rt: &HostRuntime, task: &MembersTask<'_>) -> Result<String, Stop> {
     match task.file {
-        Some(path) => summary(rt, path, task.listed),
-        None => match new_text(rt.alloc(), task.sites.as_slice()) {
-            Ok(text) => Ok(text),
-            Err(AllocError) => Err(Stop::Memory),
-        },
+        Some(path) => print_summary(rt, path, task.listed),
+        None => print_new(rt, task.sites.as_slice()),
     }
 }
 
-fn new_text(alloc: Global, words: &[&str]) -> Result<String, AllocError> {
-    let sites = sites_in(alloc, words)?;
-    members_text(alloc, sites.as_slice())
+// Prints the file of a new federation. Without random numbers it would be no new one: so nothing is
+// printed then that may be taken for a members file.
+fn print_new(rt: &HostRuntime, words: &[&str]) -> Result<u8, ProgramFault> {
+    let mut random = [0; 4];
+    match rt.fill_bytes(&mut random) {
+        Ok(()) => print_text(rt, new_text(rt.alloc(), random, words)),
+        Err(_) => {
+            let _ = rt.eprintln("error: the system gives no random numbers");
+            Ok(1)
+        }
+    }
 }
 
-// What the file of this path says, in short.
+fn new_text(alloc: Global, random: [u8; 4], words: &[&str]) -> Result<String, Stop> {
+    match try_new_text(alloc, random, words) {
+        Ok(text) => Ok(text),
+        Err(AllocError) => Err(Stop::Memory),
+    }
+}
+
+fn try_new_text(alloc: Global, random: [u8; 4], words: &[&str]) -> Result<String, AllocError> {
+    let sites = sites_in(alloc, words)?;
+    new_list(alloc, random, sites.as_slice())
+}
+
+// Prints what the file of this path says, in short.
+fn print_summary(rt: &HostRuntime, path: &str, listed: bool) -> Result<u8, ProgramFault> {
+    print_text(rt, summary(rt, path, listed))
+}
+
 fn summary(rt: &HostRuntime, path: &str, listed: bool) -> Result<String, Stop> {
     let members = members_at(rt, path)?;
     if listed {
@@ -51,6 +64,14 @@ fn summary_of(alloc: Global, file: &MemberSites) -> Result<String, AllocError> {
     let federation = members.federation();
     let count = members.count();
     let quorum = members.total_weight() / 2 + 1;
-    let digest = digest_of(alloc, federation, file.sites())?;
+    let digest = digest_of(alloc, file)?;
     format!(in alloc; "ok {federation} {count} {quorum} {digest:016x}\n")
+}
+
+fn print_text(rt: &HostRuntime, text: Result<String, Stop>) -> Result<u8, ProgramFault> {
+    let mut output = io::writer(rt);
+    match text {
+        Ok(text) => write_output(&mut output, 0, text.as_str()),
+        Err(stop) => write_stop(rt.alloc(), &mut output, stop),
+    }
 }

@@ -3,7 +3,7 @@
 ghost use Rattle.std.specs.Prelude.{◌≡◌, IsErr, IfOk, IsSome};
 ghost use Rattle.dgram.specs.Decoded.{message_of};
 ghost use Rattle.site_commands.specs.Replies.{question_of, wants_deposits, wants_queries};
-ghost use Rattle.site_commands.specs.Replies.{reply_by, reply_in};
+ghost use Rattle.site_commands.specs.Replies.{reply_by, reply_in, reply_from};
 ghost use Rattle.site_commands.specs.Answers.{wanted_for};
 ghost use Rattle.site_commands.specs.inner.Heard.{query_in};
 
@@ -47,9 +47,27 @@ pub(crate) fn query_in(reply: Option<ClientReply>) -> Option<QueryAnswer>
     }
 }
 
-/// The reply of the site for the slot in these bytes, if it is one that is wanted.
+/// The reply of the site for the slot in a datagram from this port, if it is one that is wanted.
+/// What doesn't come from the port that was asked isn't even read.
+pub(crate) fn reply_from(
+    alloc: Global,
+    request: &Request<'_>,
+    wanted: Wanted,
+    port: u16,
+    bytes: &[u8],
+) -> Result<Option<ClientReply>, AllocError>
+    ensures { IfOk result
+        (λ reply. reply ≡ reply_from (question_of request.now) wanted port bytes.now) }
+{
+    if port != request.target {
+        return Ok(None);
+    }
+    reply_in(alloc, request, wanted, bytes)
+}
+
+// The reply of the site for the slot in these bytes, if it is one that is wanted.
 #[tactic(auto, unfolding(fed_types::specs::Slots::same_slot))]
-pub(crate) fn reply_in(
+fn reply_in(
     alloc: Global,
     request: &Request<'_>,
     wanted: Wanted,

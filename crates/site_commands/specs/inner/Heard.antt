@@ -17,10 +17,10 @@ BringsNone (Took (From port bytes) ∷ moves) = ⊥
 BringsNone (Failed ∷ moves) = BringsNone moves
 BringsNone (Handed post ∷ moves) = ⊥
 
--- these bytes are taken in, or no datagram is
-abbrev pub TakesOne : (before after : Option (List Move)) → Option (List ℕ) → Type 0
-TakesOne before after (Some bytes) =
-    (port : ℕ) × Grows before after (Took (From port bytes) ∷ [])
+-- a datagram is taken in, of these bytes and from this port, or none is
+abbrev pub TakesOne : (before after : Option (List Move)) → Option (ℕ × List ℕ) → Type 0
+TakesOne before after (Some datagram) =
+    Grows before after (Took (From datagram.0 datagram.1) ∷ [])
 TakesOne before after None = (moves : List Move) × Grows before after moves × BringsNone moves
 
 -- datagrams are taken in, and the first wanted reply is what is heard
