@@ -9,7 +9,7 @@ use crate::noted_ending::note_ending;
 use crate::service::{Service, open_and_serve};
 use crate::site_arguments::SiteTask;
 use crate::stop::{Stop, write_stop};
-use crate::udp_socket::socket;
+use crate::udp_socket::site_socket;
 use bag_folders::{DiskFolders, Folders};
 use cell_file::DiskCell;
 use fed_types::Members;
@@ -93,7 +93,7 @@ fn equip<'a>(rt: &HostRuntime, task: &SiteTask<'a>) -> Result<Means<UdpPort, Bag
     let folders = folders_of(rt, task)?;
     let site = task.number;
     let cell = cell_of(rt, task, &Owner { members, site })?;
-    let port = socket(rt, members.federation(), port_number, task.waits)?;
+    let port = site_socket(rt, members, site, port_number, task.waits)?;
     Ok(Means {
         members,
         ports,

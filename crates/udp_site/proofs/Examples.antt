@@ -1,78 +1,200 @@
--- How long the port of site 2 waits, computed: first 1 ms, and 5 ms at most.
-use Rattle.std.proofs.Common.{◌≡◌, ℕ, List, [], ◌∷◌, refl}
+-- How long the port of site 2 waits, computed: first 1 ms, and 8 ms at most.
+use Rattle.std.proofs.Common.{◌≡◌, ℕ, List, [], ◌∷◌, refl, Option, Some, None, true}
+use Rattle.fed_types.specs.Lists.{is_in}
+use Rattle.fed_types.specs.Sites.{membership_of, sites_to}
+use Rattle.fed_types.specs.Voters.{with_voter}
+use Rattle.udp_site.specs.declared.contacts.Contacts.{Contacts}
 use Rattle.udp_site.specs.declared.pace.Pace.{Pace}
 use Rattle.udp_site.specs.declared.sign.Sign.TheVariants.{Still, Moves, Decides, Deposits}
-use Rattle.udp_site.specs.Pace.{begins, idles, hears, hands, left}
+use Rattle.udp_site.specs.Contacts.{nobody_heard}
+use Rattle.udp_site.specs.Pace.{begins, idles, hears, listens, hands, wait_at, left}
 
--- a port after idle turns at 1, 3 and 7 ms
 abbrev fresh : Pace
-fresh = begins (record { first = 1; most = 5; prompt = 2 })
+fresh = begins (record { first = 1; most = 8; prompt = 2 }) None
 
-abbrev once : Pace
-once = idles fresh 1000
+-- its own port, and another
+abbrev own : ℕ
+own = 7002
 
-abbrev twice : Pace
-twice = idles once 3000
+abbrev other : ℕ
+other = 7001
 
-abbrev rested : Pace
-rested = idles twice 7000
-
--- the beginning of a Prepare
+-- the beginnings of a Prepare and of an Accept, and of replies to queries
 abbrev prepare : List ℕ
 prepare = 0x42 ∷ 0x50 ∷ 2 ∷ 1 ∷ []
 
--- patient: it waits for 1, 2 and 4 ms, and no longer than 5
+abbrev accept : List ℕ
+accept = 0x42 ∷ 0x50 ∷ 2 ∷ 3 ∷ []
+
+-- of federation 7, from site 2, for version 1 of the object `a`
+abbrev reply : ℕ → List ℕ
+reply code = 0x42 ∷ 0x50 ∷ 2 ∷ 33 ∷ 0 ∷ 0 ∷ 0 ∷ 0 ∷ 0 ∷ 0 ∷ 0 ∷ 7 ∷ 2 ∷ 1 ∷ 0x61
+    ∷ 0 ∷ 0 ∷ 0 ∷ 1 ∷ code ∷ []
+
+-- the wait stays as it is in the two turns that site 2 needs to propose
 pub first_wait : left fresh 0 0 ≡ 1000
 first_wait = refl
 
-pub second_wait : left once 1000 1000 ≡ 2000
+abbrev twice_idle : Pace
+twice_idle = idles (idles fresh 1000) 2000
+
+pub second_wait : left (idles fresh 1000) 1000 1000 ≡ 1000
 second_wait = refl
 
-pub third_wait : left twice 3000 3000 ≡ 4000
+pub third_wait : left twice_idle 2000 2000 ≡ 1000
 third_wait = refl
 
-pub longest_wait : left rested 7000 7000 ≡ 5000
+-- it has proposed nothing: it rests for 2, 4 and 8 ms, and no longer
+abbrev rests : Pace
+rests = idles twice_idle 3000
+
+abbrev rested : Pace
+rested = idles (idles rests 5000) 9000
+
+pub rests_for_two : left rests 3000 3000 ≡ 2000
+rests_for_two = refl
+
+pub longest_wait : left rested 9000 9000 ≡ 8000
 longest_wait = refl
+
+pub no_longer : left (idles rested 17000) 17000 17000 ≡ 8000
+no_longer = refl
+
+-- it proposes, by the Prepare to itself and by no other: from now on it waits for 2 ms, in each of
+-- the turns up to the next proposal, and then for 4 ms
+abbrev proposed : Pace
+proposed = hands twice_idle own own prepare
+
+pub by_its_own_prepare : hands twice_idle own other prepare ≡ twice_idle
+by_its_own_prepare = refl
+
+pub twice_as_long : left proposed 2000 2000 ≡ 2000
+twice_as_long = refl
+
+abbrev idle_since : Pace
+idle_since = idles (idles proposed 4000) 6000
+
+pub not_in_idle_turns : left idle_since 6000 6000 ≡ 2000
+not_in_idle_turns = refl
+
+pub after_the_next_proposal : left (hands idle_since own own prepare) 6000 6000 ≡ 4000
+after_the_next_proposal = refl
+
+-- promises of a quorum, by the Accept that it sends to any site, bring back the first wait
+pub promised : left (hands proposed own other accept) 2000 2000 ≡ 1000
+promised = refl
 
 -- a deposit brings back the first wait, and two turns are idle at once, as site 2 needs; no third
 abbrev deposited : Pace
 deposited = hears rested Deposits
 
-pub deposit_is_proposed : left deposited 7100 7100 ≡ 0
+pub deposit_is_proposed : left deposited 9100 9100 ≡ 0
 deposit_is_proposed = refl
 
-pub in_the_second_turn : left (idles deposited 7100) 7100 7100 ≡ 0
+pub in_the_second_turn : left (idles deposited 9100) 9100 9100 ≡ 0
 in_the_second_turn = refl
 
-pub and_no_third : left (idles (idles deposited 7100) 7200) 7200 7200 ≡ 4000
+pub and_no_third : left (idles (idles deposited 9100) 9200) 9200 9200 ≡ 1000
 and_no_third = refl
 
 -- another deposit makes two more
-pub two_deposits : left (idles (idles (hears deposited Deposits) 7100) 7100) 7100 7100 ≡ 0
+pub two_deposits : left (idles (idles (hears deposited Deposits) 9100) 9100) 9100 9100 ≡ 0
 two_deposits = refl
 
 -- what else moves something brings back the first wait alone
 pub waits_again : left (hears rested Moves) 9000 9000 ≡ 1000
 waits_again = refl
 
--- a question moves nothing; but the turn is idle 250 ms after the last that was, whatever comes
-pub asked : left (hears rested Still) 9000 9000 ≡ 5000
+-- what moves nothing doesn't; but the turn is idle 250 ms after the last that was, whatever comes
+pub asked : left (hears rested Still) 9000 9000 ≡ 8000
 asked = refl
 
-pub asked_all_the_time : left (hears rested Still) 257000 257000 ≡ 0
+pub asked_all_the_time : left (hears rested Still) 259000 259000 ≡ 0
 asked_all_the_time = refl
 
--- while a proposal is under way no turn is prompt: one is idle 1 ms after the last that came, or
+-- while a proposal is under way no turn is prompt: one is idle 2 ms after the last that came, or
 -- 250 ms after the last idle turn
-pub proposes : left (hands deposited prepare) 9000 9000 ≡ 1000
+abbrev proposed_at_once : Pace
+proposed_at_once = hands deposited own own prepare
+
+pub proposes : left proposed_at_once 9000 9000 ≡ 2000
 proposes = refl
 
-pub proposes_and_is_asked : left (hands deposited prepare) 256000 256000 ≡ 1000
+pub proposes_and_is_asked : left proposed_at_once 258000 258000 ≡ 1000
 proposes_and_is_asked = refl
 
-pub is_idle_at_last : left (hands deposited prepare) 257000 257000 ≡ 0
+pub is_idle_at_last : left proposed_at_once 259000 259000 ≡ 0
 is_idle_at_last = refl
 
--- a vote of another site: no proposal is under way any more, and the turns that are left are prompt
-pub voted : left (hears (hands deposited prepare) Decides) 9000 9000 ≡ 0
+-- votes: no proposal is under way any more, and the turns that are left are prompt
+pub voted : left (hears proposed_at_once Decides) 9000 9000 ≡ 0
 voted = refl
+
+-- A site that has proposed at the moment 0, and waits for a minute.
+abbrev alone : Pace
+alone = record (begins (record { first = 1; most = 60000; prompt = 2 }) None) {
+  wait = 60000;
+  under_way = true;
+}
+
+-- a client asks for a bag that is pending: two turns come at once, but not before a second
+abbrev questioned : Pace
+questioned = hands alone own 40000 (reply 1)
+
+pub not_before_a_second : left questioned 300000 400000 ≡ 600000
+not_before_a_second = refl
+
+pub but_then : left questioned 300000 1000000 ≡ 0
+but_then = refl
+
+pub and_in_the_next : left (idles questioned 1000000) 1000000 1000000 ≡ 0
+and_in_the_next = refl
+
+pub asked_again_it_takes_a_second :
+    left (hands (hands (idles (idles questioned 1000000) 1000000) own own prepare) own 40000
+    (reply 1)) 1000000 1000000 ≡ 1000000
+asked_again_it_takes_a_second = refl
+
+-- a bag that is known, or that it hasn't, is no question for it
+pub known_is_no_question : hands alone own 40000 (reply 0) ≡ alone
+known_is_no_question = refl
+
+pub nothing_is_no_question : hands alone own 40000 (reply 2) ≡ alone
+nothing_is_no_question = refl
+
+-- Site 2 of three that waits for a minute: while another was heard within ten seconds it waits for
+-- half a second.
+abbrev of_three : Pace
+of_three = record alone { contacts = Some (nobody_heard (membership_of 7 (1 ∷ 1 ∷ 1 ∷ [])) 2) }
+
+abbrev heard_at_nine : Pace
+heard_at_nine = listens of_three 9000000 (Some 3)
+
+pub nobody_is_heard : wait_at of_three 9000000 ≡ 60000
+unfolding with_voter sites_to is_in
+nobody_is_heard = refl
+
+pub a_quorum_is_heard : wait_at heard_at_nine 9000000 ≡ 500
+unfolding with_voter sites_to is_in
+a_quorum_is_heard = refl
+
+pub in_the_span_after : wait_at heard_at_nine 14999999 ≡ 500
+unfolding with_voter sites_to is_in
+in_the_span_after = refl
+
+pub no_longer_then : wait_at heard_at_nine 15000000 ≡ 60000
+unfolding with_voter sites_to is_in
+no_longer_then = refl
+
+-- one other of five is too few; a site that is a quorum by its weight needs none
+pub too_few : wait_at (listens (record alone {
+  contacts = Some (nobody_heard (membership_of 7 (1 ∷ 1 ∷ 1 ∷ 1 ∷ 1 ∷ [])) 2);
+}) 9000000 (Some 3)) 9000000 ≡ 60000
+unfolding with_voter sites_to is_in
+too_few = refl
+
+pub heavy : wait_at (record alone {
+  contacts = Some (nobody_heard (membership_of 7 (1 ∷ 5 ∷ 1 ∷ [])) 2);
+}) 9000000 ≡ 500
+unfolding with_voter sites_to is_in
+heavy = refl

@@ -1,27 +1,84 @@
--- What came changes no pace where it can't be a Deposit and nothing else would change anything.
+-- What came changes no pace: what a site says to itself, where it can't be a vote; and what others
+-- say, where it can't be a Deposit and nothing else would change anything.
 use Rattle.std.proofs.Common.{◌≡◌, ℕ, ◌==◌, Bool, true, false, cond, List, refl, ap, sym, ◌∙◌}
-use Rattle.std.proofs.Common.{Option, Some, None}
+use Rattle.std.proofs.Common.{Option, Some, None, arith}
+use Rattle.std.proofs.lemmas.Bool.Decides.{nat_tests}
 use Rattle.fields.proofs.Bytes.{IsBytes}
 use Rattle.dgram.specs.Decoded.{message_of}
-use Rattle.dgram.specs.Encoding.{kind_of}
-use Rattle.dgram.specs.Numbers.{DEPOSIT}
+use Rattle.dgram.specs.Encoding.{kind_of, body_from}
+use Rattle.dgram.specs.Numbers.{ACCEPTED, DEPOSIT}
 use Rattle.dgram.specs.declared.body.Body.{Body}
 use Rattle.dgram.specs.declared.body.Body.TheVariants as bodies
 use Rattle.dgram.specs.declared.message.Message.{Message}
 use Rattle.dgram.proofs.MessageOf.{message_of-found}
+use Rattle.udp_site.specs.declared.contacts.Contacts.{Contacts}
 use Rattle.udp_site.specs.declared.pace.Pace.{Pace}
 use Rattle.udp_site.specs.declared.sign.Sign.{Sign}
 use Rattle.udp_site.specs.declared.sign.Sign.TheVariants as signs
-use Rattle.udp_site.specs.Pace.{hears}
-use Rattle.udp_site.specs.Signs.{sign_by, sign_in, sign_at, kind_byte, is_deposit}
+use Rattle.udp_site.specs.declared.sign.Signal.{Signal}
+use Rattle.udp_site.specs.Pace.{hears, meets, listens, takes}
+use Rattle.udp_site.specs.Signs.{sign_by, own_signal_by, signal_by, signal_at, kind_byte, is_vote}
+use Rattle.udp_site.specs.Signs.{is_deposit}
 
 -- a datagram has the byte of its message's kind
 kind_is : (federation : ℕ) (bytes : List ℕ) (m : Message) → IsBytes bytes
     → message_of federation bytes ≡ Some m → kind_byte bytes ≡ kind_of m.body
 kind_is federation bytes m are e = ap kind_byte (message_of-found federation bytes m are e).1
 
-module _ (pace : Pace) (first : pace.wait ≡ pace.waits.first) (rests : pace.under_way ≡ false)
-  where
+-- so the message isn't of a kind that the datagram hasn't
+isnt_kind : (kind federation : ℕ) (bytes : List ℕ) (m : Message) → IsBytes bytes
+    → message_of federation bytes ≡ Some m → (kind_byte bytes == kind) ≡ false
+    → (kind_of m.body == kind) ≡ false
+isnt_kind kind federation bytes m are e isnt =
+    ap (λ (n : ℕ). n == kind) (sym (kind_is federation bytes m are e)) ∙ isnt
+
+-- the test of two numbers
+is_same : (m n : ℕ) → m ≡ n → (m == n) ≡ true
+is_same m n e = grind (arith, nat_tests)
+
+isnt_same : (m n : ℕ) → ¬ (m ≡ n) → (m == n) ≡ false
+isnt_same m n e = grind (arith, nat_tests)
+
+-- one of two signals changes nothing, where it is the one that is taken
+if_true : (pace : Pace) (now : ℕ) (t : Bool) (a b : Signal) → t ≡ true → takes pace now a ≡ pace
+    → takes pace now (cond t a b) ≡ pace
+if_true pace now true a b e same = same
+if_true pace now false a b e same = absurd (cc e)
+
+if_false : (pace : Pace) (now : ℕ) (t : Bool) (a b : Signal) → t ≡ false → takes pace now b ≡ pace
+    → takes pace now (cond t a b) ≡ pace
+if_false pace now false a b e same = same
+if_false pace now true a b e same = absurd (cc e)
+
+module _ (pace : Pace) (now own from federation : ℕ) (bytes : List ℕ) (are : IsBytes bytes) where
+  -- no body but that of a vote
+  own_by_body : (b : Body) → (kind_of b == ACCEPTED) ≡ false → takes pace now (own_signal_by b) ≡ pace
+  own_by_body (bodies.Prepare ballot) isnt = refl
+  own_by_body (bodies.Promise from ballot prior) isnt = refl
+  own_by_body (bodies.Accept vote) isnt = refl
+  own_by_body (bodies.Accepted from vote) isnt = absurd (cc isnt)
+  own_by_body (bodies.Refused from asked standing) isnt = refl
+  own_by_body (bodies.Ask from) isnt = refl
+  own_by_body (bodies.Known from bag) isnt = refl
+  own_by_body (bodies.Deposit path) isnt = refl
+  own_by_body bodies.Query isnt = refl
+  own_by_body (bodies.DepositReply from answer) isnt = refl
+  own_by_body (bodies.QueryReply from answer) isnt = refl
+
+  own_in_message : (own == from) ≡ true → is_vote bytes ≡ false → (o : Option Message)
+      → message_of federation bytes ≡ o → takes pace now (signal_at own from o) ≡ pace
+  own_in_message is_own isnt None e = refl
+  own_in_message is_own isnt (Some m) e =
+      if_true pace now (own == from) (own_signal_by m.body) (signal_by m.body) is_own
+      (own_by_body m.body (isnt_kind ACCEPTED federation bytes m are e isnt))
+
+  pub own_changes_nothing : own ≡ from → is_vote bytes ≡ false
+      → takes pace now (signal_at own from (message_of federation bytes)) ≡ pace
+  own_changes_nothing is_own isnt =
+      own_in_message (is_same own from is_own) isnt (message_of federation bytes) refl
+
+  module _ (first : pace.wait ≡ pace.waits.first) (rests : pace.under_way ≡ false)
+      (noted : (site : ℕ) → meets pace.contacts now site ≡ pace.contacts) where
     moves : hears pace signs.Moves ≡ pace
     moves = ap (λ (n : ℕ). record pace { wait = n }) (sym first)
 
@@ -43,22 +100,24 @@ module _ (pace : Pace) (first : pace.wait ≡ pace.waits.first) (rests : pace.un
     by_body (bodies.DepositReply from answer) isnt = refl
     by_body (bodies.QueryReply from answer) isnt = refl
 
-    module _ (federation : ℕ) (bytes : List ℕ) (are : IsBytes bytes)
-        (isnt : is_deposit bytes ≡ false) where
-      in_message : (o : Option Message) → message_of federation bytes ≡ o
-          → hears pace (sign_in o) ≡ pace
-      in_message None e = refl
-      in_message (Some m) e =
-          by_body m.body (ap (λ (n : ℕ). n == DEPOSIT) (sym (kind_is federation bytes m are e))
-          ∙ isnt)
+    -- nor who says it
+    by_sender : (sender : Option ℕ) → listens pace now sender ≡ pace
+    by_sender None = refl
+    by_sender (Some site) =
+        ap (λ (contacts : Option Contacts). record pace { contacts = contacts }) (noted site)
 
-      unless_own : (own : Bool) (s : Sign) → hears pace s ≡ pace
-          → hears pace (cond own signs.Still s) ≡ pace
-      unless_own true s e = refl
-      unless_own false s e = e
+    by_signal : (b : Body) → (kind_of b == DEPOSIT) ≡ false → takes pace now (signal_by b) ≡ pace
+    by_signal b isnt =
+        ap (λ (p : Pace). hears p (sign_by b)) (by_sender (body_from b)) ∙ by_body b isnt
 
-      pub nothing_changes : (own from : ℕ)
-          → hears pace (sign_at own from (message_of federation bytes)) ≡ pace
-      nothing_changes own from =
-          unless_own (own == from) (sign_in (message_of federation bytes))
-          (in_message (message_of federation bytes) refl)
+    in_message : (own == from) ≡ false → is_deposit bytes ≡ false → (o : Option Message)
+        → message_of federation bytes ≡ o → takes pace now (signal_at own from o) ≡ pace
+    in_message is_own isnt None e = refl
+    in_message is_own isnt (Some m) e =
+        if_false pace now (own == from) (own_signal_by m.body) (signal_by m.body) is_own
+        (by_signal m.body (isnt_kind DEPOSIT federation bytes m are e isnt))
+
+    pub nothing_changes : ¬ (own ≡ from) → is_deposit bytes ≡ false
+        → takes pace now (signal_at own from (message_of federation bytes)) ≡ pace
+    nothing_changes is_own isnt =
+        in_message (isnt_same own from is_own) isnt (message_of federation bytes) refl

@@ -7,6 +7,7 @@ pub mod Served
 pub mod Faults
 pub mod Failures
 pub mod MemoryPorts
+pub mod Contacts
 pub mod Pace
 pub mod Signs
 pub mod UdpPorts

@@ -1,28 +1,44 @@
 -- How long a port waits. Waits are milliseconds, and moments are microseconds of its clock.
-use Rattle.std.specs.Prelude.{ℕ, ◌+◌, ◌-◌, ◌*◌, ◌==◌, ◌||◌, min, max, true, false}
-use Rattle.std.specs.Prelude.{if◌then◌else◌, List}
+use Rattle.std.specs.Prelude.{ℕ, ◌+◌, ◌-◌, ◌*◌, ◌==◌, ◌||◌, ◌&&◌, Bool, true, false, min, max}
+use Rattle.std.specs.Prelude.{if◌then◌else◌, List, Option, Some, None}
+use Rattle.udp_site.specs.declared.contacts.Contacts.{Contacts}
 use Rattle.udp_site.specs.declared.waits.Waits.{Waits}
 use Rattle.udp_site.specs.declared.pace.Pace.{Pace}
 use Rattle.udp_site.specs.declared.sign.Sign.{Sign}
 use Rattle.udp_site.specs.declared.sign.Sign.TheVariants as signs
-use Rattle.udp_site.specs.Signs.{is_prepare}
+use Rattle.udp_site.specs.declared.sign.Signal.{Signal}
+use Rattle.udp_site.specs.Contacts.{is_connected, notes}
+use Rattle.udp_site.specs.Signs.{is_prepare, is_accept, is_pending}
 
--- a port begins with its first wait, as after an idle turn at the moment 0
-abbrev pub begins : Waits → Pace
-begins waits = record {
+-- A port begins with its first wait, as after an idle turn and a proposal at the moment 0. That of
+-- a site has contacts, and that of a client has none.
+abbrev pub begins : Waits → Option Contacts → Pace
+begins waits contacts = record {
   waits = waits;
   wait = waits.first;
   idle_at = 0;
   under_way = false;
   prompt = 0;
+  due = waits.prompt;
+  asked = 0;
+  proposed_at = 0;
+  contacts = contacts;
 }
 
--- nothing came: it waits twice as long, up to the most that it may
+-- twice as long, up to the most that it may wait
+abbrev pub longer : Pace → ℕ
+longer pace = min (2 * pace.wait) (max pace.waits.first pace.waits.most)
+
+-- Nothing came. The wait stays as it is, as long as the site may have something to propose, which
+-- it does once in as many idle turns as its number is. Where as many came without a proposal it has
+-- nothing, and rests: it waits twice as long after each.
 abbrev pub idles : Pace → (now : ℕ) → Pace
 idles pace now = record pace {
-  wait = min (2 * pace.wait) (max pace.waits.first pace.waits.most);
+  wait = if pace.due == 0 then longer pace else pace.wait;
   idle_at = now;
   prompt = pace.prompt - 1;
+  due = pace.due - 1;
+  asked = pace.asked - 1;
 }
 
 -- the most turns that are prompt: nothing is taken in meanwhile
@@ -39,22 +55,80 @@ hears pace signs.Decides = record pace { wait = pace.waits.first; under_way = fa
 hears pace signs.Deposits = record pace {
   wait = pace.waits.first;
   prompt = min (pace.prompt + pace.waits.prompt) most_prompt;
+  due = pace.waits.prompt;
 }
 
--- A datagram is handed out: with a Prepare a proposal is under way.
-abbrev pub hands : Pace → List ℕ → Pace
-hands pace bytes = if is_prepare bytes then record pace { under_way = true } else pace
+-- a site is heard
+abbrev pub meets : Option Contacts → (now site : ℕ) → Option Contacts
+meets None now site = None
+meets (Some contacts) now site = Some (notes contacts now site)
+
+-- a site is heard, if one says something
+abbrev pub listens : Pace → (now : ℕ) → Option ℕ → Pace
+listens pace now None = pace
+listens pace now (Some site) = record pace { contacts = meets pace.contacts now site }
+
+-- something comes, which a site may have said
+abbrev pub takes : Pace → (now : ℕ) → Signal → Pace
+takes pace now signal = hears (listens pace now signal.sender) signal.sign
+
+-- The site proposes, in its last idle turn. After each proposal it waits twice as long; one is
+-- under way now, and no question is open.
+abbrev pub proposes : Pace → Pace
+proposes pace = record pace {
+  wait = longer pace;
+  under_way = true;
+  due = pace.waits.prompt;
+  asked = 0;
+  proposed_at = pace.idle_at;
+}
+
+-- a client asks for a bag that is pending: the site should propose it
+abbrev pub is_asked : Pace → Pace
+is_asked pace = record pace { asked = pace.waits.prompt }
+
+-- A datagram is handed out. With the Prepare that it sends to itself the site proposes; with an
+-- Accept its proposal has got the promises of a quorum, and something moves; with `pending` it
+-- answers a question.
+abbrev pub hands : Pace → (own to : ℕ) → List ℕ → Pace
+hands pace own to bytes =
+    if is_prepare bytes && own == to
+    then proposes pace
+    else (if is_accept bytes
+    then hears pace signs.Moves
+    else (if is_pending bytes then is_asked pace else pace))
+
+-- a quorum was heard within ten seconds
+abbrev pub hears_quorum : Option Contacts → (now : ℕ) → Bool
+hears_quorum None now = false
+hears_quorum (Some contacts) now = is_connected contacts now
+
+-- while a quorum is heard it waits half a second at most, or its first wait
+abbrev pub wait_at : Pace → (now : ℕ) → ℕ
+wait_at pace now =
+    if hears_quorum pace.contacts now
+    then min pace.wait (max pace.waits.first 500) else pace.wait
 
 -- How long after an idle turn the next one comes, whatever else does: at once where it is prompt
 -- and no proposal is under way, which the site would outbid; else ten first waits, 250 ms at least,
 -- and its wait. First waits, and not those that have grown: site N proposes in each N-th idle turn,
 -- and where clients ask all the time site 3 would else wait for 10, 20 and 40 waits.
-abbrev pub between : Pace → ℕ
-between pace =
+abbrev pub between : Pace → (now : ℕ) → ℕ
+between pace now =
     if pace.prompt == 0 || pace.under_way
-    then max pace.wait (max (10 * pace.waits.first) 250) else 0
+    then max (wait_at pace now) (max (10 * pace.waits.first) 250) else 0
+
+-- for how many microseconds no question makes a turn idle: one a second may bring a proposal
+abbrev pub second_left : Pace → (now : ℕ) → ℕ
+second_left pace now = 1000000 - (now - pace.proposed_at)
+
+-- for how many microseconds a turn waits still, whatever comes
+abbrev pub at_most : Pace → (now : ℕ) → ℕ
+at_most pace now =
+    if pace.asked == 0
+    then 1000 * between pace now - (now - pace.idle_at)
+    else min (1000 * between pace now - (now - pace.idle_at)) (second_left pace now)
 
 -- for how many microseconds a turn that began then waits still; with 0 it is idle
 abbrev pub left : Pace → (began now : ℕ) → ℕ
-left pace began now =
-    min (1000 * pace.wait - (now - began)) (1000 * between pace - (now - pace.idle_at))
+left pace began now = min (1000 * wait_at pace now - (now - began)) (at_most pace now)

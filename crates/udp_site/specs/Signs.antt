@@ -1,11 +1,14 @@
 -- What a datagram is a sign of.
-use Rattle.std.specs.Prelude.{ℕ, ◌==◌, if◌then◌else◌, Bool, List, get_or, Option, Some, None}
-use Rattle.dgram.specs.Numbers.{PREPARE, DEPOSIT}
+use Rattle.std.specs.Prelude.{ℕ, ◌+◌, ◌==◌, ◌&&◌, if◌then◌else◌, Bool, List, get_or}
+use Rattle.std.specs.Prelude.{Option, Some, None}
+use Rattle.dgram.specs.Encoding.{body_from}
+use Rattle.dgram.specs.Numbers.{PREPARE, ACCEPT, ACCEPTED, DEPOSIT, QUERY_REPLY, IS_PENDING}
 use Rattle.dgram.specs.declared.body.Body.{Body}
 use Rattle.dgram.specs.declared.body.Body.TheVariants as bodies
 use Rattle.dgram.specs.declared.message.Message.{Message}
 use Rattle.udp_site.specs.declared.sign.Sign.{Sign}
 use Rattle.udp_site.specs.declared.sign.Sign.TheVariants.{Still, Moves, Decides, Deposits}
+use Rattle.udp_site.specs.declared.sign.Signal.{Signal}
 
 -- A proposal got its promises; a vote, or a known bag; a bag was deposited; or nothing moves.
 -- Promises are none: two of five sites that are up promise each other at each proposal, and would
@@ -19,13 +22,24 @@ sign_by (bodies.Known from bag) = Decides
 sign_by (bodies.Deposit path) = Deposits
 sign_by body = Still
 
-abbrev pub sign_in : Option Message → Sign
-sign_in None = Still
-sign_in (Some message) = sign_by message.body
+-- what a site says to itself: only its vote for a proposal of its own is a sign
+abbrev pub own_sign_by : Body → Sign
+own_sign_by (bodies.Accepted from vote) = if vote.ballot.site == from then Decides else Still
+own_sign_by body = Still
 
--- what a port sends to itself is a sign of nothing
-abbrev pub sign_at : (own from : ℕ) → Option Message → Sign
-sign_at own from message = if own == from then Still else sign_in message
+-- what another says is a sign, and the site that says it is heard, if a site does
+abbrev pub signal_by : Body → Signal
+signal_by body = record { sign = sign_by body; sender = body_from body }
+
+-- what a site says to itself; nobody else is heard
+abbrev pub own_signal_by : Body → Signal
+own_signal_by body = record { sign = own_sign_by body; sender = None }
+
+-- what came to a port from one; nothing is learned from what is no message of the federation
+abbrev pub signal_at : (own from : ℕ) → Option Message → Signal
+signal_at own from None = record { sign = Still; sender = None }
+signal_at own from (Some message) =
+    if own == from then own_signal_by message.body else signal_by message.body
 
 -- the place of the kind's byte in a datagram: after the magic number and the layout
 abbrev pub KIND_PLACE : ℕ
@@ -35,10 +49,27 @@ KIND_PLACE = 3
 abbrev pub kind_byte : List ℕ → ℕ
 kind_byte bytes = get_or bytes KIND_PLACE 0
 
--- what a port is handed is a Prepare, by its kind
+-- a datagram is a Prepare, an Accept, a vote or a Deposit, by its kind
 abbrev pub is_prepare : List ℕ → Bool
 is_prepare bytes = kind_byte bytes == PREPARE
 
--- what came may be a Deposit, by its kind
+abbrev pub is_accept : List ℕ → Bool
+is_accept bytes = kind_byte bytes == ACCEPT
+
+abbrev pub is_vote : List ℕ → Bool
+is_vote bytes = kind_byte bytes == ACCEPTED
+
 abbrev pub is_deposit : List ℕ → Bool
 is_deposit bytes = kind_byte bytes == DEPOSIT
+
+-- the place of the byte that says how long the object's name is; before it is the sender's
+abbrev pub LENGTH_PLACE : ℕ
+LENGTH_PLACE = 13
+
+-- the first byte of the body: after the name and four bytes of the version
+abbrev pub body_byte : List ℕ → ℕ
+body_byte bytes = get_or bytes (LENGTH_PLACE + 5 + get_or bytes LENGTH_PLACE 0) 0
+
+-- it is the reply to a query, by its kind, and says that the bag is pending
+abbrev pub is_pending : List ℕ → Bool
+is_pending bytes = kind_byte bytes == QUERY_REPLY && body_byte bytes == IS_PENDING

@@ -10,6 +10,10 @@ use Rattle.udp_site.specs.inner.Paced.{TurnIsPaced}
 abbrev pub failures_of : {R : Type 0} → UdpPort R → ℕ
 failures_of port = port.failures
 
+-- its own number
+abbrev pub number_of : {R : Type 0} → UdpPort R → ℕ
+number_of port = port.number
+
 -- how long it waits
 abbrev pub pace_of : {R : Type 0} → UdpPort R → Pace
 pace_of port = port.socket.pace

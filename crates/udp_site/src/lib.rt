@@ -10,6 +10,7 @@
 //! ```
 #![tactic(auto)]
 
+mod contacts;
 mod deposits;
 mod fault;
 mod idle_turns;

@@ -1,12 +1,16 @@
 ghost use Rattle.std.specs.Prelude.{◌≡◌, ◌≤◌, ◌*◌};
-ghost use Rattle.std.specs.Prelude.{ℕ, false};
+ghost use Rattle.std.specs.Prelude.{ℕ, false, Some};
 ghost use Rattle.dgram.specs.Decoded.{message_of};
 ghost use Rattle.udp_site.specs.declared.sign.Sign.{Sign};
-ghost use Rattle.udp_site.specs.Pace.{begins, idles, hears, hands, between, left};
-ghost use Rattle.udp_site.specs.Signs.{sign_at};
+ghost use Rattle.udp_site.specs.Pace.{begins, longer, idles, hears, meets, listens, takes};
+ghost use Rattle.udp_site.specs.Pace.{proposes, hands, hears_quorum, wait_at, between, second_left};
+ghost use Rattle.udp_site.specs.Pace.{at_most, left};
+ghost use Rattle.udp_site.specs.Signs.{signal_at};
 
-use crate::sign::{Sign, is_deposit, is_prepare};
+use crate::contacts::Contacts;
+use crate::sign::{Sign, Signal, is_accept, is_deposit, is_pending, is_prepare, is_vote};
 use crate::waits::Waits;
+use fed_types::SiteNo;
 
 /// How many of its first waits a port lets pass between two idle turns, where no turn is idle by
 /// itself.
@@ -15,29 +19,44 @@ const FIRST_WAITS: u64 = 10;
 /// The least number of milliseconds between two such turns.
 const LEAST_BETWEEN: u64 = 250;
 
+/// The most milliseconds that a port waits while a quorum is heard, unless its first wait is longer.
+const MOST_CONNECTED: u32 = 500;
+
+/// The least number of microseconds between a proposal and one that a question brings.
+const SECOND: u64 = 1_000_000;
+
 /// How many turns are prompt at most: nothing is taken in meanwhile.
 const MOST_PROMPT: u32 = 1000;
 
 const MICROS: u64 = 1000;
 
 /// How long a port waits next. Moments are microseconds.
-#[derive(Clone, Copy, Debug, PartialEq, Eq)]
+#[derive(Clone, Copy, Debug)]
 pub(crate) struct Pace {
     pub(crate) waits: Waits,
-    /// How long it waits now.
+    /// How long it waits, unless a quorum is heard.
     pub(crate) wait: u32,
     /// When the wait of its last turn that was idle ended.
     pub(crate) idle_at: u64,
-    /// A Prepare was handed out, and no votes of others, nor a known bag, have come since then.
+    /// The site proposed, and neither votes nor a known bag have come since then.
     pub(crate) under_way: bool,
     /// How many turns are idle at once where no proposal is under way, since Deposits came.
     pub(crate) prompt: u32,
+    /// How many turns may be idle without a proposal before it is sure that there is none to make.
+    pub(crate) due: u32,
+    /// How many turns are idle at once, a second after the last proposal, since a client asked for
+    /// a bag that is pending.
+    pub(crate) asked: u32,
+    /// When the site proposed last.
+    pub(crate) proposed_at: u64,
+    /// Whom a site has heard; a client notes that of nobody.
+    pub(crate) contacts: Option<Contacts>,
 }
 
 impl Pace {
     /// The pace of a port that begins at the moment 0.
-    pub(crate) fn new(waits: Waits) -> Pace
-        ensures { result ≡ begins waits }
+    pub(crate) fn new(waits: Waits, contacts: Option<Contacts>) -> Pace
+        ensures { result ≡ begins waits contacts }
     {
         Pace {
             waits,
@@ -45,6 +64,10 @@ impl Pace {
             idle_at: 0,
             under_way: false,
             prompt: 0,
+            due: waits.prompt,
+            asked: 0,
+            proposed_at: 0,
+            contacts,
         }
     }
 
@@ -52,26 +75,75 @@ impl Pace {
     pub(crate) fn idles(&mut self, now: u64)
         ensures { self.new ≡ idles self.old now }
     {
-        let most = self.waits.most.max(self.waits.first);
-        self.wait = self.wait.saturating_mul(2).min(most);
+        if self.due == 0 {
+            self.wait = self.longer();
+        }
         self.idle_at = now;
         self.prompt = self.prompt.saturating_sub(1);
+        self.due = self.due.saturating_sub(1);
+        self.asked = self.asked.saturating_sub(1);
     }
 
-    /// Whether what came may change anything: where the port waits for its first wait, and no
-    /// proposal is under way, only a Deposit does.
-    pub(crate) fn heeds(&self, bytes: &[u8]) -> bool
-        ensures { result ≡ false → (own from federation : ℕ)
-            → hears self.now (sign_at own from (message_of federation bytes.now)) ≡ self.now }
+    // Twice its wait, up to the longest one.
+    fn longer(&self) -> u32
+        ensures { result ≡ longer self.now }
     {
+        let most = self.waits.most.max(self.waits.first);
+        self.wait.saturating_mul(2).min(most)
+    }
+
+    /// Whether what came from this port may change anything. Of what a site says to itself a vote
+    /// does. What others say does while a wait has grown, a proposal is under way, or too few sites
+    /// were heard; else only a Deposit does.
+    pub(crate) fn heeds(&self, now: u64, own: u16, from: u16, bytes: &[u8]) -> bool
+        ensures { result ≡ false → (federation : ℕ)
+            → takes self.now now (signal_at own from (message_of federation bytes.now))
+            ≡ self.now }
+    {
+        if own == from {
+            return is_vote(bytes);
+        }
         if self.wait != self.waits.first || self.under_way {
+            return true;
+        }
+        if self.wants_contacts(now) {
             return true;
         }
         is_deposit(bytes)
     }
 
-    /// A datagram came that is a sign of this.
-    pub(crate) fn hears(&mut self, sign: Sign)
+    // Whether a site that is heard now is noted.
+    fn wants_contacts(&self, now: u64) -> bool
+        ensures { result ≡ false → (site : ℕ)
+            → meets self.now.contacts now site ≡ self.now.contacts }
+    {
+        match &self.contacts {
+            Some(contacts) => !contacts.is_enough(now),
+            None => false,
+        }
+    }
+
+    /// A datagram came at this moment, from which this is learned.
+    pub(crate) fn takes(&mut self, now: u64, signal: Signal)
+        ensures { self.new ≡ takes self.old now signal }
+    {
+        if let Some(site) = signal.sender {
+            self.meets(now, site);
+        }
+        self.hears(signal.sign);
+    }
+
+    // A site is heard.
+    fn meets(&mut self, now: u64, site: SiteNo)
+        ensures { self.new ≡ listens self.old now (Some site) }
+    {
+        if let Some(contacts) = &mut self.contacts {
+            contacts.notes(now, site);
+        }
+    }
+
+    // What came is a sign of this.
+    fn hears(&mut self, sign: Sign)
         ensures { self.new ≡ hears self.old sign }
     {
         match sign {
@@ -87,41 +159,93 @@ impl Pace {
                     .prompt
                     .saturating_add(self.waits.prompt)
                     .min(MOST_PROMPT);
+                self.due = self.waits.prompt;
             }
         }
     }
 
-    /// A datagram is handed out.
-    pub(crate) fn hands(&mut self, bytes: &[u8])
-        ensures { self.new ≡ hands self.old bytes.now }
+    /// A datagram is handed out for a port.
+    pub(crate) fn hands(&mut self, own: u16, to: u16, bytes: &[u8])
+        ensures { self.new ≡ hands self.old own to bytes.now }
     {
-        if is_prepare(bytes) {
-            self.under_way = true;
+        if is_prepare(bytes) && own == to {
+            self.proposes();
+        } else if is_accept(bytes) {
+            self.hears(Sign::Moves);
+        } else if is_pending(bytes) {
+            self.asked = self.waits.prompt;
         }
+    }
+
+    // The site proposes.
+    fn proposes(&mut self)
+        ensures { self.new ≡ proposes self.old }
+    {
+        self.wait = self.longer();
+        self.under_way = true;
+        self.due = self.waits.prompt;
+        self.asked = 0;
+        self.proposed_at = self.idle_at;
     }
 
     /// For how many microseconds a turn that began then waits still. With 0 it is idle.
     pub(crate) fn left(&self, began: u64, now: u64) -> u64
         ensures { result ≡ left self.now began now }
     {
-        let quiet = MICROS * u64::from(self.wait);
-        let fair = MICROS * self.between();
-        let since_began = now.saturating_sub(began);
-        let since_idle = now.saturating_sub(self.idle_at);
+        let quiet = MICROS * u64::from(self.wait_at(now));
         quiet
-            .saturating_sub(since_began)
-            .min(fair.saturating_sub(since_idle))
+            .saturating_sub(now.saturating_sub(began))
+            .min(self.at_most(now))
+    }
+
+    // The same, whatever comes.
+    fn at_most(&self, now: u64) -> u64
+        ensures { result ≡ at_most self.now now }
+    {
+        let since_idle = now.saturating_sub(self.idle_at);
+        let fair = (MICROS * self.between(now)).saturating_sub(since_idle);
+        if self.asked == 0 {
+            return fair;
+        }
+        fair.min(self.second_left(now))
+    }
+
+    // For how many microseconds no question makes a turn idle.
+    fn second_left(&self, now: u64) -> u64
+        ensures { result ≡ second_left self.now now }
+    {
+        SECOND.saturating_sub(now.saturating_sub(self.proposed_at))
     }
 
     // The most milliseconds between two idle turns.
-    fn between(&self) -> u64
-        ensures between { result ≡ between self.now }
+    fn between(&self, now: u64) -> u64
+        ensures between { result ≡ between self.now now }
         ensures within { result ≤ 10 * 4294967295 }
     {
         if self.prompt != 0 && !self.under_way {
             return 0;
         }
         let waits = FIRST_WAITS * u64::from(self.waits.first);
-        u64::from(self.wait).max(waits.max(LEAST_BETWEEN))
+        u64::from(self.wait_at(now)).max(waits.max(LEAST_BETWEEN))
+    }
+
+    // How many milliseconds it waits now.
+    fn wait_at(&self, now: u64) -> u32
+        ensures { result ≡ wait_at self.now now }
+    {
+        if self.hears_quorum(now) {
+            return self.wait.min(self.waits.first.max(MOST_CONNECTED));
+        }
+        self.wait
+    }
+
+    // Whether a quorum was heard within ten seconds.
+    fn hears_quorum(&self, now: u64) -> bool
+        ensures { result ≡ hears_quorum self.now.contacts now }
+    {
+        match &self.contacts {
+            Some(contacts) => contacts.is_connected(now),
+            None => false,
+        }
     }
 }

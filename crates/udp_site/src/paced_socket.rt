@@ -2,13 +2,13 @@
 
 ghost use Rattle.std.specs.Prelude.{◌≡◌, ◌≤◌, ℕ, length, false, IfOk, OnErr, IfSome};
 ghost use Rattle.dgram.specs.Decoded.{message_of};
-ghost use Rattle.udp_site.specs.declared.sign.Sign.{Sign};
-ghost use Rattle.udp_site.specs.Pace.{begins, hears, hands};
-ghost use Rattle.udp_site.specs.Signs.{sign_at};
+ghost use Rattle.udp_site.specs.Pace.{begins, takes, hands};
+ghost use Rattle.udp_site.specs.Signs.{signal_at};
 ghost use Rattle.udp_site.specs.inner.Paced.{Waited, EndsWait};
 
+use crate::contacts::Contacts;
 use crate::pace::Pace;
-use crate::sign::Sign;
+use crate::sign::Signal;
 use crate::waits::Waits;
 use libc::net::{POLLIN, poll};
 use libc::types::pollfd;
@@ -30,21 +30,37 @@ pub(crate) struct PacedSocket<R: Clock + Drop> {
     pace: Pace,
 }
 
+/// A datagram that was taken.
+#[derive(Clone, Copy)]
+pub(crate) struct Arrival {
+    /// The port from which it came.
+    pub(crate) from: u16,
+    /// How many bytes of it are in the buffer.
+    pub(crate) count: usize,
+    /// When it was taken.
+    pub(crate) now: u64,
+}
+
 /// How waiting ends.
 #[derive(Clone, Copy)]
 pub(crate) enum End {
-    /// A datagram came from this port, and so many bytes of it are in the buffer.
-    Taken(u16, usize),
+    /// A datagram came.
+    Taken(Arrival),
     /// The turn that began then is idle now.
     Idle { began: u64, now: u64 },
 }
 
 impl<R: Clock + Drop> PacedSocket<R> {
     /// A socket at this port, or at a free one where it is 0. A first wait of 0 is refused.
-    pub(crate) fn bind(net: &R, port: u16, waits: Waits) -> io::Result<PacedSocket<R>>
+    pub(crate) fn bind(
+        net: &R,
+        port: u16,
+        waits: Waits,
+        contacts: Option<Contacts>,
+    ) -> io::Result<PacedSocket<R>>
     where
         R: Net + Copy,
-        ensures { IfOk result (λ socket. socket.pace ≡ begins waits) }
+        ensures { IfOk result (λ socket. socket.pace ≡ begins waits contacts) }
     {
         if waits.first == 0 {
             return Err(ErrorKind::InvalidInput.into());
@@ -56,7 +72,7 @@ impl<R: Clock + Drop> PacedSocket<R> {
             clock: *net,
             made: Instant::now(net)?,
             socket,
-            pace: Pace::new(waits),
+            pace: Pace::new(waits, contacts),
         })
     }
 
@@ -65,16 +81,16 @@ impl<R: Clock + Drop> PacedSocket<R> {
         Ok(self.socket.local_addr()?.port())
     }
 
-    /// Waits for a datagram, for as long as the pace says: the port from which it came, and how
-    /// many bytes of it are in the buffer; or the turn is idle. Where the pace says so at once,
-    /// what has come stays in the socket. A datagram from another address is passed over.
-    pub(crate) fn take(&mut self, buffer: &mut [u8]) -> io::Result<Option<(u16, usize)>>
-        ensures count { IfOk result (λ got. IfSome got (λ g. g.1 ≤ length buffer.new)) }
+    /// Waits for a datagram, for as long as the pace says, and takes it into the buffer; or the
+    /// turn is idle. Where the pace says so at once, what has come stays in the socket. A datagram
+    /// from another address is passed over.
+    pub(crate) fn take(&mut self, buffer: &mut [u8]) -> io::Result<Option<Arrival>>
+        ensures count { IfOk result (λ got. IfSome got (λ g. g.count ≤ length buffer.new)) }
         ensures paced { IfOk result (Waited self.old.pace self.new.pace) }
         ensures same { OnErr result (self.new.pace ≡ self.old.pace) }
     {
         match self.wait_for(buffer)? {
-            End::Taken(from, count) => Ok(Some((from, count))),
+            End::Taken(arrival) => Ok(Some(arrival)),
             End::Idle { now, .. } => {
                 self.pace.idles(now);
                 Ok(None)
@@ -94,33 +110,33 @@ impl<R: Clock + Drop> PacedSocket<R> {
                 return Ok(End::Idle { began, now });
             }
             if let Some((from, count)) = taken_within(&self.socket, left, buffer)? {
-                return Ok(End::Taken(from, count));
+                return Ok(End::Taken(Arrival { from, count, now }));
             }
         }
         Err(ErrorKind::TimedOut.into())
     }
 
     /// Whether what was taken may change its pace.
-    pub(crate) fn heeds(&self, bytes: &[u8]) -> bool
-        ensures { result ≡ false → (own from federation : ℕ)
-            → hears self.now.pace (sign_at own from (message_of federation bytes.now))
+    pub(crate) fn heeds(&self, now: u64, own: u16, from: u16, bytes: &[u8]) -> bool
+        ensures { result ≡ false → (federation : ℕ)
+            → takes self.now.pace now (signal_at own from (message_of federation bytes.now))
             ≡ self.now.pace }
     {
-        self.pace.heeds(bytes)
+        self.pace.heeds(now, own, from, bytes)
     }
 
-    /// What was taken is a sign of this.
-    pub(crate) fn hears(&mut self, sign: Sign)
-        ensures { self.new.pace ≡ hears self.old.pace sign }
+    /// From what was taken at this moment this is learned.
+    pub(crate) fn learns(&mut self, now: u64, signal: Signal)
+        ensures { self.new.pace ≡ takes self.old.pace now signal }
     {
-        self.pace.hears(sign);
+        self.pace.takes(now, signal);
     }
 
-    /// A datagram is handed out.
-    pub(crate) fn hands(&mut self, bytes: &[u8])
-        ensures { self.new.pace ≡ hands self.old.pace bytes.now }
+    /// A datagram is handed out for a port.
+    pub(crate) fn hands(&mut self, own: u16, to: u16, bytes: &[u8])
+        ensures { self.new.pace ≡ hands self.old.pace own to bytes.now }
     {
-        self.pace.hands(bytes);
+        self.pace.hands(own, to, bytes);
     }
 
     /// Sends a datagram to this port.

@@ -1,10 +1,12 @@
-use crate::paced_socket::PacedSocket;
+use crate::contacts::Contacts;
+use crate::paced_socket::{Arrival, PacedSocket};
 use crate::port::Port;
 use crate::port_fault::PortFault;
-use crate::sign::sign_of;
+use crate::sign::signal_of;
 use crate::turn::Turn;
 use crate::waits::Waits;
-use std::alloc::Global;
+use fed_types::{Members, SiteNo};
+use std::alloc::{AllocError, Global};
 use std::io::{self, ErrorKind};
 use std::net::Net;
 use std::time::Clock;
@@ -24,22 +26,58 @@ pub struct UdpPort<R: Clock + Drop = HostRuntime> {
 }
 
 impl<R: Clock + Drop> UdpPort<R> {
-    ghost use Rattle.std.specs.Prelude.{◌≡◌, ◌≤◌, IfOk};
+    ghost use Rattle.std.specs.Prelude.{◌≡◌, ◌≤◌, Option, Some, None, IfOk};
     ghost use Rattle.cell_device.specs.Calls.{one_more};
     ghost use Rattle.udp_site.specs.declared.port_fault.PortFault.TheVariants.{Device};
+    ghost use Rattle.udp_site.specs.Contacts.{nobody_heard};
     ghost use Rattle.udp_site.specs.Pace.{begins};
     ghost use Rattle.udp_site.specs.UdpPorts.{failures_of, pace_of};
 
-    /// The port of this number, or a free one where it is 0, whose pace follows the messages of a
-    /// federation. It is refused with `Device` where the first wait is 0 or the system refuses it,
-    /// or with `Memory`.
+    /// A client's port, of this number, or a free one where it is 0, whose pace follows the
+    /// messages of a federation. It is refused with `Device` where the first wait is 0 or the
+    /// system refuses it, or with `Memory`.
     pub fn bind(net: &R, federation: u64, port: u16, waits: Waits) -> Result<UdpPort<R>, PortFault>
     where
         R: Net + AllocGlobal + Copy,
         ensures failures { IfOk result (λ port. failures_of port ≡ 0) }
-        ensures pace { IfOk result (λ port. pace_of port ≡ begins waits) }
+        ensures pace { IfOk result (λ port. pace_of port ≡ begins waits None) }
     {
-        match open(net, port, waits) {
+        UdpPort::bind_with(net, federation, port, waits, None)
+    }
+
+    /// The port of a site of these members. It is refused as that of a client is. Its pace follows
+    /// whether a quorum of the members is heard.
+    pub fn bind_site(
+        net: &R,
+        members: Members,
+        site: SiteNo,
+        port: u16,
+        waits: Waits,
+    ) -> Result<UdpPort<R>, PortFault>
+    where
+        R: Net + AllocGlobal + Copy,
+        ensures failures { IfOk result (λ port. failures_of port ≡ 0) }
+        ensures pace { IfOk result
+            (λ port. pace_of port ≡ begins waits (Some (nobody_heard members site))) }
+    {
+        let contacts = Contacts::new(members, site);
+        UdpPort::bind_with(net, members.federation(), port, waits, Some(contacts))
+    }
+
+    // The port, with the contacts with which it begins.
+    fn bind_with(
+        net: &R,
+        federation: u64,
+        port: u16,
+        waits: Waits,
+        contacts: Option<Contacts>,
+    ) -> Result<UdpPort<R>, PortFault>
+    where
+        R: Net + AllocGlobal + Copy,
+        ensures failures { IfOk result (λ port. failures_of port ≡ 0) }
+        ensures pace { IfOk result (λ port. pace_of port ≡ begins waits contacts) }
+    {
+        match open(net, port, waits, contacts) {
             Ok((socket, number)) => Ok(UdpPort {
                 alloc: net.alloc(),
                 federation,
@@ -77,7 +115,7 @@ impl<R: Clock + Drop> Port for UdpPort<R> {
     ghost use Rattle.udp_site.specs.declared.port_fault.PortFault.TheVariants as faults;
     ghost use Rattle.udp_site.specs.Pace.{hands};
     ghost use Rattle.udp_site.specs.Traffic.{IsReceived, IsHanded};
-    ghost use Rattle.udp_site.specs.UdpPorts.{failures_of, pace_of, IsPaced};
+    ghost use Rattle.udp_site.specs.UdpPorts.{failures_of, pace_of, number_of, IsPaced};
 
     ghost failures = { failures_of };
 
@@ -97,9 +135,10 @@ impl<R: Clock + Drop> Port for UdpPort<R> {
         ensures handed { IsHanded None None (to, bytes.now) result }
         ensures cause { HasCause faults.Device (failures_of self.old)
             (failures_of self.new) result }
-        ensures paced { pace_of self.new ≡ hands (pace_of self.old) bytes.now }
+        ensures paced { pace_of self.new
+            ≡ hands (pace_of self.old) (number_of self.old) to bytes.now }
     {
-        self.socket.hands(bytes);
+        self.socket.hands(self.number, to, bytes);
         match self.socket.send_to(to, bytes) {
             Ok(()) => Ok(()),
             Err(error) => Err(self.fail(&error)),
@@ -107,8 +146,10 @@ impl<R: Clock + Drop> Port for UdpPort<R> {
     }
 }
 
-ghost use Rattle.std.specs.Prelude.{◌≡◌, IfOk, OnErr};
-ghost use Rattle.udp_site.specs.Pace.{begins};
+ghost use Rattle.std.specs.Prelude.{◌≡◌, IfOk, OnOk, OnErr};
+ghost use Rattle.dgram.specs.Decoded.{message_of};
+ghost use Rattle.udp_site.specs.Pace.{begins, takes};
+ghost use Rattle.udp_site.specs.Signs.{signal_at};
 ghost use Rattle.udp_site.specs.inner.Paced.{TurnIsPaced};
 
 /// A socket at this port, and the number of its port.
@@ -116,10 +157,11 @@ fn open<R: Net + Clock + Drop + Copy>(
     net: &R,
     port: u16,
     waits: Waits,
+    contacts: Option<Contacts>,
 ) -> io::Result<(PacedSocket<R>, u16)>
-    ensures { IfOk result (λ made. made.0.pace ≡ begins waits) }
+    ensures { IfOk result (λ made. made.0.pace ≡ begins waits contacts) }
 {
-    let socket = PacedSocket::bind(net, port, waits)?;
+    let socket = PacedSocket::bind(net, port, waits, contacts)?;
     let number = socket.number()?;
     Ok((socket, number))
 }
@@ -137,17 +179,35 @@ fn turn_at<R: Clock + Drop>(
     // There is room before a datagram is taken, so that none is lost for want of it.
     let mut bytes = vec![in alloc; 0; MOST_BYTES]?;
     match socket.take(&mut bytes)? {
-        Some((from, count)) => {
+        Some(Arrival { from, count, now }) => {
             bytes.truncate(count);
-            // A datagram is decoded once more only where that may change something.
-            if socket.heeds(&bytes) {
-                let sign = sign_of(alloc, federation, own, from, &bytes)?;
-                socket.hears(sign);
-            }
+            learn(alloc, federation, own, socket, now, from, &bytes)?;
             Ok(Turn::Got(from, bytes))
         }
         None => Ok(Turn::Idle),
     }
+}
+
+/// The pace of the socket learns from what came at this moment from a port. A datagram is decoded
+/// once more only where that may change something.
+fn learn<R: Clock + Drop>(
+    alloc: Global,
+    federation: u64,
+    own: u16,
+    socket: &mut PacedSocket<R>,
+    now: u64,
+    from: u16,
+    bytes: &[u8],
+) -> Result<(), AllocError>
+    ensures learned { OnOk result (socket.new.pace ≡ takes socket.old.pace now
+        (signal_at own from (message_of federation bytes.now))) }
+    ensures same { OnErr result (socket.new.pace ≡ socket.old.pace) }
+{
+    if socket.heeds(now, own, from, bytes) {
+        let signal = signal_of(alloc, federation, own, from, bytes)?;
+        socket.learns(now, signal);
+    }
+    Ok(())
 }
 
 /// The fault that an error of the system is.

@@ -7,8 +7,8 @@ pub struct Waits {
     pub first: u32,
     /// At most, while nothing does. It is never less than the first.
     pub most: u32,
-    /// How many turns don't wait after a Deposit: as many as a site needs to propose, which is its
-    /// number, or 0.
+    /// How many idle turns a site needs to propose, which is its number, or 0: so many don't wait
+    /// after a Deposit.
     pub prompt: u32,
 }
 

@@ -6,12 +6,12 @@ use Rattle.udp_site.specs.declared.paced_socket.End.{End}
 use Rattle.udp_site.specs.declared.paced_socket.End.TheVariants as ends
 use Rattle.udp_site.specs.declared.turn.Turn.{Turn}
 use Rattle.udp_site.specs.declared.turn.Turn.TheVariants as turns
-use Rattle.udp_site.specs.Pace.{idles, hears, left}
-use Rattle.udp_site.specs.Signs.{sign_at}
+use Rattle.udp_site.specs.Pace.{idles, takes, left}
+use Rattle.udp_site.specs.Signs.{signal_at}
 
 -- a wait ends with a datagram that fits, or at a moment when nothing was left of it
 abbrev pub EndsWait : Pace → (room : ℕ) → End → Type 0
-EndsWait pace room (ends.Taken from count) = count ≤ room
+EndsWait pace room (ends.Taken arrival) = arrival.count ≤ room
 EndsWait pace room (ends.Idle began now) = left pace began now ≡ 0
 
 -- a turn was idle at a moment when it had nothing left to wait
@@ -23,8 +23,8 @@ abbrev pub Waited : {T : Type 0} → (old new : Pace) → Option T → Type 0
 Waited old new None = IsIdled old new
 Waited old new (Some taken) = new ≡ old
 
--- a turn was idle, or took a datagram, whose sign the pace follows
+-- a turn was idle, or took a datagram at a moment, from which the pace learns
 abbrev pub TurnIsPaced : (federation own : ℕ) → (old new : Pace) → Turn → Type 0
 TurnIsPaced federation own old new turns.Idle = IsIdled old new
 TurnIsPaced federation own old new (turns.Got from bytes) =
-    new ≡ hears old (sign_at own from (message_of federation bytes.items))
+    (now : ℕ) × (new ≡ takes old now (signal_at own from (message_of federation bytes.items)))

@@ -1,8 +1,16 @@
 use Rattle.std.proofs.Common.{◌∙◌, sym, arith}
-use Rattle.udp_site.proofs.Signs.{nothing_changes}
+use Rattle.udp_site.proofs.Signs.{own_changes_nothing, nothing_changes}
 use Rattle.udp_site.proofs.pace.Pace.heeds.Goals as goal
 
+pub returns-then-own-from : goal.returns-then-own-from
+returns-then-own-from c = λ isnt federation.
+    own_changes_nothing c.args.self.now c.args.now c.args.own c.args.from federation
+    c.args.bytes.now (λ i. omega (arith, c.type_inv.bytes i)) c.if-own-from.true
+    (sym c.is_vote.ensures ∙ isnt)
+
 pub returns : goal.returns
-returns c = λ isnt own from federation.
-    nothing_changes c.args.self.now c.if-self.false c.if-self-2.false federation c.args.bytes.now
-    (λ i. omega (arith, c.type_inv.bytes i)) (sym c.is_deposit.ensures ∙ isnt) own from
+returns c = λ isnt federation.
+    nothing_changes c.args.self.now c.args.now c.args.own c.args.from federation
+    c.args.bytes.now (λ i. omega (arith, c.type_inv.bytes i)) c.if-self.false c.if-self-2.false
+    (c.wants_contacts.ensures c.if-wants_contacts.false) c.if-own-from.false
+    (sym c.is_deposit.ensures ∙ isnt)

@@ -1,0 +1,67 @@
+-- Which sites a port has heard lately, itself among them. Time is cut into spans of five seconds,
+-- and lately is the span of a moment and the one before it: so what was heard lately was heard
+-- within ten seconds. Moments are microseconds of the port's clock.
+use Rattle.std.specs.Prelude.{ℕ, ◌-◌, ◌/◌, ◌==◌, if◌then◌else◌, Bool, List, []}
+use Rattle.fed_types.specs.Quorums.{quorums_of}
+use Rattle.fed_types.specs.Sites.{Membership}
+use Rattle.fed_types.specs.Voters.{with_voter}
+use Rattle.udp_site.specs.declared.contacts.Contacts.{Contacts}
+
+-- the length of a span
+abbrev pub SPAN : ℕ
+SPAN = 5000000
+
+-- the number of a moment's span
+abbrev pub span_of : ℕ → ℕ
+span_of now = now / SPAN
+
+-- a site that has heard nobody but itself
+abbrev pub alone : ℕ → List ℕ
+alone own = with_voter [] own
+
+abbrev pub nobody_heard : Membership → ℕ → Contacts
+nobody_heard members own = record {
+  members = members;
+  own = own;
+  span = 0;
+  current = alone own;
+  recent = alone own;
+}
+
+-- how many spans ago a site was heard last
+abbrev pub age : Contacts → (now : ℕ) → ℕ
+age contacts now = span_of now - contacts.span
+
+-- the sites that were heard in the span of this moment
+abbrev pub heard_now : Contacts → (now : ℕ) → List ℕ
+heard_now contacts now = if age contacts now == 0 then contacts.current else alone contacts.own
+
+-- those that were heard lately
+abbrev pub heard_lately : Contacts → (now : ℕ) → List ℕ
+heard_lately contacts now =
+    if age contacts now == 0
+    then contacts.recent
+    else (if age contacts now == 1 then contacts.current else alone contacts.own)
+
+-- these sites are a quorum, by their weights
+abbrev pub are_quorum : Contacts → List ℕ → Bool
+are_quorum contacts sites = (quorums_of contacts.members).is_quorum sites
+
+-- a quorum was heard lately
+abbrev pub is_connected : Contacts → (now : ℕ) → Bool
+is_connected contacts now = are_quorum contacts (heard_lately contacts now)
+
+-- enough was heard in the span of this moment: who else is heard in it changes nothing
+abbrev pub is_enough : Contacts → (now : ℕ) → Bool
+is_enough contacts now = are_quorum contacts (heard_now contacts now)
+
+-- a site is heard
+abbrev pub notes : Contacts → (now site : ℕ) → Contacts
+notes contacts now site =
+    if is_enough contacts now
+    then contacts
+    else record contacts {
+      span = span_of now;
+      current = with_voter (heard_now contacts now) site;
+      recent = with_voter (heard_lately contacts now) site;
+    }

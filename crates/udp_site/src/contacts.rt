@@ -1,0 +1,115 @@
+//! Which sites a port has heard lately.
+
+ghost use Rattle.std.specs.Prelude.{◌≡◌};
+ghost use Rattle.udp_site.specs.Contacts.{nobody_heard, span_of, age, alone, heard_now};
+ghost use Rattle.udp_site.specs.Contacts.{heard_lately, is_connected, is_enough, notes};
+
+use fed_types::{Members, SiteNo, Voters};
+
+/// The microseconds of a span.
+const SPAN: u64 = 5_000_000;
+
+/// The sites that a port has heard in the last two spans of five seconds, and its own site, which
+/// counts as heard. Moments are microseconds.
+#[derive(Clone, Copy, Debug)]
+pub(crate) struct Contacts {
+    /// By their weights some sites are a quorum.
+    members: Members,
+    own: SiteNo,
+    /// The number of the span in which a site was heard last.
+    span: u64,
+    /// Those that were heard in that span.
+    current: Voters,
+    /// Those that were heard in that span and in the one before it.
+    recent: Voters,
+}
+
+impl Contacts {
+    /// Nobody was heard yet.
+    pub(crate) fn new(members: Members, own: SiteNo) -> Contacts
+        ensures { result ≡ nobody_heard members own }
+    {
+        Contacts {
+            members,
+            own,
+            span: 0,
+            current: alone(own),
+            recent: alone(own),
+        }
+    }
+
+    /// A site is heard.
+    pub(crate) fn notes(&mut self, now: u64, site: SiteNo)
+        ensures { self.new ≡ notes self.old now site }
+    {
+        if self.is_enough(now) {
+            return;
+        }
+        let mut current = self.heard_now(now);
+        let mut recent = self.heard_lately(now);
+        current.add(site);
+        recent.add(site);
+        self.span = span_of(now);
+        self.current = current;
+        self.recent = recent;
+    }
+
+    /// Whether a quorum was heard lately.
+    pub(crate) fn is_connected(&self, now: u64) -> bool
+        ensures { result ≡ is_connected self.now now }
+    {
+        self.heard_lately(now).is_quorum(&self.members)
+    }
+
+    /// Whether who else is heard in the span of this moment changes nothing.
+    pub(crate) fn is_enough(&self, now: u64) -> bool
+        ensures { result ≡ is_enough self.now now }
+    {
+        self.heard_now(now).is_quorum(&self.members)
+    }
+
+    // Those that were heard in the span of this moment.
+    fn heard_now(&self, now: u64) -> Voters
+        ensures { result ≡ heard_now self.now now }
+    {
+        if self.age(now) == 0 {
+            self.current
+        } else {
+            alone(self.own)
+        }
+    }
+
+    // Those that were heard in it and in the one before.
+    fn heard_lately(&self, now: u64) -> Voters
+        ensures { result ≡ heard_lately self.now now }
+    {
+        match self.age(now) {
+            0 => self.recent,
+            1 => self.current,
+            _ => alone(self.own),
+        }
+    }
+
+    // How many spans ago a site was heard last.
+    fn age(&self, now: u64) -> u64
+        ensures { result ≡ age self.now now }
+    {
+        span_of(now).saturating_sub(self.span)
+    }
+}
+
+// The number of a moment's span.
+fn span_of(now: u64) -> u64
+    ensures { result ≡ span_of now }
+{
+    now / SPAN
+}
+
+// Only this site.
+fn alone(own: SiteNo) -> Voters
+    ensures { result ≡ alone own }
+{
+    let mut sites = Voters::new();
+    sites.add(own);
+    sites
+}

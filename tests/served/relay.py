@@ -1,0 +1,62 @@
+"""A relay between sites that loses datagrams, holds them for a while and cuts sites off. No test of
+itself."""
+import heapq
+import itertools
+import random
+import selectors
+import threading
+import time
+
+from sites import socket_at, write_members
+
+
+class Relay(threading.Thread):
+    """Passes datagrams on between sites, each pair by a socket of its own. Of those that it passes
+    it loses some by chance, and holds each for some seconds."""
+
+    def __init__(self, ports, seed=1, loss=0.0, delay=(0.0, 0.0)):
+        super().__init__(daemon=True)
+        self.ports, self.loss, self.delay = ports, loss, delay
+        self.chance, self.held, self.order = random.Random(seed), [], itertools.count()
+        self.cut_off, self.is_over = set(), False
+        self.sites, self.sockets = range(1, len(ports) + 1), {}
+        self.comes = selectors.DefaultSelector()
+        for site, to in itertools.permutations(self.sites, 2):
+            made = socket_at()
+            made.setblocking(False)
+            self.sockets[site, to] = made
+            self.comes.register(made, selectors.EVENT_READ, (site, to))
+        self.start()
+
+    def members(self, room):
+        """The members file of each site: it has its own port, and the relay's for the others."""
+        files = {}
+        for site in self.sites:
+            row = [self.port(site, to) for to in self.sites]
+            files[site] = write_members(room / f"members-{site}", row)
+        return files
+
+    def port(self, site, to):
+        if site == to:
+            return self.ports[to - 1]
+        return self.sockets[site, to].getsockname()[1]
+
+    def run(self):
+        while not self.is_over:
+            now = time.monotonic()
+            while self.held and self.held[0][0] <= now:
+                _, _, made, to, datagram = heapq.heappop(self.held)
+                made.sendto(datagram, ("127.0.0.1", self.ports[to - 1]))
+            left = self.held[0][0] - now if self.held else 0.1
+            for key, _ in self.comes.select(min(left, 0.1)):
+                self.take(key.fileobj, *key.data)
+
+    def take(self, made, site, to):
+        try:
+            datagram = made.recv(2048)
+        except OSError:
+            return
+        if self.cut_off & {site, to} or self.chance.random() < self.loss:
+            return
+        due = time.monotonic() + self.chance.uniform(*self.delay)
+        heapq.heappush(self.held, (due, next(self.order), made, to, datagram))
