@@ -50,6 +50,7 @@ module _ (slot : SlotName) where
   tables members site rows = record {
     deposits = [];
     spare = 0;
+    depositing = [];
     acceptor = [];
     proposer = record { members = members; site = site; rows = (slot, rows.own) ∷ [] };
     learner = record { members = members; rows = (slot, rows.heard) ∷ [] };

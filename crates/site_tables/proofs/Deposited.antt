@@ -11,8 +11,9 @@ use Rattle.records.specs.declared.entry.Entry.TheVariants as entry
 use Rattle.records.specs.declared.record.Record.{Record}
 use Rattle.records.specs.SlotStates.{deposit_in, deposit_of, earlier, with_one, if_some}
 use Rattle.records.proofs.SlotStates.{deposit-push}
-use Rattle.slot_table.specs.Rows.{Rows, row_at}
+use Rattle.slot_table.specs.Rows.{Rows, row_at, row_or, IsWith}
 use Rattle.site_tables.specs.Contents.{unless_there, with_bag, with_deposit, deposits_of}
+use Rattle.site_tables.specs.inner.Kept.{AreSame}
 
 -- one record more
 pub deposits-push : (records : List Record) (r : Record)
@@ -60,6 +61,24 @@ same_either a b = go (same_slot a b) (same_slot b a) refl refl
     go false false e f = refl
     go true false e f = sym ((same_slot_decides b a).1 (sym ((same_slot_decides a b).0 e))) ∙ f
     go false true e f = sym e ∙ (same_slot_decides a b).1 (sym ((same_slot_decides b a).0 f))
+
+-- the deposit of a slot that had none, by slot too
+pub kept_push : (in_order : Rows BagId) (old new : Rows (Option BagId)) (slot : SlotName)
+    (bag : BagId) → AreSame in_order old → row_at in_order slot ≡ None
+    → IsWith old new slot (Some bag) → AreSame (in_order ++ (slot, bag) ∷ []) new
+kept_push in_order old new slot bag same none put s =
+    ap (row_or None) (put s) ∙ go (same_slot slot s) refl
+    ∙ sym (row_at-push in_order slot s bag
+    ∙ ap (λ (t : Bool). with_one earlier (row_at in_order s) (cond t (Some bag) None))
+    (same_either s slot))
+  where
+    go : (t : Bool) → same_slot slot s ≡ t
+        → row_or None (cond t (Some (Some bag)) (row_at old s))
+        ≡ with_one earlier (row_at in_order s) (cond t (Some bag) None)
+    go true e =
+        sym (ap (λ (o : Option BagId). with_one earlier o (Some bag))
+        (ap (row_at in_order) (sym ((same_slot_decides slot s).0 e)) ∙ none))
+    go false e = same s
 
 -- what one record makes of a slot's deposit
 bag_step : (rows : Rows BagId) (slot s : SlotName) (bag : BagId) (o : Option BagId)

@@ -17,11 +17,12 @@ use Rattle.proposer.specs.VolatileStates.{VolatileState}
 use Rattle.proposer.specs.UnderWay.{UnderWay}
 use Rattle.learner.specs.LearnerStates as learners
 
--- the slots that have a deposit, with it, and room for how many more; and what the acceptor, the
--- proposer and the learner know of each slot
+-- the slots that have a deposit, with it, and room for how many more; the deposit of each slot that
+-- has one or may get one; and what the acceptor, the proposer and the learner know of each slot
 pub record Contents : Type 0 where
   pub deposits : Rows BagId
   pub spare : ℕ
+  pub depositing : Rows (Option BagId)
   pub acceptor : Rows acceptor_row
   pub proposer : proposers.ProposerState Membership
   pub learner : learners.LearnerState Membership
@@ -73,6 +74,7 @@ pub record Represents
 -- there is room for a record of this slot
 pub record HasRoom (t : Contents) (slot : SlotName) : Type 0 where
   pub deposits : 0 < t.spare
+  pub depositing : IsSome (row_at t.depositing slot)
   pub acceptor : IsSome (row_at t.acceptor slot)
   pub proposer : IsSome (row_at t.proposer.rows slot)
   pub learner : IsSome (row_at t.learner.rows slot)

@@ -1,26 +1,34 @@
-ghost use Rattle.std.specs.Prelude.{◌≡◌, ◌<◌, [], OnOk, IsOk};
-ghost use Rattle.slot_table.specs.Rows.{row_at};
+ghost use Rattle.std.specs.Prelude.{◌≡◌, ◌<◌, [], Some, IsSome, OnOk, IsOk};
+ghost use Rattle.slot_table.specs.Rows.{row_at, row_of, IsWith};
 ghost use Rattle.std.specs.Option.{option_copied};
 ghost use Rattle.site_tables.specs.Contents.{slot_at, unless_there};
 
 use fed_types::{BagId, Slot};
-use indexmap::IndexMap;
+use slot_table::SlotTable;
 use std::alloc::{AllocError, Global};
 use std::marker::Model;
 
 /// The site's deposits, one a slot, in the order in which they were recorded.
 #[derive(Drop)]
 pub(crate) struct Deposits {
-    bags: IndexMap<Slot, BagId>,
+    in_order: Vec<(Slot, BagId)>,
+    // The same by slot. A slot without a deposit may have a row too, and then it is empty.
+    by_slot: SlotTable<Option<BagId>>,
 }
 
 impl Model for Deposits {
-    ghost use Rattle.indexmap.specs.IndexMap.{spare};
-    ghost use Rattle.site_tables.specs.inner.Kept.{Kept};
+    ghost use Rattle.std.specs.Prelude.{vec_capacity, vec_len, ◌-◌};
+    ghost use Rattle.site_tables.specs.inner.Kept.{Kept, AreSame};
 
     ghost Value = { Kept };
 
-    ghost view = { λ d. record { bags = d.bags.entries; room = spare d.bags } };
+    ghost view = { λ d. record {
+      bags = d.in_order.items;
+      room = vec_capacity d.in_order - vec_len d.in_order;
+      by_slot = d.by_slot;
+    } };
+
+    ghost invariant = { λ d. AreSame d.in_order.items d.by_slot };
 }
 
 impl Deposits {
@@ -29,7 +37,8 @@ impl Deposits {
         ensures { result.bags ≡ [] }
     {
         Deposits {
-            bags: IndexMap::new(alloc),
+            in_order: Vec::new(alloc),
+            by_slot: SlotTable::new(alloc),
         }
     }
 
@@ -37,34 +46,54 @@ impl Deposits {
     pub(crate) fn of(&self, slot: &Slot) -> Option<BagId>
         ensures { result ≡ row_at self.now.bags slot.now }
     {
-        self.bags.get(slot).copied()
+        match self.by_slot.get(slot) {
+            Some(bag) => *bag,
+            None => None,
+        }
     }
 
     /// The slot at this place, counted from 0.
     pub(crate) fn slot_at(&self, place: usize) -> Option<&Slot>
         ensures { option_copied result ≡ slot_at self.now.bags place }
     {
-        let (slot, _) = self.bags.get_index(place)?;
-        Some(slot)
+        match self.in_order.get(place) {
+            Some(deposit) => Some(&deposit.0),
+            None => None,
+        }
     }
 
-    /// Makes room for one more.
-    pub(crate) fn reserve(&mut self) -> Result<(), AllocError>
+    /// Makes room for a deposit of this slot.
+    pub(crate) fn reserve(&mut self, slot: &Slot) -> Result<(), AllocError>
         ensures same { self.new.bags ≡ self.old.bags }
         ensures room { OnOk result (0 < self.new.room) }
-        ensures succeeds { 0 < self.old.room → IsOk result }
+        ensures row { OnOk result (IsSome (row_at self.new.by_slot slot.now)) }
+        ensures succeeds { 0 < self.old.room → IsSome (row_at self.old.by_slot slot.now)
+            → IsOk result }
     {
-        self.bags.reserve(1)
+        self.in_order.reserve(1)?;
+        self.by_slot.reserve(slot, None)
     }
 
     /// Notes a deposit, unless the slot has one.
     pub(crate) fn note(&mut self, slot: Slot, bag: BagId)
-        requires { 0 < self.old.room }
+        requires room { 0 < self.old.room }
+        requires row { IsSome (row_at self.old.by_slot slot) }
         ensures { self.new.bags ≡ unless_there self.old.bags slot bag (row_at self.old.bags slot) }
     {
-        if self.bags.contains_key(&slot) {
+        if self.of(&slot).is_some() {
             return;
         }
-        let _ = self.bags.insert(slot, bag);
+        keep(&mut self.by_slot, &slot, bag);
+        self.in_order.push_reserved((slot, bag));
+    }
+}
+
+// The slot, which has a row, has this deposit.
+fn keep(by_slot: &mut SlotTable<Option<BagId>>, slot: &Slot, bag: BagId)
+    requires { IsSome (row_at by_slot.old slot.now) }
+    ensures { IsWith by_slot.old by_slot.new slot.now (Some bag) }
+{
+    if let Some(own) = by_slot.get_mut(slot) {
+        *own = Some(bag);
     }
 }

@@ -44,6 +44,7 @@ impl Model for Tables {
     ghost view = { λ t. record {
       deposits = t.deposits.bags;
       spare = t.deposits.room;
+      depositing = t.deposits.by_slot;
       acceptor = t.acceptor;
       proposer = t.proposer;
       learner = t.learner;
@@ -229,7 +230,7 @@ impl Tables {
         ensures room { OnOk result (HasRoom self.new slot.now) }
         ensures succeeds { HasRoom self.old slot.now → IsOk result }
     {
-        self.deposits.reserve()?;
+        self.deposits.reserve(slot)?;
         self.acceptor.reserve(slot)?;
         self.proposer.reserve(slot)?;
         self.learner.reserve(slot)
