@@ -1,9 +1,8 @@
 -- How long the port of site 2 waits, computed: first 1 ms, and 8 ms at most.
-use Rattle.std.proofs.Common.{◌≡◌, ℕ, List, [], ◌∷◌, refl, Option, Some, None, true}
+use Rattle.std.proofs.Common.{◌≡◌, ℕ, List, [], ◌∷◌, refl, Some, None, true}
 use Rattle.fed_types.specs.Lists.{is_in}
 use Rattle.fed_types.specs.Sites.{membership_of, sites_to}
 use Rattle.fed_types.specs.Voters.{with_voter}
-use Rattle.udp_site.specs.declared.contacts.Contacts.{Contacts}
 use Rattle.udp_site.specs.declared.pace.Pace.{Pace}
 use Rattle.udp_site.specs.declared.sign.Sign.TheVariants.{Still, Moves, Decides, Deposits}
 use Rattle.udp_site.specs.Contacts.{nobody_heard}

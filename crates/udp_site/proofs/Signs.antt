@@ -13,7 +13,6 @@ use Rattle.dgram.specs.declared.message.Message.{Message}
 use Rattle.dgram.proofs.MessageOf.{message_of-found}
 use Rattle.udp_site.specs.declared.contacts.Contacts.{Contacts}
 use Rattle.udp_site.specs.declared.pace.Pace.{Pace}
-use Rattle.udp_site.specs.declared.sign.Sign.{Sign}
 use Rattle.udp_site.specs.declared.sign.Sign.TheVariants as signs
 use Rattle.udp_site.specs.declared.sign.Signal.{Signal}
 use Rattle.udp_site.specs.Pace.{hears, meets, listens, takes}
