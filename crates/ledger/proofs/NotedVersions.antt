@@ -44,7 +44,7 @@ text_of_all wanted bytes told ending text (inr (none, ends, t)) lines =
 -- the lines after the last part
 module _ (wanted : VersionFilter) (lines : LedgerLines) (last : LastPart) where
   pub noted_last : (it : LastLines) → it.ending ≡ last.ending
-      → ((before : List Record) → Represents lines.versions.entries before
+      → ((before : List Record) → Represents lines.versions before
       → string_bytes it.text ≡ versions_text wanted (before ++ last.part.records.items)
       ++ ending_line last.ending)
       → (taken bytes : List ℕ) → (noted : HasNoted lines taken) → TellsLast bytes noted.0 last
@@ -56,7 +56,7 @@ module _ (wanted : VersionFilter) (lines : LedgerLines) (last : LastPart) where
 
   pub noted_end : (result : Result LastLines AllocError)
       → IfOk result (λ it. it.ending ≡ last.ending)
-      → IfOk result (λ it. (before : List Record) → Represents lines.versions.entries before
+      → IfOk result (λ it. (before : List Record) → Represents lines.versions before
       → string_bytes it.text ≡ versions_text wanted (before ++ last.part.records.items)
       ++ ending_line last.ending)
       → ((taken : List ℕ) (told : Told) → HasTold lines.reader taken told

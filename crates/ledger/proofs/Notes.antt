@@ -2,22 +2,19 @@
 use Rattle.std.proofs.Common.{◌≡◌, Bool, true, false, cond, List, [], ◌∷◌, ◌++◌, Some, None}
 use Rattle.std.proofs.Common.{refl, sym, ap, ◌∙◌}
 use Rattle.std.proofs.lemmas.List.Sums.{fold-append}
-use Rattle.std.specs.Map.{keys_of}
-use Rattle.indexmap.specs.IndexMap.{insert_entry}
-use Rattle.indexmap.specs.IndexSet.{insert_key}
-use Rattle.indexmap.proofs.SetLemmas.{keys_insert_entry}
 use Rattle.fed_types.specs.Slots.{SlotName, same_slot}
 use Rattle.fed_types.specs.Laws.Slots.{same_slot_decides}
 use Rattle.records.specs.declared.record.Record.{Record}
 use Rattle.records.specs.SlotStates.{deposit_of, known_of, vote_of}
 use Rattle.records.proofs.SlotStates.{deposit-push, known-push, vote-push}
-use Rattle.slot_table.specs.Rows.{Rows, row_at, row_or, row_of, IsWith}
+use Rattle.slot_table.specs.Listings.{Listing, listed}
+use Rattle.slot_table.specs.Rows.{row_at, row_or, row_of, IsWith}
 use Rattle.ledger.specs.declared.row.Row.{Row}
 use Rattle.ledger.specs.inner.Rows.{empty_row, noted, row_after, row_from, Represents}
 use Rattle.ledger.specs.Versions.{with_slot, slots_of}
 
 -- no records
-pub none_stand : Represents [] []
+pub none_stand : Represents (record { slots = []; rows = [] }) []
 unfolding slots_of known_of deposit_of vote_of
 none_stand = record { slots = refl; says = λ slot. refl }
 
@@ -37,13 +34,12 @@ row_push records r slot =
     }
 
 -- the version of the record goes to the end, if it is new, and what is kept of it takes the entry
-pub one_more : (old new : Rows Row) (r : Record)
-    → new ≡ insert_entry same_slot old r.slot (row_after old r)
-    → IsWith old new r.slot (row_after old r)
+pub one_more : (old new : Listing Row) (r : Record)
+    → new.slots ≡ listed old.slots r.slot
+    → IsWith old.rows new.rows r.slot (row_after old.rows r)
     → (records : List Record) → Represents old records → Represents new (records ++ r ∷ [])
 one_more old new r is put records stands = record {
-  slots = ap keys_of is ∙ keys_insert_entry same_slot old r.slot (row_after old r)
-      ∙ ap (λ (slots : List SlotName). insert_key same_slot slots r.slot) stands.slots
+  slots = is ∙ ap (λ (slots : List SlotName). listed slots r.slot) stands.slots
       ∙ sym (slots_push records r);
   says = λ slot. ap (row_or empty_row) (put slot) ∙ go slot (same_slot r.slot slot) refl
       ∙ sym (row_push records r slot);
@@ -51,10 +47,10 @@ one_more old new r is put records stands = record {
   where
     go : (slot : SlotName) (t : Bool) → same_slot r.slot slot ≡ t
         → row_or empty_row
-        (cond t (Some (row_after old r)) (row_at old slot))
+        (cond t (Some (row_after old.rows r)) (row_at old.rows slot))
         ≡ noted (row_from records slot) (cond t (Some r.body) None)
     go slot true e =
         let same : r.slot ≡ slot = (same_slot_decides r.slot slot).0 e in
-        ap (λ (s : SlotName). noted (row_of empty_row old s) (Some r.body)) same
+        ap (λ (s : SlotName). noted (row_of empty_row old.rows s) (Some r.body)) same
         ∙ ap (λ (before : Row). noted before (Some r.body)) (stands.says slot)
     go slot false e = stands.says slot

@@ -21,7 +21,7 @@ IsLedgerText wanted bytes ending text =
 abbrev pub HasNoted : LedgerLines → List ℕ → Type 0
 HasNoted lines taken =
     (told : Told) × HasTold lines.reader taken told
-    × Represents lines.versions.entries told.records
+    × Represents lines.versions told.records
 
 -- after one more piece it goes on; or these are all lines, whatever follows
 abbrev pub IsNoted : VersionFilter → LedgerLines → (taken : List ℕ) → Option LastLines → Type 0

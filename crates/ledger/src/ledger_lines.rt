@@ -14,11 +14,11 @@ use crate::part::{LastPart, Parts};
 use crate::version_filter::VersionFilter;
 use crate::version_line::versions_text;
 use crate::versions::{Versions, note_all};
-use indexmap::IndexMap;
+use slot_table::ListedRows;
 use std::alloc::{AllocError, Global};
 
 /// What is said of each version so far, and what is kept of the cell's bytes.
-#[derive(Debug, Drop)]
+#[derive(Drop)]
 pub struct LedgerLines {
     reader: CellReader,
     versions: Versions,
@@ -31,7 +31,7 @@ impl LedgerLines {
     {
         LedgerLines {
             reader: CellReader::new(alloc),
-            versions: IndexMap::new(alloc),
+            versions: ListedRows::new(alloc),
         }
     }
 
@@ -49,7 +49,7 @@ impl LedgerLines {
     {
         match self.reader.take(alloc, piece)? {
             Parts::More(part) => {
-                note_all(alloc, &mut self.versions, &part.records)?;
+                note_all(&mut self.versions, &part.records)?;
                 Ok(None)
             }
             Parts::Last(last) => Ok(Some(self.last_lines(alloc, wanted, last)?)),
@@ -75,11 +75,11 @@ impl LedgerLines {
     ) -> Result<LastLines, AllocError>
         ensures ending { IfOk result (λ lines. lines.ending ≡ last.ending) }
         ensures text { IfOk result (λ lines. (before : List Record)
-            → Represents self.old.versions.entries before
+            → Represents self.old.versions before
             → string_bytes lines.text ≡ versions_text wanted (before ++ last.part.records.items)
             ++ ending_line last.ending) }
     {
-        note_all(alloc, &mut self.versions, &last.part.records)?;
+        note_all(&mut self.versions, &last.part.records)?;
         Ok(LastLines {
             text: versions_text(alloc, &self.versions, wanted, last.ending)?,
             ending: last.ending,

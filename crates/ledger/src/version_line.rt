@@ -3,7 +3,6 @@
 ghost use Rattle.std.specs.Prelude.{◌≡◌, ◌∷◌, ◌++◌, List, IfOk, string_bytes};
 ghost use Rattle.hex.specs.Hex.{encode_lower};
 ghost use Rattle.std.specs.List.{flat_map};
-ghost use Rattle.std.specs.Map.{keys_of};
 ghost use Rattle.words.specs.Pushes.{Pushes};
 ghost use Rattle.records.specs.declared.record.Record.{Record};
 ghost use Rattle.ledger.specs.Lines.{ending_line};
@@ -97,7 +96,7 @@ fn push_at(
     place: usize,
 ) -> Result<(), AllocError>
     ensures { Pushes result text.old text.new
-        (text_if (listed_in wanted versions.now.entries) (slot_at versions.now.entries place)) }
+        (text_if (listed_in wanted versions.now.rows) (slot_at versions.now place)) }
 {
     match slot_at(versions, place) {
         Some(slot) => push_listed(alloc, text, wanted, slot, standing_in(versions, slot)),
@@ -113,9 +112,9 @@ fn push_versions(
     versions: &Versions,
 ) -> Result<(), AllocError>
     ensures { Pushes result text.old text.new
-        (flat_map (listed_in wanted versions.now.entries) (keys_of versions.now.entries)) }
+        (flat_map (listed_in wanted versions.now.rows) versions.now.slots) }
 {
-    for place in 0..versions.len() {
+    for place in 0..versions.slots().len() {
         push_at(alloc, text, wanted, versions, place)?;
     }
     Ok(())
@@ -130,7 +129,7 @@ pub(crate) fn versions_text(
     ending: Ending,
 ) -> Result<String, AllocError>
     ensures { IfOk result (λ text. (records : List Record)
-        → Represents versions.now.entries records
+        → Represents versions.now records
         → string_bytes text ≡ versions_text wanted records ++ ending_line ending) }
 {
     let mut text = String::new(alloc);

@@ -1,8 +1,7 @@
 -- What is kept of each version.
 use Rattle.std.specs.Prelude.{◌≡◌, ℕ, List, [], Option, Some, None, slice_get}
-use Rattle.std.specs.Map.{keys_of}
-use Rattle.std.specs.Option.{option_map}
 use Rattle.fed_types.specs.Slots.{SlotName}
+use Rattle.slot_table.specs.Listings.{Listing}
 use Rattle.slot_table.specs.Rows.{Rows, row_of}
 use Rattle.records.specs.declared.entry.Entry.{Entry}
 use Rattle.records.specs.declared.record.Record.{Record}
@@ -40,13 +39,13 @@ row_from records slot = record {
 }
 
 -- the versions are those of the records, in their order, and what is kept of each is what they say
-pub record Represents (rows : Rows Row) (records : List Record) : Type 0 where
-  pub slots : keys_of rows ≡ slots_of records
-  pub says : (slot : SlotName) → row_of empty_row rows slot ≡ row_from records slot
+pub record Represents (versions : Listing Row) (records : List Record) : Type 0 where
+  pub slots : versions.slots ≡ slots_of records
+  pub says : (slot : SlotName) → row_of empty_row versions.rows slot ≡ row_from records slot
 
 -- the version at this place
-abbrev pub slot_at : Rows Row → ℕ → Option SlotName
-slot_at rows place = option_map (λ row. row.0) (slice_get rows place)
+abbrev pub slot_at : Listing Row → ℕ → Option SlotName
+slot_at versions place = slice_get versions.slots place
 
 -- what is said of a version
 abbrev pub standing_by : Row → Standing

@@ -1,6 +1,5 @@
 use Rattle.std.proofs.Common.{◌≡◌, ◌+◌, ◌++◌, ℕ, suc, ap, sym, take, arith, append_assoc, ◌∙◌}
 use Rattle.std.specs.List.{flat_map}
-use Rattle.std.specs.Map.{keys_of}
 use Rattle.std.specs.String.{string_bytes}
 use Rattle.ledger.specs.inner.Rows.{listed_in, slot_at, text_if}
 use Rattle.ledger.proofs.VersionLines.{text_next}
@@ -8,13 +7,14 @@ use Rattle.ledger.proofs.version_line.push_versions.Goals as goal
 
 pub loop-place-preserved : goal.loop-place-preserved
 loop-place-preserved c =
-    let rows = c.args.versions.now.entries in
-    let f = listed_in c.args.wanted rows in
+    let versions = c.args.versions.now in
+    let slots = versions.slots in
+    let f = listed_in c.args.wanted versions.rows in
     let n : ℕ = c.loop-place.place in
     let next : n + 1 ≡ suc n = omega arith in
     c.in_ok-push_at.ensures
-    ∙ ap (λ bytes. bytes ++ text_if f (slot_at rows n)) c.loop-place.invariant
-    ∙ append_assoc (string_bytes c.args.text.now) (flat_map f (take n (keys_of rows)))
-    (text_if f (slot_at rows n))
-    ∙ ap (λ lines. string_bytes c.args.text.now ++ lines) (sym (text_next f rows n))
-    ∙ ap (λ k. string_bytes c.args.text.now ++ flat_map f (take k (keys_of rows))) (sym next)
+    ∙ ap (λ bytes. bytes ++ text_if f (slot_at versions n)) c.loop-place.invariant
+    ∙ append_assoc (string_bytes c.args.text.now) (flat_map f (take n slots))
+    (text_if f (slot_at versions n))
+    ∙ ap (λ lines. string_bytes c.args.text.now ++ lines) (sym (text_next f slots n))
+    ∙ ap (λ k. string_bytes c.args.text.now ++ flat_map f (take k slots)) (sym next)

@@ -8,7 +8,7 @@ use Rattle.ledger.proofs.versions.note_all.Goals as goal
 
 pub loop-kept-init : goal.loop-kept-init
 loop-kept-init c = λ before stands.
-    subst (Represents c.args.versions.now.entries) (sym (append-nil before)) stands
+    subst (Represents c.args.versions.now) (sym (append-nil before)) stands
 
 pub loop-kept-preserved : goal.loop-kept-preserved
 loop-kept-preserved c = λ before stands.
@@ -18,9 +18,9 @@ loop-kept-preserved c = λ before stands.
     let more : take (i + 1) records ≡ take i records ++ r ∷ [] =
     take_more records i r c.loop-kept-test.true
     ∙ ap (λ (x : Record). take i records ++ x ∷ []) (sym c.kept-item.is) in
-    subst (Represents c.note.new.versions.entries)
+    subst (Represents c.note.new.versions)
     (append_assoc before (take i records) (r ∷ [])
     ∙ ap (λ (rs : List Record). before ++ rs) (sym more))
-    (one_more c.loop-kept.versions.entries c.note.new.versions.entries r
-    c.in_ok-note.ensures.entries c.in_ok-note.ensures.rows (before ++ take i records)
+    (one_more c.loop-kept.versions c.note.new.versions r
+    c.in_ok-note.ensures.slots c.in_ok-note.ensures.rows (before ++ take i records)
     (c.loop-kept.invariant before stands))

@@ -6,5 +6,5 @@ use Rattle.ledger.proofs.versions.note_all.Given as goal
 -- the records so far were noted
 abbrev pub invariant-loop-kept : goal.invariant-loop-kept
 invariant-loop-kept l =
-    (before : List Record) → Represents l.initial.versions.entries before
-    → Represents l.versions.entries (before ++ take l.kept-index l.records)
+    (before : List Record) → Represents l.initial.versions before
+    → Represents l.versions (before ++ take l.kept-index l.records)
