@@ -8,9 +8,10 @@ use crate::finding::Finding;
 use crate::rows::{Rows, fill, row_of};
 use crate::votes::Votes;
 use fed_types::{Members, SiteNo, Slot};
-use indexmap::IndexMap;
 use records::Record;
+use slot_table::SlotTable;
 use std::alloc::{AllocError, Global};
+use std::collections::BTreeMap;
 use std::marker::Model;
 
 /// The records of cells of several sites, and what they say together of each version. A clause
@@ -31,7 +32,7 @@ impl Model for Cells {
     ghost view = { λ c. record {
       members = c.members;
       votes = c.votes.entries;
-      rows = c.rows.entries;
+      rows = c.rows;
     } };
 }
 
@@ -44,8 +45,8 @@ impl Cells {
         Cells {
             alloc,
             members,
-            votes: IndexMap::new(alloc),
-            rows: IndexMap::new(alloc),
+            votes: BTreeMap::new(alloc),
+            rows: SlotTable::new(alloc),
         }
     }
 

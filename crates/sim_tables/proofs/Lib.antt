@@ -2,3 +2,4 @@ pub mod Seen
 pub mod Named
 pub mod Found
 pub mod Entries
+pub mod Ordered

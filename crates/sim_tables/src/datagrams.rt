@@ -1,11 +1,12 @@
-ghost use Rattle.std.specs.Prelude.{◌≡◌, ◌++◌, ◌∷◌, [], ℕ, List, length, OnOk, OnErr};
+ghost use Rattle.std.specs.Prelude.{◌≡◌, ◌++◌, ◌∷◌, [], ℕ, List, length, nat_eq, OnOk, OnErr};
+ghost use Rattle.std.specs.List.{list_any};
 ghost use Rattle.std.specs.Option.{option_copied};
 ghost use Rattle.sim_tables.specs.DatagramNumbers.{numbered, next_unnamed};
 ghost use Rattle.sim_tables.specs.DatagramNumbers.{Represents, RepresentsSame};
 ghost use Rattle.sim_tables.specs.DatagramNumbers.{is_marked, is_named, AreNamed, IsLast};
 
-use indexmap::IndexSet;
 use std::alloc::{AllocError, Global};
+use std::collections::BTreeSet;
 use std::marker::Model;
 
 /// All datagrams that were sent, numbered from 1, and which numbers were named: one may be named
@@ -15,7 +16,7 @@ pub struct Datagrams<T: Drop> {
     datagrams: Vec<T>,
     // A mark for each number up to the last that was sent, and the named numbers without a mark.
     marks: Vec<bool>,
-    others: IndexSet<usize>,
+    others: BTreeSet<usize>,
     // Each number up to this one was named.
     passed: usize,
 }
@@ -43,7 +44,7 @@ impl<T: Drop> Datagrams<T> {
         Datagrams {
             datagrams: Vec::new(alloc),
             marks: Vec::new(alloc),
-            others: IndexSet::new(alloc),
+            others: BTreeSet::new(alloc),
             passed: 0,
         }
     }
@@ -107,7 +108,7 @@ impl<T: Drop> Datagrams<T> {
 }
 
 /// How far all numbers were named, of so many, where those up to `from` were.
-fn last_named(marks: &[bool], others: &IndexSet<usize>, from: usize, count: usize) -> usize
+fn last_named(marks: &[bool], others: &BTreeSet<usize>, from: usize, count: usize) -> usize
     requires { AreNamed marks.now others.now.keys from }
     ensures { IsLast marks.now others.now.keys count result }
 {
@@ -120,10 +121,16 @@ fn last_named(marks: &[bool], others: &IndexSet<usize>, from: usize, count: usiz
 }
 
 #[tactic(auto, unfolding(crate::specs::DatagramNumbers::is_named))]
-fn was_named(marks: &[bool], others: &IndexSet<usize>, number: usize) -> bool
+fn was_named(marks: &[bool], others: &BTreeSet<usize>, number: usize) -> bool
     ensures { result ≡ is_named marks.now others.now.keys number }
 {
-    others.contains(&number) || is_marked(marks, number)
+    is_among(others, number) || is_marked(marks, number)
+}
+
+fn is_among(others: &BTreeSet<usize>, number: usize) -> bool
+    ensures { result ≡ list_any (nat_eq number) others.now.keys }
+{
+    others.contains(&number)
 }
 
 fn is_marked(marks: &[bool], number: usize) -> bool

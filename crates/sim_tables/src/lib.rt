@@ -1,6 +1,7 @@
 //! The tables of a run: the declared trees by their numbers, the bags that were seen in deposits,
-//! and the datagrams that were sent, with which of their numbers were named. Each call takes
-//! constant time, amortized, however much went before.
+//! and the datagrams that were sent, with which of their numbers were named. Each call takes a time,
+//! amortized, that grows at most with the logarithm of what went before; but trees are found by
+//! hashes of their numbers.
 //!
 //! ```
 //! match self.trees.add_file(tree, path, bytes)? {

@@ -3,16 +3,16 @@ ghost use Rattle.lines.specs.Named.{SeenBag, first_tree};
 ghost use Rattle.sim_tables.specs.Firsts.{Represents, RepresentsSame};
 
 use fed_types::BagId;
-use indexmap::IndexMap;
 use schedule::TreeNo;
 use std::alloc::{AllocError, Global};
+use std::collections::BTreeMap;
 use std::marker::Model;
 
 /// The valid bags that were deposited, each with the tree of its first deposit. A clause sees the
 /// bags and their trees.
 #[derive(Drop)]
 pub struct SeenBags {
-    firsts: IndexMap<BagId, TreeNo>,
+    firsts: BTreeMap<BagId, TreeNo>,
 }
 
 impl Model for SeenBags {
@@ -29,7 +29,7 @@ impl SeenBags {
         ensures { Represents result [] }
     {
         SeenBags {
-            firsts: IndexMap::new(alloc),
+            firsts: BTreeMap::new(alloc),
         }
     }
 

@@ -2,6 +2,7 @@ use Rattle.std.proofs.Common.{◌∙◌, ap, subst, ℕ, true, ◌≤◌, length
 use Rattle.std.specs.Prelude.{slice_set, ◌-◌}
 use Rattle.sim_tables.specs.DatagramNumbers.{Sending, is_named}
 use Rattle.sim_tables.proofs.Named.{named_mark, named_other, named_stays, named_more}
+use Rattle.sim_tables.proofs.Ordered.{more_by_order}
 use Rattle.sim_tables.proofs.datagrams.Datagrams.name.Goals as goal
 
 pub invariant_of-self : goal.invariant_of-self
@@ -31,7 +32,8 @@ invariant_of-self-2 g c =
     named_stays c.self.inside.marks.items c.self.inside.marks.items c.self.inside.others.keys
     c.insert.new.self.keys c.args.number c.self.inside.passed
     (λ k. named_other c.self.inside.marks.items c.self.inside.others.keys c.insert.new.self.keys
-    c.args.number k (c.in_ok-insert.ensures.updates.0 k))
+    c.args.number k (more_by_order c.self.inside.others.keys c.insert.new.self.keys c.args.number
+    c.in_ok-insert.ensures.updates.0 k))
     c.self.invariant
 
 pub returns-clause-ok : goal.returns-clause-ok
@@ -40,5 +42,6 @@ returns-clause-ok g c named stands k =
     named_more named c.args.number k (is_named marks c.self.inside.others.keys k)
     (is_named marks c.insert.new.self.keys k)
     (named_other marks c.self.inside.others.keys c.insert.new.self.keys c.args.number k
-    (c.in_ok-insert.ensures.updates.0 k))
+    (more_by_order c.self.inside.others.keys c.insert.new.self.keys c.args.number
+    c.in_ok-insert.ensures.updates.0 k))
     (ap (λ (d : Sending g.row.T.Denot). is_named d.marks d.others k) c.self.view_is ∙ stands k)

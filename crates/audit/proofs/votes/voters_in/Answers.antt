@@ -1,0 +1,13 @@
+use Rattle.std.proofs.Common.{ap, ◌∙◌}
+use Rattle.learner.specs.LearnerStates.{voters_or_none}
+use Rattle.audit.proofs.OrderedCasts.{found_by_order}
+use Rattle.audit.proofs.votes.voters_in.Goals as goal
+
+pub returns-in-Some : goal.returns-in-Some
+returns-in-Some c =
+    ap voters_or_none (c.in-Some.ensures.value ∙ found_by_order c.args.votes.now.entries c.args.cast.now)
+
+pub returns-in-None : goal.returns-in-None
+returns-in-None c =
+    c.new.ensures
+    ∙ ap voters_or_none (c.in-None.ensures.value ∙ found_by_order c.args.votes.now.entries c.args.cast.now)
