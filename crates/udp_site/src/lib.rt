@@ -2,11 +2,7 @@
 //! is handed out.
 //!
 //! ```
-//! match UdpPort::bind(rt, federation, number, waits) {
-//!     Ok(port) => Ok(port),
-//!     Err(PortFault::Device) => Err(Stop::Socket),
-//!     Err(PortFault::Memory) => Err(Stop::Memory),
-//! }
+//! found(UdpPort::bind_site(rt, members, site, number, waits))
 //! ```
 #![tactic(auto)]
 

@@ -19,7 +19,8 @@ const FIRST_WAITS: u64 = 10;
 /// The least number of milliseconds between two such turns.
 const LEAST_BETWEEN: u64 = 250;
 
-/// The most milliseconds that a port waits while a quorum is heard, unless its first wait is longer.
+/// The most milliseconds that a port waits while a quorum is heard, unless its first wait is
+/// longer.
 const MOST_CONNECTED: u32 = 500;
 
 /// The least number of microseconds between a proposal and one that a question brings.
