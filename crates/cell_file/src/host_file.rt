@@ -4,6 +4,7 @@ use cell_device::{CellFault, CellFile, FileFault, Trust};
 use std::alloc::Global;
 use std::fs::File;
 use std::io::{self, ErrorKind, Read, Seek, SeekFrom, Write};
+use system_files::{expect_length, expect_room};
 
 /// A file of the system, to which each write goes at the end. No contract says what it holds.
 #[derive(Drop)]
@@ -59,7 +60,7 @@ impl CellFile for HostFile {
     }
 
     fn append(&mut self, bytes: &[u8]) -> Result<(), CellFault> {
-        match self.file.write_all(bytes) {
+        match append_whole(&mut self.file, bytes) {
             Ok(()) => Ok(()),
             Err(_) => {
                 self.trust = Trust::Spoilt;
@@ -130,6 +131,19 @@ fn read_whole(file: &mut File, alloc: Global) -> io::Result<Vec<u8>> {
     Ok(bytes)
 }
 
+/// Appends these bytes, unless the file would be longer than the process may write: that would end
+/// it by a signal.
+fn append_whole(file: &mut File, bytes: &[u8]) -> io::Result<()> {
+    expect_room(file, bytes.len() as u64)?;
+    file.write_all(bytes)
+}
+
+/// Makes the file longer by zeros, unless it would be longer than the process may write.
+fn lengthen(file: &File, len: u64) -> io::Result<()> {
+    expect_length(len)?;
+    file.set_len(len)
+}
+
 /// Cuts the file to a length. It makes nothing longer.
 fn shorten(file: &File, len: u64) -> io::Result<()> {
     if len < file.metadata()?.len() {
@@ -148,7 +162,7 @@ fn shorten_anew(file: &File, len: u64) -> Result<(), FileFault> {
     if about.len() < len {
         return Err(FileFault::Shorter);
     }
-    if about.len() == len && file.set_len(len.saturating_add(1)).is_err() {
+    if about.len() == len && lengthen(file, len.saturating_add(1)).is_err() {
         return Err(FileFault::Device);
     }
     match file.set_len(len) {
@@ -181,14 +195,17 @@ const LONGEST: u64 = 600;
 fn mark_damaged(file: &mut File, alloc: Global) -> io::Result<()> {
     match records_end(file, alloc) {
         Ok(end) => {
+            // Without room for the damage nothing is cut.
+            let damaged = end.saturating_add(DAMAGE);
+            expect_length(damaged)?;
             file.set_len(end)?;
-            file.set_len(end.saturating_add(DAMAGE))?;
+            file.set_len(damaged)?;
         }
         // Where the records end can't be found. In the older layout, which has no checksums, the
         // zeros may complete a record: they are better than a cell that seems whole.
         Err(_) => {
             let len = file.metadata()?.len();
-            file.set_len(len.saturating_add(LONGEST))?;
+            lengthen(file, len.saturating_add(LONGEST))?;
         }
     }
     file.sync_all()

@@ -14,6 +14,7 @@ use std::io::{self, ErrorKind};
 use std::os::fd::AsRawFd;
 use std::os::unix::fs::OpenOptionsExt;
 use std::path::Path;
+use system_files::{FileId, expect_same};
 
 /// Whether opening makes a file.
 #[derive(Clone, Copy, Debug, PartialEq, Eq)]
@@ -57,21 +58,29 @@ fn open_locked(rt: &HostRuntime, path: &str, creation: Creation) -> Result<File,
     }
 }
 
+// A pipe or a link that takes the file's place before the open is found after it: the open itself
+// doesn't wait, since it is for reading and writing.
 fn open_file(rt: &HostRuntime, path: &str, creation: Creation) -> io::Result<File> {
-    // Nothing is made where a link leads nowhere.
-    match fs::symlink_metadata(rt, path) {
-        Ok(there) if !there.is_file() => return Err(ErrorKind::InvalidInput.into()),
-        Ok(_) => {}
-        Err(error) if error.kind() == ErrorKind::NotFound => {}
-        Err(error) => return Err(error),
-    }
+    let seen = file_seen_at(rt, path)?;
     // Each write goes to the end.
-    OpenOptions::new()
+    let file = OpenOptions::new()
         .read(true)
         .append(true)
         .create(creation == Creation::IfMissing)
         .mode(0o600)
-        .open(rt, path)
+        .open(rt, path)?;
+    expect_same(seen, &file)?;
+    Ok(file)
+}
+
+// The file of this path, if one is there. A link is refused: nothing is made where one leads nowhere.
+fn file_seen_at(rt: &HostRuntime, path: &str) -> io::Result<Option<FileId>> {
+    match fs::symlink_metadata(rt, path) {
+        Ok(there) if !there.is_file() => Err(ErrorKind::InvalidInput.into()),
+        Ok(there) => Ok(Some(FileId::of(&there))),
+        Err(error) if error.kind() == ErrorKind::NotFound => Ok(None),
+        Err(error) => Err(error),
+    }
 }
 
 // The file, once what a read of it gives outlives a crash.

@@ -1,8 +1,8 @@
 //! Where a file lies.
 
 use std::fs::File;
-use std::os::unix::fs::MetadataExt;
 use std::{fs, io};
+use system_files::FileId;
 
 /// A path, and the file to which it led. A file that is renamed, deleted or replaced while it is
 /// open goes on, but another that is opened by its path is not the same.
@@ -10,28 +10,23 @@ use std::{fs, io};
 pub(crate) struct Place {
     rt: HostRuntime,
     path: String,
-    device: u64,
-    inode: u64,
+    file: FileId,
 }
 
 impl Place {
     /// This path, and the file that is open.
     pub fn new(rt: &HostRuntime, path: &str, file: &File) -> io::Result<Place> {
-        let about = file.metadata()?;
         Ok(Place {
             rt: *rt,
             path: String::from_str(rt.alloc(), path)?,
-            device: about.dev(),
-            inode: about.ino(),
+            file: FileId::of(&file.metadata()?),
         })
     }
 
     /// The file's length; none where the path doesn't lead to it, without a link at its end.
     pub fn length(&self) -> Option<u64> {
         match fs::symlink_metadata(&self.rt, self.path.as_str()) {
-            Ok(about) if about.dev() == self.device && about.ino() == self.inode => {
-                Some(about.len())
-            }
+            Ok(about) if FileId::of(&about) == self.file => Some(about.len()),
             _ => None,
         }
     }

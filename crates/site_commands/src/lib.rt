@@ -7,6 +7,7 @@
 //! ```
 #![tactic(auto)]
 
+mod apart_files;
 mod cell_opening;
 mod client;
 mod client_answer;
@@ -25,6 +26,7 @@ mod send_arguments;
 mod server_command;
 mod service;
 mod site_arguments;
+mod site_output;
 mod stop;
 mod udp_socket;
 mod until_known;

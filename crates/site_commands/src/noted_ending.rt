@@ -12,6 +12,7 @@ const UNWRITTEN: &str =
 /// Notes in words why the site ended, after the last line that it wrote: nothing where its turns
 /// are over, or where there is no memory for the words.
 pub(crate) fn note_ending(alloc: Global, log: &SiteLog<'_>, answer: Result<u8, ProgramFault>) {
+    log.closes();
     if let Ok(why) = reason_of(alloc, log, answer) {
         if !why.is_empty() {
             log.ends(why.as_str());

@@ -2,12 +2,14 @@
 
 ghost use Rattle.std.specs.Prelude.{◌≡◌, IfOk};
 
+use crate::apart_files::{NamedFile, expect_apart};
 use crate::cell_opening::cell_of;
 use crate::file_members::{expect_listed, members_at, port_of, ports_of};
 use crate::folders_below::FoldersBelow;
 use crate::noted_ending::note_ending;
 use crate::service::{Service, open_and_serve};
 use crate::site_arguments::SiteTask;
+use crate::site_output::SiteOutput;
 use crate::stop::{Stop, write_stop};
 use crate::udp_socket::site_socket;
 use bag_folders::{DiskFolders, Folders};
@@ -15,23 +17,47 @@ use cell_file::DiskCell;
 use fed_types::Members;
 use outcomes::ProgramFault;
 use records::Owner;
-use site_log::{LoggedFolders, LoggedOutput, LoggedPort, SiteLog};
+use site_log::{LoggedFolders, LoggedOutput, LoggedPort, SiteLog, Watch, WatchedPort};
 use site_words::{Asked, SpokenOutput};
-use std::io::{ErrorKind, Printer, Write};
-use std::{fs, io};
+use std::fs;
+use std::io::{ErrorKind, Write};
 use udp_site::{Port, UdpPort};
 
 /// Serves as the arguments say. The lines are written to standard output. Where a log is asked for,
 /// it is opened before all else, so that it has what ends the site.
-pub fn serve_site(rt: &HostRuntime, task: &SiteTask<'_>) -> Result<u8, ProgramFault> {
+pub fn serve_site<'a>(rt: &'a HostRuntime, task: &SiteTask<'a>) -> Result<u8, ProgramFault> {
     let Some(path) = task.log else {
-        return equip_and_serve(rt, task, None, &mut output_of(rt, task));
+        return equip_and_serve(rt, task, None, &mut output_of(rt, task, None));
     };
+    if let Err(stop) = expect_log_apart(rt, task, path) {
+        return write_stop(rt.alloc(), &mut output_of(rt, task, None), stop);
+    }
     let log = SiteLog::open(rt, path, task.number);
-    let mut output = LoggedOutput::new(&log, output_of(rt, task));
+    let mut output = LoggedOutput::new(&log, output_of(rt, task, Some(&log)));
     let answer = equip_and_serve(rt, task, Some(&log), &mut output);
     note_ending(rt.alloc(), &log, answer);
     answer
+}
+
+// Refuses a log that is the cell or the members file, before it is made or written.
+fn expect_log_apart(rt: &HostRuntime, task: &SiteTask<'_>, path: &str) -> Result<(), Stop> {
+    let option = "--log";
+    expect_apart(rt, cell_named(task), NamedFile { option, path })?;
+    expect_apart(rt, members_named(task), NamedFile { option, path })
+}
+
+fn cell_named<'a>(task: &SiteTask<'a>) -> NamedFile<'a> {
+    NamedFile {
+        option: "--cell",
+        path: task.cell,
+    }
+}
+
+fn members_named<'a>(task: &SiteTask<'a>) -> NamedFile<'a> {
+    NamedFile {
+        option: "--members",
+        path: task.members,
+    }
 }
 
 // Serves, or says what is missing.
@@ -49,10 +75,11 @@ fn equip_and_serve<W: Write>(
 
 // Standard output; after each line that has a code words on standard error, where they are asked
 // for.
-fn output_of<'a>(
+fn output_of<'a, 'l, 's>(
     rt: &'a HostRuntime,
     task: &SiteTask<'a>,
-) -> SpokenOutput<'a, Printer<'a, HostRuntime>> {
+    log: Option<&'l SiteLog<'s>>,
+) -> SpokenOutput<'a, SiteOutput<'a, 'l, 's>> {
     let asked = Asked {
         members: task.members,
         site: task.number.number(),
@@ -63,7 +90,7 @@ fn output_of<'a>(
         until_known: None,
     };
     let asked = if task.words { Some(asked) } else { None };
-    SpokenOutput::new(rt, asked, io::writer(rt))
+    SpokenOutput::new(rt, asked, SiteOutput::new(rt, task.quiet, log))
 }
 
 /// What a site serves with.
@@ -83,6 +110,7 @@ type BagFolders<'a> = FoldersBelow<'a, DiskFolders<HostRuntime>>;
 fn equip<'a>(rt: &HostRuntime, task: &SiteTask<'a>) -> Result<Means<UdpPort, BagFolders<'a>>, Stop>
     ensures { IfOk result (λ means. means.folders.top ≡ task.now.bags) }
 {
+    expect_apart(rt, cell_named(task), members_named(task))?;
     let file = members_at(rt, task.members)?;
     if task.listed {
         expect_listed(rt.alloc(), &file)?;
@@ -156,8 +184,10 @@ fn serve_by<P: Port + Drop, F: Folders + Drop, W: Write>(
         ports,
         mut folders,
         cell,
-        mut port,
+        port,
     } = means;
+    let watch = Watch::new(rt, members, task.number, &ports, log, task.words);
+    let mut port = WatchedPort::new(&watch, port);
     let service = Service {
         ports: &ports,
         turns: task.turns,

@@ -42,7 +42,20 @@ the last line of a site that doesn't begin to serve, too; after each last line i
   TIME 51234 unread 1 21 deposit OBJ V PATH PLACE
   TIME - open 3
   TIME - why: the cell is damaged; keep the file; the site is lost, and the others go on
-Where the log can't be written, standard error says so once, and the site goes on.
+Where the log can't be written, or isn't a file, standard error says so once, and the site goes on.
+
+Of one port and one first word the log has 60 lines a minute. Those after them are counted, and once
+the minute is over, or the site ends, it says how many there were. So are 64 ports and words of a
+minute; later ones share one count for each word, under *:
+  TIME 51234 log: 12345 dropped in this minute (refused)
+With a log no line waits for who reads standard output: what can't be written at once isn't, and the
+log says how many lines there were. With --quiet nothing is written there at all.
+  TIME - output: 12345 dropped in this minute
+
+A site that has proposed its deposit and has heard no majority for ten seconds says so, once, in the
+log and with --words; and in the end that it hears one again:
+  TIME - no majority since TIME: heard from 2
+  TIME - a majority again: heard from 2, 3
 
 With --words standard error has a line after each line `refused` or `dropped`, and after the one
 that says why it stopped: in words, with names. `bagpaxos help codes` lists what each says.
@@ -53,6 +66,7 @@ The exit status is 0 after the last turn; 1 where a last line says why it stoppe
   members other list
                     with --listed: the federation's number doesn't come from the file's list
   not a member      the members file has no such site
+  same file         two of --cell, --members and --log name one file, as standard error says
   bags unread       with --bags: it isn't a folder
   open 4            the cell's file can't be opened, read or written, or another process has it
                     open for five seconds; with --existing, it isn't there, or its header isn't
@@ -86,6 +100,8 @@ pub struct SiteTask<'a> {
     pub bags: Option<&'a str>,
     /// The path of the log, if there is one.
     pub log: Option<&'a str>,
+    /// Whether to write nothing to standard output.
+    pub quiet: bool,
     /// Whether to say in words what lines say.
     pub words: bool,
     pub turns: Turns,
@@ -122,6 +138,7 @@ pub fn site_task<'a>(matches: &ArgMatches<'a>) -> Option<SiteTask<'a>> {
         existing: matches.get_flag("existing"),
         bags: matches.get_str("bags"),
         log: matches.get_str("log"),
+        quiet: matches.get_flag("quiet"),
         words: matches.get_flag("words"),
         turns: turns_in(matches)?,
         waits: Waits {
@@ -164,7 +181,10 @@ fn with_place<'a>(alloc: Global, command: Command<'a>) -> Result<Command<'a>, Al
 // With those that say where bags are read, and where a log is written.
 fn with_paths<'a>(alloc: Global, command: Command<'a>) -> Result<Command<'a>, AllocError> {
     let command = command.arg(bags_argument(alloc))?;
-    command.arg(log_argument(alloc))?.arg(words_argument(alloc))
+    let command = command.arg(log_argument(alloc))?;
+    command
+        .arg(quiet_argument(alloc))?
+        .arg(words_argument(alloc))
 }
 
 // With those that say how many turns it serves.
@@ -229,6 +249,13 @@ fn log_argument<'a>(alloc: Global) -> Arg<'a> {
     Arg::new(alloc, "log").long("log").value_name("FILE").help(
         "Append what it prints to this file, with the time, who asked and why it ends",
     )
+}
+
+fn quiet_argument<'a>(alloc: Global) -> Arg<'a> {
+    Arg::new(alloc, "quiet")
+        .long("quiet")
+        .action(ArgAction::SetTrue)
+        .help("Write nothing to standard output")
 }
 
 /// The option that asks for words.

@@ -15,6 +15,8 @@ pub enum Stop {
     OtherList,
     /// No member has the site's number.
     NotAMember,
+    /// Two of the cell, the members file and the log are one file.
+    SameFile,
     /// The folder below which bags are read isn't one.
     BagsUnread,
     /// The file of the cell can't be opened.
@@ -32,6 +34,7 @@ pub fn write_stop<W: Write>(alloc: Global, output: &mut W, stop: Stop) -> Result
         Stop::MembersLine(line) => write_numbered(output, members_line(alloc, line)),
         Stop::OtherList => write_output(output, 1, "members other list\n"),
         Stop::NotAMember => write_output(output, 1, "not a member\n"),
+        Stop::SameFile => write_output(output, 1, "same file\n"),
         Stop::BagsUnread => write_output(output, 1, "bags unread\n"),
         Stop::CellUnopened => write_output(output, 1, "open 4\n"),
         Stop::Socket => write_output(output, 1, "socket\n"),

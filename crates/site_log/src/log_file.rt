@@ -3,6 +3,7 @@
 use std::alloc::Global;
 use std::fs::{File, OpenOptions};
 use std::io::{self, ErrorKind, Write};
+use system_files::{expect_room, expect_same, regular_file_at};
 
 /// A file to which lines are appended, as long as that succeeds.
 #[derive(Drop)]
@@ -28,15 +29,24 @@ impl LogFile {
         let Some(file) = &mut self.file else {
             return;
         };
-        if let Err(error) = file.write_all(line.as_bytes()) {
+        if let Err(error) = write_line(file, line) {
             say(rt, &error);
             self.file = None;
         }
     }
 }
 
+// The file of this path, which is a regular one: a pipe's open would wait for its reader.
 fn appending(rt: &HostRuntime, path: &str) -> io::Result<File> {
-    OpenOptions::new().append(true).create(true).open(rt, path)
+    let seen = regular_file_at(rt, path)?;
+    let file = OpenOptions::new().append(true).create(true).open(rt, path)?;
+    expect_same(seen, &file)?;
+    Ok(file)
+}
+
+fn write_line(file: &mut File, line: &str) -> io::Result<()> {
+    expect_room(file, line.len() as u64)?;
+    file.write_all(line.as_bytes())
 }
 
 // Where standard error can't be written either, nobody is told.

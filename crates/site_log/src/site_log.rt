@@ -1,8 +1,10 @@
 //! What is noted of a site, and when.
 
 use crate::log_file::LogFile;
-use crate::moment::moment_text;
+use crate::minute::Minute;
+use crate::moment::{end_of, minute_of, moment_text, now, text_of};
 use crate::request_text::{push_word, request_text};
+use crate::tally::{Kind, Sender, Tally};
 use bag_tree::TreeFault;
 use fed_types::{Members, SiteNo};
 use records::{Entry, Record};
@@ -11,7 +13,8 @@ use std::cell::RefCell;
 use udp_site::Turn;
 
 /// A log of a site, in a file. What can't be noted, out of memory or room, is left out: the site
-/// goes on.
+/// goes on. Of one sender and kind no more than 60 lines a minute are written; the others are
+/// counted, and a line says how many they were once the minute is over, or the site ends.
 #[derive(Drop)]
 pub struct SiteLog<'a> {
     rt: &'a HostRuntime,
@@ -40,6 +43,8 @@ struct State {
     begun: String,
     /// The last line that is ended; empty before the first, and after one that couldn't be noted.
     last: String,
+    /// The lines of the present minute.
+    minute: Minute,
 }
 
 impl<'a> SiteLog<'a> {
@@ -52,6 +57,7 @@ impl<'a> SiteLog<'a> {
             bytes: Vec::new(rt.alloc()),
             begun: String::new(rt.alloc()),
             last: String::new(rt.alloc()),
+            minute: Minute::new(None),
         };
         SiteLog {
             rt,
@@ -77,11 +83,27 @@ impl<'a> SiteLog<'a> {
         }
     }
 
+    /// The site has ended: the log has what was left out of it.
+    pub fn closes(&self) {
+        if let Ok(mut state) = self.state.try_borrow_mut() {
+            self.sum_up(&mut state);
+        }
+    }
+
     /// The site has ended, for the reason that these words say.
     pub fn ends(&self, why: &str) {
         if let Ok(mut state) = self.state.try_borrow_mut() {
+            self.sum_up(&mut state);
             let line = self.why_line(why);
             append(self.rt, &mut state, line);
+        }
+    }
+
+    /// So many lines were left out of standard output, whose reader stands still.
+    pub fn blocked(&self, lines: u32) {
+        if let Ok(mut state) = self.state.try_borrow_mut() {
+            self.keep_time(&mut state);
+            state.minute.blocked = state.minute.blocked.saturating_add(lines);
         }
     }
 
@@ -96,6 +118,7 @@ impl<'a> SiteLog<'a> {
     /// The turn brings this.
     pub(crate) fn came(&self, turn: &Turn) {
         if let Ok(mut state) = self.state.try_borrow_mut() {
+            self.keep_time(&mut state);
             take(&mut state, turn);
         }
     }
@@ -103,7 +126,17 @@ impl<'a> SiteLog<'a> {
     /// The folder that a client named can't be read, for this reason, at this place below it.
     pub(crate) fn unread(&self, fault: TreeFault, place: Option<&str>) {
         if let Ok(mut state) = self.state.try_borrow_mut() {
-            let line = self.unread_line(&state, fault, place);
+            if self.admits(&mut state, Kind::Unread) {
+                let line = self.unread_line(&state, fault, place);
+                append(self.rt, &mut state, line);
+            }
+        }
+    }
+
+    /// What these words say of the site, by itself.
+    pub(crate) fn says(&self, words: &str) {
+        if let Ok(mut state) = self.state.try_borrow_mut() {
+            let line = self.said_line(words);
             append(self.rt, &mut state, line);
         }
     }
@@ -124,14 +157,118 @@ impl<'a> SiteLog<'a> {
     fn take_text(&self, state: &mut State, text: &[u8]) {
         for byte in text {
             if *byte == b'\n' {
-                let line = self.line_of(state);
-                append(self.rt, state, line);
+                self.take_line(state);
                 std::mem::swap(&mut state.begun, &mut state.last);
                 state.begun.clear();
             } else {
                 let _ = state.begun.push(char::from(*byte));
             }
         }
+    }
+
+    // The line that the site has written is noted, unless there were too many of its kind.
+    fn take_line(&self, state: &mut State) {
+        let is_written = match Kind::of(state.begun.as_str()) {
+            Some(kind) => self.admits(state, kind),
+            None => {
+                self.sum_up(state);
+                true
+            }
+        };
+        if is_written {
+            let line = self.line_of(state);
+            append(self.rt, state, line);
+        }
+    }
+
+    // Whether a line of this kind is written, about what came in this turn.
+    fn admits(&self, state: &mut State, kind: Kind) -> bool {
+        self.keep_time(state);
+        let sender = match state.from {
+            Some(port) => Sender::Port(port),
+            None => Sender::Nobody,
+        };
+        state.minute.admits(sender, kind)
+    }
+
+    // Once the minute is over, the log has what was left out of it. Where the clock can't be read it
+    // isn't over.
+    fn keep_time(&self, state: &mut State) {
+        let Some(time) = now(self.rt) else {
+            return;
+        };
+        let number = minute_of(time);
+        if state.minute.number != Some(number) {
+            self.sum_up(state);
+            state.minute = Minute::new(Some(number));
+        }
+    }
+
+    // Notes what was left out in the minute, and counts anew.
+    fn sum_up(&self, state: &mut State) {
+        let minute = state.minute;
+        state.minute = Minute::new(minute.number);
+        for place in minute.own() {
+            if let Some(tally) = place {
+                self.note_left_out(state, &minute, tally);
+            }
+        }
+        for tally in minute.others() {
+            self.note_left_out(state, &minute, tally);
+        }
+        if minute.blocked > 0 {
+            let line = self.blocked_line(&minute);
+            append(self.rt, state, line);
+        }
+    }
+
+    fn note_left_out(&self, state: &mut State, minute: &Minute, tally: &Tally) {
+        if tally.left_out() > 0 {
+            let line = self.left_out_line(minute, tally);
+            append(self.rt, state, line);
+        }
+    }
+
+    // `log: N dropped in this minute (KIND)`
+    fn left_out_line(&self, minute: &Minute, tally: &Tally) -> Result<String, AllocError> {
+        let alloc = self.rt.alloc();
+        let mut line = self.time_of_summary(minute)?;
+        match tally.sender {
+            Sender::Nobody => line.push_str(" - ")?,
+            Sender::Port(port) => write!(line, " {port} ")?,
+            Sender::Others => line.push_str(" * ")?,
+        }
+        let count = tally.left_out();
+        let kind = tally.kind.word();
+        write!(line, "log: {count} dropped in this minute ({kind})")?;
+        Ok(line)
+    }
+
+    // `output: N dropped in this minute`
+    fn blocked_line(&self, minute: &Minute) -> Result<String, AllocError> {
+        let mut line = self.time_of_summary(minute)?;
+        let count = minute.blocked;
+        write!(line, " - output: {count} dropped in this minute")?;
+        Ok(line)
+    }
+
+    // The last moment of the minute, or the present one, if that comes first.
+    fn time_of_summary(&self, minute: &Minute) -> Result<String, AllocError> {
+        let alloc = self.rt.alloc();
+        let present = now(self.rt);
+        match (minute.number, present) {
+            (Some(number), Some(time)) if number < minute_of(time) => {
+                text_of(alloc, end_of(number))
+            }
+            _ => text_of(alloc, present),
+        }
+    }
+
+    // `WORDS`, by itself.
+    fn said_line(&self, words: &str) -> Result<String, AllocError> {
+        let mut line = self.heading(None)?;
+        line.push_str(words)?;
+        Ok(line)
     }
 
     // `serves site S of N, federation F, port P, R records, K known`

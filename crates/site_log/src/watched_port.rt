@@ -1,0 +1,38 @@
+//! A port at which a site is watched.
+
+use crate::watch::Watch;
+use udp_site::{Port, PortFault, Turn};
+
+/// A port that tells a watch what came and what was handed out. Otherwise it delegates to it.
+#[derive(Drop)]
+pub struct WatchedPort<'a, P> {
+    watch: &'a Watch<'a>,
+    port: P,
+}
+
+impl<'a, P: Port> WatchedPort<'a, P> {
+    /// This port, with this watch.
+    pub fn new(watch: &'a Watch<'a>, port: P) -> WatchedPort<'a, P> {
+        WatchedPort { watch, port }
+    }
+}
+
+impl<P: Port> Port for WatchedPort<'_, P> {
+    ghost use Rattle.cell_device.specs.Calls.{HasCause};
+    ghost use Rattle.udp_site.specs.Traffic.{IsReceived, IsHanded};
+
+    ghost traffic = { λ p. P.traffic p.port };
+
+    ghost failures = { λ p. P.failures p.port };
+
+    fn receive(&mut self) -> Result<Turn, PortFault> {
+        let turn = self.port.receive()?;
+        self.watch.came(&turn);
+        Ok(turn)
+    }
+
+    fn send(&mut self, to: u16, bytes: &[u8]) -> Result<(), PortFault> {
+        self.watch.hands(bytes);
+        self.port.send(to, bytes)
+    }
+}
