@@ -8,13 +8,13 @@ use crate::said_numbers::{
 use crate::story::{Passage, Story, passage_after};
 use dgram::{Message, decode};
 use fed_types::{BagId, Members, Slot};
-use indexmap::IndexSet;
 use lines::Line;
 use records::{Entry, Owner, Record, read_journal};
 use sim_federation::Federation;
 use sim_stations::{RunState, Station};
 use sim_tables::{Datagrams, SeenBags};
 use std::alloc::{AllocError, Global};
+use std::collections::BTreeMap;
 
 /// What was noted so far.
 #[derive(Drop)]
@@ -23,7 +23,8 @@ pub(crate) struct Notes {
     members: Members,
     datagrams: Datagrams<Datagram>,
     passages: Vec<Passage>,
-    slots: IndexSet<Slot>,
+    // The slots, each with its place in the order in which they came first.
+    slots: BTreeMap<Slot, usize>,
     // How many records each site has, site 1 first.
     records: Vec<usize>,
     events: Vec<Event>,
@@ -50,7 +51,7 @@ impl Notes {
             members,
             datagrams: Datagrams::new(alloc),
             passages: Vec::new(alloc),
-            slots: IndexSet::new(alloc),
+            slots: BTreeMap::new(alloc),
             records,
             events: Vec::new(alloc),
             lines: 0,
@@ -84,7 +85,11 @@ impl Notes {
 
     /// The place of a slot.
     pub(crate) fn slot_place(&mut self, slot: &Slot) -> Result<usize, AllocError> {
-        let (place, _) = self.slots.insert_full(slot.copy(self.alloc)?)?;
+        if let Some(place) = self.slots.get(slot) {
+            return Ok(*place);
+        }
+        let place = self.slots.len();
+        self.slots.insert(slot.copy(self.alloc)?, place)?;
         Ok(place)
     }
 

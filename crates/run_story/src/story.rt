@@ -1,9 +1,9 @@
 use crate::datagram::Datagram;
 use crate::event::{Deed, Event, Outcome};
 use fed_types::{Ballot, Members, Slot};
-use indexmap::IndexSet;
 use lines::{Line, Reason};
 use sim_tables::Datagrams;
+use std::collections::BTreeMap;
 
 /// What became of a datagram.
 #[derive(Clone, Copy)]
@@ -36,7 +36,7 @@ pub struct Story {
     /// What became of each datagram, in the order of their numbers.
     pub passages: Vec<Passage>,
     pub(crate) datagrams: Datagrams<Datagram>,
-    pub(crate) slots: IndexSet<Slot>,
+    pub(crate) slots: BTreeMap<Slot, usize>,
 }
 
 impl Story {

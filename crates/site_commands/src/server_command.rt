@@ -213,7 +213,8 @@ fn folders_of<'a>(rt: &HostRuntime, task: &SiteTask<'a>) -> Result<BagFolders<'a
     if let Some(top) = task.bags {
         find_folder(rt, top)?;
     }
-    let folders = DiskFolders::new(disk(rt)?);
+    let most_bytes = task.most_bytes.unwrap_or(u64::MAX);
+    let folders = DiskFolders::new(disk(rt)?).with_most_bytes(most_bytes);
     Ok(FoldersBelow::new(rt.alloc(), task.bags, folders))
 }
 

@@ -31,7 +31,8 @@ have passed since the last one. After a deposit such turns are taken at once, un
 propose it; but not while a proposal of its own is under way. So they are where a client asks for a
 bag that is pending, a second after the last proposal.
 
-With --bags a path that is absolute or has `..` in it is refused as a missing folder (21).
+With --bags a path that is absolute or has `..` in it is refused as a missing folder (21). With
+--most-bytes a larger bag is refused as one of too many files (24).
 
 With --log each line is also written to a file, which grows: after the time in UTC and the port
 from which came what it is about (`-` where nothing came). After `refused` comes what was asked for,
@@ -98,6 +99,8 @@ pub struct SiteTask<'a> {
     pub existing: bool,
     /// The folder below which clients' bags are read, if it isn't the file system's.
     pub bags: Option<&'a str>,
+    /// The most bytes that the files of a client's bag may have together, if there is a limit.
+    pub most_bytes: Option<u64>,
     /// The path of the log, if there is one.
     pub log: Option<&'a str>,
     /// Whether to write nothing to standard output.
@@ -137,6 +140,7 @@ pub fn site_task<'a>(matches: &ArgMatches<'a>) -> Option<SiteTask<'a>> {
         cell: matches.get_str("cell")?,
         existing: matches.get_flag("existing"),
         bags: matches.get_str("bags"),
+        most_bytes: matches.get_one::<u64>("most-bytes"),
         log: matches.get_str("log"),
         quiet: matches.get_flag("quiet"),
         words: matches.get_flag("words"),
@@ -181,6 +185,7 @@ fn with_place<'a>(alloc: Global, command: Command<'a>) -> Result<Command<'a>, Al
 // With those that say where bags are read, and where a log is written.
 fn with_paths<'a>(alloc: Global, command: Command<'a>) -> Result<Command<'a>, AllocError> {
     let command = command.arg(bags_argument(alloc))?;
+    let command = command.arg(most_bytes_argument(alloc))?;
     let command = command.arg(log_argument(alloc))?;
     command
         .arg(quiet_argument(alloc))?
@@ -243,6 +248,14 @@ fn bags_argument<'a>(alloc: Global) -> Arg<'a> {
         .long("bags")
         .value_name("FOLDER")
         .help("Read clients' bags by their paths below this folder alone")
+}
+
+fn most_bytes_argument<'a>(alloc: Global) -> Arg<'a> {
+    Arg::new(alloc, "most-bytes")
+        .long("most-bytes")
+        .value_name("N")
+        .value_parser(value_parser!(u64))
+        .help("Refuse clients' bags with more bytes in all, before they are read")
 }
 
 fn log_argument<'a>(alloc: Global) -> Arg<'a> {

@@ -46,6 +46,9 @@ fn push_meaning(
 
 // Appends how to learn where a bag is at fault.
 fn push_hint(text: &mut String, asked: &Asked<'_>, meaning: &Meaning) -> Result<(), AllocError> {
+    if meaning.code == "unread 4" {
+        text.push_str("; or it has more bytes than the site takes, by its option --most-bytes")?;
+    }
     if asked.path.is_some() && is_of_folder(meaning) {
         return text.push_str("; `bagpaxos check --words` of that folder says where");
     }
