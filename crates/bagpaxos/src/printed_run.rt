@@ -3,6 +3,7 @@
 use crate::run_arguments::RunTask;
 use crate::run_on::run_on;
 use crate::schedule_fault::say_schedule_fault;
+use code_words::push_name;
 use outcomes::{ProgramFault, ReadFault, read_all, write_all, write_output};
 use run_picture::picture_of;
 use run_story::{Story, tell};
@@ -104,7 +105,9 @@ fn draw(rt: &HostRuntime, story: &Story, path: &str) -> Result<u8, AllocError> {
     match fs::write(rt, path, picture.as_str()) {
         Ok(()) => Ok(0),
         Err(error) => {
-            let _ = eprintln!(rt; "error: the picture can't be written to {path}: {error}");
+            let mut name = String::new(rt.alloc());
+            push_name(&mut name, path)?;
+            let _ = eprintln!(rt; "error: the picture can't be written to {name}: {error}");
             Ok(1)
         }
     }

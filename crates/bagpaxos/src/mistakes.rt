@@ -1,0 +1,41 @@
+//! What is wrong with the arguments, in words.
+
+use crate::arguments::task_of;
+use clap::Error;
+use clap::error::ErrorKind;
+use code_words::push_name;
+use std::alloc::{AllocError, Global};
+
+/// Says on standard error what is wrong with these words, the program's own name being the first of
+/// them. What can't be seen in them is written by numbers, as in all other words: else a word could
+/// move the cursor of a terminal, or end a line.
+pub fn say_mistake(rt: &HostRuntime, words: &[String]) -> Result<(), AllocError> {
+    let words = visible(rt.alloc(), words)?;
+    let task = task_of(rt.alloc(), words.as_slice());
+    match task {
+        Err(error) => say(rt, &error),
+        // Only what can't be seen was wrong.
+        Ok(_) => {
+            let _ = rt.eprintln("error: an argument has a character that can't be seen");
+            Ok(())
+        }
+    }
+}
+
+fn say(rt: &HostRuntime, error: &Error) -> Result<(), AllocError> {
+    if error.kind() == ErrorKind::OutOfMemory {
+        return Err(AllocError);
+    }
+    let _ = rt.eprint(error);
+    Ok(())
+}
+
+fn visible(alloc: Global, words: &[String]) -> Result<Vec<String>, AllocError> {
+    let mut all = Vec::new(alloc);
+    for word in words {
+        let mut text = String::new(alloc);
+        push_name(&mut text, word.as_str())?;
+        all.push(text)?;
+    }
+    Ok(all)
+}
