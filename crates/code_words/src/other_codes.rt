@@ -3,7 +3,7 @@
 use crate::meaning::Meaning;
 
 /// What these lines say.
-pub static OTHERS: [Meaning; 20] = [
+pub static OTHERS: [Meaning; 21] = [
     Meaning {
         code: "memory",
         words: "memory ran out",
@@ -53,6 +53,11 @@ pub static OTHERS: [Meaning; 20] = [
         code: "not a member",
         words: "the members file has no site of this number",
         advice: "give the site its own number",
+    },
+    Meaning {
+        code: "same file",
+        words: "two of --cell, --members and --log name one file",
+        advice: "give each a file of its own",
     },
     Meaning {
         code: "bags unread",
