@@ -2,6 +2,7 @@
 use Rattle.std.proofs.Common.{◌≡◌, ℕ, List, [], ◌∷◌, ◌++◌, map, refl}
 use Rattle.std.proofs.lemmas.List.{map-append}
 use Rattle.bag_digest.specs.declared.algorithms.Algorithms.{Algorithms}
+use Rattle.bag_digest.specs.Algorithms.{no_algorithms}
 use Rattle.bag_tree.specs.Tree.{File}
 use Rattle.bag_tree.specs.Facts.{FileFact, fact_by}
 use Rattle.bag_folders.specs.Disk.{IsFactBy}
@@ -22,4 +23,18 @@ fact_more wanted paths facts path fact are (bytes, is) =
       files = are.files ++ file ∷ [];
       named = rw (map-append (λ (f : File). f.path) are.files (file ∷ []), are.named) refl;
       hashed = rw (map-append (fact_by wanted) are.files (file ∷ []), are.hashed, is) refl;
+    }
+
+-- these are the facts of some files, without any digest
+pub record AreBare (facts : List FileFact) : Type 0 where
+  pub files : List File
+  pub bare : facts ≡ map (fact_by no_algorithms) files
+
+-- a file more was listed
+pub bare_more : (facts : List FileFact) (path : List ℕ) (fact : FileFact) → AreBare facts
+    → IsFactBy no_algorithms path fact → AreBare (facts ++ fact ∷ [])
+bare_more facts path fact are (bytes, is) =
+    let file : File = record { path = path; bytes = bytes } in record {
+      files = are.files ++ file ∷ [];
+      bare = rw (map-append (fact_by no_algorithms) are.files (file ∷ []), are.bare, is) refl;
     }

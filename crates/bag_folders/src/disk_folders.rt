@@ -1,15 +1,17 @@
 use crate::folders::Folders;
-use crate::walk::read_watched;
+use crate::walk::{Reading, read_watched};
 use crate::watcher::{Silent, Watcher};
 use bag_tree::{Facts, TreeFault};
 use std::fs::Files;
 
 /// Folders of the file system. What their files hold no contract knows; whatever it is, the digests
-/// of each are those that the manifests among them name.
+/// of each are those that are needed: those that the manifests among them name, or none where a fault
+/// shows without reading more than the texts that describe the bag.
 #[derive(Drop)]
 pub struct DiskFolders<R: Files + AllocGlobal + Clone + Drop, W: Watcher + Drop = Silent> {
     rt: R,
     watcher: W,
+    reading: Reading,
     failed_at: Option<String>,
 }
 
@@ -26,7 +28,18 @@ impl<R: Files + AllocGlobal + Clone + Drop, W: Watcher + Drop> DiskFolders<R, W>
         DiskFolders {
             rt,
             watcher,
+            reading: Reading::Needed,
             failed_at: None,
+        }
+    }
+
+    /// The same, with the digests that manifests name also where a fault shows without.
+    pub fn with_all_digests(self) -> DiskFolders<R, W> {
+        DiskFolders {
+            rt: self.rt,
+            watcher: self.watcher,
+            reading: Reading::All,
+            failed_at: self.failed_at,
         }
     }
 
@@ -38,15 +51,15 @@ impl<R: Files + AllocGlobal + Clone + Drop, W: Watcher + Drop> DiskFolders<R, W>
 
 impl<R: Files + AllocGlobal + Clone + Drop, W: Watcher + Drop> Folders for DiskFolders<R, W> {
     ghost use Rattle.std.specs.Prelude.{IfOk, IfErr};
-    ghost use Rattle.bag_folders.specs.Disk.{HasNamedDigests};
+    ghost use Rattle.bag_folders.specs.Disk.{HasNeededDigests};
     ghost use Rattle.bag_folders.specs.Folders.{IsWalkFault};
 
     fn read(&mut self, path: &str) -> Result<Facts, TreeFault>
-        ensures digests { IfOk result HasNamedDigests }
+        ensures digests { IfOk result HasNeededDigests }
         ensures faults { IfErr result IsWalkFault }
     {
         self.failed_at = None;
-        match read_watched(&self.rt, path, &mut self.watcher) {
+        match read_watched(&self.rt, path, self.reading, &mut self.watcher) {
             Ok(facts) => Ok(facts),
             Err(failure) => {
                 self.failed_at = failure.place;

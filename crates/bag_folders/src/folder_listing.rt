@@ -2,38 +2,30 @@ ghost use Rattle.std.specs.Prelude.{◌≡◌, ◌⊎◌, IfOk, IfErr};
 ghost use Rattle.bag_folders.specs.Folders.{IsWalkFault};
 
 use crate::failure::Failure;
-use bag_tree::{DEEPEST_PATH, MOST_FILES, PAYLOAD_FOLDER, TreeFault, part_count};
+use crate::look::{EntryKind, Look};
+use crate::open_bag::OpenBag;
+use bag_tree::{DEEPEST_PATH, MOST_FILES, PAYLOAD_FOLDER, TreeFault, is_read_text, part_count};
 use std::alloc::{AllocError, Global};
-use std::fs::{DirEntry, Files, Metadata};
+use std::fs::Files;
+use std::io;
 use std::io::ErrorKind;
-use std::os::unix::fs::MetadataExt;
-use std::{fs, io};
+
+/// How many bytes of names are asked for at a time.
+const NAMES: usize = 8192;
+
+/// Texts of so many bytes together are looked through before any other file is read.
+const SHORT_TEXTS: u64 = 1 << 20;
+
+/// So are longer ones, where the other files have so many bytes for each of theirs.
+const BYTES_BESIDE: u64 = 100;
 
 /// A file that was found in a folder.
 #[derive(Drop)]
 pub(crate) struct ListedFile {
     /// Its path below the bag's folder.
     pub(crate) path: String,
-    /// How many bytes it had when it was found.
-    length: u64,
-    device: u64,
-    inode: u64,
-}
-
-impl ListedFile {
-    fn new(path: String, metadata: &Metadata) -> ListedFile {
-        ListedFile {
-            path,
-            length: metadata.len(),
-            device: metadata.dev(),
-            inode: metadata.ino(),
-        }
-    }
-
-    /// Whether it is the file that was opened.
-    pub(crate) fn is(&self, opened: &Metadata) -> bool {
-        opened.is_file() && self.device == opened.dev() && self.inode == opened.ino()
-    }
+    /// What it was when it was found.
+    pub(crate) look: Look,
 }
 
 /// What was found of a folder so far.
@@ -64,103 +56,135 @@ impl FolderListing {
     pub(crate) fn bytes(&self) -> u64 {
         let mut bytes = 0u64;
         for file in self.files.as_slice() {
-            bytes = bytes.saturating_add(file.length);
+            bytes = bytes.saturating_add(file.look.length);
         }
         bytes
+    }
+
+    /// Whether a look at the texts that describe the bag takes little time beside all other reading.
+    pub(crate) fn is_worth_a_look(&self) -> bool {
+        let mut of_texts = 0u64;
+        for file in self.files.as_slice() {
+            if is_read_text(file.path.as_bytes()) {
+                of_texts = of_texts.saturating_add(file.look.length);
+            }
+        }
+        let of_others = self.bytes().saturating_sub(of_texts);
+        of_texts <= SHORT_TEXTS || of_texts <= of_others / BYTES_BESIDE
     }
 
     /// Takes the entries of the subfolder `below` of the bag.
     fn list<R: Files + AllocGlobal + Clone + Drop>(
         &mut self,
-        rt: &R,
-        folder: &str,
-        below: String,
+        bag: &OpenBag<'_, R>,
+        below: &str,
     ) -> Result<(), Failure>
         ensures { IfErr result (λ failure. IsWalkFault failure.fault) }
     {
-        let path = joined(self.alloc, folder, below.as_str())?;
-        let entries = match fs::read_dir(rt, path.as_str()) {
-            Ok(entries) => entries,
-            Err(error) => return self.unlisted(below, &error),
+        let folder = match bag.folder_below(below) {
+            Ok(folder) => folder,
+            Err(error) => return Err(unlisted(self.alloc, below, &error)?),
         };
-        for entry in entries {
-            match entry {
-                Ok(entry) => self.take(&entry, below.as_str())?,
-                Err(error) => return self.unlisted(below, &error),
+        let mut buffer = [0u8; NAMES];
+        // Each turn but the last takes one entry at least; `.` and `..` aren't counted.
+        'turns: for _ in 0..MOST_FILES + 3 {
+            match folder.next_names(&mut buffer) {
+                Ok(names) if names.is_empty() => return Ok(()),
+                Ok(names) => self.take_names(bag, names, below)?,
+                Err(error) => return Err(unlisted(self.alloc, below, &error)?),
+            }
+        }
+        Err(too_many(self.alloc)?)
+    }
+
+    /// Takes the entries of these names, each of which has a NUL behind it.
+    fn take_names<R: Files + AllocGlobal + Clone + Drop>(
+        &mut self,
+        bag: &OpenBag<'_, R>,
+        names: &[u8],
+        below: &str,
+    ) -> Result<(), Failure>
+        ensures { IfErr result (λ failure. IsWalkFault failure.fault) }
+    {
+        for name in names.split(|byte| *byte == 0) {
+            if !matches!(name, b"" | b"." | b"..") {
+                self.take(bag, name, below)?;
             }
         }
         Ok(())
     }
 
-    /// The subfolder `below` of the bag can't be listed.
-    fn unlisted(&self, below: String, error: &io::Error) -> Result<(), Failure>
-        ensures { IfErr result (λ failure. IsWalkFault failure.fault) }
-    {
-        let place = if below.is_empty() {
-            String::from_str(self.alloc, ".")?
-        } else {
-            below
-        };
-        Err(Failure::at(place, fault_of(error, TreeFault::Listing)))
-    }
-
     /// Takes one entry: keeps a file, and has a folder wait.
     fn take<R: Files + AllocGlobal + Clone + Drop>(
         &mut self,
-        entry: &DirEntry<R>,
+        bag: &OpenBag<'_, R>,
+        name: &[u8],
         below: &str,
     ) -> Result<(), Failure>
         ensures { IfErr result (λ failure. IsWalkFault failure.fault) }
     {
+        let Ok(name) = str::from_utf8(name) else {
+            let error = ErrorKind::InvalidFilename.into();
+            return Err(unlisted(self.alloc, below, &error)?);
+        };
         if self.found >= MOST_FILES {
             return Err(too_many(self.alloc)?);
         }
         self.found += 1;
-        let path = joined(self.alloc, below, entry.file_name())?;
+        let path = joined(self.alloc, below, name)?;
         if part_count(path.as_bytes()) > DEEPEST_PATH {
             return Err(Failure::at(path, TreeFault::TooDeep));
         }
-        match entry.metadata() {
-            Ok(metadata) => self.keep(path, &metadata),
+        match bag.look(path.as_str()) {
+            Ok(look) => self.keep(path, look),
             Err(error) => Err(Failure::at(path, fault_of(&error, TreeFault::Listing))),
         }
     }
 
-    fn keep(&mut self, path: String, metadata: &Metadata) -> Result<(), Failure>
+    fn keep(&mut self, path: String, look: Look) -> Result<(), Failure>
         ensures { IfErr result (λ failure. IsWalkFault failure.fault) }
     {
-        if metadata.is_dir() {
-            self.payload = self.payload || path.as_str() == PAYLOAD_FOLDER;
-            self.waiting.push(path)?;
-        } else if metadata.is_file() {
-            self.files.push(ListedFile::new(path, metadata))?;
-        } else {
-            return Err(Failure::at(path, TreeFault::NotAFile));
+        match look.kind {
+            EntryKind::Folder => {
+                self.payload = self.payload || path.as_str() == PAYLOAD_FOLDER;
+                self.waiting.push(path)?;
+            }
+            EntryKind::File => self.files.push(ListedFile { path, look })?,
+            EntryKind::Other => return Err(Failure::at(path, TreeFault::NotAFile)),
         }
         Ok(())
     }
 }
 
-/// All files in this folder and below it. No link is followed but the folder's own path.
-pub(crate) fn list_folder<R: Files + AllocGlobal + Clone + Drop>(
-    rt: &R,
-    folder: &str,
+/// All files in the bag's folder and below it.
+pub(crate) fn list_bag<R: Files + AllocGlobal + Clone + Drop>(
+    alloc: Global,
+    bag: &OpenBag<'_, R>,
 ) -> Result<FolderListing, Failure>
     ensures { IfErr result (λ failure. IsWalkFault failure.fault) }
 {
-    let mut listing = FolderListing::new(rt.alloc());
-    listing.list(rt, folder, String::new(rt.alloc()))?;
+    let mut listing = FolderListing::new(alloc);
+    listing.list(bag, "")?;
     // Each turn lists one of the folders that were found, of which there are at most `MOST_FILES`.
     'folders: for _ in 0..MOST_FILES {
         let Some(below) = listing.waiting.pop() else {
             break;
         };
-        listing.list(rt, folder, below)?;
+        listing.list(bag, below.as_str())?;
     }
     if !listing.waiting.is_empty() {
-        return Err(too_many(rt.alloc())?);
+        return Err(too_many(alloc)?);
     }
     Ok(listing)
+}
+
+/// The subfolder `below` of the bag can't be listed.
+pub(crate) fn unlisted(alloc: Global, below: &str, error: &io::Error) -> Result<Failure, AllocError>
+    ensures { IfOk result (λ failure. IsWalkFault failure.fault) }
+{
+    let place = if below.is_empty() { "." } else { below };
+    let place = String::from_str(alloc, place)?;
+    Ok(Failure::at(place, fault_of(error, TreeFault::Listing)))
 }
 
 /// The bag's folder has too many files and folders.

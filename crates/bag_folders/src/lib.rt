@@ -11,10 +11,16 @@
 
 mod disk_folders;
 mod failure;
+mod first_look;
 mod folder_listing;
 mod folders;
+mod hash_listed;
 mod hash_state;
+mod law;
+mod look;
 mod memory_folders;
+mod open_bag;
+mod open_folder;
 mod read_file;
 mod walk;
 mod watched_file;
@@ -23,6 +29,7 @@ mod watcher;
 pub use disk_folders::DiskFolders;
 pub use folders::Folders;
 pub use hash_state::Hashing;
+pub use law::needed_law;
 pub use memory_folders::MemoryFolders;
 pub use read_file::{MOST_READS, hash_reader, hash_watched};
 pub use walk::read_folder;

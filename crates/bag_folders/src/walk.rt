@@ -1,34 +1,47 @@
 ghost use Rattle.std.specs.Prelude.{◌≡◌, IfOk, IfErr, map, string_bytes};
 ghost use Rattle.bag_check.specs.Named.{named_of};
-ghost use Rattle.bag_folders.specs.Disk.{IsFactBy, HasNamedDigests};
+ghost use Rattle.bag_folders.specs.Disk.{HasNamedDigests, HasNeededDigests};
 ghost use Rattle.bag_folders.specs.Folders.{IsWalkFault};
 
 use crate::failure::Failure;
-use crate::folder_listing::{FolderListing, ListedFile, fault_of, joined, list_folder};
-use crate::read_file::hash_watched;
+use crate::first_look::faulty_facts;
+use crate::folder_listing::{FolderListing, ListedFile, list_bag, unlisted};
+use crate::hash_listed::hash_listed;
+use crate::open_bag::OpenBag;
 use crate::watcher::{Silent, Watcher};
 use bag_check::named_by;
 use bag_digest::Algorithms;
-use bag_tree::{Facts, FileFacts, TreeFault, is_text_named};
-use std::fs;
-use std::fs::{Files, OpenFile};
+use bag_tree::{Facts, TreeFault, is_text_named};
+use std::alloc::Global;
+use std::fs::Files;
 
-/// The facts of the tree in this folder. Its files are read in pieces once all are listed. No
-/// contract knows a disk's bytes; whatever they are, each file's facts are those of some bytes,
-/// with the digests by the algorithms that the manifests among the files name, and no other. No
-/// link is followed but the folder's own path. It is refused with `Listing`, where a folder is
-/// missing or can't be listed or a name in it isn't UTF-8; `NotAFile`, where an entry is neither a
-/// file nor a folder; `TooDeep`; `TooMany`, where there are more than `MOST_FILES` files and
-/// folders; `TextTooLong`; `Device`, where a file can't be read or is exchanged meanwhile; or
-/// `Memory`.
+/// Of which files the bytes are read.
+#[derive(Clone, Copy, Debug, PartialEq, Eq)]
+pub(crate) enum Reading {
+    /// Those of the texts that describe the bag, and of the others where nothing else is wrong.
+    Needed,
+    /// Those of all.
+    All,
+}
+
+/// The facts of the tree in this folder. Its files are read in pieces once all are listed: first the
+/// texts that describe the bag, and where these and the list show no fault, all. No contract knows a
+/// disk's bytes; whatever they are, each file's facts are those of some bytes, with the digests that
+/// are needed: none where a fault shows without, else those by the algorithms that the manifests
+/// among the files name, and no other. No link is followed but the folder's own path, but for one
+/// that takes a file's place in the moment between the last look at it and its opening. It is
+/// refused with `Listing`, where a folder is missing or can't be listed or a name in it isn't UTF-8;
+/// `NotAFile`, where an entry is neither a file nor a folder; `TooDeep`; `TooMany`, where there are
+/// more than `MOST_FILES` files and folders; `TextTooLong`; `Device`, where a file can't be read or
+/// is exchanged meanwhile; or `Memory`.
 pub fn read_folder<R: Files + AllocGlobal + Clone + Drop>(
     rt: &R,
     folder: &str,
 ) -> Result<Facts, TreeFault>
-    ensures digests { IfOk result HasNamedDigests }
+    ensures digests { IfOk result HasNeededDigests }
     ensures faults { IfErr result IsWalkFault }
 {
-    match read_watched(rt, folder, &mut Silent) {
+    match read_watched(rt, folder, Reading::Needed, &mut Silent) {
         Ok(facts) => Ok(facts),
         Err(failure) => Err(failure.fault),
     }
@@ -38,19 +51,42 @@ pub fn read_folder<R: Files + AllocGlobal + Clone + Drop>(
 pub(crate) fn read_watched<R: Files + AllocGlobal + Clone + Drop, W: Watcher>(
     rt: &R,
     folder: &str,
+    reading: Reading,
+    watcher: &mut W,
+) -> Result<Facts, Failure>
+    ensures digests { IfOk result HasNeededDigests }
+    ensures faults { IfErr result (λ failure. IsWalkFault failure.fault) }
+{
+    let mut bag = match OpenBag::of_path(rt, folder) {
+        Ok(bag) => bag,
+        Err(error) => return Err(unlisted(rt.alloc(), "", &error)?),
+    };
+    let listing = list_bag(rt.alloc(), &bag)?;
+    watcher.listed(listing.files.len() as u64, listing.bytes());
+    if reading == Reading::Needed && listing.is_worth_a_look() {
+        if let Some(facts) = faulty_facts(rt.alloc(), &mut bag, &listing)? {
+            return Ok(facts);
+        }
+    }
+    named_facts(rt.alloc(), &mut bag, listing, watcher)
+}
+
+/// The facts of all files that were listed.
+fn named_facts<R: Files + AllocGlobal + Clone + Drop, W: Watcher>(
+    alloc: Global,
+    bag: &mut OpenBag<'_, R>,
+    listing: FolderListing,
     watcher: &mut W,
 ) -> Result<Facts, Failure>
     ensures digests { IfOk result HasNamedDigests }
     ensures faults { IfErr result (λ failure. IsWalkFault failure.fault) }
 {
-    let listing = list_folder(rt, folder)?;
-    watcher.listed(listing.files.len() as u64, listing.bytes());
     let wanted = named_by_files(listing.files.as_slice());
     let of_texts = named_by_tag_manifests(listing.files.as_slice());
-    let mut files = Vec::with_capacity(rt.alloc(), listing.files.len())?;
+    let mut files = Vec::with_capacity(alloc, listing.files.len())?;
     let payload = listing.payload;
     for file in listing.files {
-        files.push(hash_listed(rt, folder, file, wanted, watcher)?)?;
+        files.push(hash_listed(alloc, bag, &file, wanted, watcher)?)?;
     }
     let mut facts = Facts::new(files, payload);
     // Each of these is asked for as often as a tag manifest lists the text.
@@ -78,49 +114,4 @@ fn named_by_tag_manifests(files: &[ListedFile]) -> Algorithms {
         }
     }
     named
-}
-
-/// The facts of a file that was listed.
-fn hash_listed<R: Files + AllocGlobal + Clone + Drop, W: Watcher>(
-    rt: &R,
-    folder: &str,
-    file: ListedFile,
-    wanted: Algorithms,
-    watcher: &mut W,
-) -> Result<FileFacts, Failure>
-    ensures digests { IfOk result (λ facts. IsFactBy wanted (string_bytes file.path) facts) }
-    ensures faults { IfErr result (λ failure. IsWalkFault failure.fault) }
-{
-    let path = joined(rt.alloc(), folder, file.path.as_str())?;
-    match hash_file(rt, path.as_str(), &file, wanted, watcher) {
-        Ok(facts) => {
-            watcher.file_done();
-            Ok(facts)
-        }
-        Err(fault) => Err(Failure::at(file.path, fault)),
-    }
-}
-
-/// The facts of the file at this path. A file that was put in its place since it was listed is not
-/// read.
-fn hash_file<R: Files + AllocGlobal + Clone + Drop, W: Watcher>(
-    rt: &R,
-    path: &str,
-    listed: &ListedFile,
-    wanted: Algorithms,
-    watcher: &mut W,
-) -> Result<FileFacts, TreeFault>
-    ensures digests { IfOk result (λ facts. IsFactBy wanted (string_bytes listed.now.path) facts) }
-    ensures faults { IfErr result IsWalkFault }
-{
-    let mut file = match fs::open(rt, path) {
-        Ok(file) => file,
-        Err(error) => return Err(fault_of(&error, TreeFault::Device)),
-    };
-    match file.metadata() {
-        Ok(opened) if listed.is(&opened) => {}
-        Ok(_) => return Err(TreeFault::Device),
-        Err(error) => return Err(fault_of(&error, TreeFault::Device)),
-    }
-    hash_watched(rt.alloc(), listed.path.as_str(), wanted, &mut file, watcher)
 }

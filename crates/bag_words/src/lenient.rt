@@ -156,6 +156,12 @@ impl Walk<'_> {
         wanted: Algorithms,
     ) -> Result<Result<FileFacts, Reason>, AllocError> {
         let place = self.path_of(path)?;
+        // A pipe that took its place would be waited for.
+        match fs::symlink_metadata(self.rt, place.as_str()) {
+            Ok(metadata) if metadata.is_file() => {}
+            Ok(metadata) => return Ok(Err(Reason::of_entry(&metadata))),
+            Err(error) => return out_of(&error),
+        }
         let mut file = match File::open(self.rt, place.as_str()) {
             Ok(file) => file,
             Err(error) => return out_of(&error),

@@ -3,6 +3,7 @@
 use crate::all_folders::check_all_on;
 use crate::arguments::CheckTask;
 use crate::progress::{Progress, Saying};
+use crate::report::Report;
 use bag_folders::{DiskFolders, Folders};
 use bag_words::SpokenFolders;
 use outcomes::{ProgramFault, write_output};
@@ -54,5 +55,11 @@ pub fn watched_folders(
         Saying::Never
     };
     let watcher = Progress::new(rt.alloc(), rt.clone()?, errors, saying);
-    Ok(DiskFolders::watched(rt.clone()?, watcher))
+    let folders = DiskFolders::watched(rt.clone()?, watcher);
+    // All that is wrong is said where that is asked for, and wrong digests are among it.
+    if task.words || task.report == Report::Explained {
+        Ok(folders.with_all_digests())
+    } else {
+        Ok(folders)
+    }
 }

@@ -1,6 +1,6 @@
 use Rattle.std.proofs.Common.{map, string_bytes}
 use Rattle.bag_folders.proofs.NamedDigests.{AreFactsBy}
-use Rattle.bag_folders.proofs.walk.read_watched.Given as goal
+use Rattle.bag_folders.proofs.walk.named_facts.Given as goal
 
 -- those that were yielded are hashed
 abbrev pub invariant-loop-file : goal.invariant-loop-file

@@ -1,0 +1,101 @@
+ghost use Rattle.std.specs.Prelude.{◌≡◌, ◌≢◌, false, IfOk, IfErr, IfSome, string_bytes};
+ghost use Rattle.bag_digest.specs.Algorithms.{no_algorithms};
+ghost use Rattle.bag_tree.specs.Path.{is_read_text};
+ghost use Rattle.bag_check.specs.Check.{first_fault};
+ghost use Rattle.bag_folders.specs.Disk.{IsFactBy, HasNoDigests, NeedsNoDigest, shows, is_shown};
+ghost use Rattle.bag_folders.specs.Folders.{IsWalkFault};
+
+use crate::failure::Failure;
+use crate::folder_listing::{FolderListing, ListedFile};
+use crate::hash_listed::hash_listed;
+use crate::open_bag::OpenBag;
+use crate::watcher::Silent;
+use bag_check::{BagFault, check};
+use bag_digest::{Algorithms, Digester};
+use bag_tree::{Facts, FileFacts, is_read_text};
+use std::alloc::{AllocError, Global};
+use std::fs::Files;
+
+/// The facts of a bag's folder without any digest, where the texts that describe the bag and the
+/// list of its files show a fault. Of the files these texts alone are read.
+pub(crate) fn faulty_facts<R: Files + AllocGlobal + Clone + Drop>(
+    alloc: Global,
+    bag: &mut OpenBag<'_, R>,
+    listing: &FolderListing,
+) -> Result<Option<Facts>, Failure>
+    ensures needed { IfOk result (λ found. IfSome found NeedsNoDigest) }
+    ensures faults { IfErr result (λ failure. IsWalkFault failure.fault) }
+{
+    let facts = bare_facts(alloc, bag, listing)?;
+    if shows_fault(alloc, &facts)? {
+        Ok(Some(facts))
+    } else {
+        Ok(None)
+    }
+}
+
+/// Whether the first fault shows in the texts and in the list of the files.
+fn shows_fault(alloc: Global, facts: &Facts) -> Result<bool, AllocError>
+    ensures { IfOk result (λ found. found ≡ is_shown (first_fault facts.now)) }
+{
+    match check(alloc, facts) {
+        Ok(_) => Ok(false),
+        Err(fault) => shows(fault),
+    }
+}
+
+/// Whether this fault shows so. `Memory` is no fault of the bag.
+fn shows(fault: BagFault) -> Result<bool, AllocError>
+    ensures ok { IfOk result (λ found. found ≡ shows fault) }
+    ensures memory { IfOk result (λ _. fault ≢ BagFault.Memory) }
+{
+    match fault {
+        BagFault::Memory => Err(AllocError),
+        BagFault::WrongDigest => Ok(false),
+        _ => Ok(true),
+    }
+}
+
+/// What is known of the files that were listed, without any digest.
+fn bare_facts<R: Files + AllocGlobal + Clone + Drop>(
+    alloc: Global,
+    bag: &mut OpenBag<'_, R>,
+    listing: &FolderListing,
+) -> Result<Facts, Failure>
+    ensures digests { IfOk result HasNoDigests }
+    ensures faults { IfErr result (λ failure. IsWalkFault failure.fault) }
+{
+    let mut files = Vec::with_capacity(alloc, listing.files.len())?;
+    for file in listing.files.as_slice() {
+        files.push(bare_fact(alloc, bag, file)?)?;
+    }
+    Ok(Facts::new(files, listing.payload))
+}
+
+/// What is known of a file that was listed: a text that describes the bag is read.
+fn bare_fact<R: Files + AllocGlobal + Clone + Drop>(
+    alloc: Global,
+    bag: &mut OpenBag<'_, R>,
+    listed: &ListedFile,
+) -> Result<FileFacts, Failure>
+    ensures digests { IfOk result (λ facts.
+        IsFactBy no_algorithms (string_bytes listed.now.path) facts) }
+    ensures faults { IfErr result (λ failure. IsWalkFault failure.fault) }
+{
+    if is_read_text(listed.path.as_bytes()) {
+        hash_listed(alloc, bag, listed, Algorithms::none(), &mut Silent)
+    } else {
+        unread_fact(alloc, listed.path.as_str())
+    }
+}
+
+/// What is known of a file of this path that isn't read and is no text that describes a bag.
+fn unread_fact(alloc: Global, path: &str) -> Result<FileFacts, Failure>
+    requires { is_read_text path.now ≡ false }
+    ensures digests { IfOk result (λ facts. IsFactBy no_algorithms path.now facts) }
+    ensures faults { IfErr result (λ failure. IsWalkFault failure.fault) }
+{
+    let path = String::from_str(alloc, path)?;
+    let no_digests = Digester::new(Algorithms::none()).finish();
+    Ok(FileFacts::hashed(path, no_digests))
+}
