@@ -237,7 +237,8 @@ check_shown files payload is =
 named_files : (wanted : Algorithms) (files : List File)
     → map (fact_by wanted) files ≡ fewer wanted (map (fact_by all_algorithms) files)
 named_files wanted [] = refl
-named_files wanted (file ∷ files) = ap (λ rest. fact_by wanted file ∷ rest) (named_files wanted files)
+named_files wanted (file ∷ files) =
+    ap (λ rest. fact_by wanted file ∷ rest) (named_files wanted files)
 
 paths_same : (files : List File)
     → map (λ file. file.path) files

@@ -5,8 +5,8 @@ use bag_tree::{Facts, TreeFault};
 use std::fs::Files;
 
 /// Folders of the file system. What their files hold no contract knows; whatever it is, the digests
-/// of each are those that are needed: those that the manifests among them name, or none where a fault
-/// shows without reading more than the texts that describe the bag.
+/// of each are those that are needed: those that the manifests among them name, or none where a
+/// fault shows without reading more than the texts that describe the bag.
 #[derive(Drop)]
 pub struct DiskFolders<R: Files + AllocGlobal + Clone + Drop, W: Watcher + Drop = Silent> {
     rt: R,

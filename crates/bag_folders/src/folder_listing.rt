@@ -61,7 +61,8 @@ impl FolderListing {
         bytes
     }
 
-    /// Whether a look at the texts that describe the bag takes little time beside all other reading.
+    /// Whether a look at the texts that describe the bag takes little time beside all other
+    /// reading.
     pub(crate) fn is_worth_a_look(&self) -> bool {
         let mut of_texts = 0u64;
         for file in self.files.as_slice() {

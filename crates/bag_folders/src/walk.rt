@@ -24,16 +24,16 @@ pub(crate) enum Reading {
     All,
 }
 
-/// The facts of the tree in this folder. Its files are read in pieces once all are listed: first the
-/// texts that describe the bag, and where these and the list show no fault, all. No contract knows a
-/// disk's bytes; whatever they are, each file's facts are those of some bytes, with the digests that
-/// are needed: none where a fault shows without, else those by the algorithms that the manifests
-/// among the files name, and no other. No link is followed but the folder's own path, but for one
-/// that takes a file's place in the moment between the last look at it and its opening. It is
-/// refused with `Listing`, where a folder is missing or can't be listed or a name in it isn't UTF-8;
-/// `NotAFile`, where an entry is neither a file nor a folder; `TooDeep`; `TooMany`, where there are
-/// more than `MOST_FILES` files and folders; `TextTooLong`; `Device`, where a file can't be read or
-/// is exchanged meanwhile; or `Memory`.
+/// The facts of the tree in this folder. Its files are read in pieces once all are listed: first
+/// the texts that describe the bag, and where these and the list show no fault, all. No contract
+/// knows a disk's bytes; whatever they are, each file's facts are those of some bytes, with the
+/// digests that are needed: none where a fault shows without, else those by the algorithms that the
+/// manifests among the files name, and no other. No link is followed but the folder's own path, but
+/// for one that takes a file's place in the moment between the last look at it and its opening. It
+/// is refused with `Listing`, where a folder is missing or can't be listed or a name in it isn't
+/// UTF-8; `NotAFile`, where an entry is neither a file nor a folder; `TooDeep`; `TooMany`, where
+/// there are more than `MOST_FILES` files and folders; `TextTooLong`; `Device`, where a file can't
+/// be read or is exchanged meanwhile; or `Memory`.
 pub fn read_folder<R: Files + AllocGlobal + Clone + Drop>(
     rt: &R,
     folder: &str,

@@ -4,7 +4,7 @@ use crate::tally::{Kind, Sender, Tally};
 
 /// So many senders and kinds of lines are counted by themselves in a minute. Those that come later
 /// share one count for each kind: whatever comes, from however many ports, a minute has no more than
-/// 70 times 60 lines.
+/// 69 times 60 lines, and what it learns.
 pub(crate) const PLACES: usize = 64;
 
 /// The lines of a minute of the clock.
@@ -15,7 +15,7 @@ pub(crate) struct Minute {
     /// How many lines couldn't be written to standard output without waiting.
     pub(crate) blocked: u32,
     own: [Option<Tally>; PLACES],
-    others: [Tally; 6],
+    others: [Tally; 5],
 }
 
 impl Minute {

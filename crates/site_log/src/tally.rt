@@ -5,11 +5,11 @@ ghost use Rattle.std.specs.Prelude.{◌≡◌, ◌↔◌, ◌<◌, ◌-◌, IsTr
 /// So many lines of one sender and kind are written in a minute.
 pub(crate) const MOST_LINES: u32 = 60;
 
-/// What a line says, by its first word. What else a site writes comes once a start or an ending.
+/// What a line says, by its first word. What else a site writes comes once a version, with a record
+/// that it keeps (`known`), or once a start or an ending.
 #[derive(Clone, Copy, Debug, PartialEq, Eq)]
 pub(crate) enum Kind {
     Registered,
-    Known,
     Reply,
     Refused,
     Unread,
@@ -18,9 +18,8 @@ pub(crate) enum Kind {
 
 impl Kind {
     /// All of them.
-    pub(crate) const ALL: [Kind; 6] = [
+    pub(crate) const ALL: [Kind; 5] = [
         Kind::Registered,
-        Kind::Known,
         Kind::Reply,
         Kind::Refused,
         Kind::Unread,
@@ -45,7 +44,6 @@ impl Kind {
     pub(crate) fn word(self) -> &'static str {
         match self {
             Kind::Registered => "registered",
-            Kind::Known => "known",
             Kind::Reply => "reply",
             Kind::Refused => "refused",
             Kind::Unread => "unread",
