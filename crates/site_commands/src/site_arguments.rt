@@ -45,9 +45,9 @@ the last line of a site that doesn't begin to serve, too; after each last line i
   TIME - why: the cell is damaged; keep the file; the site is lost, and the others go on
 Where the log can't be written, or isn't a file, standard error says so once, and the site goes on.
 
-Of one port and one first word the log has 60 lines a minute. Those after them are counted, and once
-the minute is over, or the site ends, it says how many there were. So are 64 ports and words of a
-minute; later ones share one count for each word, under *:
+Of one port and one first word the log has 60 lines a minute, but each line `known`. Those after
+them are counted, and once the minute is over, or the site ends, it says how many there were. So are
+64 ports and words of a minute; later ones share one count for each word, under *:
   TIME 51234 log: 12345 dropped in this minute (refused)
 With a log no line waits for who reads standard output: what can't be written at once isn't, and the
 log says how many lines there were. With --quiet nothing is written there at all.
