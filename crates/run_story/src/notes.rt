@@ -13,8 +13,8 @@ use records::{Entry, Owner, Record, read_journal};
 use sim_federation::Federation;
 use sim_stations::{RunState, Station};
 use sim_tables::{Datagrams, SeenBags};
+use slot_table::ListedRows;
 use std::alloc::{AllocError, Global};
-use std::collections::BTreeMap;
 
 /// What was noted so far.
 #[derive(Drop)]
@@ -23,8 +23,8 @@ pub(crate) struct Notes {
     members: Members,
     datagrams: Datagrams<Datagram>,
     passages: Vec<Passage>,
-    // The slots, each with its place in the order in which they came first.
-    slots: BTreeMap<Slot, usize>,
+    // The slots in the order in which they came first, each with its place.
+    slots: ListedRows<usize>,
     // How many records each site has, site 1 first.
     records: Vec<usize>,
     events: Vec<Event>,
@@ -51,7 +51,7 @@ impl Notes {
             members,
             datagrams: Datagrams::new(alloc),
             passages: Vec::new(alloc),
-            slots: BTreeMap::new(alloc),
+            slots: ListedRows::new(alloc),
             records,
             events: Vec::new(alloc),
             lines: 0,
@@ -88,8 +88,8 @@ impl Notes {
         if let Some(place) = self.slots.get(slot) {
             return Ok(*place);
         }
-        let place = self.slots.len();
-        self.slots.insert(slot.copy(self.alloc)?, place)?;
+        let place = self.slots.slots().len();
+        self.slots.put(slot, place)?;
         Ok(place)
     }
 

@@ -143,7 +143,7 @@ impl Scene<'_> {
             'u' => self.event.slot,
             _ => self.datagram?.slot,
         };
-        self.story.slots.get_index(place?)
+        self.story.slots.slots().get(place?)
     }
 
     fn push_fault(&self, text: &mut String) -> Result<(), AllocError> {

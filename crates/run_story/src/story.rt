@@ -1,9 +1,9 @@
 use crate::datagram::Datagram;
 use crate::event::{Deed, Event, Outcome};
-use fed_types::{Ballot, Members, Slot};
+use fed_types::{Ballot, Members};
 use lines::{Line, Reason};
 use sim_tables::Datagrams;
-use std::collections::BTreeMap;
+use slot_table::ListedRows;
 
 /// What became of a datagram.
 #[derive(Clone, Copy)]
@@ -36,7 +36,7 @@ pub struct Story {
     /// What became of each datagram, in the order of their numbers.
     pub passages: Vec<Passage>,
     pub(crate) datagrams: Datagrams<Datagram>,
-    pub(crate) slots: BTreeMap<Slot, usize>,
+    pub(crate) slots: ListedRows<usize>,
 }
 
 impl Story {
@@ -52,7 +52,7 @@ impl Story {
 
     /// Whether it is about more than one slot, so that they have to be named.
     pub fn has_many_slots(&self) -> bool {
-        1 < self.slots.len()
+        1 < self.slots.slots().len()
     }
 
     /// Whether sites have other weights than 1.
