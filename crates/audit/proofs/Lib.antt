@@ -10,4 +10,3 @@ pub mod KeptVersions
 pub mod GivenVotes
 pub mod Answered
 pub mod NoRecords
-pub mod OrderedCasts

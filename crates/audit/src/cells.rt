@@ -8,10 +8,10 @@ use crate::finding::Finding;
 use crate::rows::{Rows, fill, row_of};
 use crate::votes::Votes;
 use fed_types::{Members, SiteNo, Slot};
+use indexmap::IndexMap;
 use records::Record;
-use slot_table::SlotTable;
 use std::alloc::{AllocError, Global};
-use std::collections::BTreeMap;
+use std::hash::RandomState;
 use std::marker::Model;
 
 /// The records of cells of several sites, and what they say together of each version. A clause
@@ -32,21 +32,22 @@ impl Model for Cells {
     ghost view = { λ c. record {
       members = c.members;
       votes = c.votes.entries;
-      rows = c.rows;
+      rows = c.rows.entries;
     } };
 }
 
 impl Cells {
-    /// No record was given.
-    pub fn new(alloc: Global, members: Members) -> Cells
+    /// No record was given. Versions and votes are found by this hashing, whose seed is random:
+    /// whoever hands in a cell chooses their names.
+    pub fn new(alloc: Global, members: Members, hashing: RandomState) -> Cells
         ensures members { result.members ≡ members }
         ensures nothing { Represents result [] }
     {
         Cells {
             alloc,
             members,
-            votes: BTreeMap::new(alloc),
-            rows: SlotTable::new(alloc),
+            votes: IndexMap::with_hasher(alloc, hashing),
+            rows: IndexMap::with_hasher(alloc, hashing),
         }
     }
 

@@ -2,7 +2,7 @@
 
 ghost use Rattle.std.specs.Prelude.{◌≡◌, ◌++◌, ◌∷◌, [], List, OnOk, IfOk};
 ghost use Rattle.fed_types.specs.Quorums.{quorums_of};
-ghost use Rattle.slot_table.specs.Rows.{row_of};
+ghost use Rattle.slot_table.specs.Rows.{row_of, IsWith};
 ghost use Rattle.audit.specs.Evidence.{SiteRecord};
 ghost use Rattle.audit.specs.inner.Rows.{empty_row};
 ghost use Rattle.audit.specs.Tables.{AreRows, AreVoters, IsRowFor};
@@ -10,20 +10,31 @@ ghost use Rattle.audit.specs.Tables.{AreRows, AreVoters, IsRowFor};
 use crate::row::Row;
 use crate::votes::{Cast, Votes, count};
 use fed_types::{Members, SiteNo, Slot, Vote};
+use indexmap::IndexMap;
 use records::{Entry, Record};
-use slot_table::SlotTable;
 use std::alloc::{AllocError, Global};
+use std::hash::RandomState;
 
-/// What was given of each version.
-pub(crate) type Rows = SlotTable<Row>;
+/// The versions, in the order in which they were given, and what was given of each.
+pub(crate) type Rows = IndexMap<Slot, Row, RandomState>;
 
 /// What was given of a version.
 pub(crate) fn row_of(rows: &Rows, slot: &Slot) -> Row
-    ensures { result ≡ row_of empty_row rows.now slot.now }
+    ensures { result ≡ row_of empty_row rows.now.entries slot.now }
 {
     match rows.get(slot) {
         Some(row) => *row,
         None => Row::EMPTY,
+    }
+}
+
+/// This is what was given of a version.
+pub(crate) fn put_row(rows: &mut Rows, slot: Slot, row: Row) -> Result<(), AllocError>
+    ensures { OnOk result (IsWith rows.old.entries rows.new.entries slot row) }
+{
+    match rows.insert(slot, row) {
+        Ok(_) => Ok(()),
+        Err(_) => Err(AllocError),
     }
 }
 
@@ -97,16 +108,14 @@ pub(crate) fn fill(
     ensures voters { OnOk result ((given : List SiteRecord) → AreVoters votes.old.entries given
         → AreVoters votes.new.entries (given ++ record { site = site; kept = kept.now } ∷ [])) }
     ensures rows { OnOk result ((given : List SiteRecord) → AreVoters votes.old.entries given
-        → AreRows (quorums_of members) rows.old given
-        → AreRows (quorums_of members) rows.new
+        → AreRows (quorums_of members) rows.old.entries given
+        → AreRows (quorums_of members) rows.new.entries
         (given ++ record { site = site; kept = kept.now } ∷ [])) }
 {
-    // The checker of borrows has to know each type that a row holds.
-    let _vote: Option<Vote> = None;
     let slot = kept.slot.copy(alloc)?;
     let before = row_of(rows, &kept.slot);
     match row_after(alloc, votes, members, site, kept, before) {
-        Ok(after) => rows.put(slot, after),
+        Ok(after) => put_row(rows, slot, after),
         Err(AllocError) => Err(AllocError),
     }
 }

@@ -5,18 +5,19 @@ ghost use Rattle.fed_types.specs.Voters.{with_voter};
 ghost use Rattle.audit.specs.inner.Casts.{voters_in, IsCounted};
 
 use fed_types::{SiteNo, Slot, Vote, Voters};
-use std::alloc::AllocError;
-use std::collections::BTreeMap;
+use indexmap::IndexMap;
+use std::alloc::{AllocError, Global};
+use std::hash::RandomState;
 
 /// A vote for a version.
-#[derive(Debug, Drop, PartialEq, Eq, PartialOrd, Ord)]
+#[derive(Debug, Drop, PartialEq, Eq, Hash)]
 pub(crate) struct Cast {
     pub(crate) slot: Slot,
     pub(crate) vote: Vote,
 }
 
 /// The votes that were given, and the sites that have each on record.
-pub(crate) type Votes = BTreeMap<Cast, Voters>;
+pub(crate) type Votes = IndexMap<Cast, Voters, RandomState>;
 
 // The sites that have a vote on record.
 fn voters_in(votes: &Votes, cast: &Cast) -> Voters
@@ -32,8 +33,10 @@ fn voters_in(votes: &Votes, cast: &Cast) -> Voters
 fn put(votes: &mut Votes, cast: Cast, voters: Voters) -> Result<(), AllocError>
     ensures { OnOk result (IsCounted votes.old.entries votes.new.entries cast voters) }
 {
-    votes.insert(cast, voters)?;
-    Ok(())
+    match votes.insert(cast, voters) {
+        Ok(_) => Ok(()),
+        Err(_) => Err(AllocError),
+    }
 }
 
 /// Counts that a site has a vote on record, and gives the sites that have it.

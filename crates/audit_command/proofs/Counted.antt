@@ -5,9 +5,9 @@ use Rattle.std.proofs.Common.{Err}
 use Rattle.std.proofs.lemmas.List.{map_push, take_more}
 use Rattle.std.proofs.lemmas.List.Sums.{fold-append}
 use Rattle.std.specs.Prelude.{map, OnOk}
+use Rattle.indexmap.specs.IndexSet.{insert_key}
 use Rattle.fed_types.specs.Sites.{Membership}
-use Rattle.fed_types.specs.Slots.{SlotName}
-use Rattle.slot_table.specs.Listings.{listed}
+use Rattle.fed_types.specs.Slots.{SlotName, same_slot}
 use Rattle.records.specs.declared.record.Record.{Record}
 use Rattle.ledger.specs.Versions.{slots_of, with_slot}
 use Rattle.audit.specs.Evidence.{SiteRecord}
@@ -31,13 +31,13 @@ no_slots = refl
 pub one_record : (members : Membership) (old new : Evidence) (given : List SiteRecord)
     (s : SiteRecord) → IsEvidence members old given
     → new.cells.members ≡ old.cells.members → Represents new.cells (given ++ s ∷ [])
-    → new.slots.slots ≡ listed old.slots.slots s.kept.slot
+    → new.slots.keys ≡ insert_key same_slot old.slots.keys s.kept.slot
     → IsEvidence members new (given ++ s ∷ [])
 one_record members old new given s is same stands put = record {
   members_are = same ∙ is.members_are;
   stands = stands;
   slots = put
-      ∙ ap (λ (slots : List SlotName). listed slots s.kept.slot) is.slots
+      ∙ ap (λ (slots : List SlotName). insert_key same_slot slots s.kept.slot) is.slots
       ∙ sym (slots_push (map (λ s. s.kept) given) s.kept)
       ∙ ap slots_of (sym (map_push (λ s. s.kept) given s));
 }

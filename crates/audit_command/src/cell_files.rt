@@ -1,4 +1,5 @@
 use std::alloc::AllocError;
+use std::hash::RandomState;
 
 /// Where cells are read from: a disk, or memory.
 ///
@@ -22,6 +23,9 @@ pub trait CellFiles {
 
     // What reading a cell gives from here on, where that is known.
     ghost left: { Self.Cell → Option FileBytes } = { λ _. None };
+
+    /// How what cells say is found: by a seed that nobody knows who writes a cell.
+    fn hashing(&self) -> RandomState;
 
     /// Opens the file of this path; none where that can't be done. It fails only where memory runs
     /// out.

@@ -41,6 +41,7 @@ pub(crate) enum Progress {
 
 // Counts these records, if the cell is a member's.
 fn add_counted(
+    alloc: Global,
     evidence: &mut Evidence,
     standing: &Standing,
     records: &[Record],
@@ -48,7 +49,7 @@ fn add_counted(
     ensures { OnOk result (Adds evidence.old evidence.new (counted_as standing.now records.now)) }
 {
     match standing {
-        Standing::Member(site) => add_records(evidence, *site, records),
+        Standing::Member(site) => add_records(alloc, evidence, *site, records),
         Standing::Unknown | Standing::Foreign => Ok(()),
     }
 }
@@ -81,7 +82,7 @@ impl CellReading {
         let Part { head, records } = part;
         self.standing = standing_after(members, self.standing, &head, &records);
         let sure = self.last.pass(alloc, records)?;
-        add_counted(evidence, &self.standing, &sure)
+        add_counted(alloc, evidence, &self.standing, &sure)
     }
 
     // Counts those of the last part, and gives what is amiss with the cell.

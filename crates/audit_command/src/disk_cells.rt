@@ -7,6 +7,7 @@ use crate::cell_words::{say_opened, say_synced};
 use ledger::LiveCell;
 use std::alloc::AllocError;
 use std::fs::{File, TryLockError};
+use std::hash::RandomState;
 use std::io::{self, ErrorKind, Read};
 use std::os::fd::AsRawFd;
 
@@ -16,6 +17,7 @@ pub(crate) struct DiskCells<'a> {
     pub(crate) rt: &'a HostRuntime,
     /// Whether standard error says of each cell how it was opened.
     pub(crate) words: bool,
+    pub(crate) hashing: RandomState,
 }
 
 /// A cell's file that was opened, as far as it was read.
@@ -31,6 +33,10 @@ pub(crate) struct DiskCell {
 
 impl CellFiles for DiskCells<'_> {
     type Cell = DiskCell;
+
+    fn hashing(&self) -> RandomState {
+        self.hashing
+    }
 
     fn open(&self, path: &str) -> Result<Option<DiskCell>, AllocError> {
         let opened = open_cell(self.rt, path);

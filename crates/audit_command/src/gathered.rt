@@ -20,6 +20,7 @@ use crate::in_use_line::push_in_use;
 use crate::last_records::unsure_of;
 use fed_types::Members;
 use std::alloc::{AllocError, Global};
+use std::hash::RandomState;
 
 /// What was gathered of the cells.
 #[derive(Drop)]
@@ -34,11 +35,11 @@ pub(crate) struct Gathered {
 }
 
 // No cell was read.
-fn nothing_gathered(alloc: Global, members: Members) -> Gathered
+fn nothing_gathered(alloc: Global, members: Members, hashing: RandomState) -> Gathered
     ensures { IsGathered members result [] }
 {
     Gathered {
-        evidence: no_evidence(alloc, members),
+        evidence: no_evidence(alloc, members, hashing),
         in_use: String::new(alloc),
         text: String::new(alloc),
         all_used: true,
@@ -166,7 +167,7 @@ pub(crate) fn gather<F: CellFiles>(
         × AreReadings members.now (F.bytes_at files.now) (map (λ path. path.now) paths.now) readings
         × IsGathered members.now gathered readings) }
 {
-    let mut gathered = nothing_gathered(alloc, *members);
+    let mut gathered = nothing_gathered(alloc, *members, files.hashing());
     for path in paths {
         add_cell(alloc, members, files, &mut gathered, path)?;
     }

@@ -17,7 +17,7 @@ pub record IsEvidence (members : Membership) (e : Evidence) (given : List SiteRe
     : Type 0 where
   pub members_are : e.cells.members ≡ members
   pub stands : Represents e.cells given
-  pub slots : e.slots.slots ≡ slots_of (map (λ s. s.kept) given)
+  pub slots : e.slots.keys ≡ slots_of (map (λ s. s.kept) given)
 
 -- what was gathered is what these readings give
 pub record IsGathered (members : Membership) (g : Gathered) (readings : List Reading)

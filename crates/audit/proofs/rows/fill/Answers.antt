@@ -9,12 +9,12 @@ use Rattle.audit.proofs.GivenVotes.{rows_filled}
 use Rattle.audit.proofs.rows.fill.Goals as goal
 
 pub returns-in-Ok-clause-rows : goal.returns-in-Ok-clause-rows
-returns-in-Ok-clause-rows c = one_ok c.put.result c.put.ensures.ok
+returns-in-Ok-clause-rows c = one_ok c.put_row.result c.put_row.ensures
     (λ put given voters are.
     let q : QuorumSystem = quorums_of c.args.members in
     let slot : SlotName = c.args.kept.now.slot in
-    let old = c.args.rows.now in
-    let new = c.put.new.self in
+    let old = c.args.rows.now.entries in
+    let new = c.put_row.new.rows.entries in
     let after : Row = c.in-Ok.after in
     let before = subst (λ (row : Row). IsRowFor q given slot row) (sym c.row_of-before.ensures)
     (are slot) in

@@ -6,5 +6,5 @@ pub returns : goal.returns
 returns c = record {
   members_are = c.new.ensures.members;
   stands = c.new.ensures.nothing;
-  slots = c.new-2.ensures.slots ∙ sym no_slots;
+  slots = c.with_hasher.ensures.empty ∙ sym no_slots;
 }

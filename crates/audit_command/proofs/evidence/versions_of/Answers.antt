@@ -11,7 +11,7 @@ use Rattle.audit_command.proofs.evidence.versions_of.Goals as goal
 pub loop-slot-preserved : goal.loop-slot-preserved
 loop-slot-preserved c = record {
   slots = next_slot c.loop-slot.versions.items c.push.new.self.items c.in_ok-version_of.field-0
-      c.slots-slots.result.now c.loop-slot.slot-index c.slot-item.result
+      c.as_slice-slots.result.now c.loop-slot.slot-index c.slot-item.result
       c.in_ok-push.ensures.items c.in_ok-version_of.ensures.slot c.loop-slot-test.true
       c.slot-item.is c.loop-slot.invariant.slots;
   found = λ members given is.
@@ -27,7 +27,7 @@ loop-slot-preserved c = record {
 pub returns : goal.returns
 returns c = λ members given is. record {
   slots = c.loop-slot.invariant.slots
-      ∙ take_all c.loop-slot.slot-index c.slots-slots.result.now c.loop-slot-test.false
-      ∙ c.slots-slots.ensures ∙ is.slots;
+      ∙ take_all c.loop-slot.slot-index c.as_slice-slots.result.now c.loop-slot-test.false
+      ∙ c.as_slice-slots.ensures.keys ∙ is.slots;
   findings = c.loop-slot.invariant.found members given is;
 }

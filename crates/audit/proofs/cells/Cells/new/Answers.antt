@@ -10,9 +10,9 @@ pub returns-clause-nothing : goal.returns-clause-nothing
 returns-clause-nothing c =
     subst
     (λ (votes : Casts). Represents
-    (record { members = c.args.members; votes = votes; rows = c.new-2.result }) [])
-    (sym c.new.ensures.empty)
+    (record { members = c.args.members; votes = votes; rows = c.with_hasher-2.result.entries }) [])
+    (sym c.with_hasher.ensures.empty)
     (subst
     (λ (rows : Rows Row). Represents
     (record { members = c.args.members; votes = []; rows = rows }) [])
-    (sym c.new-2.ensures) (nothing_given c.args.members))
+    (sym c.with_hasher-2.ensures.empty) (nothing_given c.args.members))
