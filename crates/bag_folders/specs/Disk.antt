@@ -1,13 +1,13 @@
 -- What is known of the facts that a disk gives, though no contract knows its bytes.
 use Rattle.std.specs.Prelude.{◌≡◌, ◌⊎◌, ℕ, Bool, true, false, List, map, IsTrue}
-use Rattle.std.specs.Prelude.{Option, Some, None}
+use Rattle.std.specs.Prelude.{Option, Some, None, is_err}
 use Rattle.bag_digest.specs.declared.algorithms.Algorithms.{Algorithms}
 use Rattle.bag_digest.specs.Algorithms.{no_algorithms}
 use Rattle.bag_tree.specs.Tree.{File}
 use Rattle.bag_tree.specs.Facts.{FileFact, TreeFacts, fact_by}
 use Rattle.bag_check.specs.declared.fault.BagFault.{BagFault}
 use Rattle.bag_check.specs.declared.fault.BagFault.TheVariants.{WrongDigest, Memory}
-use Rattle.bag_check.specs.Check.{first_fault}
+use Rattle.bag_check.specs.Check.{check_of, first_fault}
 use Rattle.bag_check.specs.Named.{named_of}
 
 -- it is the fact of a file of this path and of some bytes: it has the digests of these bytes by the
@@ -48,6 +48,15 @@ pub record NeedsNoDigest (facts : TreeFacts) : Type 0 where
 -- they have the digests that the answer about the bag needs: `needed_law` says so
 abbrev pub HasNeededDigests : TreeFacts → Type 0
 HasNeededDigests facts = HasNamedDigests facts ⊎ NeedsNoDigest facts
+
+-- a check refuses the bag of these facts
+abbrev pub IsRefused : TreeFacts → Type 0
+IsRefused facts = IsTrue (is_err (check_of facts))
+
+-- They have the digests that the answer needs; or they stand for a bag that was refused, and is
+-- refused again.
+abbrev pub IsKnownOrRefused : TreeFacts → Type 0
+IsKnownOrRefused facts = HasNeededDigests facts ⊎ IsRefused facts
 
 -- what is known of files whose digests by these algorithms are wanted
 abbrev pub facts_by : Algorithms → List File → Bool → TreeFacts

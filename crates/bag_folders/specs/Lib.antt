@@ -1,4 +1,5 @@
 pub mod Pieces
+pub mod Refusals
 pub mod Folders
 pub mod Disk
 pub mod inner

@@ -1,6 +1,7 @@
 use crate::folders::Folders;
 use crate::walk::{Reading, read_watched};
 use crate::watcher::{Silent, Watcher};
+use bag_check::BagFault;
 use bag_tree::{Facts, TreeFault};
 use std::fs::Files;
 
@@ -12,8 +13,6 @@ pub struct DiskFolders<R: Files + AllocGlobal + Clone + Drop, W: Watcher + Drop 
     rt: R,
     watcher: W,
     reading: Reading,
-    /// The most bytes that the files of a folder may have together.
-    most_bytes: u64,
     failed_at: Option<String>,
 }
 
@@ -31,7 +30,6 @@ impl<R: Files + AllocGlobal + Clone + Drop, W: Watcher + Drop> DiskFolders<R, W>
             rt,
             watcher,
             reading: Reading::Needed,
-            most_bytes: u64::MAX,
             failed_at: None,
         }
     }
@@ -42,19 +40,6 @@ impl<R: Files + AllocGlobal + Clone + Drop, W: Watcher + Drop> DiskFolders<R, W>
             rt: self.rt,
             watcher: self.watcher,
             reading: Reading::All,
-            most_bytes: self.most_bytes,
-            failed_at: self.failed_at,
-        }
-    }
-
-    /// The same, but for folders whose files have more bytes together: such a folder is `TooMany`,
-    /// before any of its files is read.
-    pub fn with_most_bytes(self, most_bytes: u64) -> DiskFolders<R, W> {
-        DiskFolders {
-            rt: self.rt,
-            watcher: self.watcher,
-            reading: self.reading,
-            most_bytes,
             failed_at: self.failed_at,
         }
     }
@@ -65,6 +50,7 @@ impl<R: Files + AllocGlobal + Clone + Drop, W: Watcher + Drop> DiskFolders<R, W>
     }
 }
 
+// It remembers no refusals.
 impl<R: Files + AllocGlobal + Clone + Drop, W: Watcher + Drop> Folders for DiskFolders<R, W> {
     ghost use Rattle.std.specs.Prelude.{IfOk, IfErr};
     ghost use Rattle.bag_folders.specs.Disk.{HasNeededDigests};
@@ -75,13 +61,7 @@ impl<R: Files + AllocGlobal + Clone + Drop, W: Watcher + Drop> Folders for DiskF
         ensures faults { IfErr result IsWalkFault }
     {
         self.failed_at = None;
-        match read_watched(
-            &self.rt,
-            path,
-            self.reading,
-            self.most_bytes,
-            &mut self.watcher,
-        ) {
+        match read_watched(&self.rt, path, self.reading, &mut self.watcher) {
             Ok(facts) => Ok(facts),
             Err(failure) => {
                 self.failed_at = failure.place;
@@ -89,6 +69,8 @@ impl<R: Files + AllocGlobal + Clone + Drop, W: Watcher + Drop> Folders for DiskF
             }
         }
     }
+
+    fn refused(&mut self, _fault: BagFault) {}
 
     fn failed_at(&self) -> Option<&str> {
         match &self.failed_at {

@@ -74,6 +74,13 @@ impl FolderListing {
         of_texts <= SHORT_TEXTS || of_texts <= of_others / BYTES_BESIDE
     }
 
+    /// Whether a later change of a file gives it another time, in this second since 1970: all were
+    /// changed before the last second. A system stamps several changes within milliseconds alike.
+    pub(crate) fn is_settled(&self, second: i64) -> bool {
+        let files = self.files.as_slice();
+        files.iter().all(|file| file.look.changed_second() < second.saturating_sub(1))
+    }
+
     /// Takes the entries of the subfolder `below` of the bag.
     fn list<R: Files + AllocGlobal + Clone + Drop>(
         &mut self,

@@ -1,3 +1,4 @@
+use bag_check::BagFault;
 use bag_tree::{Facts, TreeFault};
 
 /// Where folders are read from: a disk, or memory.
@@ -22,6 +23,12 @@ pub trait Folders {
         ensures kept { gives self.new ≡ gives self.old }
         ensures place { fails_at self.new ≡ fails_at self.old }
         ensures faults { IfErr result (λ fault. fault ≢ BadPath) };
+
+    /// The bag that was read last was refused for this fault. Folders may remember that, and need
+    /// not read them again for a while.
+    fn refused(&mut self, fault: BagFault)
+        ensures kept { gives self.new ≡ gives self.old }
+        ensures place { fails_at self.new ≡ fails_at self.old };
 
     /// Where the last read failed, where that is known: a path below the folder, or `.` for the
     /// folder itself.

@@ -17,6 +17,8 @@ pub(crate) struct Look {
     pub(crate) length: u64,
     device: u64,
     inode: u64,
+    /// When it was changed last, in seconds and nanoseconds since 1970: a time that nobody can set.
+    changed: (i64, i64),
 }
 
 impl Look {
@@ -34,7 +36,24 @@ impl Look {
             length: metadata.len(),
             device: metadata.dev(),
             inode: metadata.ino(),
+            changed: (metadata.ctime(), metadata.ctime_nsec()),
         }
+    }
+
+    /// In which second since 1970 it was changed last.
+    pub(crate) fn changed_second(&self) -> i64 {
+        self.changed.0
+    }
+
+    /// Its numbers, each of eight bytes: which file it is, how long, and when it was changed last.
+    pub(crate) fn numbers(&self) -> [[u8; 8]; 5] {
+        [
+            self.device.to_le_bytes(),
+            self.inode.to_le_bytes(),
+            self.length.to_le_bytes(),
+            self.changed.0.to_le_bytes(),
+            self.changed.1.to_le_bytes(),
+        ]
     }
 
     /// Whether both are of one file.

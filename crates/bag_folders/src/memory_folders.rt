@@ -1,4 +1,5 @@
 use crate::folders::Folders;
+use bag_check::BagFault;
 use bag_tree::{Facts, Tree, TreeFault, facts_of};
 use std::alloc::{AllocError, Global};
 use std::marker::Model;
@@ -75,6 +76,8 @@ impl Folders for MemoryFolders {
             None => Err(TreeFault::Listing),
         }
     }
+
+    fn refused(&mut self, _fault: BagFault) {}
 
     fn failed_at(&self) -> Option<&str> {
         Some(".")

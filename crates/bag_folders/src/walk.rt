@@ -41,39 +41,73 @@ pub fn read_folder<R: Files + AllocGlobal + Clone + Drop>(
     ensures digests { IfOk result HasNeededDigests }
     ensures faults { IfErr result IsWalkFault }
 {
-    match read_watched(rt, folder, Reading::Needed, u64::MAX, &mut Silent) {
+    match read_watched(rt, folder, Reading::Needed, &mut Silent) {
         Ok(facts) => Ok(facts),
         Err(failure) => Err(failure.fault),
     }
 }
 
-/// The same, with the place of a failure, while the watcher sees how far it is. A folder whose files
-/// have more bytes together is `TooMany`.
+/// The same, with the place of a failure, while the watcher sees how far it is.
 pub(crate) fn read_watched<R: Files + AllocGlobal + Clone + Drop, W: Watcher>(
     rt: &R,
     folder: &str,
     reading: Reading,
-    most_bytes: u64,
     watcher: &mut W,
 ) -> Result<Facts, Failure>
     ensures digests { IfOk result HasNeededDigests }
     ensures faults { IfErr result (λ failure. IsWalkFault failure.fault) }
 {
-    let mut bag = match OpenBag::of_path(rt, folder) {
-        Ok(bag) => bag,
-        Err(error) => return Err(unlisted(rt.alloc(), "", &error)?),
-    };
+    let mut bag = open_bag(rt, folder)?;
     let listing = list_bag(rt.alloc(), &bag)?;
-    if most_bytes < listing.bytes() {
-        return Err(too_many(rt.alloc())?);
+    read_listed(rt.alloc(), &mut bag, listing, reading, watcher)
+}
+
+/// Opens the folder of this path.
+pub(crate) fn open_bag<'a, R: Files + AllocGlobal + Clone + Drop>(
+    rt: &'a R,
+    folder: &'a str,
+) -> Result<OpenBag<'a, R>, Failure>
+    ensures { IfErr result (λ failure. IsWalkFault failure.fault) }
+{
+    match OpenBag::of_path(rt, folder) {
+        Ok(bag) => Ok(bag),
+        Err(error) => Err(unlisted(rt.alloc(), "", &error)?),
     }
+}
+
+/// All files in the folder. Where they have more bytes together it is `TooMany`.
+pub(crate) fn list_within<R: Files + AllocGlobal + Clone + Drop>(
+    alloc: Global,
+    bag: &OpenBag<'_, R>,
+    most_bytes: u64,
+) -> Result<FolderListing, Failure>
+    ensures { IfErr result (λ failure. IsWalkFault failure.fault) }
+{
+    let listing = list_bag(alloc, bag)?;
+    if most_bytes < listing.bytes() {
+        return Err(too_many(alloc)?);
+    }
+    Ok(listing)
+}
+
+/// The facts of the files that were listed, while the watcher sees how far it is.
+pub(crate) fn read_listed<R: Files + AllocGlobal + Clone + Drop, W: Watcher>(
+    alloc: Global,
+    bag: &mut OpenBag<'_, R>,
+    listing: FolderListing,
+    reading: Reading,
+    watcher: &mut W,
+) -> Result<Facts, Failure>
+    ensures digests { IfOk result HasNeededDigests }
+    ensures faults { IfErr result (λ failure. IsWalkFault failure.fault) }
+{
     watcher.listed(listing.files.len() as u64, listing.bytes());
     if reading == Reading::Needed && listing.is_worth_a_look() {
-        if let Some(facts) = faulty_facts(rt.alloc(), &mut bag, &listing)? {
+        if let Some(facts) = faulty_facts(alloc, bag, &listing)? {
             return Ok(facts);
         }
     }
-    named_facts(rt.alloc(), &mut bag, listing, watcher)
+    named_facts(alloc, bag, listing, watcher)
 }
 
 /// The facts of all files that were listed.

@@ -1,6 +1,7 @@
 //! Folders of which it is said in words what a check finds.
 
 use crate::folder_words::{push_read_words, push_unread_words};
+use bag_check::BagFault;
 use bag_folders::Folders;
 use bag_tree::{Facts, TreeFault};
 use code_words::push_name;
@@ -76,6 +77,10 @@ impl<F: Folders> Folders for SpokenFolders<'_, F> {
                 Err(fault)
             }
         }
+    }
+
+    fn refused(&mut self, fault: BagFault) {
+        self.folders.refused(fault);
     }
 
     fn failed_at(&self) -> Option<&str> {

@@ -6,6 +6,7 @@ ghost use Rattle.registered_checks.specs.inner.Notes.{AreHeld};
 
 use crate::held_bag::HeldBag;
 use crate::notes::{are_paths, note};
+use bag_check::BagFault;
 use bag_folders::Folders;
 use bag_tree::{Facts, TreeFault};
 use std::alloc::Global;
@@ -76,6 +77,10 @@ impl<F: Folders> Folders for NotedFolders<F> {
             self.lacks_one = true;
         }
         read
+    }
+
+    fn refused(&mut self, fault: BagFault) {
+        self.folders.refused(fault);
     }
 
     fn failed_at(&self) -> Option<&str> {

@@ -3,6 +3,7 @@
 ghost use Rattle.std.specs.Prelude.{◌≡◌};
 ghost use Rattle.site_commands.specs.Paths.{leads_out, goes_up, is_parent};
 
+use bag_check::BagFault;
 use bag_folders::Folders;
 use bag_tree::{Facts, TreeFault};
 use std::alloc::{AllocError, Global};
@@ -87,6 +88,13 @@ impl<F: Folders> Folders for FoldersBelow<'_, F> {
         match self.top {
             Some(top) => self.read_below(top, path),
             None => self.folders.read(path),
+        }
+    }
+
+    // One that led out wasn't read.
+    fn refused(&mut self, fault: BagFault) {
+        if !self.has_left {
+            self.folders.refused(fault);
         }
     }
 

@@ -12,7 +12,7 @@ use crate::site_arguments::SiteTask;
 use crate::site_output::SiteOutput;
 use crate::stop::{Stop, write_stop};
 use crate::udp_socket::site_socket;
-use bag_folders::{DiskFolders, Folders};
+use bag_folders::{Folders, RememberingFolders};
 use cell_file::DiskCell;
 use fed_types::Members;
 use outcomes::ProgramFault;
@@ -104,7 +104,7 @@ struct Means<P, F> {
 }
 
 /// The folders that clients may have deposited.
-type BagFolders<'a> = FoldersBelow<'a, DiskFolders<HostRuntime>>;
+type BagFolders<'a> = FoldersBelow<'a, RememberingFolders<HostRuntime>>;
 
 // All that is needed, in the order in which it is looked for.
 fn equip<'a>(rt: &HostRuntime, task: &SiteTask<'a>) -> Result<Means<UdpPort, BagFolders<'a>>, Stop>
@@ -214,7 +214,7 @@ fn folders_of<'a>(rt: &HostRuntime, task: &SiteTask<'a>) -> Result<BagFolders<'a
         find_folder(rt, top)?;
     }
     let most_bytes = task.most_bytes.unwrap_or(u64::MAX);
-    let folders = DiskFolders::new(disk(rt)?).with_most_bytes(most_bytes);
+    let folders = RememberingFolders::new(disk(rt)?, most_bytes);
     Ok(FoldersBelow::new(rt.alloc(), task.bags, folders))
 }
 

@@ -1,6 +1,7 @@
 //! Folders of which each that can't be read is noted.
 
 use crate::site_log::SiteLog;
+use bag_check::BagFault;
 use bag_folders::Folders;
 use bag_tree::{Facts, TreeFault};
 
@@ -32,6 +33,10 @@ impl<F: Folders> Folders for LoggedFolders<'_, F> {
                 Err(fault)
             }
         }
+    }
+
+    fn refused(&mut self, fault: BagFault) {
+        self.folders.refused(fault);
     }
 
     fn failed_at(&self) -> Option<&str> {

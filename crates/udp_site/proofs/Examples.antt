@@ -161,8 +161,8 @@ known_is_no_question = refl
 pub nothing_is_no_question : hands alone own 40000 (reply 2) ≡ alone
 nothing_is_no_question = refl
 
--- Site 2 of three that waits for a minute: while another was heard within ten seconds it waits for
--- half a second.
+-- Site 2 of three that waits for a minute: while another was heard lately it waits for half a
+-- second.
 abbrev of_three : Pace
 of_three = record alone { contacts = Some (nobody_heard (membership_of 7 (1 ∷ 1 ∷ 1 ∷ [])) 2) }
 
@@ -177,11 +177,11 @@ pub a_quorum_is_heard : wait_at heard_at_nine 9000000 ≡ 500
 unfolding with_voter sites_to is_in
 a_quorum_is_heard = refl
 
-pub in_the_span_after : wait_at heard_at_nine 14999999 ≡ 500
+pub in_the_span_after : wait_at heard_at_nine 19999999 ≡ 500
 unfolding with_voter sites_to is_in
 in_the_span_after = refl
 
-pub no_longer_then : wait_at heard_at_nine 15000000 ≡ 60000
+pub no_longer_then : wait_at heard_at_nine 20000000 ≡ 60000
 unfolding with_voter sites_to is_in
 no_longer_then = refl
 

@@ -1,6 +1,6 @@
--- Which sites a port has heard lately, itself among them. Time is cut into spans of five seconds,
--- and lately is the span of a moment and the one before it: so what was heard lately was heard
--- within ten seconds. Moments are microseconds of the port's clock.
+-- Which sites a port has heard lately, itself among them. Time is cut into spans of ten seconds,
+-- and lately is the span of a moment and the one before it: so what was heard within ten seconds was
+-- heard lately, and nothing that is twenty seconds old. Moments are microseconds of the port's clock.
 use Rattle.std.specs.Prelude.{ℕ, ◌-◌, ◌/◌, ◌==◌, if◌then◌else◌, Bool, List, []}
 use Rattle.fed_types.specs.Quorums.{quorums_of}
 use Rattle.fed_types.specs.Sites.{Membership}
@@ -9,7 +9,7 @@ use Rattle.udp_site.specs.declared.contacts.Contacts.{Contacts}
 
 -- the length of a span
 abbrev pub SPAN : ℕ
-SPAN = 5000000
+SPAN = 10000000
 
 -- the number of a moment's span
 abbrev pub span_of : ℕ → ℕ

@@ -98,7 +98,7 @@ hands pace own to bytes =
     then hears pace signs.Moves
     else (if is_pending bytes then is_asked pace else pace))
 
--- a quorum was heard within ten seconds
+-- a quorum was heard lately: within ten seconds, or little longer
 abbrev pub hears_quorum : Option Contacts → (now : ℕ) → Bool
 hears_quorum None now = false
 hears_quorum (Some contacts) now = is_connected contacts now

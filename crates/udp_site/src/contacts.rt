@@ -7,9 +7,9 @@ ghost use Rattle.udp_site.specs.Contacts.{heard_lately, is_connected, is_enough,
 use fed_types::{Members, SiteNo, Voters};
 
 /// The microseconds of a span.
-const SPAN: u64 = 5_000_000;
+const SPAN: u64 = 10_000_000;
 
-/// The sites that a port has heard in the last two spans of five seconds, and its own site, which
+/// The sites that a port has heard in the last two spans of ten seconds, and its own site, which
 /// counts as heard. Moments are microseconds.
 #[derive(Clone, Copy, Debug)]
 pub(crate) struct Contacts {

@@ -16,6 +16,7 @@ use bag_tree::{Facts, TreeFault};
 use cell_device::Cell;
 use dgram::{Body, DepositAnswer, FolderPath};
 use fed_types::{SiteNo, Slot};
+use site::{Answer, SiteFault};
 use std::alloc::Global;
 
 impl<C: Cell, P: Port, F: Folders> Server<'_, '_, '_, '_, '_, C, P, F> {
@@ -46,6 +47,7 @@ impl<C: Cell, P: Port, F: Folders> Server<'_, '_, '_, '_, '_, C, P, F> {
         let from = self.site.number();
         let federation = self.site.members().federation();
         let answer = self.site.deposit(&slot, facts);
+        note_refusal(self.folders, &answer);
         let said = deposit_answer(&answer);
         let slot = reply_to_deposit(self.alloc, self.port, federation, from, client, slot, said)?;
         push_deposit(self.lines, from.number(), slot, answer)?;
@@ -68,6 +70,15 @@ impl<C: Cell, P: Port, F: Folders> Server<'_, '_, '_, '_, '_, C, P, F> {
         let said = tree_answer(fault);
         reply_to_deposit(self.alloc, self.port, federation, from, client, slot, said)?;
         Ok(())
+    }
+}
+
+// The folders may remember that their bag was refused.
+fn note_refusal<F: Folders>(folders: &mut F, answer: &Result<Answer, SiteFault>)
+    ensures { F.gives folders.new ≡ F.gives folders.old }
+{
+    if let Err(SiteFault::InvalidBag(fault)) = answer {
+        folders.refused(*fault);
     }
 }
 

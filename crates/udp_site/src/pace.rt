@@ -240,7 +240,7 @@ impl Pace {
         self.wait
     }
 
-    // Whether a quorum was heard within ten seconds.
+    // Whether a quorum was heard lately.
     fn hears_quorum(&self, now: u64) -> bool
         ensures { result ≡ hears_quorum self.now.contacts now }
     {
