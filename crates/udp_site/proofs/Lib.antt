@@ -18,4 +18,5 @@ pub mod TurnEnds
 pub mod Questions
 pub mod Queried
 pub mod Examples
+pub mod SignExamples
 pub mod Signs
