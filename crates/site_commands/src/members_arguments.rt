@@ -14,8 +14,8 @@ With --new it prints the members file of a new federation, with sites on these p
 first, each with its weight where one is given. Half of the federation's number is random: so no two
 federations are the same, even on the same ports, and their sites don't hear each other, nor open
 each other's cells. The other half comes from the list: from the number of sites and their weights.
-With --listed a file whose number doesn't come from its list is refused, as one that was cut. Ports
-aren't in it: they may be changed, in all copies of the file, while no site runs.
+With --listed a file whose number doesn't come from its list is refused, as one in which a site is
+missing. Ports aren't in it: they may be changed, in all copies of the file, while no site runs.
 
 The exit status is 0; 1 where the last line says what is amiss:
   members unread        the members file can't be read

@@ -12,7 +12,8 @@ const EXAMPLE: &str = "The members file is a text; all sites are on 127.0.0.1:
   site N PORT [WEIGHT]    for each of the sites 1, 2, 3 .., at most 63: its port, and its
                           weight, 1 to 255, which is 1 where none is given
 Sites that have more than half of all weight decide. Sites and weights stay as they are as long as
-there are cells. With --listed a file is refused that `members --new` didn't write, or that was cut.
+there are cells. With --listed a file is refused whose number doesn't come from its list, as one in
+which a site is missing.
 The cell is the file in which the site keeps its word; it is made where it is missing, unless
 --existing is given: a site that has a cell must never be started without it.
 In each turn the site waits for one datagram, and prints a line for what it does:
