@@ -1,0 +1,6 @@
+pub mod Led
+pub mod Runs
+pub mod Counted
+pub mod Refined
+pub mod Cells
+pub mod Overlapping
