@@ -18,15 +18,15 @@ use Rattle.world_law.proofs.Grows.{chosen_grows}
 use Rattle.world_law.proofs.Induction.{chosen_once}
 use Rattle.world_law.proofs.Reports.{reported_from}
 use Rattle.world_law.proofs.Runs.{new_kept}
-use Rattle.serving_law.specs.Federations.{Happening}
+use Rattle.serving_law.specs.Federations.{Happening, after_all}
 use Rattle.serving_law.specs.Reports.{Reports}
 use Rattle.serving_law.proofs.Scene.{OnlyNow}
 use Rattle.serving_law.proofs.Networks.{quorums}
 use Rattle.register_law.specs.Carried.{IsHistoryAfter, left_by, said_in}
 use Rattle.register_law.specs.Laws.{AreOfCells, CarriedReportsAgree, CarriedAgreeWithTheRun}
 use Rattle.register_law.specs.Laws.{CarriedReportsWereDeposited, CellsHaveNoConflict}
-use Rattle.register_law.specs.Laws.{ChosenIsAllThatIsReported}
-use Rattle.register_law.proofs.Led.{Led, led, laws}
+use Rattle.register_law.specs.Laws.{ChosenIsAllThatIsReported, RecordsStay}
+use Rattle.register_law.proofs.Led.{Led, led, laws, in_federation}
 use Rattle.register_law.proofs.Refined.{reported_came}
 use Rattle.register_law.proofs.Runs.{left_stands}
 
@@ -102,6 +102,13 @@ module _ {C : Type 0} (device : C → Device) (members : Membership)
     carried_reports_were_deposited events before later h slot bag is after_run r =
         reported_came device members is only_now events (before ++ h ∷ later) after_run before h
         later refl slot bag r
+
+    pub records_stay : RecordsStay device members
+    records_stay events before later n r is after_run has =
+        let led_to = l device members only_now is events (before ++ later) after_run in
+        in_federation device members is only_now
+        (after_all (left_by members events) (before ++ later)) led_to.x led_to.stands n r
+        (led_to.cells before later refl n r has)
 
     pub cells_have_no_conflict : CellsHaveNoConflict device members
     cells_have_no_conflict events history given is after_run are =

@@ -88,7 +88,7 @@ module _ {C : Type 0} (device : C → Device) (members : Membership)
       pub in_network : (n : ℕ) (r : Record) → HasRecord f n r → Has r (w.sites n).records
       in_network n r h = subst (λ (rs : List Record). Has r rs) (records_same n) h
 
-      in_federation : (n : ℕ) (r : Record) → Has r (w.sites n).records → HasRecord f n r
+      pub in_federation : (n : ℕ) (r : Record) → Has r (w.sites n).records → HasRecord f n r
       in_federation n r h = subst (λ (rs : List Record). Has r rs) (sym (records_same n)) h
 
       pub decided_chosen : (slot : SlotName) (bag : BagId) → IsDecided members f slot bag

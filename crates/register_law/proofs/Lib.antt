@@ -1,4 +1,5 @@
 pub mod Led
+pub mod Sayings
 pub mod Runs
 pub mod Counted
 pub mod Refined

@@ -7,7 +7,8 @@ use Rattle.fed_types.specs.Quorums.{QuorumSystem, AreQuorums}
 use Rattle.fed_types.specs.Sites.{Membership}
 use Rattle.fed_types.specs.Slots.{SlotName}
 use Rattle.fed_types.specs.Values.{IsMembership}
-use Rattle.fed_types.specs.Laws.Lists.{has_none}
+use Rattle.fed_types.specs.Laws.Lists.{has_none, has_map}
+use Rattle.udp_site.specs.Traffic.{Post}
 use Rattle.fed_types.specs.Laws.Quorums.{are_quorums}
 use Rattle.cell_device.specs.Devices.{Device}
 use Rattle.records.specs.declared.entry.Entry.TheVariants as entry
@@ -23,7 +24,8 @@ use Rattle.world_law.proofs.Reports.{chosen_from}
 use Rattle.world_law.proofs.Runs.{DepositOf, happens_kept, new_kept, run_kept}
 use Rattle.world_law.proofs.WellFormed.{new_is_well_formed, run_well_formed, members_are_sites}
 use Rattle.serving_law.proofs.Networks.{quorums, Stands}
-use Rattle.register_law.specs.Carried.{left_by, WasDepositedIn}
+use Rattle.register_law.specs.Carried.{datagram_for, left_by, WasDepositedIn}
+use Rattle.register_law.proofs.Sayings.{run_speaks}
 use Rattle.register_law.specs.Laws.{ChosenRemains}
 
 -- ---- deposits
@@ -139,5 +141,12 @@ module _ {C : Type 0} (device : C → Device) (members : Membership)
         run_well_formed (quorums device members) events new_network
         (members_are_sites members is_membership) formed new_is_well_formed;
     is = λ n. refl;
-    handed = λ port bytes h. absurd (has_none h);
+    handed = λ port bytes h.
+        let from = has_map (datagram_for members.federation) _ h in
+        inl (record {
+          send = from.0;
+          sent = from.1;
+          bytes_are = ap (λ (p : Post). p.1) (sym from.2);
+          speaks = run_speaks (quorums device members) events from.0 from.1;
+        });
   }

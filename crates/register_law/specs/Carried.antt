@@ -1,31 +1,42 @@
 -- Histories that go on from the cells of an earlier run, by whatever program: of a run of a network,
 -- since the cells say nothing of the program. Where the run has no events they begin with new cells.
-use Rattle.std.specs.Prelude.{◌≡◌, ◌⊎◌, ℕ, List, [], ◌∷◌, ◌++◌, Ok}
+use Rattle.std.specs.Prelude.{◌≡◌, ◌⊎◌, ℕ, List, ◌∷◌, ◌++◌, map, Ok}
 use Rattle.fed_types.specs.declared.bag_id.BagId.{BagId}
 use Rattle.fed_types.specs.Quorums.{QuorumSystem, quorums_of}
 use Rattle.fed_types.specs.Sites.{Membership}
 use Rattle.fed_types.specs.Slots.{SlotName}
 use Rattle.cell_device.specs.Devices.{Device}
 use Rattle.records.specs.declared.entry.Entry.TheVariants as entry
+use Rattle.dgram.specs.Encoding.{datagram_of}
+use Rattle.site.specs.Effects.{Send}
 use Rattle.schedule.specs.declared.fate.Fate.{Fate}
 use Rattle.lines.specs.declared.notice.Notice.{Notice}
 use Rattle.world_law.specs.Laws.{OnRecord, notices_of}
 use Rattle.world_law.specs.Networks.{Network, Event, Deposit, new_network, happens, run}
 use Rattle.world_law.specs.WellFormed.{AreWellFormedEvents}
+use Rattle.udp_site.specs.Traffic.{Post}
 use Rattle.serving_law.specs.Federations.{Federation, Down, Happening, after_all}
 use Rattle.serving_law.specs.Reports.{IsDeposit}
 use Rattle.serving_law.specs.Rules.{MayAll}
 
 -- ---- how they begin
 
--- Each member is down, its cell says the records that it has in this network, in whatever layout,
--- and no datagram is left over.
-abbrev pub carried : {C : Type 0} → Network → Federation C
-carried w = record { members = λ n. Down (w.sites n).records; handed = [] }
+-- a datagram that was sent, for the port of its site, whichever that is
+abbrev pub datagram_for : (federation : ℕ) → Send → Post
+datagram_for federation d = (d.to, datagram_of federation d.message)
+
+-- Each member is down, and its cell says the records that it has in this network, in whatever
+-- layout. Each datagram that was sent may still come.
+abbrev pub carried : {C : Type 0} → (federation : ℕ) → Network → Federation C
+carried federation w = record {
+  members = λ n. Down (w.sites n).records;
+  handed = map (datagram_for federation) w.sent;
+}
 
 -- the federation that a run of these events left
 abbrev pub left_by : {C : Type 0} → Membership → List Event → Federation C
-left_by members events = carried (run (quorums_of members) new_network events)
+left_by members events =
+    carried members.federation (run (quorums_of members) new_network events)
 
 -- what was said in that run
 abbrev pub said_in : Membership → List Event → List Notice

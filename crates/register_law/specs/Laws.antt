@@ -1,6 +1,6 @@
 -- What else is promised of every history that goes on from the cells of a run: agreement and
 -- validity, what its cells show, counted as an auditor counts, and what stays.
-use Rattle.std.specs.Prelude.{◌≡◌, List, ◌∷◌, ◌++◌, Some}
+use Rattle.std.specs.Prelude.{◌≡◌, ℕ, List, ◌∷◌, ◌++◌, Some}
 use Rattle.fed_types.specs.declared.bag_id.BagId.{BagId}
 use Rattle.fed_types.specs.Lists.{Has}
 use Rattle.fed_types.specs.Quorums.{QuorumSystem, AreQuorums, quorums_of}
@@ -8,6 +8,7 @@ use Rattle.fed_types.specs.Sites.{Membership}
 use Rattle.fed_types.specs.Slots.{SlotName}
 use Rattle.fed_types.specs.Values.{IsMembership}
 use Rattle.cell_device.specs.Devices.{Device}
+use Rattle.records.specs.declared.record.Record.{Record}
 use Rattle.lines.specs.declared.notice.Notice.{Notice}
 use Rattle.world_law.specs.Laws.{IsChosen, notice_report}
 use Rattle.world_law.specs.Networks.{Event, new_network, run}
@@ -75,6 +76,14 @@ module _ {C : Type 0} (device : C → Device) (members : Membership) where
       → IsMembership members → IsHistoryAfter device members events (before ++ h ∷ later)
       → Reports members.federation h slot bag
       → WasDeposited members events before slot bag
+
+  -- what a member has on record stays there, whatever befalls it
+  abbrev pub RecordsStay : Type 0
+  RecordsStay =
+      (events : List Event) (before later : List (Happening C)) (n : ℕ) (r : Record)
+      → IsMembership members → IsHistoryAfter device members events (before ++ later)
+      → Has r (records_of ((now members events before).members n))
+      → Has r (records_of ((now members events (before ++ later)).members n))
 
   -- ---- what cells show
 

@@ -1,7 +1,7 @@
 ghost use Rattle.fed_types.specs.Sites.{Membership};
 ghost use Rattle.register_law.specs.Laws.{CarriedReportsAgree, CarriedAgreeWithTheRun};
 ghost use Rattle.register_law.specs.Laws.{CarriedReportsWereDeposited, CellsHaveNoConflict};
-ghost use Rattle.register_law.specs.Laws.{ChosenIsAllThatIsReported, ChosenRemains};
+ghost use Rattle.register_law.specs.Laws.{ChosenIsAllThatIsReported, ChosenRemains, RecordsStay};
 ghost use Rattle.register_law.specs.Overlaps.{OverlapsAreHistories};
 ghost use Rattle.register_law.specs.Refinement.{HistoriesRefine};
 
@@ -36,6 +36,11 @@ pub fn carried_agree_with_the_run<C: Cell>()
 /// What such a site reports was deposited for the slot before, in the run or since.
 pub fn carried_reports_were_deposited<C: Cell>()
     ensures { (members : Membership) → CarriedReportsWereDeposited C.device members }
+{}
+
+/// What a site has on record stays there.
+pub fn records_stay<C: Cell>()
+    ensures { (members : Membership) → RecordsStay C.device members }
 {}
 
 /// The cells of sites that serve name at most one bag for a slot: as chosen, or as known.

@@ -8,5 +8,5 @@ mod law;
 pub use law::{
     carried_agree_with_the_run, carried_reports_agree, carried_reports_were_deposited,
     cells_have_no_conflict, chosen_is_all_that_is_reported, chosen_remains, histories_refine,
-    overlaps_are_histories,
+    overlaps_are_histories, records_stay,
 };
