@@ -19,20 +19,24 @@ use Rattle.records.specs.declared.owner.Owner.{Owner}
 use Rattle.records.specs.declared.record.Record.{Record}
 use Rattle.records.specs.Bounds.{HasEntry}
 use Rattle.records.specs.Records.{IsRecord}
+use Rattle.records.proofs.Bounds.{known_among}
 use Rattle.book.specs.OpenBooks.{RecoversTo}
 use Rattle.proposer.specs.VolatileStates.{VolatileState}
 use Rattle.site.specs.declared.answer.Answer.{Answer}
 use Rattle.site.specs.declared.answer.Line.{Line}
 use Rattle.site.specs.declared.answer.Line.TheVariants as site_lines
+use Rattle.site.specs.declared.answer.Reply.{Reply}
 use Rattle.site.specs.declared.fault.SiteFault.{SiteFault}
 use Rattle.site.specs.declared.fault.SiteFault.TheVariants as faults
 use Rattle.site.specs.Answered.{Keeps, Gives}
 use Rattle.site.specs.Calls.{Input, Deposits, Proposes, Asks, Arrives, effect_of}
 use Rattle.site.specs.Datagrams.{handed_out, datagram}
 use Rattle.site.specs.Effects.{Effect}
+use Rattle.site.specs.Reported.{line_report}
 use Rattle.site.specs.Sites.{Represents}
+use Rattle.site.proofs.Reports.{answered}
 use Rattle.lines.specs.declared.notice.Notice.{Notice}
-use Rattle.lines.specs.declared.notice.Notice.TheVariants.{Registered}
+use Rattle.lines.specs.declared.notice.Notice.TheVariants.{Registered, Learned, Replied}
 use Rattle.lines.specs.Notices.{notice_of}
 use Rattle.world_law.specs.Networks.{Network, SiteState, Mode, Up, Down, volatile_in}
 use Rattle.world_law.proofs.Deeds.{Deed, MayDeposit, some_same}
@@ -50,7 +54,7 @@ use Rattle.serving_law.proofs.Recoveries.{Recovered, IsKept, kept_ok, kept_err, 
 use Rattle.serving_law.proofs.Registrations.{registered_is_kept}
 use Rattle.serving_law.proofs.Scene.{Scene}
 use Rattle.serving_law.proofs.Networks.{quorums, serving, IsServed, IsSent, IsNotice}
-use Rattle.serving_law.proofs.Networks.{HasDeposit, May, Moves}
+use Rattle.serving_law.proofs.Networks.{HasDeposit, HasKnown, May, Moves}
 
 -- what stands in one of these lists
 pub has_flat_map : {X Y : Type 0} (f : X → List Y) (y : Y) (xs : List X) → Has y (flat_map f xs)
@@ -270,6 +274,16 @@ module _ {C : Type 0} (device : C → Device) (members : Membership) (s : Scene 
               (sym f)
               (registered_is_kept slot (w.sites n).records volatile checked bag) g
 
+      -- a bag that is learned is on record
+      known_kept : (slot : SlotName) (bag : BagId) → e.says ≡ Ok (Some (site_lines.Known slot bag))
+          → HasKnown called n slot bag
+      known_kept slot bag says =
+          subst (λ (t : SiteState). HasEntry slot t.records (entry.Known bag))
+          (sym (moved_site w n e.commits (Up e.volatile) e.sends (notice_of n input e.says)))
+          (known_among slot ((w.sites n).records ++ option_to_list e.commits) bag
+          (answered q n (w.sites n).records volatile input (record { slot = slot; bag = bag })
+          (ap line_report says)))
+
       pub ok_notices : (answer : Answer) → e.says ≡ Ok answer.line → (notice : Notice)
           → Has notice (notices_of n input (Ok answer))
           → IsNotice device members w called notice
@@ -278,10 +292,48 @@ module _ {C : Type 0} (device : C → Device) (members : Membership) (s : Scene 
         registered = λ k slot bag as_notice.
             by_line answer.line says input refl
             (has_notice (notice_of n input (Ok answer.line)) notice h ∙ ap Some as_notice);
+        learned = λ k slot bag as_notice.
+            by_known answer.line says input
+            (has_notice (notice_of n input (Ok answer.line)) notice h ∙ ap Some as_notice);
+        replied = λ k slot bag as_notice.
+            absurd (no_reply answer.line input
+            (has_notice (notice_of n input (Ok answer.line)) notice h ∙ ap Some as_notice));
       }
         where
           said : notice_of n input e.says ≡ Some notice
           said = rw says (has_notice (notice_of n input (Ok answer.line)) notice h)
+
+          by_known : (line : Option Line) → e.says ≡ Ok line → (i : Input)
+              → {k : ℕ} {slot : SlotName} {bag : BagId}
+              → notice_of n i (Ok line) ≡ Some (Learned k slot bag) → HasKnown called k slot bag
+          by_known None g i same = absurd (cc same)
+          by_known (Some site_lines.Dropped) g i same = absurd (cc same)
+          by_known (Some (site_lines.Registered bag)) g (Deposits slot checked) same =
+              absurd (cc same)
+          by_known (Some (site_lines.Registered bag)) g (Proposes slot) same = absurd (cc same)
+          by_known (Some (site_lines.Registered bag)) g (Asks slot member) same = absurd (cc same)
+          by_known (Some (site_lines.Registered bag)) g (Arrives message) same = absurd (cc same)
+          by_known (Some (site_lines.Known found_slot found)) g i {k = k} {slot = slot} {bag = bag}
+              same =
+              let f : Learned n found_slot found ≡ Learned k slot bag = some_same same in
+              let place : n ≡ k = cc in
+              let slots : found_slot ≡ slot = cc in
+              let bags : found ≡ bag = cc in
+              subst (λ (m : ℕ). HasKnown called m slot bag) place
+              (subst (λ (s : SlotName). HasKnown called n s bag) slots
+              (subst (λ (b : BagId). HasKnown called n found_slot b) bags
+              (known_kept found_slot found g)))
+
+          no_reply : (line : Option Line) (i : Input)
+              → {k : ℕ} {slot : SlotName} {reply : Reply BagId}
+              → notice_of n i (Ok line) ≡ Some (Replied k slot reply) → ⊥
+          no_reply None i same = cc
+          no_reply (Some site_lines.Dropped) i same = cc
+          no_reply (Some (site_lines.Known slot bag)) i same = cc
+          no_reply (Some (site_lines.Registered bag)) (Deposits slot checked) same = cc
+          no_reply (Some (site_lines.Registered bag)) (Proposes slot) same = cc
+          no_reply (Some (site_lines.Registered bag)) (Asks slot member) same = cc
+          no_reply (Some (site_lines.Registered bag)) (Arrives message) same = cc
 
           at_deposit : (slot k_slot : SlotName) (checked : Result BagId BagFault) (k : ℕ)
               (found bag : BagId) → input ≡ Deposits slot checked

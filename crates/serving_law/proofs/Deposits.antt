@@ -27,7 +27,6 @@ use Rattle.site.specs.declared.fault.SiteFault.TheVariants as faults
 use Rattle.site.specs.Answered.{Gives}
 use Rattle.site.specs.Calls.{Input, Deposits, effect_of}
 use Rattle.site.specs.Effects.{Effect}
-use Rattle.world_law.specs.Laws.{IsChosen}
 use Rattle.world_law.specs.Networks.{Network, volatile_in}
 use Rattle.world_law.specs.WellFormed.{IsWellFormed}
 use Rattle.world_law.proofs.Calls.{deposit_deed}
@@ -41,7 +40,7 @@ use Rattle.serving_law.specs.Reports.{known_told}
 use Rattle.serving_law.proofs.Registrations.{other_known_is, other_deposit_is}
 use Rattle.serving_law.proofs.Replies.{tree_answer_is, bag_answer_is, checked_is}
 use Rattle.serving_law.proofs.Scene.{Scene}
-use Rattle.serving_law.proofs.Networks.{quorums, IsPost, HasDeposit, May}
+use Rattle.serving_law.proofs.Networks.{quorums, IsPost, HasDeposit, HasKnown, May}
 use Rattle.serving_law.proofs.Calls as calling
 use Rattle.serving_law.proofs.Turns as turning
 
@@ -69,7 +68,7 @@ module _ {C : Type 0} (device : C → Device) (members : Membership) (s : Scene 
   -- a bag that is called known was chosen; and one that is called registered is on record
   record IsRight (x : Network) (slot : SlotName) (answer : DepositAnswer) : Type 0 where
     is : IsDepositAnswer answer
-    known : (bag : BagId) → answer ≡ deposit.OtherKnown bag → IsChosen q w slot bag
+    known : (bag : BagId) → answer ≡ deposit.OtherKnown bag → HasKnown w n slot bag
     registered : (bag : BagId) → answer ≡ deposit.Registered bag → HasDeposit x n slot bag
 
   -- an answer that names neither
@@ -104,11 +103,23 @@ module _ {C : Type 0} (device : C → Device) (members : Membership) (s : Scene 
         replies = tt;
       },
       record {
-        known = λ bag e. (each answer refl).known bag (told n answer bag e);
+        known = λ bag e.
+            turning.known_chosen device members s slot bag
+            ((each answer refl).known bag (told n answer bag e));
         registered = λ k bag e. by_body k bag e;
+        refused = λ k bag e. by_other k bag e;
+        queried = λ k bag e. absurd (cc e);
       },
     )
       where
+        by_other : (k : ℕ) (bag : BagId)
+            → DepositReply n answer ≡ DepositReply k (deposit.OtherKnown bag)
+            → HasKnown w k slot bag
+        by_other k bag e =
+            let place : n ≡ k = cc in
+            let same : answer ≡ deposit.OtherKnown bag = cc in
+            subst (λ (k : ℕ). HasKnown w k slot bag) place ((each answer refl).known bag same)
+
         by_body : (k : ℕ) (bag : BagId)
             → DepositReply n answer ≡ DepositReply k (deposit.Registered bag)
             → HasDeposit x k slot bag
@@ -188,15 +199,15 @@ module _ {C : Type 0} (device : C → Device) (members : Membership) (s : Scene 
           (check_of facts) bag says in
           record {
             is = turning.bag_is device members s slot bag on_record;
-            known = λ b g. at b g (turning.known_chosen device members s slot bag on_record);
+            known = λ b g. at b g on_record;
             registered = λ b g. absurd (cc g);
           }
         where
-          at : (b : BagId) → deposit.OtherKnown bag ≡ deposit.OtherKnown b → IsChosen q w slot bag
-              → IsChosen q w slot b
-          at b g c =
+          at : (b : BagId) → deposit.OtherKnown bag ≡ deposit.OtherKnown b → HasKnown w n slot bag
+              → HasKnown w n slot b
+          at b g h =
               let same : bag ≡ b = cc in
-              subst (λ (b : BagId). IsChosen q w slot b) same c
+              subst (λ (b : BagId). HasKnown w n slot b) same h
 
       other_deposit : (x : Network) (bag : BagId) → e.says ≡ Err (faults.OtherDeposit bag)
           → IsRight x slot (deposit.OtherDeposit bag)

@@ -29,7 +29,8 @@ use Rattle.records.proofs.OneReading.{same_records_said}
 use Rattle.book.specs.OpenBooks.{RecoversTo, ReadSays}
 use Rattle.dgram.specs.declared.answers.DepositAnswer.TheVariants as deposit
 use Rattle.dgram.specs.declared.body.Body.{Body}
-use Rattle.dgram.specs.declared.body.Body.TheVariants.{DepositReply}
+use Rattle.dgram.specs.declared.answers.QueryAnswer.TheVariants as query
+use Rattle.dgram.specs.declared.body.Body.TheVariants.{DepositReply, QueryReply}
 use Rattle.dgram.specs.declared.body.Body.TheVariants as bodies
 use Rattle.dgram.specs.declared.message.Message.{Message}
 use Rattle.dgram.specs.Decoded.{message_of}
@@ -38,7 +39,8 @@ use Rattle.proposer.specs.VolatileStates.{new_volatile}
 use Rattle.book.specs.Opened.{Opens}
 use Rattle.site.specs.Sites.{OpenSite, Represents}
 use Rattle.lines.specs.declared.notice.Notice.{Notice}
-use Rattle.lines.specs.declared.notice.Notice.TheVariants.{Registered}
+use Rattle.site.specs.declared.answer.Reply.TheVariants as replies
+use Rattle.lines.specs.declared.notice.Notice.TheVariants.{Registered, Learned, Replied}
 use Rattle.world_law.specs.Laws.{notice_report, IsChosen}
 use Rattle.world_law.specs.Networks.{Network, SiteState, Up, volatile_in}
 use Rattle.world_law.specs.WellFormed.{IsWellFormed}
@@ -54,8 +56,9 @@ use Rattle.serving_law.specs.Federations.{Member, Serves, Down, Federation, Step
 use Rattle.serving_law.specs.Federations.{Turns, Fails, Dies, Ends, Renews, Starts, becomes}
 use Rattle.serving_law.specs.Federations.{renewed}
 use Rattle.serving_law.specs.Federations.{after}
-use Rattle.serving_law.specs.Reports.{Showing, showing_of, IsPrinted, IsTold}
-use Rattle.serving_law.specs.Reports.{Reports, Registers, known_told, records_of, step_of}
+use Rattle.serving_law.specs.Reports.{Showing, showing_of, IsPrinted, IsTold, Prints, Tells}
+use Rattle.serving_law.specs.Reports.{Reports, Registers, SaysKnown, known_told, records_of}
+use Rattle.serving_law.specs.Reports.{step_of}
 use Rattle.serving_law.specs.Reports.{IsDeposit}
 use Rattle.serving_law.specs.Rules.{owner_of, IsServing, Takes, May, MayRecoverTo}
 use Rattle.serving_law.specs.Rules as rules
@@ -66,6 +69,7 @@ use Rattle.serving_law.proofs.Requests.{IsAsked}
 use Rattle.serving_law.proofs.Scene.{Scene, OnlyNow}
 use Rattle.serving_law.proofs.Networks.{quorums, serving, is_serving, IsServed, IsMember}
 use Rattle.serving_law.proofs.Networks.{SaysRightly, IsPost, IsNotice, Means, HasDeposit}
+use Rattle.serving_law.proofs.Networks.{HasKnown}
 use Rattle.serving_law.proofs.Networks.{Moves, Goes, Stands}
 use Rattle.serving_law.proofs.Networks as standing
 use Rattle.serving_law.proofs.Calls.{stops_as_it_was, any_slot}
@@ -109,6 +113,8 @@ module _ {C : Type 0} (device : C → Device) (members : Membership)
           → IsChosen q w slot bag
       pub registers : (n : ℕ) (slot : SlotName) (bag : BagId) → Registers federation h n slot bag
           → HasDeposit x n slot bag
+      pub knows : (n : ℕ) (slot : SlotName) (bag : BagId) → SaysKnown federation h n slot bag
+          → HasKnown x n slot bag
       pub deposits : (n : ℕ) (slot : SlotName) (bag : BagId) → HasDeposit x n slot bag
           → HasDeposit w n slot bag ⊎ IsDeposit federation f h slot bag
 
@@ -134,7 +140,7 @@ module _ {C : Type 0} (device : C → Device) (members : Membership)
 
     -- ---- what is shown of a turn
 
-    module _ (w x : Network) (formed : IsWellFormed x) (turn : Turned)
+    module _ (w x : Network) (formed : IsWellFormed x) (grows : Grows w x) (turn : Turned)
         (posts : (port : ℕ) (bytes : List ℕ) → Has (port, bytes) turn.done.posts
         → IsPost device members w x bytes)
         (notices : (notice : Notice) → Has notice turn.done.notices
@@ -193,6 +199,23 @@ module _ {C : Type 0} (device : C → Device) (members : Membership)
             | inr right ↦ right.registered n bag refl
           ]
 
+      told_known : (n : ℕ) (slot : SlotName) (bag : BagId)
+          → IsTold federation showing
+          (record { slot = slot; body = QueryReply n (query.Known bag) })
+          ⊎ IsTold federation showing
+          (record { slot = slot; body = DepositReply n (deposit.OtherKnown bag) })
+          → HasKnown w n slot bag
+      told_known n slot bag (inl t) =
+          elim (told (record { slot = slot; body = QueryReply n (query.Known bag) }) t) [
+            | inl site ↦ absurd site
+            | inr right ↦ right.queried n bag refl
+          ]
+      told_known n slot bag (inr t) =
+          elim (told (record { slot = slot; body = DepositReply n (deposit.OtherKnown bag) }) t) [
+            | inl site ↦ absurd site
+            | inr right ↦ right.refused n bag refl
+          ]
+
       module _ (h : Happening C) (shows : showing_of h ≡ Some showing) where
         same_showing : (s : Showing) → showing_of h ≡ Some s → s ≡ showing
         same_showing s e = some_same (sym e ∙ shows)
@@ -221,6 +244,29 @@ module _ {C : Type 0} (device : C → Device) (members : Membership)
             (record { slot = slot; body = DepositReply n (deposit.Registered bag) }))
             (same_showing s e) t)
 
+        -- it prints this notice
+        printed : (notice : Notice) → Prints h notice → IsNotice device members w x notice
+        printed notice (s, e, p) =
+            notices notice (printed_among notice
+            (subst (λ (s : Showing). IsPrinted s notice) (same_showing s e) p))
+
+        tells : (message : Message) → Tells federation h message
+            → IsTold federation showing message
+        tells message (s, e, t) =
+            subst (λ (s : Showing). IsTold federation s message) (same_showing s e) t
+
+        shown_knows : (n : ℕ) (slot : SlotName) (bag : BagId)
+            → SaysKnown federation h n slot bag → HasKnown x n slot bag
+        shown_knows n slot bag (inl line) =
+            (printed (Learned n slot bag) line).learned n slot bag refl
+        shown_knows n slot bag (inr (inl line)) =
+            grows.kept n slot (entry.Known bag)
+            ((printed (Replied n slot (replies.Known bag)) line).replied n slot bag refl)
+        shown_knows n slot bag (inr (inr (inl reply))) =
+            grows.kept n slot (entry.Known bag) (told_known n slot bag (inl (tells _ reply)))
+        shown_knows n slot bag (inr (inr (inr reply))) =
+            grows.kept n slot (entry.Known bag) (told_known n slot bag (inr (tells _ reply)))
+
     -- what shows nothing reports nothing
     no_reports : (h : Happening C) → showing_of h ≡ None → (slot : SlotName) (bag : BagId)
         → Reports federation h slot bag → ⊥
@@ -244,6 +290,19 @@ module _ {C : Type 0} (device : C → Device) (members : Membership)
       where
         none_some : {s : Showing} → None ≡ Some s → ⊥
         none_some e = cc
+
+    no_knows : (h : Happening C) → showing_of h ≡ None → (n : ℕ) (slot : SlotName) (bag : BagId)
+        → SaysKnown federation h n slot bag → ⊥
+    no_knows h none n slot bag says = by_showing says
+      where
+        none_some : {s : Showing} → None ≡ Some s → ⊥
+        none_some e = cc
+
+        by_showing : SaysKnown federation h n slot bag → ⊥
+        by_showing (inl (s, e, printed)) = none_some (sym none ∙ e)
+        by_showing (inr (inl (s, e, printed))) = none_some (sym none ∙ e)
+        by_showing (inr (inr (inl (s, e, t)))) = none_some (sym none ∙ e)
+        by_showing (inr (inr (inr (s, e, t)))) = none_some (sym none ∙ e)
 
     -- ---- one member moves
 
@@ -358,11 +417,12 @@ module _ {C : Type 0} (device : C → Device) (members : Membership)
           x = g.x;
           stands = next;
           grows = g.moves.grows;
-          reports = shown_reports w g.x g.moves.formed step.turn g.posts g.notices handed written h
-              shows;
-          registers =
-              shown_registers w g.x g.moves.formed step.turn g.posts g.notices handed written h
-              shows;
+          reports = shown_reports w g.x g.moves.formed g.moves.grows step.turn g.posts g.notices
+              handed written h shows;
+          registers = shown_registers w g.x g.moves.formed g.moves.grows step.turn g.posts g.notices
+              handed written h shows;
+          knows = shown_knows w g.x g.moves.formed g.moves.grows step.turn g.posts g.notices
+              handed written h shows;
           deposits = λ k slot bag d. elim (g.moves.deposits k slot bag d) [
             | inl before ↦ inl before
             | inr new ↦
@@ -388,6 +448,7 @@ module _ {C : Type 0} (device : C → Device) (members : Membership)
           grows = m.grows;
           reports = λ slot bag r. absurd (no_reports h none slot bag r);
           registers = λ k slot bag r. absurd (no_registers h none k slot bag r);
+          knows = λ k slot bag r. absurd (no_knows h none k slot bag r);
           deposits = λ k slot bag d. elim (m.deposits k slot bag d) [
             | inl before ↦ inl before
             | inr new ↦
@@ -417,6 +478,7 @@ module _ {C : Type 0} (device : C → Device) (members : Membership)
         grows = m.grows;
         reports = λ slot bag r. absurd (no_reports h none slot bag r);
         registers = λ k slot bag r. absurd (no_registers h none k slot bag r);
+        knows = λ k slot bag r. absurd (no_knows h none k slot bag r);
         deposits = λ k slot bag d. elim (m.deposits k slot bag d) [
           | inl before ↦ inl before
           | inr new ↦ absurd new.1

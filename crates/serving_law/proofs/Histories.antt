@@ -13,6 +13,7 @@ use Rattle.fed_types.specs.Values.{IsMembership}
 use Rattle.fed_types.specs.Laws.Lists.{has_none, has_right}
 use Rattle.fed_types.specs.Laws.Quorums.{are_quorums}
 use Rattle.cell_device.specs.Devices.{Device}
+use Rattle.records.specs.declared.entry.Entry.{Entry}
 use Rattle.records.specs.declared.entry.Entry.TheVariants as entry
 use Rattle.records.specs.declared.record.Record.{Record}
 use Rattle.records.specs.Bounds.{HasEntry}
@@ -29,11 +30,11 @@ use Rattle.udp_site.specs.Served.{Turned}
 use Rattle.serving_law.specs.Federations.{Federation, Step, Happening, new_federation, after}
 use Rattle.serving_law.specs.Federations.{after_all}
 use Rattle.serving_law.specs.Laws.{WasDeposited, ReportsAgree, ReportsWereDeposited}
-use Rattle.serving_law.specs.Laws.{RegisteredStays, TurnsMayHappen, IsStep}
-use Rattle.serving_law.specs.Reports.{Reports, Registers, IsDeposit, records_of}
+use Rattle.serving_law.specs.Laws.{RegisteredStays, KnownStays, TurnsMayHappen, IsStep}
+use Rattle.serving_law.specs.Reports.{Reports, Registers, SaysKnown, IsDeposit, records_of}
 use Rattle.serving_law.specs.Rules.{May, MayAll, MayCome, IsServing, Takes}
 use Rattle.serving_law.proofs.Scene.{OnlyNow}
-use Rattle.serving_law.proofs.Networks.{quorums, HasDeposit, Stands}
+use Rattle.serving_law.proofs.Networks.{quorums, HasDeposit, HasKnown, Stands}
 use Rattle.serving_law.proofs.Happenings.{Went, went, records_are, goes_on, stands_then}
 use Rattle.serving_law.proofs.Happenings.{HasFolders, with_folders}
 
@@ -76,6 +77,8 @@ module _ {C : Type 0} (device : C → Device) (members : Membership)
           → Reports members.federation h slot bag → IsChosen q x slot bag
       registers : (h : Happening C) → Has h history → (n : ℕ) (slot : SlotName) (bag : BagId)
           → Registers members.federation h n slot bag → HasDeposit x n slot bag
+      knows : (h : Happening C) → Has h history → (n : ℕ) (slot : SlotName) (bag : BagId)
+          → SaysKnown members.federation h n slot bag → HasKnown x n slot bag
       deposits : (n : ℕ) (slot : SlotName) (bag : BagId) → HasDeposit x n slot bag
           → HasDeposit w n slot bag ⊎ Made f history slot bag
 
@@ -98,6 +101,14 @@ module _ {C : Type 0} (device : C → Device) (members : Membership)
           (first.registers n slot bag
           (subst (λ (g : Happening C). Registers members.federation g n slot bag) (sym e) r))
       registered g (there has) n slot bag r = rest.registers g has n slot bag r
+
+      known : (g : Happening C) → Has g (h ∷ history) → (n : ℕ) (slot : SlotName) (bag : BagId)
+          → SaysKnown members.federation g n slot bag → HasKnown rest.x n slot bag
+      known g (here e) n slot bag r =
+          rest.grows.kept n slot (entry.Known bag)
+          (first.knows n slot bag
+          (subst (λ (g : Happening C). SaysKnown members.federation g n slot bag) (sym e) r))
+      known g (there has) n slot bag r = rest.knows g has n slot bag r
 
       made_now : (slot : SlotName) (bag : BagId) → IsDeposit members.federation f h slot bag
           → Made f (h ∷ history) slot bag
@@ -124,6 +135,7 @@ module _ {C : Type 0} (device : C → Device) (members : Membership)
         grows = grows_then first.grows rest.grows;
         reports = reported;
         registers = registered;
+        knows = known;
         deposits = λ n slot bag d. elim (rest.deposits n slot bag d) [
           | inl then ↦ elim (first.deposits n slot bag then) [
             | inl before ↦ inl before
@@ -142,6 +154,7 @@ module _ {C : Type 0} (device : C → Device) (members : Membership)
       grows = grows_itself;
       reports = λ h has. absurd (has_none has);
       registers = λ h has. absurd (has_none has);
+      knows = λ h has. absurd (has_none has);
       deposits = λ n slot bag d. inl d;
     }
     led (h ∷ history) f w stands may =
@@ -248,6 +261,15 @@ module _ {C : Type 0} (device : C → Device) (members : Membership)
         takes : Takes device members (after_all new_federation history) old step
         takes = record { may_come = come; comes = folders.2 }
 
+    -- what is on record in the network is so in the federation
+    on_record : (history : List (Happening C)) (l : Led new_federation history new_network) (n : ℕ)
+        (slot : SlotName) (e : Entry) → HasEntry slot (l.x.sites n).records e
+        → HasEntry slot (records_of ((after_all new_federation history).members n)) e
+    on_record history l n slot e h =
+        subst (λ (rs : List Record). HasEntry slot rs e)
+        (sym (records_are device members is_membership only_now n
+        ((after_all new_federation history).members n) (l.x.sites n) (l.stands.is n))) h
+
     stays : (before later : List (Happening C)) (h : Happening C) (n : ℕ) (slot : SlotName)
         (bag : BagId) → MayAll device members new_federation (before ++ h ∷ later)
         → Registers members.federation h n slot bag
@@ -256,10 +278,19 @@ module _ {C : Type 0} (device : C → Device) (members : Membership)
         (entry.Deposit bag)
     stays before later h n slot bag may r =
         let l = from_new (before ++ h ∷ later) may in
-        subst (λ (rs : List Record). HasEntry slot rs (entry.Deposit bag))
-        (sym (records_are device members is_membership only_now n
-        ((after_all new_federation (before ++ h ∷ later)).members n) (l.x.sites n) (l.stands.is n)))
+        on_record (before ++ h ∷ later) l n slot (entry.Deposit bag)
         (l.registers h (has_right before (here refl)) n slot bag r)
+
+    known_then : (before later : List (Happening C)) (h : Happening C) (n : ℕ) (slot : SlotName)
+        (bag : BagId) → MayAll device members new_federation (before ++ h ∷ later)
+        → SaysKnown members.federation h n slot bag
+        → HasEntry slot
+        (records_of ((after_all new_federation (before ++ h ∷ later)).members n))
+        (entry.Known bag)
+    known_then before later h n slot bag may r =
+        let l = from_new (before ++ h ∷ later) may in
+        on_record (before ++ h ∷ later) l n slot (entry.Known bag)
+        (l.knows h (has_right before (here refl)) n slot bag r)
 
 -- ---- the laws
 
@@ -281,3 +312,7 @@ module _ {C : Type 0} (device : C → Device) (members : Membership)
     pub registered_stays : RegisteredStays device members
     registered_stays before later h n slot bag is may r =
         stays device members is only_now before later h n slot bag may r
+
+    pub known_stays : KnownStays device members
+    known_stays before later h n slot bag is may r =
+        known_then device members is only_now before later h n slot bag may r

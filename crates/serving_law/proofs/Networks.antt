@@ -12,16 +12,18 @@ use Rattle.records.specs.declared.entry.Entry.TheVariants as entry
 use Rattle.records.specs.declared.record.Record.{Record}
 use Rattle.book.specs.OpenBooks.{RecoversTo}
 use Rattle.dgram.specs.declared.answers.DepositAnswer.TheVariants as deposit
+use Rattle.dgram.specs.declared.answers.QueryAnswer.TheVariants as query
 use Rattle.dgram.specs.declared.body.Body.{Body}
 use Rattle.dgram.specs.declared.body.Body.TheVariants.{DepositReply, QueryReply}
 use Rattle.dgram.specs.declared.message.Message.{Message}
 use Rattle.dgram.specs.Encoding.{datagram_of}
 use Rattle.dgram.specs.Messages.{IsMessage}
 use Rattle.proposer.specs.VolatileStates.{VolatileState}
+use Rattle.site.specs.declared.answer.Reply.TheVariants as replies
 use Rattle.site.specs.Effects.{Send}
 use Rattle.site_tables.specs.Contents.{Contents}
 use Rattle.lines.specs.declared.notice.Notice.{Notice}
-use Rattle.lines.specs.declared.notice.Notice.TheVariants.{Registered}
+use Rattle.lines.specs.declared.notice.Notice.TheVariants.{Registered, Learned, Replied}
 use Rattle.world_law.specs.Laws.{IsChosen, Report, notice_report}
 use Rattle.world_law.specs.Laws as laws
 use Rattle.world_law.specs.Networks.{Network, SiteState, volatile_in}
@@ -43,6 +45,10 @@ IsReplyBody _ = ⊥
 -- site n has the bag on record as its deposit
 abbrev pub HasDeposit : Network → ℕ → SlotName → BagId → Type 0
 HasDeposit w n slot bag = laws.OnRecord w n slot (entry.Deposit bag)
+
+-- site n has the bag on record as the known one
+abbrev pub HasKnown : Network → ℕ → SlotName → BagId → Type 0
+HasKnown w n slot bag = laws.OnRecord w n slot (entry.Known bag)
 
 -- what may be deposited: for which slot which bag
 abbrev pub May : Type 1
@@ -127,6 +133,10 @@ module _ {C : Type 0} (device : C → Device) (members : Membership) where
     pub registered : (n : ℕ) (bag : BagId)
         → message.body ≡ DepositReply n (deposit.Registered bag)
         → HasDeposit x n message.slot bag
+    pub refused : (n : ℕ) (bag : BagId) → message.body ≡ DepositReply n (deposit.OtherKnown bag)
+        → HasKnown w n message.slot bag
+    pub queried : (n : ℕ) (bag : BagId) → message.body ≡ QueryReply n (query.Known bag)
+        → HasKnown w n message.slot bag
 
   abbrev pub IsPost : (w x : Network) → List ℕ → Type 0
   IsPost w x bytes =
@@ -139,6 +149,10 @@ module _ {C : Type 0} (device : C → Device) (members : Membership) where
     pub known : (r : Report) → notice_report notice ≡ Some r → IsChosen quorums w r.slot r.bag
     pub registered : (n : ℕ) (slot : SlotName) (bag : BagId) → notice ≡ Registered n slot bag
         → HasDeposit x n slot bag
+    pub learned : (n : ℕ) (slot : SlotName) (bag : BagId) → notice ≡ Learned n slot bag
+        → HasKnown x n slot bag
+    pub replied : (n : ℕ) (slot : SlotName) (bag : BagId)
+        → notice ≡ Replied n slot (replies.Known bag) → HasKnown w n slot bag
 
   -- ---- what happens at a member
 

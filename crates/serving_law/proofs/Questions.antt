@@ -37,7 +37,7 @@ use Rattle.serving_law.proofs.Recoveries.{as_it_was, recovered_now}
 use Rattle.serving_law.proofs.Replies.{query_answer_is, replied_is_known}
 use Rattle.serving_law.proofs.Scene.{Scene}
 use Rattle.serving_law.proofs.Networks.{quorums, IsServed, IsPost, IsNotice, IsSent, May}
-use Rattle.serving_law.proofs.Networks.{Moves}
+use Rattle.serving_law.proofs.Networks.{HasKnown, Moves}
 use Rattle.serving_law.proofs.Calls as calling
 use Rattle.serving_law.proofs.Turns as turning
 
@@ -207,6 +207,12 @@ module _ {C : Type 0} (device : C → Device) (members : Membership) (s : Scene 
       record {
         known = λ bag f. chosen bag (named n reply bag f);
         registered = λ k bag f. absurd (cc f);
+        refused = λ k bag f. absurd (cc f);
+        queried = λ k bag f.
+            let place : n ≡ k = cc in
+            subst (λ (m : ℕ). HasKnown w m slot bag) place
+            (replied_is_known slot (w.sites n).records bag
+            (named n reply bag (ap known_told f)));
       },
     )
 
@@ -216,6 +222,14 @@ module _ {C : Type 0} (device : C → Device) (members : Membership) (s : Scene 
           let f = reported n slot reply r e in
           subst (λ (s : SlotName). IsChosen q w s r.bag) f.1 (chosen r.bag f.0);
       registered = λ k s bag e. absurd (cc e);
+      learned = λ k s bag e. absurd (cc e);
+      replied = λ k s bag e.
+          let place : n ≡ k = cc in
+          let slots : slot ≡ s = cc in
+          let known : reply ≡ replies.Known bag = cc in
+          subst (λ (m : ℕ). HasKnown w m s bag) place
+          (subst (λ (t : SlotName). HasKnown w n t bag) slots
+          (replied_is_known slot (w.sites n).records bag known));
     }
 
     -- ---- the turn

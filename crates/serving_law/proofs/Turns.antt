@@ -90,12 +90,16 @@ module _ {C : Type 0} (device : C → Device) (members : Membership) (s : Scene 
   refused_is x fault = record {
     known = λ r e. absurd (cc e);
     registered = λ k slot bag e. absurd (cc e);
+    learned = λ k slot bag e. absurd (cc e);
+    replied = λ k slot bag e. absurd (cc e);
   }
 
   pub dropped_is : (x : Network) → IsNotice device members w x (Dropped n)
   dropped_is x = record {
     known = λ r e. absurd (cc e);
     registered = λ k slot bag e. absurd (cc e);
+    learned = λ k slot bag e. absurd (cc e);
+    replied = λ k slot bag e. absurd (cc e);
   }
 
   -- a refusal says nothing else

@@ -13,7 +13,8 @@ use Rattle.udp_site.specs.Turns.{Serving, turn_of}
 use Rattle.udp_site.specs.Served.{Turned, is_the_last}
 use Rattle.serving_law.specs.Federations.{Step, Happening, new_federation, after_all}
 use Rattle.serving_law.specs.Rules.{MayCome, IsServing, Takes, IsHistory}
-use Rattle.serving_law.specs.Reports.{Reports, Registers, OnRecord, IsDeposit}
+use Rattle.serving_law.specs.Reports.{Reports, Registers, SaysKnown, OnRecord, KnownOnRecord}
+use Rattle.serving_law.specs.Reports.{IsDeposit}
 
 -- one of these happenings is a deposit of the bag for the slot
 pub record WasDeposited {C : Type 0} (federation : ℕ) (history : List (Happening C))
@@ -74,3 +75,12 @@ module _ {C : Type 0} (device : C → Device) (members : Membership) where
       → IsMembership members → IsHistory device members (before ++ h ∷ later)
       → Registers members.federation h n slot bag
       → OnRecord (after_all new_federation (before ++ h ∷ later)) n slot bag
+
+  -- and so is what a member says is known
+  abbrev pub KnownStays : Type 0
+  KnownStays =
+      (before later : List (Happening C)) (h : Happening C) (n : ℕ) (slot : SlotName)
+      (bag : BagId)
+      → IsMembership members → IsHistory device members (before ++ h ∷ later)
+      → SaysKnown members.federation h n slot bag
+      → KnownOnRecord (after_all new_federation (before ++ h ∷ later)) n slot bag

@@ -17,8 +17,9 @@ use Rattle.dgram.specs.declared.body.Body.{Body}
 use Rattle.dgram.specs.declared.body.Body.TheVariants.{DepositReply, QueryReply}
 use Rattle.dgram.specs.declared.message.Message.{Message}
 use Rattle.dgram.specs.Decoded.{message_of}
+use Rattle.site.specs.declared.answer.Reply.TheVariants as replies
 use Rattle.lines.specs.declared.notice.Notice.{Notice}
-use Rattle.lines.specs.declared.notice.Notice.TheVariants.{Registered}
+use Rattle.lines.specs.declared.notice.Notice.TheVariants.{Registered, Learned, Replied}
 use Rattle.world_law.specs.Laws.{notice_report}
 use Rattle.udp_site.specs.Requests.{Deposits, request_of}
 use Rattle.udp_site.specs.Served.{Turned, notice_text}
@@ -90,6 +91,17 @@ Registers federation h member slot bag =
     ⊎ Tells federation h
     (record { slot = slot; body = DepositReply member (deposit.Registered bag) })
 
+-- this member says that the bag is known for the slot: in a line `known` or `reply .. known`, or in
+-- a reply to a client who asked, or who would deposit another one
+abbrev pub SaysKnown :
+    {C : Type 0} → (federation : ℕ) → Happening C → (member : ℕ) → SlotName → BagId → Type 0
+SaysKnown federation h member slot bag =
+    Prints h (Learned member slot bag)
+    ⊎ (Prints h (Replied member slot (replies.Known bag))
+    ⊎ (Tells federation h (record { slot = slot; body = QueryReply member (query.Known bag) })
+    ⊎ Tells federation h
+    (record { slot = slot; body = DepositReply member (deposit.OtherKnown bag) })))
+
 -- ---- deposits
 
 -- the records of a member: of its process, or those that its cell recovers to
@@ -97,10 +109,17 @@ abbrev pub records_of : {C : Type 0} → Member C → List Record
 records_of (Serves s) = s.site.book.records
 records_of (Down records) = records
 
+-- the bag is on its record as its deposit
 abbrev pub OnRecord :
     {C : Type 0} → Federation C → (member : ℕ) → SlotName → BagId → Type 0
 OnRecord f member slot bag =
     HasEntry slot (records_of (f.members member)) (entry.Deposit bag)
+
+-- the bag is on its record as the known one
+abbrev pub KnownOnRecord :
+    {C : Type 0} → Federation C → (member : ℕ) → SlotName → BagId → Type 0
+KnownOnRecord f member slot bag =
+    HasEntry slot (records_of (f.members member)) (entry.Known bag)
 
 -- the turn that a member takes, to its end or not
 abbrev pub step_of : {C : Type 0} → Happening C → Option (ℕ × Step C)

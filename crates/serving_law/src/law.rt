@@ -1,6 +1,6 @@
 ghost use Rattle.fed_types.specs.Sites.{Membership};
 ghost use Rattle.serving_law.specs.Laws.{TurnsMayHappen, ReportsAgree, ReportsWereDeposited};
-ghost use Rattle.serving_law.specs.Laws.{RegisteredStays};
+ghost use Rattle.serving_law.specs.Laws.{RegisteredStays, KnownStays};
 
 use cell_device::Cell;
 
@@ -26,4 +26,9 @@ pub fn reports_were_deposited<C: Cell>()
 /// What a site that serves says it has registered stays on its record.
 pub fn registered_stays<C: Cell>()
     ensures { (members : Membership) → RegisteredStays C.device members }
+{}
+
+/// What a site that serves says is known stays on its record as known.
+pub fn known_stays<C: Cell>()
+    ensures { (members : Membership) → KnownStays C.device members }
 {}

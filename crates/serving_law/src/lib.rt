@@ -10,4 +10,6 @@ pub use examples::{
     a_repeated_vote, disks_are_like_cells, fooled_by_a_forged_known, killed_in_a_deposit,
     killed_in_a_vote, three_sites_agree,
 };
-pub use law::{registered_stays, reports_agree, reports_were_deposited, turns_may_happen};
+pub use law::{
+    known_stays, registered_stays, reports_agree, reports_were_deposited, turns_may_happen,
+};

@@ -2,3 +2,4 @@ pub mod Heard
 pub mod Written
 pub mod Repeated
 pub mod BegunCells
+pub mod Servings

@@ -1,5 +1,13 @@
 //! One site that serves.
 
+ghost use Rattle.std.specs.Prelude.{◌≡◌, IfOk, Err, string_bytes};
+ghost use Rattle.proposer.specs.VolatileStates.{new_volatile};
+ghost use Rattle.site.specs.Sites.{Represents};
+ghost use Rattle.udp_site.specs.Served.{outside};
+ghost use Rattle.udp_site.specs.Turns.{begins, turn_of};
+ghost use Rattle.site_commands.specs.Services.{OpensAndServes, ServedBy, IsConcluded};
+ghost use Rattle.site_commands.specs.Services.{unopened, stopped};
+
 use crate::site_arguments::Turns;
 use crate::stop::{Stop, write_numbered, write_stop};
 use bag_folders::Folders;
@@ -36,7 +44,13 @@ pub fn open_and_serve<C: Cell + Drop, P: Port, F: Folders, W: Write>(
     folders: &mut F,
     service: Service<'_>,
     output: &mut W,
-) -> Result<u8, ProgramFault> {
+) -> Result<u8, ProgramFault>
+    ensures { OpensAndServes C.device
+        (turn_of C.device service.entry.ports.now (F.gives folders.old))
+        (record { members = members; site = number }) service.entry.turns cell
+        (outside (P.traffic port.old) (W.contents output.old))
+        (outside (P.traffic port.new) (W.contents output.new)) result }
+{
     if !members.has(number) {
         return write_stop(alloc, output, Stop::NotAMember);
     }
@@ -55,7 +69,13 @@ fn serve_as<C: Cell + Drop, P: Port, F: Folders, W: Write>(
     folders: &mut F,
     service: Service<'_>,
     output: &mut W,
-) -> Result<u8, ProgramFault> {
+) -> Result<u8, ProgramFault>
+    ensures { Represents site.old new_volatile → ServedBy
+        (turn_of C.device service.entry.ports.now (F.gives folders.old)) service.entry.turns
+        (outside (P.traffic port.old) (W.contents output.old))
+        (outside (P.traffic port.new) (W.contents output.new))
+        (begins site.old new_volatile) result }
+{
     if let Some(log) = service.log {
         log.begins(site.records());
     }
@@ -74,7 +94,13 @@ fn serve_for<C: Cell + Drop, P: Port, F: Folders, W: Write>(
     ports: &[u16],
     turns: u32,
     output: &mut W,
-) -> Result<u8, ProgramFault> {
+) -> Result<u8, ProgramFault>
+    ensures { Represents site.old new_volatile → ServedBy
+        (turn_of C.device ports.now (F.gives folders.old)) (Turns.Count turns)
+        (outside (P.traffic port.old) (W.contents output.old))
+        (outside (P.traffic port.new) (W.contents output.new))
+        (begins site.old new_volatile) result }
+{
     match serve(alloc, site, port, folders, ports, turns, output) {
         Ok(()) => Ok(0),
         Err(fault) => write_stopped(alloc, output, fault),
@@ -89,8 +115,14 @@ fn serve_forever<C: Cell + Drop, P: Port, F: Folders, W: Write>(
     folders: &mut F,
     ports: &[u16],
     output: &mut W,
-) -> Result<u8, ProgramFault> {
-    for _ in 0..u64::MAX {
+) -> Result<u8, ProgramFault>
+    ensures { Represents site.old new_volatile → ServedBy
+        (turn_of C.device ports.now (F.gives folders.old)) Turns.Forever
+        (outside (P.traffic port.old) (W.contents output.old))
+        (outside (P.traffic port.new) (W.contents output.new))
+        (begins site.old new_volatile) result }
+{
+    'calls: for _ in 0..u64::MAX {
         match serve(alloc, site, port, folders, ports, u32::MAX, output) {
             Ok(()) => {}
             Err(fault) => return write_stopped(alloc, output, fault),
@@ -104,19 +136,25 @@ fn write_stopped<W: Write>(
     alloc: Global,
     output: &mut W,
     fault: ServeFault,
-) -> Result<u8, ProgramFault> {
-    if fault == ServeFault::Output {
-        return Err(ProgramFault::Output);
+) -> Result<u8, ProgramFault>
+    ensures { IsConcluded (W.contents output.old) (W.contents output.new) (Err fault) result }
+{
+    match fault {
+        ServeFault::Output => Err(ProgramFault::Output),
+        _ => write_numbered(output, stopped_line(alloc, fault)),
     }
-    write_numbered(output, stopped_line(alloc, fault))
 }
 
-fn open_line(alloc: Global, fault: OpenFault) -> Result<String, AllocError> {
+fn open_line(alloc: Global, fault: OpenFault) -> Result<String, AllocError>
+    ensures { IfOk result (λ line. string_bytes line ≡ (unopened fault).text) }
+{
     let number = fault.number();
     format!(in alloc; "open {number}\n")
 }
 
-fn stopped_line(alloc: Global, fault: ServeFault) -> Result<String, AllocError> {
+fn stopped_line(alloc: Global, fault: ServeFault) -> Result<String, AllocError>
+    ensures { IfOk result (λ line. string_bytes line ≡ (stopped fault).text) }
+{
     let number = fault.number();
     format!(in alloc; "stopped {number}\n")
 }

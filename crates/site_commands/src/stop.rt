@@ -1,5 +1,10 @@
 //! Why the program doesn't begin what it was asked for.
 
+ghost use Rattle.std.specs.Prelude.{◌≡◌};
+ghost use Rattle.site_commands.specs.Answers.{IsWritten};
+ghost use Rattle.site_commands.specs.Services.{not_a_member};
+ghost use Rattle.site_commands.specs.inner.Written.{outcome_of_line};
+
 use outcomes::{ProgramFault, write_output};
 use std::alloc::{AllocError, Global};
 use std::io::Write;
@@ -28,7 +33,10 @@ pub enum Stop {
 }
 
 /// Writes why, as a line, and gives the status 1.
-pub fn write_stop<W: Write>(alloc: Global, output: &mut W, stop: Stop) -> Result<u8, ProgramFault> {
+pub fn write_stop<W: Write>(alloc: Global, output: &mut W, stop: Stop) -> Result<u8, ProgramFault>
+    ensures no_member { stop ≡ Stop.NotAMember
+        → IsWritten (W.contents output.old) (W.contents output.new) result not_a_member }
+{
     match stop {
         Stop::MembersUnread => write_output(output, 1, "members unread\n"),
         Stop::MembersLine(line) => write_numbered(output, members_line(alloc, line)),
@@ -46,7 +54,10 @@ pub fn write_stop<W: Write>(alloc: Global, output: &mut W, stop: Stop) -> Result
 pub fn write_numbered<W: Write>(
     output: &mut W,
     line: Result<String, AllocError>,
-) -> Result<u8, ProgramFault> {
+) -> Result<u8, ProgramFault>
+    ensures { IsWritten (W.contents output.old) (W.contents output.new) result
+        (outcome_of_line line) }
+{
     match line {
         Ok(line) => write_output(output, 1, line.as_str()),
         Err(AllocError) => write_output(output, 1, "memory\n"),

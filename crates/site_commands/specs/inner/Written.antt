@@ -1,6 +1,7 @@
 -- The outcomes that are written.
-use Rattle.std.specs.Prelude.{◌≡◌, ℕ, List, string_bytes, Option, Some, None, Result, Ok, Err, IfOk}
+use Rattle.std.specs.Prelude.{◌≡◌, ℕ, List, String, string_bytes, Option, Some, None, Result, Ok, Err, IfOk}
 use Rattle.std.specs.declared.alloc.AllocError.{AllocError}
+use Rattle.std.specs.Global.{Global}
 use Rattle.outcomes.specs.declared.program_output.ProgramOutput.{ProgramOutput}
 use Rattle.outcomes.specs.Outcomes.{Outcome, no_memory}
 use Rattle.udp_site.specs.Traffic.{Move, Grows}
@@ -14,6 +15,11 @@ outcome_in answer = record { status = answer.status; text = string_bytes answer.
 abbrev pub outcome_if : Option ProgramOutput → Outcome
 outcome_if None = no_answer
 outcome_if (Some answer) = outcome_in answer
+
+-- a line, with the status 1, or where there was no memory for it
+abbrev pub outcome_of_line : Result (String Global) AllocError → Outcome
+outcome_of_line (Ok line) = record { status = 1; text = string_bytes line }
+outcome_of_line (Err fault) = no_memory
 
 -- of an answer, of none, or where there was no memory for it
 abbrev pub outcome_to : Result (Option ProgramOutput) AllocError → Outcome

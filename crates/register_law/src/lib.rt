@@ -1,0 +1,12 @@
+//! What a federation of sites that serve comes to: a register for each version of each object, which
+//! is decided once. The definitions stand in specs/; a function here does nothing, and its contract
+//! is a law.
+#![tactic(auto)]
+
+mod law;
+
+pub use law::{
+    carried_agree_with_the_run, carried_reports_agree, carried_reports_were_deposited,
+    cells_have_no_conflict, chosen_is_all_that_is_reported, chosen_remains, histories_refine,
+    overlaps_are_histories, records_stay,
+};

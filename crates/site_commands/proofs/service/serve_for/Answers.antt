@@ -1,0 +1,23 @@
+use Rattle.std.proofs.Common.{refl}
+use Rattle.proposer.specs.VolatileStates.{new_volatile}
+use Rattle.udp_site.specs.Served.{outside}
+use Rattle.site_commands.proofs.Servings.{served_once, failed_once}
+use Rattle.site_commands.proofs.service.serve_for.Goals as goal
+
+pub returns-in-Ok : goal.returns-in-Ok
+returns-in-Ok g c stands =
+    served_once g.C.Cell.device c.args.ports.now (g.F.Folders.gives c.args.folders.now) c.args.turns
+    (outside (g.P.Port.traffic c.args.port.now) (g.W.Write.contents c.args.output.now))
+    (outside (g.P.Port.traffic c.serve.new.port) (g.W.Write.contents c.serve.new.output))
+    c.args.site.now c.serve.new.site new_volatile (λ opened. stands)
+    (c.in-Ok.ensures.served new_volatile (λ opened. stands))
+
+pub returns-in-Err : goal.returns-in-Err
+returns-in-Err g c stands =
+    failed_once g.C.Cell.device c.args.ports.now (g.F.Folders.gives c.args.folders.now) c.args.turns
+    (outside (g.P.Port.traffic c.args.port.now) (g.W.Write.contents c.args.output.now))
+    (outside (g.P.Port.traffic c.serve.new.port) (g.W.Write.contents c.serve.new.output))
+    c.args.site.now c.serve.new.site new_volatile (λ opened. stands) c.in-Err.fault
+    (c.in-Err.ensures.served new_volatile (λ opened. stands))
+    (outside (g.P.Port.traffic c.serve.new.port) (g.W.Write.contents c.write_stopped.new.output))
+    refl c.write_stopped.result c.write_stopped.ensures

@@ -1,0 +1,127 @@
+-- What a process that is to serve a site does with its cell, its port and its output: it opens the
+-- site, and calls `serve`, once or again and again.
+use Rattle.std.specs.Prelude.{◌≡◌, ◌⊎◌, ◌<◌, ℕ, true, false, List, [], ◌∷◌, ◌++◌, length, codes}
+use Rattle.std.specs.Prelude.{Option, Result, Ok, Err}
+use Rattle.std.specs.Fmt.{decimal}
+use Rattle.fed_types.specs.Lists.{is_in}
+use Rattle.fed_types.specs.Sites.{members_of}
+use Rattle.cell_device.specs.Devices.{Device}
+use Rattle.records.specs.declared.owner.Owner.{Owner}
+use Rattle.book.specs.declared.fault.OpenFault.{OpenFault}
+use Rattle.book.specs.Faults.{open_number}
+use Rattle.book.specs.Opened.{Opens}
+use Rattle.proposer.specs.VolatileStates.{new_volatile}
+use Rattle.site.specs.Sites.{OpenSite}
+use Rattle.outcomes.specs.declared.fault.ProgramFault.{ProgramFault}
+use Rattle.outcomes.specs.declared.fault.ProgramFault.TheVariants.{Output}
+use Rattle.outcomes.specs.Outcomes.{Outcome}
+use Rattle.udp_site.specs.declared.fault.ServeFault.{ServeFault}
+use Rattle.udp_site.specs.declared.fault.ServeFault.TheVariants as faults
+use Rattle.udp_site.specs.Faults.{serve_number}
+use Rattle.udp_site.specs.Turns.{Serving, begins}
+use Rattle.udp_site.specs.Served.{Rule, Turned, Outside, Serves}
+use Rattle.site_commands.specs.declared.site_arguments.Turns.{Turns}
+use Rattle.site_commands.specs.declared.site_arguments.Turns.TheVariants as turns
+use Rattle.site_commands.specs.Answers.{IsTold}
+
+-- ---- calls of `serve`
+
+-- a call is for so many turns
+abbrev pub turns_in : Turns → ℕ
+turns_in (turns.Count count) = count
+turns_in turns.Forever = 4294967295
+
+-- and there are so many calls at most
+abbrev pub most_calls : Turns → ℕ
+most_calls (turns.Count count) = 1
+most_calls turns.Forever = 18446744073709551615
+
+module _ {C : Type 0} (rule : Rule C) (wanted : ℕ) where
+  -- The site has served by these calls, all of which were Ok. Each goes on where the one before it
+  -- ended, but that idle turns are counted anew.
+  abbrev pub GoesOn : (before after : Outside) → (start end : Serving C) → List (List Turned)
+      → Type 0
+  GoesOn before after start end [] = (end ≡ start) × (after ≡ before)
+  GoesOn before after start end (turns ∷ calls) =
+      (mid : Serving C) × (between : Outside)
+      × Serves rule before between start mid wanted turns (Ok tt)
+      × GoesOn between after (begins mid.site mid.volatile) end calls
+
+  -- and by one more, which a fault ended
+  abbrev pub EndsBy : ServeFault → (before after : Outside) → (start end : Serving C)
+      → List (List Turned) → Type 0
+  EndsBy fault before after start end calls =
+      (mid : Serving C) × (between : Outside) × GoesOn before between start mid calls
+      × (turns : List Turned) × Serves rule between after mid end wanted turns (Err fault)
+
+  -- Ok: by all calls that there are. Else by fewer, and then one that a fault ended.
+  abbrev pub ServesOn : (most : ℕ) → (before after : Outside) → (start end : Serving C)
+      → List (List Turned) → Result (Unit {0}) ServeFault → Type 0
+  ServesOn most before after start end calls (Ok served) =
+      (length calls ≡ most) × GoesOn before after start end calls
+  ServesOn most before after start end calls (Err fault) =
+      (length calls < most) × EndsBy fault before after start end calls
+
+-- ---- the last line
+
+abbrev pub not_a_member : Outcome
+not_a_member = record { status = 1; text = codes "not a member" ++ 10 ∷ [] }
+
+abbrev pub unopened : OpenFault → Outcome
+unopened fault = record {
+  status = 1;
+  text = codes "open " ++ decimal (open_number fault) ++ 10 ∷ [];
+}
+
+abbrev pub stopped : ServeFault → Outcome
+stopped fault = record {
+  status = 1;
+  text = codes "stopped " ++ decimal (serve_number fault) ++ 10 ∷ [];
+}
+
+-- after serving: why it stopped, but where nothing can be written
+abbrev pub IsConcluded : (old new : Option (List ℕ)) → Result (Unit {0}) ServeFault
+    → Result ℕ ProgramFault → Type 0
+IsConcluded old new (Ok served) answer = (new ≡ old) × (answer ≡ Ok 0)
+IsConcluded old new (Err faults.Output) answer = (new ≡ old) × (answer ≡ Err Output)
+IsConcluded old new (Err fault) answer = IsTold old new answer (stopped fault)
+
+-- A site that began so has served by these calls; and then the last line was written, if there is
+-- one.
+pub record ServedBy {C : Type 0} (rule : Rule C) (how : Turns) (before after : Outside)
+    (start : Serving C) (answer : Result ℕ ProgramFault) : Type 0 where
+  pub end : Serving C
+  pub calls : List (List Turned)
+  pub result : Result (Unit {0}) ServeFault
+  pub ended : Outside
+  pub serves : ServesOn rule (turns_in how) (most_calls how) before ended start end calls result
+  pub still : after.traffic ≡ ended.traffic
+  pub concluded : IsConcluded ended.written after.written result answer
+
+-- ---- a process
+
+module _ {C : Type 0} (device : C → Device) (rule : Rule C) (owner : Owner) (how : Turns)
+    (cell : C) (before after : Outside) (answer : Result ℕ ProgramFault) where
+  -- no member has the number: nothing is opened
+  pub record IsNoMember : Type 0 where
+    pub none : is_in (members_of owner.members) owner.site ≡ false
+    pub still : after.traffic ≡ before.traffic
+    pub told : IsTold before.written after.written answer not_a_member
+
+  -- the site wasn't opened over the cell, which is left
+  pub record IsUnopened : Type 0 where
+    pub fault : OpenFault
+    pub left : C
+    pub refused : Opens device owner cell (Err (left, fault))
+    pub still : after.traffic ≡ before.traffic
+    pub told : IsTold before.written after.written answer (unopened fault)
+
+  -- the site was opened over the cell, and has served
+  pub record HasServed : Type 0 where
+    pub member : is_in (members_of owner.members) owner.site ≡ true
+    pub site : OpenSite C
+    pub opened : Opens device owner cell (Ok site.book)
+    pub served : ServedBy rule how before after (begins site new_volatile) answer
+
+  abbrev pub OpensAndServes : Type 0
+  OpensAndServes = IsNoMember ⊎ (IsUnopened ⊎ HasServed)
