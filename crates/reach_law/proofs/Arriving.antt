@@ -67,7 +67,8 @@ undisturbed q running slot first w before (suc count) l passes =
     let at = datagram_at (suc before) w.sent in
     let then = (happens q w (Deliver (suc before) Whole)).network in
     let both =
-    and_parts (is_of_it running slot at) (are_of_it q running slot then (suc before) count) passes in (
+    and_parts (is_of_it running slot at) (are_of_it q running slot then (suc before) count)
+    passes in (
       inl (comes running slot first before w l at refl both.0),
       undisturbed q running slot first then (suc before) count (omega (arith, l)) both.1,
     )

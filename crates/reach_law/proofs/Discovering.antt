@@ -76,7 +76,7 @@ prepare_cases slot rs b = go (promised_of slot rs) refl
         × (on_prepare (promised_of slot rs) (vote_of slot rs) b ≡ refuses b a))
     stands a e true f =
         inl (λ c g.
-        subst (λ (c : BallotNumber). Below c b) (some_same (sym e ∙ g)) (below_is a b f))
+        rw (← some_same (sym e ∙ g)) (below_is a b f))
     stands a e false f =
         inr (
           a,
@@ -233,7 +233,7 @@ module _ (q : QuorumSystem) (running : List ℕ) (slot : SlotName) (before : ℕ
     module _ (more : last w ≤ last y) (bound : last y < greatest_round) (seen : Seen n y) where
       seen_stays : (m : ℕ) → Has m running → Seen m w → Seen m y
       seen_stays m h old = elim (cases_eq m n) [
-        | inl same ↦ subst (λ (m : ℕ). Seen m y) (sym same) seen
+        | inl same ↦ rw same seen
         | inr differ ↦
             λ b e. let l = old b (sym (other_promised m differ) ∙ e) in omega (arith, l, more)
       ]
@@ -242,7 +242,7 @@ module _ (q : QuorumSystem) (running : List ℕ) (slot : SlotName) (before : ℕ
           → promised_of slot (records_at y m) ≡ Some b → b.round < greatest_round
       rooms_stay m h b e = elim (cases_eq m n) [
         | inl same ↦
-            let l = seen b (subst (λ (m : ℕ). promised_of slot (records_at y m) ≡ Some b) same e)
+            let l = seen b (rw (← same) e)
             in omega (arith, l, bound)
         | inr differ ↦ a.base.rooms m h b (sym (other_promised m differ) ∙ e)
       ]
@@ -259,7 +259,7 @@ module _ (q : QuorumSystem) (running : List ℕ) (slot : SlotName) (before : ℕ
           room = bound;
           rooms = rooms_stay;
         };
-        used = subst (λ (n : ℕ). r ≤ n) (sym used_same) a.used;
+        used = rw used_same a.used;
         asked = λ m h. took_fresh u before _ (took_fresh t before _ (a.asked m h));
       }
 
@@ -290,7 +290,7 @@ module _ (q : QuorumSystem) (running : List ℕ) (slot : SlotName) (before : ℕ
         same,
         λ b e.
             let is : ballot r ≡ b = some_same (sym now ∙ e) in
-            subst (λ (b : BallotNumber). b.round ≤ last y) is (omega (arith, used, enough)),
+            rw (← is) (omega (arith, used, enough)),
       )
     where
       commits : Option Record
@@ -319,7 +319,7 @@ module _ (q : QuorumSystem) (running : List ℕ) (slot : SlotName) (before : ℕ
         all,
         λ b e.
             let same : c ≡ b = some_same (sym now ∙ e) in
-            subst (λ (b : BallotNumber). b.round ≤ last y) same (omega (arith, all)),
+            rw (← same) (omega (arith, all)),
       )
     where
       answer : Body

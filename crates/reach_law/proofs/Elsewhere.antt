@@ -346,7 +346,7 @@ module _ (slot : SlotName) where
           subst (λ (s : SiteState). SameFor (volatile_at x k) (volatile_in s.mode))
           (sym (same k h)) (same_for (volatile_at x k));
       up = λ k h up.
-          subst (λ (s : SiteState). s.mode ≡ Up (volatile_in s.mode)) (sym (same k h)) up;
+          rw (same k h) up;
       more = sends;
       sent = refl;
       others = others;
@@ -355,7 +355,7 @@ module _ (slot : SlotName) where
         same : (k : ℕ) → Has k running → cond (k == n) site (x.sites k) ≡ x.sites k
         same k h =
             ap (λ (t : Bool). cond t site (x.sites k))
-            (ne_eqb k n (λ e. not (subst (λ (k : ℕ). Has k running) e h)))
+            (ne_eqb k n (λ e. not (rw (← e) h)))
 
     -- at one that runs, which is up
     at_running : (x : Network) (n : ℕ) (e : Effect) → OtherEffect (volatile_at x n) e
@@ -385,27 +385,18 @@ module _ (slot : SlotName) where
             → SameWords (records_at x k) (cond (k == n) site (x.sites k)).records
         words k = elim (cases_eq k n) [
           | inl same ↦
-              subst (λ (t : Bool). SameWords (records_at x k) (cond t site (x.sites k)).records)
-              (sym (eq-eqb k n same))
-              (subst (λ (k : ℕ). SameWords (records_at x k) site.records) (sym same)
-              (words_more (records_at x n) e.commits o.commits))
+              rw (eq-eqb k n same) (rw same (words_more (records_at x n) e.commits o.commits))
           | inr differ ↦
-              subst (λ (t : Bool). SameWords (records_at x k) (cond t site (x.sites k)).records)
-              (sym (ne_eqb k n differ)) (words_same (records_at x k))
+              rw (ne_eqb k n differ) (words_same (records_at x k))
         ]
 
         volatile : (k : ℕ)
             → SameFor (volatile_at x k) (volatile_in (cond (k == n) site (x.sites k)).mode)
         volatile k = elim (cases_eq k n) [
           | inl same ↦
-              subst (λ (t : Bool).
-              SameFor (volatile_at x k) (volatile_in (cond t site (x.sites k)).mode))
-              (sym (eq-eqb k n same))
-              (subst (λ (k : ℕ). SameFor (volatile_at x k) e.volatile) (sym same) o.volatile)
+              rw (eq-eqb k n same) (rw same o.volatile)
           | inr differ ↦
-              subst (λ (t : Bool).
-              SameFor (volatile_at x k) (volatile_in (cond t site (x.sites k)).mode))
-              (sym (ne_eqb k n differ)) (same_for (volatile_at x k))
+              rw (ne_eqb k n differ) (same_for (volatile_at x k))
         ]
 
         up_then : (k : ℕ) → IsUp x k
@@ -441,8 +432,7 @@ module _ (slot : SlotName) where
           reached : (mode : Mode) → mode ≡ Up (volatile_at x n)
               → Elsewhere x (reaches q x n mode input Whole).network
           reached mode is =
-              subst (λ (m : Mode). Elsewhere x (reaches q x n m input Whole).network) (sym is)
-              (at_running x n (effect_of q n (records_at x n) (volatile_at x n) input)
+              rw is (at_running x n (effect_of q n (records_at x n) (volatile_at x n) input)
               (input_other q n (records_at x n) (volatile_at x n) input other))
 
           go : (t : Bool)
@@ -465,8 +455,7 @@ module _ (slot : SlotName) where
               (effect_of q n (records_at x n) (volatile_at x n) input) =
               input_other q n (records_at x n) (volatile_at x n) input other in
               let here : OtherEffect v e =
-              subst (λ (u : VolatileState).
-              OtherEffect u (effect_of q n (records_at x n) u input)) (ap volatile_in is) o in
+              rw (← ap volatile_in is) o in
               aside x n (outcome n (x.sites n) (Up e.volatile) input e e.commits fate).site
               (outcome n (x.sites n) (Up e.volatile) input e e.commits fate).sends not
               (λ d h.
@@ -495,8 +484,7 @@ module _ (slot : SlotName) where
               → Elsewhere x (takes q x n input fate).network
           go true e =
               let h = (is_in_decides running n).0 e in
-              subst (λ (f : Fate). Elsewhere x (takes q x n input f).network) (sym (is_whole h))
-              (whole h (up h))
+              rw (is_whole h) (whole h (up h))
           go false e =
               any_fate fate (λ h. false≢true (sym e ∙ (is_in_decides running n).1 h))
 
@@ -521,8 +509,7 @@ module _ (slot : SlotName) where
         member true = reply (x.sites n).mode
         member false = nowhere x
     event_elsewhere x up (networks.Deliver number fate) h =
-        subst (λ (o : Option Send). Elsewhere x (arrives q x o fate).network) (sym h.1)
-        (taken x h.0.to (Arrives (Some h.0.message)) h.2 fate h.3 (up h.0.to))
+        rw h.1 (taken x h.0.to (Arrives (Some h.0.message)) h.2 fate h.3 (up h.0.to))
     event_elsewhere x up (networks.Raw n) h =
         taken x n (Arrives None) tt Whole (λ h. refl) (up n)
     event_elsewhere x up (networks.Stop n) h = member (is_in q.members n)
@@ -530,7 +517,8 @@ module _ (slot : SlotName) where
         stopped : (mode : Mode) → Elsewhere x (stops x n mode).network
         stopped (Up v) = aside x n (record { records = records_at x n ++ []; mode = Down }) [] h
             (λ d i. absurd (has_none i))
-        stopped NeedsOpening = aside x n (record { records = records_at x n ++ []; mode = Down }) [] h
+        stopped NeedsOpening =
+            aside x n (record { records = records_at x n ++ []; mode = Down }) [] h
             (λ d i. absurd (has_none i))
         stopped Down = nowhere x
 
@@ -542,10 +530,12 @@ module _ (slot : SlotName) where
       where
         started : (mode : Mode) → (Has n running → ⊥) → Elsewhere x (starts x n mode).network
         started (Up v) not = nowhere x
-        started NeedsOpening not = aside x n (record { records = records_at x n; mode = Up new_volatile }) []
-            not (λ d i. absurd (has_none i))
-        started Down not = aside x n (record { records = records_at x n; mode = Up new_volatile }) []
-            not (λ d i. absurd (has_none i))
+        started NeedsOpening not =
+            aside x n (record { records = records_at x n; mode = Up new_volatile }) [] not
+            (λ d i. absurd (has_none i))
+        started Down not =
+            aside x n (record { records = records_at x n; mode = Up new_volatile }) [] not
+            (λ d i. absurd (has_none i))
 
         member : (t : Bool)
             → Elsewhere x (cond t (starts x n (x.sites n).mode) (nothing x)).network

@@ -1,6 +1,6 @@
 -- A deposit that waits is proposed in turn.
 use Rattle.std.proofs.Common.{ℕ, zero, suc, ◌≡◌, ◌≤◌, ◌<◌, ◌+◌, ◌-◌, ◌⊎◌, Bool, true, false, cond}
-use Rattle.std.proofs.Common.{inl, inr, refl, sym, ap, subst, ◌∙◌, List, length, Option, None, Some}
+use Rattle.std.proofs.Common.{inl, inr, refl, sym, ap, ◌∙◌, List, length, Option, None, Some}
 use Rattle.std.proofs.Common.{arith}
 use Rattle.std.specs.List.{find, range_with_len}
 use Rattle.std.specs.Option.{option_or}
@@ -163,8 +163,7 @@ module _ (records : ℕ → List Record) (tried : ℕ → ℕ) (place most : ℕ
   moves : (turn fuel : ℕ) (x : NextAt turn) → (x.next ≡ place → ⊥)
       → Suffice (tried turn) (suc fuel) → Suffice (tried (suc turn)) fuel
   moves turn fuel x differ h =
-      subst (λ (from : ℕ). Suffice from fuel) (sym (turns turn x.next x.is))
-      (elim x.where_it_is [
+      rw (turns turn x.next x.is) (elim x.where_it_is [
         | inl a ↦ elim h [
           | inl b ↦ inl (omega (arith, a, b, differ), omega (arith, a, b, differ))
           | inr b ↦ absurd (omega (arith, a, b))

@@ -1,8 +1,8 @@
 -- From a network some events lead on, in which nothing fails, to one where all that run know a bag.
 use Rattle.std.proofs.Common.{◌⊎◌}
 use Rattle.std.proofs.Common.{ℕ, zero, suc, ◌≡◌, ◌≤◌, ◌<◌, ◌+◌, ◌*◌, Bool}
-use Rattle.std.proofs.Common.{cond, inl, inr, refl, sym, ap, subst, ◌∙◌, List, [], ◌∷◌, ◌++◌, length}
-use Rattle.std.proofs.Common.{Option, None, Some, append-nil, arith, length-append, eq-eqb}
+use Rattle.std.proofs.Common.{cond, inl, inr, refl, sym, ap, subst, ◌∙◌, List, [], ◌∷◌, ◌++◌}
+use Rattle.std.proofs.Common.{length, Option, None, Some, append-nil, arith, length-append, eq-eqb}
 use Rattle.std.specs.Bool.{◌==◌}
 use Rattle.std.specs.Prelude.{IsSome, slice_get}
 use Rattle.std.specs.Option.{option_to_list}
@@ -178,22 +178,21 @@ pub took_later : {w : Network} {n : ℕ} {commits : Option Record}
     → Took w n commits volatile sends x → (before : ℕ) → before ≤ length w.sent
     → before ≤ length x.sent
 took_later {w} {sends = sends} t before l =
-    subst (λ (s : List Send). before ≤ length s) (sym t.sent)
-    (omega (arith, length-append w.sent sends))
+    rw t.sent (omega (arith, length-append w.sent sends))
 
 pub took_fresh : {w : Network} {n : ℕ} {commits : Option Record}
     {volatile : VolatileState} {sends : List Send} {x : Network}
     → Took w n commits volatile sends x → (before : ℕ) (d : Send) → Fresh before w.sent d
     → Fresh before x.sent d
 took_fresh {w} {sends = sends} t before d f =
-    subst (λ (s : List Send). Fresh before s d) (sym t.sent) (fresh_stays before w.sent sends d f)
+    rw t.sent (fresh_stays before w.sent sends d f)
 
 pub took_new : {w : Network} {n : ℕ} {commits : Option Record}
     {volatile : VolatileState} {sends : List Send} {x : Network}
     → Took w n commits volatile sends x → (before : ℕ) (d : Send) → before ≤ length w.sent
     → Has d sends → Fresh before x.sent d
 took_new {w} {sends = sends} t before d l h =
-    subst (λ (s : List Send). Fresh before s d) (sym t.sent) (fresh_new before w.sent sends d l h)
+    rw t.sent (fresh_new before w.sent sends d l h)
 
 -- a site is opened, or was up
 pub record Opened (w : Network) (n : ℕ) (x : Network) : Type 0 where
@@ -268,7 +267,7 @@ module _ (q : QuorumSystem) (running : List ℕ) (slot : SlotName) (before : ℕ
       where
         first : (y : Network) → D n y → ((m : ℕ) → Has m ns → D m y) → (m : ℕ)
             → Has m (n ∷ ns) → D m y
-        first y d rest m (here e) = subst (λ (m : ℕ). D m y) e d
+        first y d rest m (here e) = rw (← e) d
         first y d rest m (there h) = rest m h
 
   -- ---- an event
@@ -295,8 +294,7 @@ module _ (q : QuorumSystem) (running : List ℕ) (slot : SlotName) (before : ℕ
         → Leads w (1 + k)
     leads_to w n event e k calm same next =
         leads_after w event k calm
-        (subst (λ (x : Network). Leads x k) (sym same)
-        (next _ (took w n e.commits e.volatile e.sends)))
+        (rw same (next _ (took w n e.commits e.volatile e.sends)))
 
     -- a datagram arrives, of a member
     pub deliver_leads : (w : Network) (n from : ℕ) (body : Body) (e : Effect) (k : ℕ)
@@ -333,9 +331,8 @@ module _ (q : QuorumSystem) (running : List ℕ) (slot : SlotName) (before : ℕ
         → Took w n e.commits e.volatile e.sends (happens q w (Deliver number Whole)).network
     unfolding happens on_arrival
     deliver_took w n from body e number h up at by member is =
-        subst (λ (x : Network). Took w n e.commits e.volatile e.sends x)
-        (sym (ap (λ (o : Option Send). (arrives q w o Whole).network) at
-        ∙ takes_whole w n (Arrives (Some (about slot body))) e h up heard))
+        rw (ap (λ (o : Option Send). (arrives q w o Whole).network) at
+        ∙ takes_whole w n (Arrives (Some (about slot body))) e h up heard)
         (took w n e.commits e.volatile e.sends)
       where
         heard : on_arrival q n (records_at w n) (volatile_at w n) (Some (about slot body)) ≡ e
@@ -385,12 +382,8 @@ module _ (q : QuorumSystem) (running : List ℕ) (slot : SlotName) (before : ℕ
         (happens q w (networks.Propose n slot Whole)).network
     unfolding happens on_propose
     propose_took w n b own h up unknown deposit left =
-        subst (λ (x : Network).
-        Took w n (Some (of_slot slot (entry.Round b.round)))
-        (with_current (volatile_at w n) slot b) (to_each slot (Prepare b) q.members) x)
-        (sym (takes_whole w n (Proposes slot) (begins_ballot q slot b (volatile_at w n)) h up
-        begins))
-        (took w n (Some (of_slot slot (entry.Round b.round)))
+        rw (takes_whole w n (Proposes slot) (begins_ballot q slot b (volatile_at w n)) h up
+        begins) (took w n (Some (of_slot slot (entry.Round b.round)))
         (with_current (volatile_at w n) slot b) (to_each slot (Prepare b) q.members))
       where
         begins : on_propose q n (records_at w n) (volatile_at w n) slot
@@ -449,21 +442,18 @@ module _ (q : QuorumSystem) (running : List ℕ) (slot : SlotName) (before : ℕ
             stays = λ k old. elim (cases_eq k n) [
               | inl same ↦ subst (IsUp open_now) (sym same) up_now
               | inr differ ↦
-                  subst (λ (s : SiteState). s.mode ≡ Up (volatile_in s.mode))
-                  (sym (at_other w n (records_at w n) (Up new_volatile) [] k differ)) old
+                  rw (at_other w n (records_at w n) (Up new_volatile) [] k differ) old
             ];
             records = λ k. elim (cases_eq k n) [
               | inl same ↦
-                  subst (λ (k : ℕ). records_at open_now k ≡ records_at w k) (sym same)
-                  (ap (λ (s : SiteState). s.records) it)
+                  rw same (ap (λ (s : SiteState). s.records) it)
               | inr differ ↦
                   ap (λ (s : SiteState). s.records)
                   (at_other w n (records_at w n) (Up new_volatile) [] k differ)
             ];
             volatile = λ k. elim (cases_eq k n) [
               | inl same ↦
-                  subst (λ (k : ℕ). volatile_at open_now k ≡ volatile_at w k) (sym same)
-                  (now ∙ sym lost)
+                  rw same (now ∙ sym lost)
               | inr differ ↦
                   ap (λ (s : SiteState). volatile_in s.mode)
                   (at_other w n (records_at w n) (Up new_volatile) [] k differ)
@@ -487,11 +477,10 @@ module _ (q : QuorumSystem) (running : List ℕ) (slot : SlotName) (before : ℕ
               → Leads w (1 + k)
           opening mode is same lost =
               leads_after w (Start n) k h
-              (subst (λ (x : Network). Leads x k)
-              (sym (
+              (rw (
               ap (λ (t : Bool). (cond t (starts w n (w.sites n).mode) (nothing w)).network)
               ((is_in_decides q.members n).1 (members n h))
-              ∙ ap (λ (m : Mode). (starts w n m).network) is ∙ same))
+              ∙ ap (λ (m : Mode). (starts w n m).network) is ∙ same)
               (next open_now (is_opened (ap volatile_in is ∙ lost))))
 
           go : (mode : Mode) → (w.sites n).mode ≡ mode → Leads w (1 + k)

@@ -1,8 +1,8 @@
 -- After an undisturbed proposal, whatever came of it, the next ballot is above all that was
 -- promised.
 use Rattle.std.proofs.Common.{ℕ, ◌≡◌, ◌≤◌, ◌<◌, ◌+◌, ◌⊎◌, Bool, true, false, cond}
-use Rattle.std.proofs.Common.{◌||◌, inl, inr, refl, sym, ap, subst, ◌∙◌, List, [], ◌∷◌, ◌++◌, length}
-use Rattle.std.proofs.Common.{Option, None, Some, append-nil, arith, length-append}
+use Rattle.std.proofs.Common.{◌||◌, inl, inr, refl, sym, ap, subst, ◌∙◌, List, [], ◌∷◌, ◌++◌}
+use Rattle.std.proofs.Common.{length, Option, None, Some, append-nil, arith, length-append}
 use Rattle.std.specs.Prelude.{⊤, IsSome}
 use Rattle.std.specs.Option.{option_to_list}
 use Rattle.std.proofs.lemmas.Bool.{cases_eq}
@@ -21,8 +21,6 @@ use Rattle.records.specs.SlotStates.{said_in, used_of, deposit_of, known_of}
 use Rattle.records.proofs.SlotStates.{promised-push}
 use Rattle.dgram.specs.declared.body.Body.{Body}
 use Rattle.dgram.specs.declared.body.Body.TheVariants.{Prepare, Promise, Accept, Accepted, Refused}
-use Rattle.dgram.specs.declared.body.Body.TheVariants.{Ask, Known, Deposit, Query, DepositReply}
-use Rattle.dgram.specs.declared.body.Body.TheVariants.{QueryReply}
 use Rattle.dgram.specs.Heard.{bodies_of, refused_round, floor_of}
 use Rattle.acceptor.specs.declared.decision.Decision.{Decision}
 use Rattle.acceptor.specs.Decisions.{refuses, votes, votes_again, is_vote, is_in_ballot}
@@ -50,7 +48,6 @@ use Rattle.reach_law.proofs.Arrived.{with_event, onto, has_onto}
 use Rattle.reach_law.proofs.Elsewhere.{Elsewhere, event_elsewhere}
 use Rattle.reach_law.proofs.Leads.{fresh_stays}
 use Rattle.world_law.specs.Networks.{Event}
-use Rattle.world_law.specs.Networks as networks
 use Rattle.reach_law.proofs.Discovering.{sending, promise_if, prepare_cases, Room, Asking}
 use Rattle.reach_law.proofs.Discovering.{next_is, begun_asking}
 use Rattle.reach_law.proofs.Promising.{vote_for}
@@ -81,78 +78,33 @@ promised_cases slot rs b r says a e =
         test c is (below c b)
         (sym (ap (λ (o : Option BallotNumber). higher (λ b. b) o b) is) ∙ f)
 
--- asked to vote a site votes, again or anew, or the promised ballot stands in the way
-accept_cases : (slot : SlotName) (rs : List Record) (vote : Vote)
-    → ((accept_decision slot rs vote ≡ votes_again vote)
-    ⊎ (accept_decision slot rs vote ≡ votes vote))
-    ⊎ ((a : BallotNumber) × (promised_of slot rs ≡ Some a)
-    × (accept_decision slot rs vote ≡ refuses vote.ballot a))
-unfolding accept_decision
-accept_cases slot rs vote = again (is_vote vote (vote_of slot rs)) refl
-  where
-    abbrev_new : Decision
-    abbrev_new = on_new_accept (promised_of slot rs) (vote_of slot rs) vote
+-- it votes, again or anew, or a promised ballot stands in the way
+abbrev VotesOrRefuses : SlotName → List Record → Vote → Decision → Type 0
+VotesOrRefuses slot rs vote d =
+    ((d ≡ votes_again vote) ⊎ (d ≡ votes vote))
+    ⊎ ((a : BallotNumber) × (promised_of slot rs ≡ Some a) × (d ≡ refuses vote.ballot a))
 
-    refused : (a : BallotNumber) → promised_of slot rs ≡ Some a
-        → is_vote vote (vote_of slot rs) ≡ false → (t : Bool)
-        → (below vote.ballot a || is_in_ballot vote.ballot (vote_of slot rs)) ≡ t
-        → ((cond (is_vote vote (vote_of slot rs)) (votes_again vote)
-        (on_new_accept (promised_of slot rs) (vote_of slot rs) vote) ≡ votes_again vote)
-        ⊎ (cond (is_vote vote (vote_of slot rs)) (votes_again vote)
-        (on_new_accept (promised_of slot rs) (vote_of slot rs) vote) ≡ votes vote))
-        ⊎ ((a : BallotNumber) × (promised_of slot rs ≡ Some a)
-        × (cond (is_vote vote (vote_of slot rs)) (votes_again vote)
-        (on_new_accept (promised_of slot rs) (vote_of slot rs) vote) ≡ refuses vote.ballot a))
-    refused a is other true e =
-        inr (
-          a,
-          is,
-          ap (λ (t : Bool).
-              cond t (votes_again vote)
-              (on_new_accept (promised_of slot rs) (vote_of slot rs) vote)) other
-              ∙ ap (λ (o : Option BallotNumber). on_new_accept o (vote_of slot rs) vote) is
-              ∙ ap (λ (t : Bool). cond t (refuses vote.ballot a) (votes vote)) e,
-        )
-    refused a is other false e =
-        inl (inr (
-        ap (λ (t : Bool).
-        cond t (votes_again vote)
-        (on_new_accept (promised_of slot rs) (vote_of slot rs) vote)) other
-        ∙ ap (λ (o : Option BallotNumber). on_new_accept o (vote_of slot rs) vote) is
-        ∙ ap (λ (t : Bool). cond t (refuses vote.ballot a) (votes vote)) e))
+accept_cases : (slot : SlotName) (rs : List Record) (vote : Vote)
+    → VotesOrRefuses slot rs vote (accept_decision slot rs vote)
+unfolding accept_decision
+accept_cases slot rs vote = again (is_vote vote (vote_of slot rs))
+  where
+    stands : (a : BallotNumber) → promised_of slot rs ≡ Some a → (t : Bool)
+        → VotesOrRefuses slot rs vote (cond t (refuses vote.ballot a) (votes vote))
+    stands a is true = inr (a, is, refl)
+    stands a is false = inl (inr refl)
 
     new : (o : Option BallotNumber) → promised_of slot rs ≡ o
-        → is_vote vote (vote_of slot rs) ≡ false
-        → ((cond (is_vote vote (vote_of slot rs)) (votes_again vote)
-        (on_new_accept (promised_of slot rs) (vote_of slot rs) vote) ≡ votes_again vote)
-        ⊎ (cond (is_vote vote (vote_of slot rs)) (votes_again vote)
-        (on_new_accept (promised_of slot rs) (vote_of slot rs) vote) ≡ votes vote))
-        ⊎ ((a : BallotNumber) × (promised_of slot rs ≡ Some a)
-        × (cond (is_vote vote (vote_of slot rs)) (votes_again vote)
-        (on_new_accept (promised_of slot rs) (vote_of slot rs) vote) ≡ refuses vote.ballot a))
-    new None is other =
-        inl (inr (
-        ap (λ (t : Bool).
-        cond t (votes_again vote)
-        (on_new_accept (promised_of slot rs) (vote_of slot rs) vote)) other
-        ∙ ap (λ (o : Option BallotNumber). on_new_accept o (vote_of slot rs) vote) is))
-    new (Some a) is other =
-        refused a is other (below vote.ballot a || is_in_ballot vote.ballot (vote_of slot rs)) refl
+        → VotesOrRefuses slot rs vote (on_new_accept o (vote_of slot rs) vote)
+    new None is = inl (inr refl)
+    new (Some a) is =
+        stands a is (below vote.ballot a || is_in_ballot vote.ballot (vote_of slot rs))
 
-    again : (t : Bool) → is_vote vote (vote_of slot rs) ≡ t
-        → ((cond (is_vote vote (vote_of slot rs)) (votes_again vote)
-        (on_new_accept (promised_of slot rs) (vote_of slot rs) vote) ≡ votes_again vote)
-        ⊎ (cond (is_vote vote (vote_of slot rs)) (votes_again vote)
-        (on_new_accept (promised_of slot rs) (vote_of slot rs) vote) ≡ votes vote))
-        ⊎ ((a : BallotNumber) × (promised_of slot rs ≡ Some a)
-        × (cond (is_vote vote (vote_of slot rs)) (votes_again vote)
-        (on_new_accept (promised_of slot rs) (vote_of slot rs) vote) ≡ refuses vote.ballot a))
-    again true e =
-        inl (inl (
-        ap (λ (t : Bool).
-        cond t (votes_again vote)
-        (on_new_accept (promised_of slot rs) (vote_of slot rs) vote)) e))
-    again false e = new (promised_of slot rs) refl e
+    again : (t : Bool)
+        → VotesOrRefuses slot rs vote
+        (cond t (votes_again vote) (on_new_accept (promised_of slot rs) (vote_of slot rs) vote))
+    again true = inl (inl refl)
+    again false = new (promised_of slot rs) refl
 
 module _ (q : QuorumSystem) (running : List ℕ) (slot : SlotName) (before : ℕ)
     (members : (n : ℕ) → Has n running → Has n q.members) (p : ℕ) (runs : Has p running)
@@ -167,12 +119,7 @@ module _ (q : QuorumSystem) (running : List ℕ) (slot : SlotName) (before : ℕ
   KindOf to (Accept vote) = vote.ballot ≡ b
   KindOf to (Accepted n vote) = Has n running
   KindOf to (Refused n c a) = Has n running × (to ≡ p) × (a.round < greatest_round)
-  KindOf to (Ask n) = ⊥
-  KindOf to (Known n bag) = ⊥
-  KindOf to (Deposit path) = ⊥
-  KindOf to Query = ⊥
-  KindOf to (DepositReply n answer) = ⊥
-  KindOf to (QueryReply n answer) = ⊥
+  KindOf to _ = ⊥
 
   abbrev pub IsKind : Send → Type 0
   IsKind d = d.message.slot ≡ slot → KindOf d.to d.message.body
@@ -186,15 +133,7 @@ module _ (q : QuorumSystem) (running : List ℕ) (slot : SlotName) (before : ℕ
   DoneOf x to (Prepare c) =
       (a : BallotNumber) → promised_of slot (records_at x to) ≡ Some a → IsSaid x to a
   DoneOf x to (Refused n c a) = a.round ≤ last x
-  DoneOf x to (Promise n c o) = ⊤
-  DoneOf x to (Accept vote) = ⊤
-  DoneOf x to (Accepted n vote) = ⊤
-  DoneOf x to (Ask n) = ⊤
-  DoneOf x to (Known n bag) = ⊤
-  DoneOf x to (Deposit path) = ⊤
-  DoneOf x to Query = ⊤
-  DoneOf x to (DepositReply n answer) = ⊤
-  DoneOf x to (QueryReply n answer) = ⊤
+  DoneOf x to _ = ⊤
 
   pub record HasArrived (x : Network) (number : ℕ) : Type 0 where
     pub d : Send
@@ -250,11 +189,10 @@ module _ (q : QuorumSystem) (running : List ℕ) (slot : SlotName) (before : ℕ
         | inl same ↦
             elim (promised a
             (sym (ap (promised_of slot) t.records)
-            ∙ subst (λ (n : ℕ). promised_of slot (records_at y n) ≡ Some a) same e)) [
+            ∙ rw (← same) e)) [
               | inl was ↦
                   said_stays n a
-                  (k a (subst (λ (n : ℕ). promised_of slot (records_at x n) ≡ Some a) (sym same)
-                  was))
+                  (k a (rw same was))
               | inr l ↦ inl l
             ]
         | inr differ ↦
@@ -265,15 +203,7 @@ module _ (q : QuorumSystem) (running : List ℕ) (slot : SlotName) (before : ℕ
       come_stays : (n : ℕ) (c : Body) → DoneOf x n c → DoneOf y n c
       come_stays n (Prepare c) k = prepare_stays n k
       come_stays n (Refused m c a) k = omega (arith, k, more)
-      come_stays n (Promise m c o) k = tt
-      come_stays n (Accept vote) k = tt
-      come_stays n (Accepted m vote) k = tt
-      come_stays n (Ask m) k = tt
-      come_stays n (Known m bag) k = tt
-      come_stays n (Deposit path) k = tt
-      come_stays n Query k = tt
-      come_stays n (DepositReply m answer) k = tt
-      come_stays n (QueryReply m answer) k = tt
+      come_stays n _ k = tt
 
       number_stays : (k : ℕ) (d : Send) → datagram_at k x.sent ≡ Some d
           → datagram_at k y.sent ≡ Some d
@@ -287,10 +217,10 @@ module _ (q : QuorumSystem) (running : List ℕ) (slot : SlotName) (before : ℕ
           | inl same ↦
               elim (promised a
               (sym (ap (promised_of slot) t.records)
-              ∙ subst (λ (n : ℕ). promised_of slot (records_at y n) ≡ Some a) same e)) [
+              ∙ rw (← same) e)) [
                 | inl was ↦
                     inv.rooms n h' a
-                    (subst (λ (n : ℕ). promised_of slot (records_at x n) ≡ Some a) (sym same) was)
+                    (rw same was)
                 | inr l ↦
                     let used = inv.used in
                     let room = inv.room in omega (arith, l, used, room)
@@ -428,9 +358,7 @@ module _ (q : QuorumSystem) (running : List ℕ) (slot : SlotName) (before : ℕ
           (sym (ap (promised_of slot) t.records
           ∙ ap (promised_of slot) (append-nil rs) ∙ f.1) ∙ e) in
           inr
-          (subst (λ (a : BallotNumber).
-          Fresh before then.sent (to_site p slot (Refused to b a))) same
-          (took_new t before _ inv.later
+          (rw (← same) (took_new t before _ inv.later
           (to_each_has slot (Refused to b f.0) (b.site ∷ []) p (here mine)))))
     ]
 
@@ -594,25 +522,17 @@ module _ (q : QuorumSystem) (running : List ℕ) (slot : SlotName) (before : ℕ
           → Inv (happens q x (Deliver number Whole)).network (number ∷ done)
       body_arrives to h (Prepare c) k at =
           prepare_arrives x done number inv to h
-          (subst (λ (c : BallotNumber).
-          datagram_at number x.sent ≡ Some (to_site to slot (Prepare c))) k at)
+          (rw (← k) at)
       body_arrives to h (Promise n c o) k at =
           promise_arrives x done number inv to h n o k.1
-          (subst (λ (c : BallotNumber).
-          datagram_at number x.sent ≡ Some (to_site to slot (Promise n c o))) k.0 at)
+          (rw (← k.0) at)
       body_arrives to h (Accept vote) k at = accept_arrives x done number inv to h vote k at
       body_arrives to h (Accepted n vote) k at =
           vote_arrives x done number inv to h n vote k at
       body_arrives to h (Refused n c a) k at =
           refusal_arrives x done number inv n c a k.0 k.2
-          (subst (λ (to : ℕ).
-          datagram_at number x.sent ≡ Some (to_site to slot (Refused n c a))) k.1 at)
-      body_arrives to h (Ask n) k at = absurd k
-      body_arrives to h (Known n bag) k at = absurd k
-      body_arrives to h (Deposit path) k at = absurd k
-      body_arrives to h Query k at = absurd k
-      body_arrives to h (DepositReply n answer) k at = absurd k
-      body_arrives to h (QueryReply n answer) k at = absurd k
+          (rw (← k.1) at)
+      body_arrives to h _ k at = absurd k
 
   -- ---- what happens elsewhere
 
@@ -620,8 +540,7 @@ module _ (q : QuorumSystem) (running : List ℕ) (slot : SlotName) (before : ℕ
     where
       fresh_grows : (d : Send) → Fresh before x.sent d → Fresh before y.sent d
       fresh_grows d f =
-          subst (λ (s : List Send). Fresh before s d) (sym e.sent)
-          (fresh_stays before x.sent e.more d f)
+          rw e.sent (fresh_stays before x.sent e.more d f)
 
       last_again : last y ≡ last x
       last_again =
@@ -637,15 +556,7 @@ module _ (q : QuorumSystem) (running : List ℕ) (slot : SlotName) (before : ℕ
       come_grows n h (Prepare c) k = λ a f.
           said_grows n a (k a (sym (e.words n h).promised ∙ f))
       come_grows n h (Refused m c a) k = omega (arith, k, last_again)
-      come_grows n h (Promise m c o) k = tt
-      come_grows n h (Accept vote) k = tt
-      come_grows n h (Accepted m vote) k = tt
-      come_grows n h (Ask m) k = tt
-      come_grows n h (Known m bag) k = tt
-      come_grows n h (Deposit path) k = tt
-      come_grows n h Query k = tt
-      come_grows n h (DepositReply m answer) k = tt
-      come_grows n h (QueryReply m answer) k = tt
+      come_grows n h _ k = tt
 
       at_grows : (k : ℕ) (d : Send) → datagram_at k x.sent ≡ Some d → datagram_at k y.sent ≡ Some d
       at_grows k d f = ap (datagram_at k) e.sent ∙ numbered k x.sent e.more d f
@@ -655,8 +566,7 @@ module _ (q : QuorumSystem) (running : List ℕ) (slot : SlotName) (before : ℕ
         up = λ n h. e.up n h (inv.up n h);
         later =
             let l = inv.later in
-            subst (λ (s : List Send). before ≤ length s) (sym e.sent)
-            (omega (arith, l, length-append x.sent e.more));
+            rw e.sent (omega (arith, l, length-append x.sent e.more));
         deposit = (e.words p runs).deposit ∙ inv.deposit;
         prepared = λ n h. fresh_grows _ (inv.prepared n h);
         used = let used = inv.used in let same = (e.words p runs).used in omega (arith, used, same);
@@ -706,13 +616,7 @@ module _ (q : QuorumSystem) (running : List ℕ) (slot : SlotName) (before : ℕ
       go (Deliver number fate) h f =
           more_done (happens q x (Deliver number fate)).network done number h.0
           (elsewhere_keeps x _ done inv f) (at_grows x _ done inv f number h.0 h.1) h.2
-      go (networks.Deposit n s checked fate) h f = elsewhere_keeps x _ done inv f
-      go (networks.Propose n s fate) h f = elsewhere_keeps x _ done inv f
-      go (networks.Ask n m s fate) h f = elsewhere_keeps x _ done inv f
-      go (networks.Query n s) h f = elsewhere_keeps x _ done inv f
-      go (networks.Raw n) h f = elsewhere_keeps x _ done inv f
-      go (networks.Stop n) h f = elsewhere_keeps x _ done inv f
-      go (networks.Start n) h f = elsewhere_keeps x _ done inv f
+      go _ h f = elsewhere_keeps x _ done inv f
 
   -- ---- all that happens
 
@@ -725,8 +629,7 @@ module _ (q : QuorumSystem) (running : List ℕ) (slot : SlotName) (before : ℕ
       run_all events (happens q x e).network (with_event e done)
       (elim h.0 [
         | inl c ↦
-            subst (λ (e : Event). Inv (happens q x e).network (with_event e done)) (sym c.is)
-            (arrives_then x done c.number inv c.d c.since c.at c.of_slot c.runs)
+            rw c.is (arrives_then x done c.number inv c.d c.since c.at c.of_slot c.runs)
         | inr f ↦ elsewhere_then x done inv e f
       ])
       h.1
@@ -799,8 +702,8 @@ module _ (q : QuorumSystem) (running : List ℕ) (slot : SlotName) (members : Ar
 
   t : Took w p (Some (of_slot slot (entry.Round b.round)))
       (with_current (volatile_at w p) slot b) (to_each slot (Prepare b) q.members) x
-  t = propose_took q running slot before members w p b own.0 can.ready.runs (can.ready.up p can.ready.runs)
-      can.ready.unknown own.1
+  t = propose_took q running slot before members w p b own.0 can.ready.runs
+      (can.ready.up p can.ready.runs) can.ready.unknown own.1
       (next_is q running slot before members p can.ready.runs own.0 w room.room)
 
   asking : Asking q running slot before members p can.ready.runs own.0 b.round x

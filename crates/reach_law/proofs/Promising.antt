@@ -115,17 +115,15 @@ module _ (q : QuorumSystem) (laws : AreQuorums q) (running : List ℕ) (slot : S
 
     heard_stays : (m : ℕ) → Has m (promisers (gathered_at w)) → Has m (promisers (gathered_at y))
     heard_stays m has =
-        subst (λ (s : VolatileState). Has m (promisers (gathered slot current s.heard)))
-        (sym u.volatile_is)
+        rw u.volatile_is
         (gathered_stays slot current (volatile_at x p).heard (about slot (Promise n b v))
         within_then m
-        (subst (λ (ps : List PromiseFrom). Has m (promisers ps)) (sym gathered_then) has))
+        (rw gathered_then has))
 
     heard_now : Has n (promisers (gathered_at y))
     unfolding promisers
     heard_now =
-        subst (λ (ps : List PromiseFrom). Has n (promisers ps)) (sym gathered_now)
-        (map_has (λ (p : PromiseFrom). p.site) {x = from}
+        rw gathered_now (map_has (λ (p : PromiseFrom). p.site) {x = from}
         (has_right (gathered_at w) (here refl)))
 
     other_records : (P : List Record → Type 0) (m : ℕ) → (m ≡ n → ⊥) → P (records_at w m)
@@ -145,13 +143,14 @@ module _ (q : QuorumSystem) (laws : AreQuorums q) (running : List ℕ) (slot : S
           (λ v e.
           vote_below slot (records_at w n) b waits v
           (sym (ap (vote_of slot) t.records
-          ∙ vote_silent slot (records_at w n) (Some (of_slot slot (entry.Promise b))) (said_self vote_in slot (entry.Promise b))) ∙ e));
+          ∙ vote_silent slot (records_at w n) (Some (of_slot slot (entry.Promise b)))
+          (said_self vote_in slot (entry.Promise b))) ∙ e));
       heard = heard_now;
     }
 
     promises_stay : (m : ℕ) → Has m running → HasPromised m w → HasPromised m y
     promises_stay m h' old_one = elim (cases_eq m n) [
-      | inl same ↦ subst (λ (m : ℕ). HasPromised m y) (sym same) promises_now
+      | inl same ↦ rw same promises_now
       | inr differ ↦ record {
         promised =
             other_records (λ (rs : List Record). promised_of slot rs ≡ Some b) m differ
@@ -166,7 +165,7 @@ module _ (q : QuorumSystem) (laws : AreQuorums q) (running : List ℕ) (slot : S
 
     each_stays : (m : ℕ) → Has m running → Waits m y ⊎ HasPromised m y
     each_stays m h' = elim (cases_eq m n) [
-      | inl same ↦ inr (subst (λ (m : ℕ). HasPromised m y) (sym same) promises_now)
+      | inl same ↦ inr (rw same promises_now)
       | inr differ ↦ elim (g.each_one m h') [
         | inl still ↦ inl (
             other_records
@@ -204,7 +203,7 @@ module _ (q : QuorumSystem) (laws : AreQuorums q) (running : List ℕ) (slot : S
       each_one = each_stays;
       ready = λ e.
           asks
-          (subst (λ (ps : List PromiseFrom). IsQuorum q (promisers ps)) gathered_now e);
+          (rw (← gathered_now) e);
     }
 
   -- ---- what the site makes of it
@@ -305,11 +304,9 @@ module _ (q : QuorumSystem) (laws : AreQuorums q) (running : List ℕ) (slot : S
           let same = gathered_then w x y n h v _ _ g waits refl t u in
           asked_stays w x y n h v _ _ g waits refl t u
           (g.ready
-          (subst (λ (ps : List PromiseFrom). IsQuorum q (promisers ps)) same
-          (completed (q.is_quorum (promisers (gathered_at x ++ from_n ∷ [])))
+          (rw (← same) (completed (q.is_quorum (promisers (gathered_at x ++ from_n ∷ [])))
           (q.is_quorum (promisers (gathered_at x))) e
-          (subst (λ (ps : List PromiseFrom). IsQuorum q (promisers (ps ++ from_n ∷ [])))
-          (sym same) quorum))))))
+          (rw same quorum))))))
           (promises_now w x y n h v _ _ g waits refl t u)
           (promises_stay w x y n h v _ _ g waits refl t u),
     )
@@ -408,8 +405,7 @@ module _ (q : QuorumSystem) (laws : AreQuorums q) (running : List ℕ) (slot : S
             })) ((volatile_at w p).current slot))
             ((same_slot_decides slot slot).1 refl);
         within =
-            subst (λ (s : VolatileState). length (volatile_at w p).heard ≤ length s.heard)
-            (sym t.volatile_is) (omega arith);
+            rw t.volatile_is (omega arith);
         each_one = λ n h. inl (λ a e.
             let s =
             seen n h a

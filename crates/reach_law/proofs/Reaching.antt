@@ -1,5 +1,5 @@
 -- A decision is within reach.
-use Rattle.std.proofs.Common.{ℕ, ◌≡◌, ◌≤◌, ◌+◌, ◌*◌, inl, inr, refl, sym, ap, subst, ◌∙◌}
+use Rattle.std.proofs.Common.{ℕ, ◌≡◌, ◌≤◌, ◌+◌, ◌*◌, inl, inr, refl, sym, ap, ◌∙◌}
 use Rattle.std.proofs.Common.{List, [], ◌∷◌, length, Option, None, Some, arith}
 use Rattle.fed_types.specs.declared.bag_id.BagId.{BagId}
 use Rattle.fed_types.specs.Lists.{Has}
@@ -44,7 +44,7 @@ module _ (q : QuorumSystem) (laws : AreQuorums q) (running : List ℕ) (slot : S
 
     later_of : (x : Network) → Same w x → before ≤ length x.sent
     later_of x same =
-        subst (λ s. length w.sent ≤ length s) (sym same.sent) (omega arith)
+        rw same.sent (omega arith)
 
     from_known : KnowsAt slot p w → Reaches w (10 * length running + 2)
     from_known f =

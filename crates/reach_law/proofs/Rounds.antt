@@ -19,13 +19,11 @@ use Rattle.records.specs.declared.entry.Entry.{Entry}
 use Rattle.records.specs.declared.entry.Entry.TheVariants as entry
 use Rattle.records.specs.declared.record.Record.{Record}
 use Rattle.records.specs.Layout.{record_bytes}
-use Rattle.records.specs.Bounds.{HasEntry}
 use Rattle.records.specs.SlotStates.{ballot_in, promised_of, vote_of, used_of, deposit_of, known_of}
 use Rattle.records.proofs.Bounds.{promised_among, used_among}
 use Rattle.dgram.specs.declared.body.Body.{Body}
 use Rattle.dgram.specs.declared.body.Body.TheVariants.{Prepare, Promise, Accept, Accepted, Refused}
-use Rattle.dgram.specs.declared.body.Body.TheVariants.{Ask, Known, Deposit, Query, DepositReply}
-use Rattle.dgram.specs.declared.body.Body.TheVariants.{QueryReply}
+use Rattle.dgram.specs.declared.body.Body.TheVariants.{Ask, Known}
 use Rattle.dgram.specs.declared.message.Message.{Message}
 use Rattle.dgram.specs.Encoding.{body_from}
 use Rattle.dgram.specs.Heard.{bodies_of, refused_round, floor_of}
@@ -65,7 +63,8 @@ use Rattle.world_law.proofs.Sends.{at_number}
 use Rattle.world_law.proofs.Step.{moved, record_cases}
 use Rattle.world_law.proofs.Deeds.{carries_each}
 use Rattle.reach_law.proofs.Words.{of_slot, about}
-use Rattle.reach_law.specs.Running.{records_at, volatile_at, RoundsAreLeft, proposals_for, proposals_in}
+use Rattle.reach_law.specs.Running.{records_at, volatile_at, RoundsAreLeft, proposals_for}
+use Rattle.reach_law.specs.Running.{proposals_in}
 use Rattle.reach_law.proofs.Words.{some_same}
 
 -- ---- what is of a round up to k
@@ -82,13 +81,7 @@ BodyWithin k (Prepare ballot) = ballot.round ≤ k
 BodyWithin k (Promise from ballot prior) = ballot.round ≤ k
 BodyWithin k (Accept vote) = vote.ballot.round ≤ k
 BodyWithin k (Refused from asked standing) = standing.round ≤ k
-BodyWithin k (Accepted from vote) = ⊤
-BodyWithin k (Ask from) = ⊤
-BodyWithin k (Known from bag) = ⊤
-BodyWithin k (Deposit path) = ⊤
-BodyWithin k Query = ⊤
-BodyWithin k (DepositReply from answer) = ⊤
-BodyWithin k (QueryReply from answer) = ⊤
+BodyWithin k _ = ⊤
 
 entry_more : (k l : ℕ) → k ≤ l → (e : Entry) → EntryWithin k e → EntryWithin l e
 entry_more k l m (entry.Round round) h = omega (arith, m, h)
@@ -102,16 +95,11 @@ body_more k l m (Prepare ballot) h = omega (arith, m, h)
 body_more k l m (Promise from ballot prior) h = omega (arith, m, h)
 body_more k l m (Accept vote) h = omega (arith, m, h)
 body_more k l m (Refused from asked standing) h = omega (arith, m, h)
-body_more k l m (Accepted from vote) h = tt
-body_more k l m (Ask from) h = tt
-body_more k l m (Known from bag) h = tt
-body_more k l m (Deposit path) h = tt
-body_more k l m Query h = tt
-body_more k l m (DepositReply from answer) h = tt
-body_more k l m (QueryReply from answer) h = tt
+body_more k l m _ h = tt
 
 record_same : {x y : Record} → Some x ≡ Some y → (x.slot ≡ y.slot) × (x.body ≡ y.body)
-record_same e = (ap (λ (r : Record). r.slot) (some_same e), ap (λ (r : Record). r.body) (some_same e))
+record_same e =
+    (ap (λ (r : Record). r.slot) (some_same e), ap (λ (r : Record). r.body) (some_same e))
 
 -- a greatest is no more than what bounds all
 max_within : (xs : List ℕ) (k : ℕ) → ((n : ℕ) → Has n xs → n ≤ k) → fold max 0 xs ≤ k
@@ -126,17 +114,8 @@ max_within xs k =
 refused_within : (k : ℕ) (body : Body) (r : ℕ) → refused_round body ≡ Some r → BodyWithin k body
     → r ≤ k
 refused_within k (Refused from asked standing) r is within =
-    subst (λ (r : ℕ). r ≤ k) (some_same is) within
-refused_within k (Prepare ballot) r is within = absurd (cc is)
-refused_within k (Promise from ballot prior) r is within = absurd (cc is)
-refused_within k (Accept vote) r is within = absurd (cc is)
-refused_within k (Accepted from vote) r is within = absurd (cc is)
-refused_within k (Ask from) r is within = absurd (cc is)
-refused_within k (Known from bag) r is within = absurd (cc is)
-refused_within k (Deposit path) r is within = absurd (cc is)
-refused_within k Query r is within = absurd (cc is)
-refused_within k (DepositReply from answer) r is within = absurd (cc is)
-refused_within k (QueryReply from answer) r is within = absurd (cc is)
+    rw (← some_same is) within
+refused_within k _ r is within = absurd (cc is)
 
 floor_within : (k : ℕ) (bodies : List Body)
     → ((body : Body) → Has body bodies → BodyWithin k body) → floor_of bodies ≤ k
@@ -205,21 +184,19 @@ module _ (slot : SlotName) where
         let f = promised_among s (records_at w n) p e in
         go f.0 f.2
         (entry_more k l more f.0
-        (h.records n f.0 (subst (λ (s : SlotName). HasEntry s (records_at w n) f.0) same f.1)))
+        (h.records n f.0 (rw (← same) f.1)))
       where
         go : (x : Entry) → ballot_in x ≡ Some p → EntryWithin l x → p.round ≤ l
         go (entry.Promise ballot) is within =
-            subst (λ (b : BallotNumber). b.round ≤ l) (some_same is) within
+            rw (← some_same is) within
         go (entry.Vote vote) is within =
-            subst (λ (b : BallotNumber). b.round ≤ l) (some_same is) within
-        go (entry.Round round) is within = absurd (cc is)
-        go (entry.Deposit bag) is within = absurd (cc is)
-        go (entry.Known bag) is within = absurd (cc is)
+            rw (← some_same is) within
+        go _ is within = absurd (cc is)
 
     heard_within : (s : SlotName) (body : Body) → WasSent w s body → s ≡ slot → BodyWithin l body
     heard_within s body sent same =
         body_more k l more body
-        (h.sent body (subst (λ (s : SlotName). WasSent w s body) same sent))
+        (h.sent body (rw (← same) sent))
 
     prepare_within : (s : SlotName) (asker : ℕ) (b : BallotNumber) (v : VolatileState)
         → (q : QuorumSystem) → (s ≡ slot → b.round ≤ l)
@@ -328,10 +305,7 @@ module _ (slot : SlotName) where
     body_within q old now s (Refused from asked standing) sent = nothing_within l _ refl refl
     body_within q old now s (Ask from) sent =
         telling_within s from (known_of s (records_at w n)) now
-    body_within q old now s (Deposit path) sent = nothing_within l _ refl refl
-    body_within q old now s Query sent = nothing_within l _ refl refl
-    body_within q old now s (DepositReply from answer) sent = nothing_within l _ refl refl
-    body_within q old now s (QueryReply from answer) sent = nothing_within l _ refl refl
+    body_within q old now s _ sent = nothing_within l _ refl refl
 
     arrival_within : (q : QuorumSystem) (v : VolatileState) (o : Option Message)
         → ((m : Message) → o ≡ Some m → WasSent w m.slot m.body)
@@ -512,14 +486,7 @@ module _ (slot : SlotName) where
 
       opened_within : Within k (happening w n (opened n (w.sites n))).network
       opened_within =
-          subst
-          (λ (rs : List Record). Within k (happening w n (record {
-            site = record { records = rs; mode = Up new_volatile };
-            sends = [];
-            notice = Some (ComesUp n (length (w.sites n).records));
-          })).network)
-          (append-nil (w.sites n).records)
-          (moved_within n None (Up new_volatile) []
+          rw (← append-nil (w.sites n).records) (moved_within n None (Up new_volatile) []
           (Some (ComesUp n (length (w.sites n).records))) (no_entry k) (no_sends k))
 
       starts_within : (mode : Mode) → Within k (starts w n mode).network
@@ -575,8 +542,7 @@ module _ (slot : SlotName) where
           (arrival_within k (0 + k) (omega arith) w h d.to q (volatile_at w d.to)
           (Some d.message)
           (λ m f.
-          subst (λ (m : Message). WasSent w m.slot m.body) (some_same f)
-          (record { to = d.to; is_sent = at_number number w.sent d e })))
+          rw (← some_same f) (record { to = d.to; is_sent = at_number number w.sent d e })))
   step_within q k w h inv (networks.Raw n) =
       takes_within q (0 + k) w (within_more k (0 + k) (omega arith) w h) n (Arrives None) Whole
       (arrival_within k (0 + k) (omega arith) w h n q (volatile_at w n) None

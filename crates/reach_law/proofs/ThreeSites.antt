@@ -78,7 +78,8 @@ can_be_undisturbed = record {
     above = λ n c h e. absurd (none (sym (nothing_promised n h) ∙ e));
   };
   all = record {
-    no_others = undisturbed three (1 ∷ 2 ∷ 3 ∷ []) a 0 (begun three deposited a 1) 0 18 (omega arith) refl;
+    no_others =
+        undisturbed three (1 ∷ 2 ∷ 3 ∷ []) a 0 (begun three deposited a 1) 0 18 (omega arith) refl;
     each_one = λ number d l e of_slot h.
         has_each (in_the_end three deposited a 1 (arrivals 0 18)).sent 0 18 number d eighteen l e;
   };

@@ -63,7 +63,8 @@ pub two_decide : (q : QuorumSystem) (history : List Event) (running : List ℕ) 
     (site : ℕ) (first second : List Event) → AreQuorums q → AreMembers q running
     → IsQuorum q running → CanPropose (run q new_network history) running slot site
     → AllArrive q (run q new_network history) running slot site first
-    → AllArrive q (in_the_end q (run q new_network history) slot site first) running slot site second
+    → AllArrive q (in_the_end q (run q new_network history) slot site first) running slot site
+    second
     → Knows
     (in_the_end q (in_the_end q (run q new_network history) slot site first) slot site second) slot
     site

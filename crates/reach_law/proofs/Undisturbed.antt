@@ -23,8 +23,6 @@ use Rattle.records.proofs.Bounds.{vote_among}
 use Rattle.records.proofs.SlotStates.{promised-push}
 use Rattle.dgram.specs.declared.body.Body.{Body}
 use Rattle.dgram.specs.declared.body.Body.TheVariants.{Prepare, Promise, Accept, Accepted, Refused}
-use Rattle.dgram.specs.declared.body.Body.TheVariants.{Ask, Known, Deposit, Query, DepositReply}
-use Rattle.dgram.specs.declared.body.Body.TheVariants.{QueryReply}
 use Rattle.dgram.specs.declared.message.Message.{Message}
 use Rattle.dgram.specs.Heard.{bodies_of, voter_in, voters_for, same_vote, PromiseFrom}
 use Rattle.dgram.specs.Heard.{promise_in, promisers}
@@ -45,7 +43,6 @@ use Rattle.site.specs.Effects.{Effect, Send, to_each, commits_and_sends}
 use Rattle.site.specs.Effects.{commits_and_says}
 use Rattle.world_law.specs.Laws.{WasSent}
 use Rattle.world_law.specs.Networks.{Network, Event, Deliver, datagram_at, happens, run}
-use Rattle.world_law.specs.Networks as networks
 use Rattle.world_law.proofs.Deeds.{carries_each}
 use Rattle.world_law.proofs.Heard.{gathered_promise, gathered_stays}
 use Rattle.world_law.proofs.Kept.{Kept}
@@ -105,14 +102,13 @@ promised_within slot rs b r says low a e =
     test : (c : BallotNumber) → promised_of slot rs ≡ Some c → (t : Bool)
         → cond t (Some b) (Some c) ≡ Some a → ¬ Below b a
     test c is true f =
-        subst (λ (a : BallotNumber). ¬ Below b a) (some_same f) (Below-irreflexive b)
-    test c is false f = subst (λ (a : BallotNumber). ¬ Below b a) (some_same f) (low c is)
+        rw (← some_same f) (Below-irreflexive b)
+    test c is false f = rw (← some_same f) (low c is)
 
     go : (o : Option BallotNumber) → promised_of slot rs ≡ o
         → higher (λ (b : BallotNumber). b) (promised_of slot rs) b ≡ Some a → ¬ Below b a
     go None is f =
-        subst (λ (a : BallotNumber). ¬ Below b a)
-        (some_same (sym (ap (λ (o : Option BallotNumber). higher (λ b. b) o b) is) ∙ f))
+        rw (← some_same (sym (ap (λ (o : Option BallotNumber). higher (λ b. b) o b) is) ∙ f))
         (Below-irreflexive b)
     go (Some c) is f =
         test c is (below c b)
@@ -172,12 +168,7 @@ module _ (q : QuorumSystem) (laws : AreQuorums q) (running : List ℕ) (slot : S
   KindOf x to (Accept vote) = (vote.ballot ≡ b) × AskedFor x vote.bag
   KindOf x to (Accepted n vote) = (vote.ballot ≡ b) × Has n running
   KindOf x to (Refused n a c) = Has n running
-  KindOf x to (Ask n) = ⊥
-  KindOf x to (Known n bag) = ⊥
-  KindOf x to (Deposit path) = ⊥
-  KindOf x to Query = ⊥
-  KindOf x to (DepositReply n answer) = ⊥
-  KindOf x to (QueryReply n answer) = ⊥
+  KindOf x to _ = ⊥
 
   abbrev pub IsKind : Network → Send → Type 0
   IsKind x d = d.message.slot ≡ slot → KindOf x d.to d.message.body
@@ -190,13 +181,7 @@ module _ (q : QuorumSystem) (laws : AreQuorums q) (running : List ℕ) (slot : S
       (m : ℕ) → Has m running → Fresh before x.sent (to_site m slot (Accepted to vote))
   DoneOf x to (Accepted n vote) =
       Has n (voters_for vote (bodies_of slot (volatile_at x to).heard))
-  DoneOf x to (Refused n a c) = ⊤
-  DoneOf x to (Ask n) = ⊤
-  DoneOf x to (Known n bag) = ⊤
-  DoneOf x to (Deposit path) = ⊤
-  DoneOf x to Query = ⊤
-  DoneOf x to (DepositReply n answer) = ⊤
-  DoneOf x to (QueryReply n answer) = ⊤
+  DoneOf x to _ = ⊤
 
   pub record HasArrived (x : Network) (number : ℕ) : Type 0 where
     pub d : Send
@@ -247,14 +232,7 @@ module _ (q : QuorumSystem) (laws : AreQuorums q) (running : List ℕ) (slot : S
     kind_stays n (Prepare c) k = k
     kind_stays n (Promise m c o) k = k
     kind_stays n (Accept vote) k = (k.0, asked_stays vote.bag k.1)
-    kind_stays n (Accepted m vote) k = k
-    kind_stays n (Refused m a c) k = k
-    kind_stays n (Ask m) k = k
-    kind_stays n (Known m bag) k = k
-    kind_stays n (Deposit path) k = k
-    kind_stays n Query k = k
-    kind_stays n (DepositReply m answer) k = k
-    kind_stays n (QueryReply m answer) k = k
+    kind_stays n _ k = k
 
     gathered_more : (n : ℕ) → Has n (promisers (gathered_at x))
         → Has n (promisers (gathered_at y))
@@ -284,13 +262,7 @@ module _ (q : QuorumSystem) (laws : AreQuorums q) (running : List ℕ) (slot : S
       come_stays n (Promise m c o) k = gathered_more m k
       come_stays n (Accept vote) k = λ m h'. took_fresh t before _ (k m h')
       come_stays n (Accepted m vote) k = voters_more m n vote k
-      come_stays n (Refused m a c) k = tt
-      come_stays n (Ask m) k = tt
-      come_stays n (Known m bag) k = tt
-      come_stays n (Deposit path) k = tt
-      come_stays n Query k = tt
-      come_stays n (DepositReply m answer) k = tt
-      come_stays n (QueryReply m answer) k = tt
+      come_stays n _ k = tt
 
       number_stays : (k : ℕ) (d : Send) → datagram_at k x.sent ≡ Some d
           → datagram_at k y.sent ≡ Some d
@@ -348,7 +320,7 @@ module _ (q : QuorumSystem) (laws : AreQuorums q) (running : List ℕ) (slot : S
                   subst (HasAnswered y) (sym same)
                   (answers
                   (sym (ap (promised_of slot) t.records)
-                  ∙ subst (λ (n : ℕ). promised_of slot (records_at y n) ≡ Some b) same e))
+                  ∙ rw (← same) e))
               | inr differ ↦
                   answered_stays n
                   (inv.answered n h'
@@ -359,20 +331,15 @@ module _ (q : QuorumSystem) (laws : AreQuorums q) (running : List ℕ) (slot : S
                 → KnowsAt slot m y
             learns_all m h' v e = elim (cases_eq m to) [
               | inl same ↦
-                  subst (λ (m : ℕ). KnowsAt slot m y) (sym same)
-                  (learns v
+                  rw same (learns v
                   (subst
                   (λ (s : VolatileState).
                   IsQuorum q (voters_for (vote_for b v) (bodies_of slot s.heard))) t.volatile_is
-                  (subst (λ (m : ℕ). IsQuorum q (voters_at y m v)) same e)))
+                  (rw (← same) e)))
               | inr differ ↦
                   took_known slot m t
                   (inv.learns m h' v
-                  (subst
-                  (λ s.
-                  IsQuorum q (voters_for (vote_for b v)
-                  (bodies_of slot (networks.volatile_in s.mode).heard)))
-                  (t.other m differ) e))
+                  (rw (← t.other m differ) e))
             ]
 
             arrived_now : (k : ℕ) → Has k (number ∷ done) → HasArrived y k
@@ -408,7 +375,7 @@ module _ (q : QuorumSystem) (laws : AreQuorums q) (running : List ℕ) (slot : S
       asks_still e =
           votes_stay
           (inv.asks
-          (subst (λ (ps : List PromiseFrom). IsQuorum q (promisers ps)) gathered_same e))
+          (rw (← gathered_same) e))
 
     -- of one that is no vote for the bag
     learns_still : (v : BagId) → voter_in (vote_for b v) body ≡ None
@@ -418,8 +385,7 @@ module _ (q : QuorumSystem) (laws : AreQuorums q) (running : List ℕ) (slot : S
     learns_still v none e =
         took_known slot to t
         (inv.learns to h v
-        (subst (λ (ns : List ℕ). IsQuorum q ns)
-        (voters_quiet slot (volatile_at x to).heard body (vote_for b v) none) e))
+        (rw (← voters_quiet slot (volatile_at x to).heard body (vote_for b v) none) e))
 
   -- ---- what arrives
 
@@ -510,7 +476,7 @@ module _ (q : QuorumSystem) (laws : AreQuorums q) (running : List ℕ) (slot : S
                 → Below a b ⊎ ((a ≡ b) ⊎ Below b a) → Inv then (number ∷ done)
             at_some a e (inl l) =
                 waits (λ c f.
-                subst (λ (c : BallotNumber). Below c b) (some_same (sym e ∙ f)) l)
+                rw (← some_same (sym e ∙ f)) l)
             at_some a e (inr (inl same)) = stands (e ∙ ap Some same)
             at_some a e (inr (inr more)) = absurd (inv.low to h a e more)
 
@@ -545,8 +511,7 @@ module _ (q : QuorumSystem) (laws : AreQuorums q) (running : List ℕ) (slot : S
             let on = vote_among slot rs u e in
             let bags : u.bag ≡ vote.bag =
             inv.kept.one slot vote.ballot u.bag vote.bag
-            (subst (λ (c : BallotNumber). WasSent x slot (Accept (vote_for c u.bag))) ballots
-            (inv.kept.records to slot (entry.Vote u) on))
+            (rw (← ballots) (inv.kept.records to slot (entry.Vote u) on))
             was_sent in
             let same : u ≡ vote = λ i. record { ballot = ballots i; bag = bags i } in
             false≢true (sym other
@@ -573,8 +538,7 @@ module _ (q : QuorumSystem) (laws : AreQuorums q) (running : List ℕ) (slot : S
                 (false_from_ne_true (below vote.ballot a)
                 (λ f.
                 inv.low to h a e
-                (subst (λ (c : BallotNumber). Below c a) is
-                ((below_decides vote.ballot a).0 f))))
+                (rw (← is) ((below_decides vote.ballot a).0 f))))
                 ∙ ap (λ (t : Bool). cond t (refuses vote.ballot a) (votes vote))
                 (not_in other (vote_of slot rs) refl)
 
@@ -659,8 +623,7 @@ module _ (q : QuorumSystem) (laws : AreQuorums q) (running : List ℕ) (slot : S
             → Took x to commits now_v sends then
             → Has n (voters_for vote (bodies_of slot (volatile_at then to).heard))
         come_v commits sends t =
-            subst (λ (s : VolatileState). Has n (voters_for vote (bodies_of slot s.heard)))
-            (sym t.volatile_is) (voter_self slot vote (volatile_at x to).heard n)
+            rw t.volatile_is (voter_self slot vote (volatile_at x to).heard n)
 
         -- nothing is recorded
         silent : (e : Effect) → e ≡ sending [] now_v
@@ -790,9 +753,7 @@ module _ (q : QuorumSystem) (laws : AreQuorums q) (running : List ℕ) (slot : S
           → Took x p commits now_o sends then → Has n (promisers (gathered_at then))
       unfolding promisers
       come_o commits sends t =
-          subst (λ (ps : List PromiseFrom). Has n (promisers ps))
-          (sym (gathered_then commits sends t))
-          (map_has (λ (p : PromiseFrom). p.site) {x = from_n}
+          rw (gathered_then commits sends t) (map_has (λ (p : PromiseFrom). p.site) {x = from_n}
           (has_right (gathered_at x) (here refl)))
 
       some_bag : (u : Option Vote) → (bag : BagId) × (bag_of u (Some own) ≡ Some bag)
@@ -852,8 +813,7 @@ module _ (q : QuorumSystem) (laws : AreQuorums q) (running : List ℕ) (slot : S
               (inv.asks
               (completed (q.is_quorum (promisers (gathered_at x ++ from_n ∷ [])))
               (q.is_quorum (promisers (gathered_at x))) e
-              (subst (λ (ps : List PromiseFrom). IsQuorum q (promisers ps))
-              (gathered_then _ _ t) quorum))))
+              (rw (← gathered_then _ _ t) quorum))))
               (λ v. learns_still x then done number p runs (Promise n b o) _ _ inv at t v refl)
               (come_o _ _ t)
 
@@ -862,23 +822,14 @@ module _ (q : QuorumSystem) (laws : AreQuorums q) (running : List ℕ) (slot : S
         → datagram_at number x.sent ≡ Some (to_site to slot body) → Inv then (number ∷ done)
     body_arrives to h (Prepare c) k at =
         prepare_arrives to h
-        (subst (λ (c : BallotNumber).
-        datagram_at number x.sent ≡ Some (to_site to slot (Prepare c))) k at)
+        (rw (← k) at)
     body_arrives to h (Promise n c o) k at =
         promise_arrives n o k.1
-        (subst (λ (to : ℕ).
-        datagram_at number x.sent ≡ Some (to_site to slot (Promise n b o))) k.2
-        (subst (λ (c : BallotNumber).
-        datagram_at number x.sent ≡ Some (to_site to slot (Promise n c o))) k.0 at))
+        (rw (← k.2) (rw (← k.0) at))
     body_arrives to h (Accept vote) k at = accept_arrives to h vote k.0 k.1 at
     body_arrives to h (Accepted n vote) k at = vote_arrives to h n vote k.0 k.1 at
     body_arrives to h (Refused n a c) k at = refusal_arrives to h n a c k at
-    body_arrives to h (Ask n) k at = absurd k
-    body_arrives to h (Known n bag) k at = absurd k
-    body_arrives to h (Deposit path) k at = absurd k
-    body_arrives to h Query k at = absurd k
-    body_arrives to h (DepositReply n answer) k at = absurd k
-    body_arrives to h (QueryReply n answer) k at = absurd k
+    body_arrives to h _ k at = absurd k
 
     arrives_then : (d : Send) → before < number → datagram_at number x.sent ≡ Some d
         → d.message.slot ≡ slot → Has d.to running → Inv then (number ∷ done)
@@ -896,8 +847,7 @@ module _ (q : QuorumSystem) (laws : AreQuorums q) (running : List ℕ) (slot : S
       (kept : Kept q y) where
     fresh_grows : (d : Send) → Fresh before x.sent d → Fresh before y.sent d
     fresh_grows d f =
-        subst (λ (s : List Send). Fresh before s d) (sym e.sent)
-        (fresh_stays before x.sent e.more d f)
+        rw e.sent (fresh_stays before x.sent e.more d f)
 
     votes_grow : VotesAsked x → VotesAsked y
     votes_grow a = (a.0, λ n h. fresh_grows _ (a.1 n h))
@@ -910,14 +860,7 @@ module _ (q : QuorumSystem) (laws : AreQuorums q) (running : List ℕ) (slot : S
     kind_grows n (Prepare c) k = k
     kind_grows n (Promise m c o) k = k
     kind_grows n (Accept vote) k = (k.0, λ m h. fresh_grows _ (k.1 m h))
-    kind_grows n (Accepted m vote) k = k
-    kind_grows n (Refused m a c) k = k
-    kind_grows n (Ask m) k = k
-    kind_grows n (Known m bag) k = k
-    kind_grows n (Deposit path) k = k
-    kind_grows n Query k = k
-    kind_grows n (DepositReply m answer) k = k
-    kind_grows n (QueryReply m answer) k = k
+    kind_grows n _ k = k
 
     gathered_again : gathered_at y ≡ gathered_at x
     gathered_again = (e.volatile p runs).promises current inv.within
@@ -925,17 +868,11 @@ module _ (q : QuorumSystem) (laws : AreQuorums q) (running : List ℕ) (slot : S
     come_grows : (n : ℕ) → Has n running → (c : Body) → DoneOf x n c → DoneOf y n c
     come_grows n h (Prepare c) k = (e.words n h).promised ∙ k
     come_grows n h (Promise m c o) k =
-        subst (λ (ps : List PromiseFrom). Has m (promisers ps)) (sym gathered_again) k
+        rw gathered_again k
     come_grows n h (Accept vote) k = λ m h'. fresh_grows _ (k m h')
     come_grows n h (Accepted m vote) k =
-        subst (λ (bs : List Body). Has m (voters_for vote bs)) (sym (e.volatile n h).bodies) k
-    come_grows n h (Refused m a c) k = tt
-    come_grows n h (Ask m) k = tt
-    come_grows n h (Known m bag) k = tt
-    come_grows n h (Deposit path) k = tt
-    come_grows n h Query k = tt
-    come_grows n h (DepositReply m answer) k = tt
-    come_grows n h (QueryReply m answer) k = tt
+        rw (e.volatile n h).bodies k
+    come_grows n h _ k = tt
 
     at_grows : (k : ℕ) (d : Send) → datagram_at k x.sent ≡ Some d → datagram_at k y.sent ≡ Some d
     at_grows k d f = ap (datagram_at k) e.sent ∙ numbered k x.sent e.more d f
@@ -947,8 +884,7 @@ module _ (q : QuorumSystem) (laws : AreQuorums q) (running : List ℕ) (slot : S
       up = λ n h. e.up n h (inv.up n h);
       later =
           let l = inv.later in
-          subst (λ (s : List Send). before ≤ length s) (sym e.sent)
-          (omega (arith, l, length-append x.sent e.more));
+          rw e.sent (omega (arith, l, length-append x.sent e.more));
       deposit = (e.words p runs).deposit ∙ inv.deposit;
       is_current = (e.volatile p runs).current ∙ inv.is_current;
       within = (e.volatile p runs).within old inv.within;
@@ -962,12 +898,11 @@ module _ (q : QuorumSystem) (laws : AreQuorums q) (running : List ℕ) (slot : S
       asks = λ f.
           votes_grow
           (inv.asks
-          (subst (λ (ps : List PromiseFrom). IsQuorum q (promisers ps)) gathered_again f));
+          (rw (← gathered_again) f));
       learns = λ m h v f.
           let g =
           inv.learns m h v
-          (subst (λ (bs : List Body). IsQuorum q (voters_for (vote_for b v) bs))
-          (e.volatile m h).bodies f) in
+          (rw (← (e.volatile m h).bodies) f) in
           (g.0, (e.words m h).known ∙ g.1);
       arrived = λ k h.
           let was = inv.arrived k h in
@@ -1018,13 +953,7 @@ module _ (q : QuorumSystem) (laws : AreQuorums q) (running : List ℕ) (slot : S
           more_done (happens q x (Deliver number fate)).network done number h.0
           (elsewhere_keeps x _ done inv f kept)
           (at_grows x _ done inv f kept number h.0 h.1) h.2
-      go (networks.Deposit n s checked fate) h f kept = elsewhere_keeps x _ done inv f kept
-      go (networks.Propose n s fate) h f kept = elsewhere_keeps x _ done inv f kept
-      go (networks.Ask n m s fate) h f kept = elsewhere_keeps x _ done inv f kept
-      go (networks.Query n s) h f kept = elsewhere_keeps x _ done inv f kept
-      go (networks.Raw n) h f kept = elsewhere_keeps x _ done inv f kept
-      go (networks.Stop n) h f kept = elsewhere_keeps x _ done inv f kept
-      go (networks.Start n) h f kept = elsewhere_keeps x _ done inv f kept
+      go _ h f kept = elsewhere_keeps x _ done inv f kept
 
   -- ---- all that happens
 
@@ -1037,8 +966,7 @@ module _ (q : QuorumSystem) (laws : AreQuorums q) (running : List ℕ) (slot : S
       run_all events (happens q x e).network (with_event e done)
       (elim h.0 [
         | inl c ↦
-            subst (λ (e : Event). Inv (happens q x e).network (with_event e done)) (sym c.is)
-            (arrives_then x done c.number inv c.d c.since c.at c.of_slot c.runs)
+            rw c.is (arrives_then x done c.number inv c.d c.since c.at c.of_slot c.runs)
         | inr f ↦ elsewhere_then x done inv e f
       ])
       h.1
@@ -1070,7 +998,7 @@ module _ (q : QuorumSystem) (laws : AreQuorums q) (running : List ℕ) (slot : S
             → ((m : ℕ) → Has m ns → Has m (promisers (gathered_at x)))
             → (m : ℕ) → Has m (n ∷ ns) → Has m (promisers (gathered_at x))
         with_first first rest m (here e) =
-            subst (λ (m : ℕ). Has m (promisers (gathered_at x))) e first
+            rw (← e) first
         with_first first rest m (there h) = rest m h
 
         more : HasAnswered x n

@@ -77,8 +77,8 @@ module _ (q : QuorumSystem) (laws : AreQuorums q) (running : List ℕ) (slot : S
 
   t : Took w p round_noted (with_current (volatile_at w p) slot b)
       (to_each slot (Prepare b) q.members) x
-  t = propose_took q running slot before members w p b own.0 can.ready.runs (can.ready.up p can.ready.runs)
-      can.ready.unknown own.1 can.next
+  t = propose_took q running slot before members w p b own.0 can.ready.runs
+      (can.ready.up p can.ready.runs) can.ready.unknown own.1 can.next
 
   promised_same : (n : ℕ)
       → promised_of slot (records_at x n) ≡ promised_of slot (records_at w n)
@@ -126,7 +126,7 @@ module _ (q : QuorumSystem) (laws : AreQuorums q) (running : List ℕ) (slot : S
         ∙ ap (λ (t : Bool).
         cond t (Some (record { ballot = b; heard_before = old })) ((volatile_at w p).current slot))
         ((same_slot_decides slot slot).1 refl);
-    within = subst (λ heard. old ≤ length heard) (sym (heard_same p)) (omega arith);
+    within = rw (heard_same p) (omega arith);
     low = λ n h a e k.
         Below-asymmetric a b (can.above n a h (sym (promised_same n) ∙ e)) (inr k);
     answered = λ n h e.

@@ -1,12 +1,11 @@
 -- Where none of those that run knows a bag or has a deposit, none of them comes to know one.
 use Rattle.std.proofs.Common.{ℕ, ◌≡◌, ◌<◌, Bool, true, false, cond, inl, inr, refl}
-use Rattle.std.proofs.Common.{sym, ap, subst, ◌∙◌, List, [], ◌∷◌, ◌++◌, length, Option, None, Some}
+use Rattle.std.proofs.Common.{sym, ap, ◌∙◌, List, [], ◌∷◌, ◌++◌, length, Option, None, Some}
 use Rattle.std.proofs.Common.{append-nil}
 use Rattle.std.specs.Bool.{◌==◌}
 use Rattle.std.specs.Option.{option_to_list}
 use Rattle.std.proofs.lemmas.Bool.{cases_eq, ne_eqb}
 use Rattle.std.proofs.Common.{eq-eqb}
-use Rattle.fed_types.specs.declared.bag_id.BagId.{BagId}
 use Rattle.fed_types.specs.Lists.{Has, is_in}
 use Rattle.fed_types.specs.Quorums.{QuorumSystem}
 use Rattle.fed_types.specs.Slots.{SlotName}
@@ -14,14 +13,10 @@ use Rattle.fed_types.specs.Laws.Lists.{has_none, has_one}
 use Rattle.records.specs.declared.record.Record.{Record}
 use Rattle.records.specs.SlotStates.{deposit_of, known_of}
 use Rattle.dgram.specs.declared.body.Body.TheVariants.{Ask}
-use Rattle.dgram.specs.declared.message.Message.{Message}
-use Rattle.proposer.specs.Proposals.{next_ballot}
 use Rattle.proposer.specs.VolatileStates.{VolatileState, new_volatile, hears}
-use Rattle.schedule.specs.declared.fate.Fate.{Fate}
 use Rattle.schedule.specs.declared.fate.Fate.TheVariants.{Whole}
 use Rattle.site.specs.Arrivals.{telling, on_arrival, on_body}
 use Rattle.site.specs.Calls.{Input, Proposes, Asks, Arrives, effect_of, on_propose, on_ask}
-use Rattle.site.specs.Calls.{begins_ballot_if}
 use Rattle.site.specs.Effects.{Effect, Send, to_each}
 use Rattle.world_law.specs.Networks.{Mode, Up, Down, NeedsOpening, SiteState, Network, Event}
 use Rattle.world_law.specs.Networks.{SiteOutcome, Deliver, Start, datagram_at, nothing, happening}
@@ -126,12 +121,7 @@ module _ (q : QuorumSystem) (running : List ℕ) (slot : SlotName) (w : Network)
       → Quiet (on_propose q n (records_at x n) v slot)
   unfolding on_propose
   quiet_propose x s n h v =
-      subst (λ (o : Option BagId).
-      Quiet (begins_ballot_if q slot o (deposit_of slot (records_at x n))
-      (next_ballot n slot (records_at x n) v.heard) v)) (sym (known_none x s n h))
-      (subst (λ (o : Option BagId).
-      Quiet (begins_ballot_if q slot None o (next_ballot n slot (records_at x n) v.heard) v))
-      (sym (deposit_none x s n h)) (record { none = refl; asks = no_sends }))
+      rw (known_none x s n h) (rw (deposit_none x s n h) (record { none = refl; asks = no_sends }))
 
   quiet_ask : (n m : ℕ) (v : VolatileState) → Quiet (on_ask n v slot m)
   unfolding on_ask to_each
@@ -149,9 +139,7 @@ module _ (q : QuorumSystem) (running : List ℕ) (slot : SlotName) (w : Network)
       told : Quiet
           (telling n slot m (known_of slot (records_at x n)) (hears v (about slot (Ask m))))
       told =
-          subst (λ (o : Option BagId).
-          Quiet (telling n slot m o (hears v (about slot (Ask m))))) (sym (known_none x s n h))
-          (record { none = refl; asks = no_sends })
+          rw (known_none x s n h) (record { none = refl; asks = no_sends })
 
       go : (t : Bool)
           → Quiet (cond t
@@ -162,10 +150,16 @@ module _ (q : QuorumSystem) (running : List ℕ) (slot : SlotName) (w : Network)
 
   -- ---- a calm event
 
+  opened_still : (x : Network) → Still x → (n : ℕ)
+      → Still (became x n (record { records = records_at x n; mode = Up new_volatile }) [])
+  opened_still x s n =
+      became_still x s n (record { records = records_at x n; mode = Up new_volatile }) [] refl
+      no_sends
+
   starts_still : (x : Network) → Still x → (n : ℕ) (mode : Mode) → Still (starts x n mode).network
   starts_still x s n (Up v) = s
-  starts_still x s n Down = became_still x s n (record { records = records_at x n; mode = Up new_volatile }) [] refl no_sends
-  starts_still x s n NeedsOpening = became_still x s n (record { records = records_at x n; mode = Up new_volatile }) [] refl no_sends
+  starts_still x s n Down = opened_still x s n
+  starts_still x s n NeedsOpening = opened_still x s n
 
   step_still : (x : Network) → Still x → (e : Event)
       → IsCalm running slot (length w.sent) x e → Still (happens q x e).network
@@ -176,26 +170,15 @@ module _ (q : QuorumSystem) (running : List ℕ) (slot : SlotName) (w : Network)
       go true = starts_still x s n (x.sites n).mode
       go false = s
   step_still x s (networks.Propose n k fate) h =
-      subst (λ (f : Fate). Still (takes q x n (Proposes k) f).network) (sym h.2)
-      (subst (λ (k : SlotName). Still (takes q x n (Proposes k) Whole).network) (sym h.1)
-      (takes_still x s n (Proposes slot) (λ v is. quiet_propose x s n h.0 v)))
+      rw h.2 (rw h.1 (takes_still x s n (Proposes slot) (λ v is. quiet_propose x s n h.0 v)))
   step_still x s (networks.Ask n m k fate) h =
-      subst (λ (f : Fate). Still (takes q x n (Asks k m) f).network) (sym h.3)
-      (subst (λ (k : SlotName). Still (takes q x n (Asks k m) Whole).network) (sym h.2)
-      (takes_still x s n (Asks slot m) (λ v is. quiet_ask n m v)))
+      rw h.3 (rw h.2 (takes_still x s n (Asks slot m) (λ v is. quiet_ask n m v)))
   step_still x s (Deliver number fate) h =
       let d = h.2.0 in
       let ask = s.asks number d h.0 h.2.1 in
-      subst (λ (f : Fate). Still (arrives q x (datagram_at number x.sent) f).network) (sym h.1)
-      (subst (λ (o : Option Send). Still (arrives q x o Whole).network) (sym h.2.1)
-      (subst (λ (m : Message). Still (takes q x d.to (Arrives (Some m)) Whole).network)
-      (sym ask.1)
-      (takes_still x s d.to (Arrives (Some (about slot (Ask ask.0))))
+      rw h.1 (rw h.2.1 (rw ask.1 (takes_still x s d.to (Arrives (Some (about slot (Ask ask.0))))
       (λ v is. quiet_arrival x s d.to h.2.2 ask.0 v))))
-  step_still x s (networks.Deposit n k checked fate) h = absurd h
-  step_still x s (networks.Query n k) h = absurd h
-  step_still x s (networks.Raw n) h = absurd h
-  step_still x s (networks.Stop n) h = absurd h
+  step_still x s _ h = absurd h
 
   run_still : (events : List Event) (x : Network) → Still x
       → AreCalm q running slot (length w.sent) x events → Still (run q x events)
@@ -208,5 +191,9 @@ module _ (q : QuorumSystem) (running : List ℕ) (slot : SlotName) (w : Network)
   stays_unknown events calm n h =
       known_none (run q w events)
       (run_still events w
-      (record { records = λ n. refl; asks = λ number d l e. absurd (too_many number w.sent d l e) }) calm)
+      (record {
+        records = λ n. refl;
+        asks = λ number d l e. absurd (too_many number w.sent d l e);
+      })
+      calm)
       n h

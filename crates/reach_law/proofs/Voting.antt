@@ -18,7 +18,6 @@ use Rattle.records.specs.declared.entry.Entry.{Entry}
 use Rattle.records.specs.declared.entry.Entry.TheVariants as entry
 use Rattle.records.specs.declared.record.Record.{Record}
 use Rattle.records.specs.SlotStates.{ballot_in, vote_in, promised_of, vote_of, known_of}
-use Rattle.dgram.specs.declared.body.Body.{Body}
 use Rattle.dgram.specs.declared.body.Body.TheVariants.{Accept, Accepted}
 use Rattle.dgram.specs.declared.message.Message.{Message}
 use Rattle.dgram.specs.Heard.{body_in, bodies_of, voters_for, voter_in}
@@ -127,10 +126,8 @@ pub voters_stay : (slot : SlotName) (vote : Vote) (heard : List Message) (m : Me
     → Has n (voters_for vote (bodies_of slot heard))
     → Has n (voters_for vote (bodies_of slot (heard ++ m ∷ [])))
 voters_stay slot vote heard m n h =
-    subst (λ (bs : List Body). Has n (voters_for vote bs))
-    (sym (bodies_of-append slot heard (m ∷ [])))
-    (subst (λ (ns : List ℕ). Has n ns)
-    (sym (voters_for-append vote (bodies_of slot heard) (bodies_of slot (m ∷ []))))
+    rw (bodies_of-append slot heard (m ∷ []))
+    (rw (voters_for-append vote (bodies_of slot heard) (bodies_of slot (m ∷ [])))
     (has_left (voters_for vote (bodies_of slot (m ∷ []))) h))
 
 module _ (q : QuorumSystem) (running : List ℕ) (slot : SlotName) (before : ℕ)
@@ -165,8 +162,7 @@ module _ (q : QuorumSystem) (running : List ℕ) (slot : SlotName) (before : ℕ
       (knows : IsQuorum q (voters_at y) → Knows y) where
     heard_now : Has n (voters_at y)
     heard_now =
-        subst (λ (s : VolatileState). Has n (voters_for vote (bodies_of slot s.heard)))
-        (sym u.volatile_is) (voter_self slot vote (volatile_at x p).heard n)
+        rw u.volatile_is (voter_self slot vote (volatile_at x p).heard n)
 
     heard_stays : (m : ℕ) → Has m (voters_at w) → Has m (voters_at y)
     heard_stays m has =
