@@ -1,0 +1,87 @@
+ghost use Rattle.std.specs.Prelude.{ℕ, ◌+◌, ◌≤◌, List};
+ghost use Rattle.fed_types.specs.Limits.{greatest_round};
+ghost use Rattle.fed_types.specs.Quorums.{QuorumSystem, AreQuorums, IsQuorum};
+ghost use Rattle.fed_types.specs.Slots.{SlotName};
+ghost use Rattle.records.specs.declared.record.Record.{Record};
+ghost use Rattle.world_law.specs.Networks.{Network, Event, new_network, run};
+ghost use Rattle.reach_law.specs.Running.{AreMembers, RoundsAreLeft, CanDecide, proposals_for};
+ghost use Rattle.reach_law.specs.Reach.{IsWithinReach, HaveNothing, StaysUnknown};
+ghost use Rattle.reach_law.specs.Undisturbed.{CanPropose, CanOutbid, AllArrive, in_the_end};
+ghost use Rattle.reach_law.specs.Undisturbed.{Knows, AllKnow, KnowsOrCanOutbid};
+ghost use Rattle.reach_law.specs.InTurn.{AreProposingTurns, Waits, IsProposedInTurn};
+
+// A function here does nothing: its contract is the law, for any quorums that meet and grow.
+
+// ---- what is within reach
+
+/// A decision is always within reach. Whatever has happened, where the members that run are a
+/// quorum, and one of them knows the slot's bag, or has a deposit for it and rounds left, some
+/// events in which only they take part and nothing fails let all of them know one bag: ten for each
+/// of them and two more, at most. If a bag was chosen before, it is this one.
+pub fn a_decision_is_within_reach()
+    ensures { (q : QuorumSystem) (events : List Event) (running : List ℕ) (slot : SlotName)
+        → AreQuorums q → AreMembers q running → IsQuorum q running
+        → CanDecide (run q new_network events) running slot
+        → IsWithinReach q (run q new_network events) running slot }
+{}
+
+/// Where none of the members that run has a deposit, or knows the bag, nothing that they do lets
+/// one of them know it, also where it was chosen: they need another member, or a deposit.
+pub fn no_decision_without_a_deposit()
+    ensures { (q : QuorumSystem) (w : Network) (running : List ℕ) (slot : SlotName)
+        → HaveNothing w running slot → StaysUnknown q w running slot }
+{}
+
+/// Rounds are left for a slot, at every site, as long as there were fewer than 4,294,967,294
+/// proposals for it.
+pub fn rounds_are_left()
+    ensures { (q : QuorumSystem) (events : List Event) (running : List ℕ) (slot : SlotName)
+        (site : ℕ) → AreQuorums q → proposals_for slot events + 2 ≤ greatest_round
+        → RoundsAreLeft (run q new_network events) running slot site }
+{}
+
+// ---- proposals that nothing disturbs
+
+/// An undisturbed ballot is decided: where a member begins one that is above all that the members
+/// that run, a quorum, have promised, and of the slot nothing arrives but what is sent since, each
+/// such datagram to one of them at least once, in any order, then all of them know a bag. Of other
+/// slots, and at other members, anything may happen meanwhile.
+pub fn an_undisturbed_ballot_is_decided()
+    ensures { (q : QuorumSystem) (history : List Event) (running : List ℕ) (slot : SlotName)
+        (site : ℕ) (events : List Event) → AreQuorums q → AreMembers q running
+        → IsQuorum q running → CanOutbid (run q new_network history) running slot site
+        → AllArrive q (run q new_network history) running slot site events
+        → AllKnow (in_the_end q (run q new_network history) slot site events) running slot }
+{}
+
+/// After any undisturbed proposal the site knows the bag, or its next ballot is above all that the
+/// members that run have promised.
+pub fn an_undisturbed_proposal_outbids()
+    ensures { (q : QuorumSystem) (w : Network) (running : List ℕ) (slot : SlotName) (site : ℕ)
+        (events : List Event) → AreMembers q running → CanPropose w running slot site
+        → AllArrive q w running slot site events
+        → KnowsOrCanOutbid (in_the_end q w slot site events) running slot site }
+{}
+
+/// So two undisturbed proposals decide, whatever has happened before: afterwards the site knows the
+/// slot's bag.
+pub fn two_undisturbed_proposals_decide()
+    ensures { (q : QuorumSystem) (history : List Event) (running : List ℕ) (slot : SlotName)
+        (site : ℕ) (first second : List Event) → AreQuorums q → AreMembers q running
+        → IsQuorum q running → CanPropose (run q new_network history) running slot site
+        → AllArrive q (run q new_network history) running slot site first
+        → AllArrive q (in_the_end q (run q new_network history) slot site first) running slot site
+        second
+        → Knows (in_the_end q (in_the_end q (run q new_network history) slot site first) slot site
+        second) slot site }
+{}
+
+// ---- of a site that serves
+
+/// A site that serves proposes each of its deposits in turn: one that waits comes within as many
+/// proposing turns as there are deposits, while no others are added.
+pub fn each_deposit_has_its_turn()
+    ensures { (records : ℕ → List Record) (tried : ℕ → ℕ) (place most : ℕ)
+        → AreProposingTurns records tried → Waits records place most
+        → IsProposedInTurn records tried place most }
+{}
