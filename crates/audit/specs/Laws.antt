@@ -1,5 +1,5 @@
 -- What an auditor may conclude: `IsChosen` is the laws' own, of the network that the cells are.
-use Rattle.std.specs.Prelude.{◌≡◌, ◌⊎◌, ℕ, List, Some}
+use Rattle.std.specs.Prelude.{◌≡◌, ◌≢◌, ◌⊎◌, ℕ, List, Some}
 use Rattle.fed_types.specs.declared.bag_id.BagId.{BagId}
 use Rattle.fed_types.specs.Lists.{Has}
 use Rattle.fed_types.specs.Quorums.{QuorumSystem}
@@ -20,6 +20,10 @@ SayKnown given slot bag = (n : ℕ) × OnRecord (network_of given) n slot (entry
 -- either
 abbrev pub IsNamed : QuorumSystem → List SiteRecord → SlotName → BagId → Type 0
 IsNamed q given slot bag = ShowChosen q given slot bag ⊎ SayKnown given slot bag
+
+-- two bags are
+abbrev pub NameTwo : QuorumSystem → List SiteRecord → SlotName → (a b : BagId) → Type 0
+NameTwo q given slot a b = IsNamed q given slot a × IsNamed q given slot b × (a ≢ b)
 
 -- no two bags are named for one version
 abbrev pub HaveNoConflict : QuorumSystem → List SiteRecord → Type 0

@@ -1,4 +1,4 @@
-ghost use Rattle.std.specs.Prelude.{◌≡◌, ◌++◌, ◌↔◌, List};
+ghost use Rattle.std.specs.Prelude.{◌≡◌, ◌≢◌, ◌++◌, ◌↔◌, List};
 ghost use Rattle.fed_types.specs.declared.bag_id.BagId.{BagId};
 ghost use Rattle.fed_types.specs.declared.vote.Vote.{Vote};
 ghost use Rattle.fed_types.specs.Quorums.{QuorumSystem, AreQuorums, IsQuorum};
@@ -9,7 +9,8 @@ ghost use Rattle.audit.specs.declared.finding.Finding.{Finding};
 ghost use Rattle.audit.specs.declared.finding.Finding.TheVariants as findings;
 ghost use Rattle.audit.specs.Evidence.{SiteRecord, network_of, AreOf};
 ghost use Rattle.audit.specs.Findings.{IsFinding, members_with};
-ghost use Rattle.audit.specs.Laws.{ShowChosen, HaveNoConflict, ReportNoOther};
+ghost use Rattle.audit.specs.Laws.{ReportNoOther};
+ghost use Rattle.audit.specs.Laws.{ShowChosen, IsNamed, NameTwo, HaveNoConflict};
 
 // A function here does nothing: its contract is the law. The cells are any of a federation's, of
 // as few sites as one likes, each as it is or as it once was.
@@ -42,7 +43,8 @@ pub fn members_are_counted()
 {}
 
 /// What is found of a version of a run is no conflict; and it is a chosen bag exactly where the
-/// cells show one.
+/// cells show one. Whatever the cells are, two bags that are named for a version are found as a
+/// conflict of two such, and where a bag is named, something is found.
 pub fn findings_are_true()
     ensures no_conflict { (q : QuorumSystem) (events : List Event) (given : List SiteRecord)
         (slot : SlotName) (u v : BagId) → AreQuorums q
@@ -56,4 +58,10 @@ pub fn findings_are_true()
         → AreOf (run q new_network events) given → ShowChosen q given slot bag
         → IsFinding q given slot finding
         → (vote : Vote) × (finding ≡ findings.Chosen vote) × (vote.bag ≡ bag) }
+    ensures split { (q : QuorumSystem) (given : List SiteRecord) (slot : SlotName)
+        (u v : BagId) (finding : Finding) → IsNamed q given slot u → IsNamed q given slot v
+        → u ≢ v → IsFinding q given slot finding → (a b : BagId)
+        × (finding ≡ findings.Conflict a b) × NameTwo q given slot a b }
+    ensures named { (q : QuorumSystem) (given : List SiteRecord) (slot : SlotName)
+        (bag : BagId) → IsNamed q given slot bag → ¬ IsFinding q given slot findings.Open }
 {}

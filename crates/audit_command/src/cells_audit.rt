@@ -2,6 +2,7 @@
 
 ghost use Rattle.std.specs.Prelude.{◌≡◌, ◌==◌, ◌&&◌, if◌then◌else◌, map, IfErr, IfOk, IsErrOf};
 ghost use Rattle.std.specs.Prelude.{string_bytes};
+ghost use Rattle.cell_device.specs.Calls.{HasCause};
 ghost use Rattle.outcomes.specs.Outcomes.{Writes, WritesPrefix};
 ghost use Rattle.audit_command.specs.Audits.{IsAudit, Answers};
 
@@ -10,16 +11,16 @@ use crate::counts::{count_conflicts, push_counts};
 use crate::evidence::versions_of;
 use crate::finding_lines::push_versions;
 use crate::gathered::gather;
+use counted_writes::{CountedWrite, write_output};
 use fed_types::Members;
-use outcomes::{ProgramFault, ProgramOutput, write_output};
+use outcomes::{ProgramFault, ProgramOutput};
 use std::alloc::{AllocError, Global};
-use std::io::Write;
 
 /// Reads the cells of these paths, and writes which are in use, what is amiss with each, what they
 /// show together of each version, and how many there are of each kind. The exit status is 0 where nothing is amiss
 /// and there is no conflict, and else 1. Where memory runs out, the line `memory` is written alone,
 /// and the status is 1.
-pub fn audit_on<F: CellFiles, W: Write>(
+pub fn audit_on<F: CellFiles, W: CountedWrite>(
     alloc: Global,
     members: &Members,
     files: &F,
@@ -33,6 +34,8 @@ pub fn audit_on<F: CellFiles, W: Write>(
         → Answers members.now (F.bytes_at files.now) (map (λ path. path.now) paths.now)
         (WritesPrefix (W.contents output.old) (W.contents output.new)) }
     ensures fault { IfErr result (λ fault. fault ≡ ProgramFault.Output) }
+    ensures cause { HasCause ProgramFault.Output (W.failures output.old) (W.failures output.new)
+        result }
 {
     match answer_to(alloc, members, files, paths) {
         Ok(answer) => write_output(output, answer.status, answer.text.as_str()),

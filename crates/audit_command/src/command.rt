@@ -3,6 +3,7 @@
 use crate::arguments::AuditTask;
 use crate::cells_audit::audit_on;
 use crate::disk_cells::DiskCells;
+use counted_writes::CountedWriter;
 use outcomes::ProgramFault;
 use site_commands::{members_at, write_stop};
 use std::hash::RandomState;
@@ -24,6 +25,7 @@ pub fn print_audit(rt: &HostRuntime, task: &AuditTask<'_>) -> Result<u8, Program
                 words: task.words,
                 hashing,
             };
+            let mut output = CountedWriter::new(output);
             audit_on(rt.alloc(), &members, &files, &task.cells, &mut output)
         }
         Err(stop) => write_stop(rt.alloc(), &mut output, stop),

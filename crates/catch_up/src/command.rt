@@ -2,6 +2,7 @@
 
 use crate::arguments::CatchUpTask;
 use crate::rounds::{Target, catch_up_on};
+use counted_writes::CountedWriter;
 use known_bags::{KnownBag, SourceFault, push_source};
 use outcomes::{ProgramFault, write_output};
 use site_commands::{Stop, members_at, port_of, socket, write_numbered, write_stop};
@@ -21,7 +22,7 @@ pub fn catch_up_site(rt: &HostRuntime, task: &CatchUpTask<'_>) -> Result<u8, Pro
         }
     }
     match asked_by(rt, task) {
-        Ok(asked) => ask_all(rt, task, asked, &mut versions, &mut output),
+        Ok(asked) => ask_all(rt, task, asked, &mut versions, output),
         Err(stop) => write_stop(rt.alloc(), &mut output, stop),
     }
 }
@@ -36,19 +37,20 @@ fn asked_by(rt: &HostRuntime, task: &CatchUpTask<'_>) -> Result<Target, Stop> {
     })
 }
 
-fn ask_all<W: Write>(
+fn ask_all<W: Write + Drop>(
     rt: &HostRuntime,
     task: &CatchUpTask<'_>,
     asked: Target,
     versions: &mut Vec<KnownBag>,
-    output: &mut W,
+    mut output: W,
 ) -> Result<u8, ProgramFault> {
     match socket(rt, asked.federation, 0, Waits::always(task.wait)) {
         Ok(mut port) => {
             let alloc = rt.alloc();
+            let output = &mut CountedWriter::new(output);
             catch_up_on(alloc, rt, &mut port, &asked, versions, task.seconds, output)
         }
-        Err(stop) => write_stop(rt.alloc(), output, stop),
+        Err(stop) => write_stop(rt.alloc(), &mut output, stop),
     }
 }
 

@@ -2,6 +2,7 @@
 
 ghost use Rattle.std.specs.Prelude.{◌≡◌, if◌then◌else◌, [], ◌∷◌, Err, OnOk, OnErr, IfOk};
 ghost use Rattle.std.specs.Io.KnownBytes.{Appends};
+ghost use Rattle.cell_device.specs.Calls.{HasCause};
 ghost use Rattle.fed_types.specs.Bags.{same_bag};
 ghost use Rattle.catch_up.specs.Lines.{count_line};
 ghost use Rattle.catch_up.specs.Rounds.{bag_by, open_of};
@@ -11,13 +12,13 @@ ghost use Rattle.catch_up.specs.inner.Progress.{AreAsked, AreReported};
 ghost use Rattle.catch_up.specs.declared.rounds.AskFault.TheVariants.{Memory, Output};
 
 use crate::progress::{count_line, known_line, open_line};
+use counted_writes::{CountedWrite, write_output};
 use dgram::QueryAnswer;
 use fed_types::{BagId, SiteNo};
 use known_bags::KnownBag;
-use outcomes::{ProgramFault, write_all, write_output};
+use outcomes::ProgramFault;
 use site_commands::{Request, ask_for_bag};
 use std::alloc::{AllocError, Global};
-use std::io::Write;
 use std::thread;
 use std::time::{Clock, Duration, Instant};
 use udp_site::Port;
@@ -57,7 +58,7 @@ impl From<AllocError> for AskFault {
 /// as soon as the site knows it; then one for each that is left, and how many of how many it knows
 /// as the sources do. The status is 0 where that is all. Where memory runs out, the line `memory`
 /// follows what was written, and the status is 1.
-pub fn catch_up_on<P: Port, C: Clock, W: Write>(
+pub fn catch_up_on<P: Port, C: Clock, W: CountedWrite>(
     alloc: Global,
     clock: &C,
     port: &mut P,
@@ -66,8 +67,9 @@ pub fn catch_up_on<P: Port, C: Clock, W: Write>(
     seconds: u32,
     output: &mut W,
 ) -> Result<u8, ProgramFault>
-    ensures { IsCaughtUp asked.now versions.old (P.traffic port.old) (P.traffic port.new)
+    ensures told { IsCaughtUp asked.now versions.old (P.traffic port.old) (P.traffic port.new)
         (W.contents output.old) (W.contents output.new) result }
+    ensures cause { HasCause ProgramFault.Output (W.failures output.old) (W.failures output.new) result }
 {
     match report_on(alloc, clock, port, asked, versions, seconds, output) {
         Ok(status) => Ok(status),
@@ -77,7 +79,7 @@ pub fn catch_up_on<P: Port, C: Clock, W: Write>(
 }
 
 // Asks, and writes the lines.
-fn report_on<P: Port, C: Clock, W: Write>(
+fn report_on<P: Port, C: Clock, W: CountedWrite>(
     alloc: Global,
     clock: &C,
     port: &mut P,
@@ -86,8 +88,9 @@ fn report_on<P: Port, C: Clock, W: Write>(
     seconds: u32,
     output: &mut W,
 ) -> Result<u8, AskFault>
-    ensures { AreReported asked.now versions.old (P.traffic port.old) (P.traffic port.new)
+    ensures asked { AreReported asked.now versions.old (P.traffic port.old) (P.traffic port.new)
         (W.contents output.old) (W.contents output.new) result }
+    ensures cause { HasCause Output (W.failures output.old) (W.failures output.new) result }
 {
     let same = ask_rounds(alloc, clock, port, asked, versions, seconds, output)?;
     write_open(alloc, versions, output)?;
@@ -95,7 +98,7 @@ fn report_on<P: Port, C: Clock, W: Write>(
 }
 
 // Asks in rounds, and gives how many the site knows as the sources do.
-fn ask_rounds<P: Port, C: Clock, W: Write>(
+fn ask_rounds<P: Port, C: Clock, W: CountedWrite>(
     alloc: Global,
     clock: &C,
     port: &mut P,
@@ -104,8 +107,9 @@ fn ask_rounds<P: Port, C: Clock, W: Write>(
     seconds: u32,
     output: &mut W,
 ) -> Result<usize, AskFault>
-    ensures { AreAsked asked.now versions.old versions.new (P.traffic port.old)
+    ensures asked { AreAsked asked.now versions.old versions.new (P.traffic port.old)
         (P.traffic port.new) (W.contents output.old) (W.contents output.new) result }
+    ensures cause { HasCause Output (W.failures output.old) (W.failures output.new) result }
 {
     let mut same = 0usize;
     let mut millis = FIRST_PAUSE;
@@ -132,15 +136,16 @@ fn is_over<C: Clock>(clock: &C, start: Option<Instant>, seconds: u32) -> bool {
 }
 
 // Asks once for each that isn't known, and gives how many the site now knows as the sources do.
-fn ask_round<P: Port, W: Write>(
+fn ask_round<P: Port, W: CountedWrite>(
     alloc: Global,
     port: &mut P,
     asked: &Target,
     versions: &mut [KnownBag],
     output: &mut W,
 ) -> Result<usize, AskFault>
-    ensures { IsRound asked.now versions.old versions.new (P.traffic port.old)
+    ensures asked { IsRound asked.now versions.old versions.new (P.traffic port.old)
         (P.traffic port.new) (W.contents output.old) (W.contents output.new) result }
+    ensures cause { HasCause Output (W.failures output.old) (W.failures output.new) result }
 {
     let mut same = 0usize;
     for version in versions.iter_mut() {
@@ -150,15 +155,16 @@ fn ask_round<P: Port, W: Write>(
 }
 
 // The same of one version.
-fn ask_unless_known<P: Port, W: Write>(
+fn ask_unless_known<P: Port, W: CountedWrite>(
     alloc: Global,
     port: &mut P,
     asked: &Target,
     version: &mut KnownBag,
     output: &mut W,
 ) -> Result<usize, AskFault>
-    ensures { IsRound asked.now (version.old ∷ []) (version.new ∷ []) (P.traffic port.old)
+    ensures asked { IsRound asked.now (version.old ∷ []) (version.new ∷ []) (P.traffic port.old)
         (P.traffic port.new) (W.contents output.old) (W.contents output.new) result }
+    ensures cause { HasCause Output (W.failures output.old) (W.failures output.new) result }
 {
     if version.is_found {
         return Ok(0);
@@ -168,15 +174,16 @@ fn ask_unless_known<P: Port, W: Write>(
 
 // Asks for a version that isn't known, and writes its line if it is now. Gives 1 where it is known
 // as its source knows it.
-fn ask_version<P: Port, W: Write>(
+fn ask_version<P: Port, W: CountedWrite>(
     alloc: Global,
     port: &mut P,
     asked: &Target,
     version: &mut KnownBag,
     output: &mut W,
 ) -> Result<usize, AskFault>
-    ensures { IsAskedOnce asked.now version.old version.new (P.traffic port.old)
+    ensures asked { IsAskedOnce asked.now version.old version.new (P.traffic port.old)
         (P.traffic port.new) (W.contents output.old) (W.contents output.new) result }
+    ensures cause { HasCause Output (W.failures output.old) (W.failures output.new) result }
 {
     let Some(bag) = known_bag(alloc, port, asked, version)? else {
         return Ok(0);
@@ -225,7 +232,7 @@ fn bag_by(answer: QueryAnswer) -> Option<BagId>
 }
 
 // A line for each version that is left.
-fn write_open<W: Write>(
+fn write_open<W: CountedWrite>(
     alloc: Global,
     versions: &[KnownBag],
     output: &mut W,
@@ -234,6 +241,7 @@ fn write_open<W: Write>(
         (open_lines (open_of versions.now))) }
     ensures err { OnErr result (AppendsPart (W.contents output.old) (W.contents output.new)
         (open_lines (open_of versions.now))) }
+    ensures cause { HasCause Output (W.failures output.old) (W.failures output.new) result }
 {
     for version in versions {
         write_unless_known(alloc, version, output)?;
@@ -242,7 +250,7 @@ fn write_open<W: Write>(
 }
 
 // The same of one version.
-fn write_unless_known<W: Write>(
+fn write_unless_known<W: CountedWrite>(
     alloc: Global,
     known: &KnownBag,
     output: &mut W,
@@ -251,6 +259,7 @@ fn write_unless_known<W: Write>(
         (open_lines (open_of (known.now ∷ [])))) }
     ensures err { OnErr result (AppendsPart (W.contents output.old) (W.contents output.new)
         (open_lines (open_of (known.now ∷ [])))) }
+    ensures cause { HasCause Output (W.failures output.old) (W.failures output.new) result }
 {
     if known.is_found {
         return Ok(());
@@ -260,7 +269,7 @@ fn write_unless_known<W: Write>(
 }
 
 // How many of how many, and the status.
-fn write_count<W: Write>(
+fn write_count<W: CountedWrite>(
     alloc: Global,
     same: usize,
     count: usize,
@@ -271,19 +280,21 @@ fn write_count<W: Write>(
         (count_line same count)) }
     ensures err { OnErr result (AppendsPart (W.contents output.old) (W.contents output.new)
         (count_line same count)) }
+    ensures cause { HasCause Output (W.failures output.old) (W.failures output.new) result }
 {
     let line = count_line(alloc, same, count)?;
     say(output, line.as_str())?;
     Ok(if same == count { 0 } else { 1 })
 }
 
-fn say<W: Write>(output: &mut W, line: &str) -> Result<(), AskFault>
+fn say<W: CountedWrite>(output: &mut W, line: &str) -> Result<(), AskFault>
     ensures ok { OnOk result (Appends (W.contents output.old) (W.contents output.new) line.now) }
     ensures err { OnErr result (result ≡ Err Output) }
     ensures part { OnErr result
         (AppendsPart (W.contents output.old) (W.contents output.new) line.now) }
+    ensures cause { HasCause Output (W.failures output.old) (W.failures output.new) result }
 {
-    match write_all(output, line.as_bytes()) {
+    match output.write_whole(line.as_bytes()) {
         Ok(()) => Ok(()),
         Err(_) => Err(AskFault::Output),
     }

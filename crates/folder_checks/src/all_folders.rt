@@ -2,6 +2,7 @@
 
 ghost use Rattle.std.specs.Prelude.{◌≡◌, map, IfErr, IfOk, IfSome, IsErrOf};
 ghost use Rattle.outcomes.specs.Outcomes.{Writes, WritesPrefix};
+ghost use Rattle.cell_device.specs.Calls.{HasCause};
 ghost use Rattle.folder_checks.specs.Reports.{ReportsOn, ReportsFirst};
 
 use crate::explanation::explain_on;
@@ -9,13 +10,13 @@ use crate::report::Report;
 use crate::several_folders::check_each_on;
 use crate::verdict::check_on;
 use bag_folders::Folders;
+use counted_writes::CountedWrite;
 use outcomes::ProgramFault;
 use std::alloc::Global;
-use std::io::Write;
 
 /// Checks the folders of these paths: one as `check_on` or `explain_on` does, as the report is
 /// brief or explained, and several as `check_each_on` does.
-pub fn check_all_on<F: Folders, W: Write>(
+pub fn check_all_on<F: Folders, W: CountedWrite>(
     alloc: Global,
     folders: &mut F,
     paths: &[&str],
@@ -30,6 +31,8 @@ pub fn check_all_on<F: Folders, W: Write>(
         (WritesPrefix (W.contents output.old) (W.contents output.new))) }
     ensures kept { F.gives folders.new ≡ F.gives folders.old }
     ensures fault { IfErr result (λ fault. fault ≡ ProgramFault.Output) }
+    ensures cause { HasCause ProgramFault.Output (W.failures output.old) (W.failures output.new)
+        result }
 {
     match paths {
         [path] => match report {

@@ -6,7 +6,8 @@ use crate::progress::{Progress, Saying};
 use crate::report::Report;
 use bag_folders::{DiskFolders, Folders};
 use bag_words::SpokenFolders;
-use outcomes::{ProgramFault, write_output};
+use counted_writes::{CountedWriter, write_output};
+use outcomes::ProgramFault;
 use std::alloc::AllocError;
 use std::io;
 use std::io::{IsTerminal, Stderr};
@@ -14,7 +15,7 @@ use std::io::{IsTerminal, Stderr};
 /// Checks as the arguments say. The lines are written to standard output, and how far it is to
 /// standard error.
 pub fn check_folders(rt: &HostRuntime, task: &CheckTask<'_>) -> Result<u8, ProgramFault> {
-    let mut output = io::writer(rt);
+    let mut output = CountedWriter::new(io::writer(rt));
     match watched_folders(rt, task) {
         Ok(folders) => {
             let mut folders = spoken_folders(rt, task, folders);

@@ -5,6 +5,7 @@ ghost use Rattle.std.specs.Prelude.{IfErr, IfOk, IfSome, IsErrOf};
 ghost use Rattle.outcomes.specs.Outcomes.{Writes, WritesPrefix};
 ghost use Rattle.bag_check.specs.Check.{check_of};
 ghost use Rattle.bag_explain.specs.Findings.{explanation_of};
+ghost use Rattle.cell_device.specs.Calls.{HasCause};
 ghost use Rattle.folder_checks.specs.Verdicts.{verdict_of_check, IsOrMemory};
 ghost use Rattle.folder_checks.specs.Explanations.{ExplainsFor, IsAnswer, outcome_with};
 ghost use Rattle.folder_checks.specs.Explanations.{lines_after};
@@ -16,15 +17,15 @@ use bag_digest::Algorithms;
 use bag_explain::explain;
 use bag_folders::Folders;
 use bag_tree::{Facts, TreeFault};
-use outcomes::{ProgramFault, ProgramOutput, write_output};
+use counted_writes::{CountedWrite, write_output};
+use outcomes::{ProgramFault, ProgramOutput};
 use std::alloc::{AllocError, Global};
-use std::io::Write;
 use words::push_escaped;
 
 /// Checks the folder of this path, and writes its verdict as `check_on` does, with the same status;
 /// then a line for each fault at each place where it holds, or for the place where the folder can't
 /// be read, where that is known. Where there was no room for that, it is `memory` with status 1.
-pub fn explain_on<F: Folders, W: Write>(
+pub fn explain_on<F: Folders, W: CountedWrite>(
     alloc: Global,
     folders: &mut F,
     path: &str,
@@ -38,6 +39,8 @@ pub fn explain_on<F: Folders, W: Write>(
         (WritesPrefix (W.contents output.old) (W.contents output.new))) }
     ensures kept { F.gives folders.new ≡ F.gives folders.old }
     ensures fault { IfErr result (λ fault. fault ≡ ProgramFault.Output) }
+    ensures cause { HasCause ProgramFault.Output (W.failures output.old) (W.failures output.new)
+        result }
 {
     match answer_on(alloc, folders, path) {
         Ok(answer) => write_output(output, answer.status, answer.text.as_str()),

@@ -2,20 +2,21 @@
 
 ghost use Rattle.std.specs.Prelude.{◌≡◌, ℕ, take, map, IfErr, IfOk, IfSome, IsErrOf};
 ghost use Rattle.outcomes.specs.Outcomes.{Outcome, Writes, WritesPrefix};
+ghost use Rattle.cell_device.specs.Calls.{HasCause};
 ghost use Rattle.folder_checks.specs.Reports.{IsReport, ReportsAll};
 
 use crate::named::named;
 use crate::report::{Report, answer_for};
 use bag_folders::Folders;
-use outcomes::{ProgramFault, write_bytes};
+use counted_writes::{CountedWrite, write_bytes};
+use outcomes::ProgramFault;
 use std::alloc::{AllocError, Global};
-use std::io::Write;
 
 /// Checks the folders of these paths one by one, and writes of each what is written where it is
 /// checked alone, with its path, escaped as in a schedule, and a space before each line. The
 /// status is 0 where each folder is a valid bag, and else 1. Where there was no room for the lines
 /// of a folder, they are `memory` alone, and the other folders have theirs.
-pub fn check_each_on<F: Folders, W: Write>(
+pub fn check_each_on<F: Folders, W: CountedWrite>(
     alloc: Global,
     folders: &mut F,
     paths: &[&str],
@@ -31,6 +32,8 @@ pub fn check_each_on<F: Folders, W: Write>(
         (WritesPrefix (W.contents output.old) (W.contents output.new))) }
     ensures kept { F.gives folders.new ≡ F.gives folders.old }
     ensures fault { IfErr result (λ fault. fault ≡ ProgramFault.Output) }
+    ensures cause { HasCause ProgramFault.Output (W.failures output.old) (W.failures output.new)
+        result }
 {
     let mut all_valid = true;
     for path in paths {
@@ -41,7 +44,7 @@ pub fn check_each_on<F: Folders, W: Write>(
 }
 
 // Checks one of several folders, and writes its lines.
-fn check_named_on<F: Folders, W: Write>(
+fn check_named_on<F: Folders, W: CountedWrite>(
     alloc: Global,
     folders: &mut F,
     path: &str,
@@ -59,6 +62,8 @@ fn check_named_on<F: Folders, W: Write>(
     ensures kept { F.gives folders.new ≡ F.gives folders.old }
     ensures place { F.fails_at folders.new ≡ F.fails_at folders.old }
     ensures fault { IfErr result (λ fault. fault ≡ ProgramFault.Output) }
+    ensures cause { HasCause ProgramFault.Output (W.failures output.old) (W.failures output.new)
+        result }
 {
     match named_answer(alloc, folders, path, report) {
         Ok(answer) => write_bytes(output, answer.status, answer.text.as_slice()),

@@ -2,16 +2,17 @@
 
 ghost use Rattle.std.specs.Prelude.{◌≡◌, IfErr, IfOk, IfSome, IsErrOf, string_bytes};
 ghost use Rattle.outcomes.specs.Outcomes.{Writes, WritesPrefix};
+ghost use Rattle.cell_device.specs.Calls.{HasCause};
 ghost use Rattle.folder_checks.specs.Verdicts.{verdict_of, IsOrMemory, AnswersFor};
 ghost use Rattle.folder_checks.specs.Verdicts.{outcome_of_verdict};
 
 use bag_check::{BagFault, check};
 use bag_folders::Folders;
 use bag_tree::TreeFault;
+use counted_writes::{CountedWrite, write_output};
 use fed_types::BagId;
-use outcomes::{ProgramFault, ProgramOutput, write_output};
+use outcomes::{ProgramFault, ProgramOutput};
 use std::alloc::{AllocError, Global};
-use std::io::Write;
 
 /// What a check of a folder comes to.
 #[derive(Clone, Copy, Debug, PartialEq, Eq)]
@@ -27,7 +28,7 @@ pub enum Verdict {
 /// Checks the folder of this path, and writes its verdict as one line: `valid HEX` with status 0,
 /// the identity in 128 hex digits; `invalid N` or `unread N` with status 1, the number of the
 /// fault. Where there was no room for the line, it is `memory` with status 1.
-pub fn check_on<F: Folders, W: Write>(
+pub fn check_on<F: Folders, W: CountedWrite>(
     alloc: Global,
     folders: &mut F,
     path: &str,
@@ -41,6 +42,8 @@ pub fn check_on<F: Folders, W: Write>(
         (WritesPrefix (W.contents output.old) (W.contents output.new))) }
     ensures kept { F.gives folders.new ≡ F.gives folders.old }
     ensures fault { IfErr result (λ fault. fault ≡ ProgramFault.Output) }
+    ensures cause { HasCause ProgramFault.Output (W.failures output.old) (W.failures output.new)
+        result }
 {
     let verdict = verdict_on(alloc, folders, path);
     match line_of(alloc, verdict) {

@@ -2,13 +2,14 @@
 
 ghost use Rattle.std.specs.Prelude.{◌≡◌, ◌⊎◌, ℕ, take, string_bytes};
 ghost use Rattle.std.specs.Io.KnownBytes.{Appends};
+ghost use Rattle.cell_device.specs.Calls.{one_more};
 
 use crate::list_checks::{check_list_on, write_fault};
+use counted_writes::{CountedWrite, CountedWriter, write_output};
 use folder_checks::{CheckTask, spoken_folders, watched_folders};
 use known_bags::source_bytes;
-use outcomes::{ProgramFault, ProgramOutput, write_all, write_output};
+use outcomes::{ProgramFault, ProgramOutput};
 use std::io;
-use std::io::Write;
 
 /// Checks the folders as without the list, and then says on standard error which are bags that the
 /// list of this path knows, or the cell. The status is 0 where all folders are valid bags, each of
@@ -18,14 +19,14 @@ pub fn check_registered(
     task: &CheckTask<'_>,
     list: &str,
 ) -> Result<u8, ProgramFault> {
-    let mut output = io::writer(rt);
+    let mut output = CountedWriter::new(io::writer(rt));
     match source_bytes(rt, list) {
         Ok(bytes) => check_against(rt, task, bytes.as_slice(), &mut output),
         Err(fault) => write_fault(rt.alloc(), &mut output, fault),
     }
 }
 
-fn check_against<W: Write>(
+fn check_against<W: CountedWrite>(
     rt: &HostRuntime,
     task: &CheckTask<'_>,
     list: &[u8],
@@ -38,17 +39,18 @@ fn check_against<W: Write>(
     let paths = task.paths.as_slice();
     let mut checked = check_list_on(rt.alloc(), list, folders, paths, task.report, output)?;
     checked.folders.say();
-    Ok(say_on(&checked.answer, &mut rt.stderr()))
+    Ok(say_on(&checked.answer, &mut CountedWriter::new(rt.stderr())))
 }
 
 /// Says what is to be said. The status is the answer's, but 1 where not all of it can be written.
-pub fn say_on<E: Write>(answer: &ProgramOutput, errors: &mut E) -> u8
-    ensures { ((result ≡ answer.now.status)
+pub fn say_on<E: CountedWrite>(answer: &ProgramOutput, errors: &mut E) -> u8
+    ensures { ((result ≡ answer.now.status) × (E.failures errors.new ≡ E.failures errors.old)
         × Appends (E.contents errors.old) (E.contents errors.new) (string_bytes answer.now.text))
-        ⊎ ((result ≡ 1) × ((n : ℕ) × Appends (E.contents errors.old) (E.contents errors.new)
+        ⊎ ((result ≡ 1) × (E.failures errors.new ≡ one_more (E.failures errors.old))
+        × ((n : ℕ) × Appends (E.contents errors.old) (E.contents errors.new)
         (take n (string_bytes answer.now.text)))) }
 {
-    match write_all(errors, answer.text.as_bytes()) {
+    match errors.write_whole(answer.text.as_bytes()) {
         Ok(()) => answer.status,
         Err(_) => 1,
     }

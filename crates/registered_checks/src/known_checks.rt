@@ -4,6 +4,7 @@ ghost use Rattle.std.specs.Prelude.{◌≡◌, ℕ, take, map, IfOk, IfErr, IfSo
 ghost use Rattle.std.specs.Prelude.{string_bytes};
 ghost use Rattle.std.specs.Option.{ForSome};
 ghost use Rattle.std.specs.Io.KnownBytes.{Appends};
+ghost use Rattle.cell_device.specs.Calls.{HasCause};
 ghost use Rattle.outcomes.specs.Outcomes.{WritesPrefix, no_memory};
 ghost use Rattle.registered_checks.specs.Held.{held_of};
 ghost use Rattle.registered_checks.specs.Checks.{status_of, ComparesOn, ComparesFirst, Ends};
@@ -15,11 +16,11 @@ use crate::equality::are_equal;
 use crate::held_bag::HeldBag;
 use crate::noted_folders::NotedFolders;
 use bag_folders::Folders;
+use counted_writes::{CountedWrite, write_output};
 use folder_checks::{Report, check_all_on};
 use known_bags::KnownBag;
-use outcomes::{ProgramFault, ProgramOutput, write_output};
+use outcomes::{ProgramFault, ProgramOutput};
 use std::alloc::{AllocError, Global};
-use std::io::Write;
 
 /// How a check of folders against known bags ended.
 #[derive(Drop)]
@@ -33,7 +34,7 @@ pub struct Checked<F> {
 /// that they hold with those that are known. The answer has the text of the comparison, and the
 /// status of the check, but 1 where a bag isn't known or a known one isn't held. Where memory runs
 /// out before it is made, `memory` is written too, nothing is to be said, and the status is 1.
-pub fn check_known_on<F: Folders + Drop, W: Write>(
+pub fn check_known_on<F: Folders + Drop, W: CountedWrite>(
     alloc: Global,
     folders: F,
     paths: &[&str],
@@ -54,6 +55,8 @@ pub fn check_known_on<F: Folders + Drop, W: Write>(
         (WritesPrefix (W.contents output.old) (W.contents output.new))) }
     ensures kept { IfOk result (λ checked. F.gives checked.folders ≡ F.gives folders) }
     ensures fault { IfErr result (λ fault. fault ≡ ProgramFault.Output) }
+    ensures cause { HasCause ProgramFault.Output (W.failures output.old) (W.failures output.new)
+        result }
 {
     let mut folders = NotedFolders::new(alloc, folders);
     let status = check_all_on(alloc, &mut folders, paths, report, output)?;
@@ -109,7 +112,7 @@ fn status_of(held: &[HeldBag], known: &[KnownBag], status: u8) -> u8
 }
 
 // The comparison; where there is none it is written that memory ran out.
-fn answer_or_memory<W: Write>(
+fn answer_or_memory<W: CountedWrite>(
     alloc: Global,
     comparison: Option<ProgramOutput>,
     output: &mut W,
@@ -119,6 +122,8 @@ fn answer_or_memory<W: Write>(
     ensures err { OnErr result ((n : ℕ)
         × Appends (W.contents output.old) (W.contents output.new) (take n no_memory.text)) }
     ensures fault { IfErr result (λ fault. fault ≡ ProgramFault.Output) }
+    ensures cause { HasCause ProgramFault.Output (W.failures output.old) (W.failures output.new)
+        result }
 {
     match comparison {
         Some(answer) => Ok(answer),

@@ -4,6 +4,7 @@ ghost use Rattle.std.specs.Prelude.{◌≡◌, ◌⊎◌, List, map, IfOk, IfErr
 ghost use Rattle.std.specs.Prelude.{IsTrue, string_bytes};
 ghost use Rattle.known_bags.specs.declared.known_bag.KnownBag.{KnownBag};
 ghost use Rattle.known_bags.specs.Sources.{Knows};
+ghost use Rattle.cell_device.specs.Calls.{HasCause};
 ghost use Rattle.outcomes.specs.Outcomes.{Writes, WritesPrefix, no_memory};
 ghost use Rattle.registered_checks.specs.Checks.{Ends, agree};
 ghost use Rattle.registered_checks.specs.Lists.{AnswersTo, AnswersFirst, fault_outcome};
@@ -11,16 +12,16 @@ ghost use Rattle.registered_checks.specs.inner.Lines.{IsWritten};
 
 use crate::known_checks::{Checked, check_known_on};
 use bag_folders::Folders;
+use counted_writes::{CountedWrite, write_output};
 use folder_checks::Report;
 use known_bags::{SourceFault, push_known};
-use outcomes::{ProgramFault, ProgramOutput, write_output};
+use outcomes::{ProgramFault, ProgramOutput};
 use std::alloc::{AllocError, Global};
-use std::io::Write;
 
 /// Checks the folders of these paths, as `check_known_on` does, against the bags that these bytes
 /// know, of a cell or of a list that `ledger` printed. Where they are neither, no folder is
 /// checked: a line says why, nothing is to be said of bags, and the status is 1.
-pub fn check_list_on<F: Folders + Drop, W: Write>(
+pub fn check_list_on<F: Folders + Drop, W: CountedWrite>(
     alloc: Global,
     source: &[u8],
     folders: F,
@@ -44,6 +45,8 @@ pub fn check_list_on<F: Folders + Drop, W: Write>(
         (WritesPrefix (W.contents output.old) (W.contents output.new)) }
     ensures kept { IfOk result (λ checked. F.gives checked.folders ≡ F.gives folders) }
     ensures fault { IfErr result (λ fault. fault ≡ ProgramFault.Output) }
+    ensures cause { HasCause ProgramFault.Output (W.failures output.old) (W.failures output.new)
+        result }
 {
     let mut known = Vec::new(alloc);
     match push_known(alloc, &mut known, source) {
@@ -60,7 +63,7 @@ pub fn check_list_on<F: Folders + Drop, W: Write>(
 }
 
 /// Writes why a source knows nothing, or that memory ran out; the status is 1.
-pub(crate) fn write_fault<W: Write>(
+pub(crate) fn write_fault<W: CountedWrite>(
     alloc: Global,
     output: &mut W,
     fault: SourceFault,
@@ -72,6 +75,8 @@ pub(crate) fn write_fault<W: Write>(
         WritesPrefix (W.contents output.old) (W.contents output.new) (fault_outcome fault)
         ⊎ WritesPrefix (W.contents output.old) (W.contents output.new) no_memory) }
     ensures fault { IfErr result (λ fault. fault ≡ ProgramFault.Output) }
+    ensures cause { HasCause ProgramFault.Output (W.failures output.old) (W.failures output.new)
+        result }
 {
     match fault {
         SourceFault::Unread => write_output(output, 1, "open 4\n"),
@@ -84,7 +89,7 @@ pub(crate) fn write_fault<W: Write>(
 }
 
 // Writes a line, or that there was no memory for it; the status is 1.
-fn write_line<W: Write>(
+fn write_line<W: CountedWrite>(
     output: &mut W,
     line: Result<String, AllocError>,
 ) -> Result<u8, ProgramFault>
@@ -93,6 +98,8 @@ fn write_line<W: Write>(
     ensures output { OnErr result (IsWritten line (λ outcome.
         WritesPrefix (W.contents output.old) (W.contents output.new) outcome)) }
     ensures fault { IfErr result (λ fault. fault ≡ ProgramFault.Output) }
+    ensures cause { HasCause ProgramFault.Output (W.failures output.old) (W.failures output.new)
+        result }
 {
     match line {
         Ok(line) => write_output(output, 1, line.as_str()),

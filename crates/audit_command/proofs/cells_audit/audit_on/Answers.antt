@@ -14,8 +14,8 @@ returns-in-Ok-clause-ok g c =
     let a = c.in-Ok.answer in
     let outcome : Outcome = record { status = a.status; text = string_bytes a.text } in
     let result = c.write_output.result in
-    let old = g.W.Write.contents c.args.output.now in
-    let new = g.W.Write.contents c.write_output.new.output in
+    let old = g.W.CountedWrite.contents c.args.output.now in
+    let new = g.W.CountedWrite.contents c.write_output.new.output in
     answered
     (IsAudit c.args.members.now (g.F.CellFiles.bytes_at c.args.files.now)
     (map (λ path. path.now) c.args.paths.now))
@@ -28,8 +28,8 @@ returns-in-Ok-clause-output g c =
     let a = c.in-Ok.answer in
     let outcome : Outcome = record { status = a.status; text = string_bytes a.text } in
     let result = c.write_output.result in
-    let old = g.W.Write.contents c.args.output.now in
-    let new = g.W.Write.contents c.write_output.new.output in
+    let old = g.W.CountedWrite.contents c.args.output.now in
+    let new = g.W.CountedWrite.contents c.write_output.new.output in
     stopped
     (IsAudit c.args.members.now (g.F.CellFiles.bytes_at c.args.files.now)
     (map (λ path. path.now) c.args.paths.now))
