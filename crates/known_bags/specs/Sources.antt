@@ -1,6 +1,6 @@
 -- The bags that the bytes of a source know: of a cell, or of a list of its versions.
 use Rattle.std.specs.Prelude.{◌≡◌, ◌≢◌, ◌⊎◌, ◌++◌, ℕ, ⊤, Bool, true, false, List, [], take}
-use Rattle.std.specs.Prelude.{filter_map, codes, Option, Result, Ok, Err}
+use Rattle.std.specs.Prelude.{filter_map, codes, Option, Result, Ok, Err, IsErrAnd}
 use Rattle.std.specs.Option.{option_map}
 use Rattle.std.specs.Str.{bytes_eq}
 use Rattle.records.specs.declared.record.Record.{Record}
@@ -70,3 +70,16 @@ IsNoSource bytes Memory = ⊤
 abbrev pub IsSourceOf : List ℕ → (old new : List KnownBag) → Result (Unit {0}) SourceFault → Type 0
 IsSourceOf bytes old new (Ok u) = (bags : List KnownBag) × Knows bytes bags × (new ≡ old ++ bags)
 IsSourceOf bytes old new (Err fault) = IsNoSource bytes fault
+
+-- ---- files
+
+-- its bytes can't be had, or there was no memory for them
+abbrev pub IsUnread : SourceFault → Type 0
+IsUnread fault = (fault ≡ Unread) ⊎ (fault ≡ Memory)
+
+-- A file has these bytes, whichever, and they are a source of what was appended, or none; or its
+-- bytes can't be had, and nothing was appended. Which bytes a file has no clause says.
+abbrev pub IsOfSomeFile : (old new : List KnownBag) → Result (Unit {0}) SourceFault → Type 0
+IsOfSomeFile old new result =
+    ((bytes : List ℕ) × IsSourceOf bytes old new result)
+    ⊎ ((new ≡ old) × IsErrAnd result IsUnread)

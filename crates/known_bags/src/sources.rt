@@ -1,8 +1,9 @@
 //! The files that say what is known: cells, and lists of their versions.
 
-ghost use Rattle.std.specs.Prelude.{◌≡◌, ◌++◌, true, false, OnOk};
+ghost use Rattle.std.specs.Prelude.{◌≡◌, ◌++◌, true, false, IfErr, OnOk};
 ghost use Rattle.std.specs.Option.{option_to_list};
 ghost use Rattle.known_bags.specs.Sources.{is_cell, known_by, known_of, IsSourceOf};
+ghost use Rattle.known_bags.specs.Sources.{IsUnread, IsOfSomeFile};
 ghost use Rattle.known_bags.specs.inner.Sources.{end_of, AreOfContents};
 
 use crate::known_bag::KnownBag;
@@ -30,7 +31,9 @@ pub fn push_source(
     rt: &HostRuntime,
     bags: &mut Vec<KnownBag>,
     path: &str,
-) -> Result<(), SourceFault> {
+) -> Result<(), SourceFault>
+    ensures { IsOfSomeFile bags.old.items bags.new.items result }
+{
     let bytes = source_bytes(rt, path)?;
     push_known(rt.alloc(), bags, bytes.as_slice())
 }
@@ -133,7 +136,9 @@ fn push_record(alloc: Global, bags: &mut Vec<KnownBag>, kept: &Record) -> Result
 
 /// All bytes of the file of this path; `Unread` or `Memory` where it can't be read. What isn't a
 /// file is refused before it is opened: opening a pipe would wait.
-pub fn source_bytes(rt: &HostRuntime, path: &str) -> Result<Vec<u8>, SourceFault> {
+pub fn source_bytes(rt: &HostRuntime, path: &str) -> Result<Vec<u8>, SourceFault>
+    ensures { IfErr result IsUnread }
+{
     match LiveCell::open(rt, path) {
         Ok(mut file) => match read_all(rt.alloc(), &mut file) {
             Ok(bytes) => Ok(bytes),
@@ -144,7 +149,9 @@ pub fn source_bytes(rt: &HostRuntime, path: &str) -> Result<Vec<u8>, SourceFault
     }
 }
 
-fn fault_of(kind: ErrorKind) -> SourceFault {
+fn fault_of(kind: ErrorKind) -> SourceFault
+    ensures { IsUnread result }
+{
     if kind == ErrorKind::OutOfMemory {
         SourceFault::Memory
     } else {
