@@ -1,7 +1,6 @@
 -- What a process does that serves a site is an account of its member: from the contract of the call
 -- that the program makes, `site_commands::open_and_serve`, to the laws of every history.
 use Rattle.std.specs.Prelude.{◌≡◌, ◌⊎◌, ℕ, List, [], ◌∷◌, ◌++◌, take, Option, Some, None, Result}
-use Rattle.std.specs.Prelude.{IsSome}
 use Rattle.std.specs.List.{flat_map}
 use Rattle.std.specs.Io.KnownBytes.{Appends}
 use Rattle.bag_tree.specs.declared.fault.TreeFault.{TreeFault}
@@ -18,6 +17,7 @@ use Rattle.site_commands.specs.Services.{HasServed}
 use Rattle.serving_law.specs.Federations.{Member, Down, Happening}
 use Rattle.serving_law.specs.Reports.{Showing, showing_of}
 use Rattle.serving_law.specs.Rules.{MayRecoverTo, ReadGives, owner_of, device_of}
+use Rattle.register_law.specs.FileCells.{TellTheirBytes}
 use Rattle.register_law.specs.Overlaps.{own_after, IsAccount}
 
 -- ---- what is seen of an account
@@ -63,7 +63,7 @@ module _ {C : Type 0} (device : C → Device) (members : Membership) where
       (n : ℕ) (ports : List ℕ) (gives : Option (List ℕ → Result TreeFacts TreeFault)) (how : Turns)
       (cell : C) (before after : Outside) (answer : Result ℕ ProgramFault)
       (records left : List Record)
-      → ((c : C) → IsSome (device c).image)
+      → TellTheirBytes device
       → ReadGives (owner_of device members n) (device cell) records
       → (process : HasServed device (turn_of device ports gives) (owner_of device members n) how
       cell before after answer)
