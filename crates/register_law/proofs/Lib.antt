@@ -5,3 +5,4 @@ pub mod Counted
 pub mod Refined
 pub mod Cells
 pub mod Overlapping
+pub mod NewFiles

@@ -1,7 +1,7 @@
 -- What is sent in a run is for sites: no request of a client, and no reply to one.
-use Rattle.std.proofs.Common.{ℕ, ◌≡◌, refl, Bool, true, false, cond}
+use Rattle.std.proofs.Common.{ℕ, Bool, true, false, cond}
 use Rattle.std.proofs.Common.{List, [], ◌∷◌, Option, None, Some}
-use Rattle.fed_types.specs.Lists.{Has, is_in}
+use Rattle.fed_types.specs.Lists.{is_in}
 use Rattle.fed_types.specs.Quorums.{QuorumSystem}
 use Rattle.fed_types.specs.Slots.{SlotName}
 use Rattle.fed_types.specs.Laws.Lists.{has_none, has_take, has_cases}

@@ -1,0 +1,37 @@
+ghost use Rattle.std.specs.Prelude.{◌≡◌, true, IfOk};
+ghost use Rattle.fed_types.specs.Lists.{is_in};
+ghost use Rattle.fed_types.specs.Sites.{members_of};
+ghost use Rattle.register_law.specs.FileCells.{BeginsAHistory, TellTheirBytes};
+
+use book::OpenFault;
+use cell_device::{Cell, FileCell, MemoryFile};
+use records::Owner;
+use site::Site;
+use std::alloc::Global;
+
+/// A cell in a file of which all is known tells its bytes, so the laws are about it too. It does
+/// nothing: its contract is the example.
+pub fn file_cells_tell_their_bytes()
+    ensures { TellTheirBytes ⟦<FileCell<MemoryFile> as Cell>⟧.device }
+{}
+
+/// Starts a member's site over a cell in a new file in memory: so there are histories over such
+/// cells. `Device` comes where the file's length can't be had; the other faults are those of the
+/// opening.
+pub fn starts_over_a_file(
+    alloc: Global,
+    owner: Owner,
+) -> Result<Site<FileCell<MemoryFile>>, OpenFault>
+    requires member { is_in (members_of owner.members) owner.site ≡ true }
+    ensures begins { IfOk result (λ site.
+        BeginsAHistory ⟦<FileCell<MemoryFile> as Cell>⟧.device owner site) }
+{
+    let file = MemoryFile::new(alloc, Vec::new(alloc), 0);
+    let Ok(cell) = FileCell::over(file) else {
+        return Err(OpenFault::Device);
+    };
+    match Site::open(alloc, cell, owner) {
+        Ok(site) => Ok(site),
+        Err((_, fault)) => Err(fault),
+    }
+}
