@@ -1,4 +1,4 @@
-use Rattle.std.proofs.Common.{arith, refl, ◌∙◌}
+use Rattle.std.proofs.Common.{arith, ◌∙◌}
 use Rattle.catch_up.proofs.Questions.{next_round, stops_at_round, ends_rounds, asked_all}
 use Rattle.catch_up.proofs.Questions.{same_at_most}
 use Rattle.catch_up.proofs.rounds.ask_rounds.Goals as goal
