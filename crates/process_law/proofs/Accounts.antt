@@ -1,5 +1,6 @@
 -- The account of a member whose process serves.
-use Rattle.std.proofs.Common.{ℕ, ◌≡◌, ◌⊎◌, ◌≤◌, inl, inr, refl, sym, ap, subst, ◌∙◌, Bool, true, false}
+use Rattle.std.proofs.Common.{ℕ, ◌≡◌, ◌⊎◌, ◌≤◌, inl, inr, refl, sym, ap, subst, ◌∙◌, Bool, true}
+use Rattle.std.proofs.Common.{false}
 use Rattle.std.proofs.Common.{List, [], ◌∷◌, ◌++◌, append-nil, append_assoc, length, take, Option}
 use Rattle.std.proofs.Common.{Some, None}
 use Rattle.std.specs.Prelude.{Result, Ok, Err, IsSome}
@@ -26,17 +27,16 @@ use Rattle.udp_site.specs.declared.fault.ServeFault.TheVariants as faults
 use Rattle.udp_site.specs.Traffic.{Post, Move, Took, Failed, Handed, Grows, all_handed}
 use Rattle.udp_site.specs.Turns as turns
 use Rattle.udp_site.specs.Turns.{Serving, begins, turn_of}
-use Rattle.udp_site.specs.Served.{Rule, Turned, Outside, Leads, Serves, Shows, text_of, first_moves}
+use Rattle.udp_site.specs.Served.{Rule, Turned, Outside, Leads, Shows, text_of}
 use Rattle.udp_site.specs.Served as served
 use Rattle.udp_site.specs.Requests.{request_of}
 use Rattle.udp_site.proofs.Growth.{Grows-trans, Grows-none, Appends-none}
-use Rattle.site_commands.specs.declared.site_arguments.Turns.{Turns}
+use Rattle.site_commands.specs.declared.site_arguments.Turns as arguments
 use Rattle.site_commands.specs.Answers.{IsWritten, IsTold}
 use Rattle.site_commands.specs.Services.{GoesOn, EndsBy, ServesOn, ServedBy, HasServed, IsConcluded}
 use Rattle.site_commands.specs.Services.{turns_in, most_calls, stopped}
-use Rattle.serving_law.specs.Federations.{Member, Serves as Serving_now, Down, Federation, Step}
-use Rattle.serving_law.specs.Federations.{Happening, Turns as Takes_turn, Fails, Ends, Renews}
-use Rattle.serving_law.specs.Federations.{Starts}
+use Rattle.serving_law.specs.Federations.{Member, Serves, Down, Federation, Step, Happening}
+use Rattle.serving_law.specs.Federations.{Turns, Fails, Ends, Renews, Starts}
 use Rattle.serving_law.specs.Reports.{showing_of}
 use Rattle.serving_law.specs.Rules.{May, MayCome, MayRecoverTo, ReadGives, owner_of, device_of}
 use Rattle.serving_law.proofs.Happenings.{HasFolders, with_folders}
@@ -97,7 +97,8 @@ module _ {C : Type 0} (device : C → Device) (members : Membership)
         (device_of device members now) left
 
     -- what a crash may have left now it may have left since an earlier moment
-    recovers_since : (old now : Serving C) (left : List Record) → moment device old ≤ moment device now
+    recovers_since : (old now : Serving C) (left : List Record)
+        → moment device old ≤ moment device now
         → Recovers now now left → Recovers old now left
     recovers_since old now left later m = record {
       told = tells old.site.book.cell;
@@ -119,7 +120,7 @@ module _ {C : Type 0} (device : C → Device) (members : Membership)
     }
 
     ended : (s : Serving C) (left : List Record) → Recovers s s left
-        → Rest (Serving_now s) left [] []
+        → Rest (Serves s) left [] []
     unfolding IsAccount after_account moves_of lines_of
     ended s left recovers = record {
       account = Ends n left ∷ [];
@@ -141,57 +142,57 @@ module _ {C : Type 0} (device : C → Device) (members : Membership)
       step = record { ports = ports; folders = folders.0; turn = turn; next = next }
 
       turn_may : (handed written : ℕ) → needs device next ≡ false
-          → MayHappenTo device members (Serving_now old) (Takes_turn n step handed written)
+          → MayHappenTo device members (Serves old) (Turns n step handed written)
       turn_may handed written opened f is come =
           (old, (has, is), record { may_come = come; comes = folders.2 }, opened)
 
       fails_may : (handed written : ℕ) (left : List Record) → needs device next ≡ true
           → Recovers old next left
-          → MayHappenTo device members (Serving_now old) (Fails n step handed written left)
+          → MayHappenTo device members (Serves old) (Fails n step handed written left)
       fails_may handed written left shut recovers f is come =
           (old, (has, is), record { may_come = come; comes = folders.2 }, shut, recovers)
 
       -- a whole turn
       turn_more : (left : List Record) (moves : List Move) (text : List ℕ)
-          → needs device next ≡ false → Rest (Serving_now next) left moves text
-          → Rest (Serving_now old) left (served.moves_of turn ++ moves) (text_of turn ++ text)
+          → needs device next ≡ false → Rest (Serves next) left moves text
+          → Rest (Serves old) left (served.moves_of turn ++ moves) (text_of turn ++ text)
       turn_more left moves text opened rest =
-          subst (λ (ms : List Move). Rest (Serving_now old) left ((Took turn.took ∷ ms) ++ moves)
+          subst (λ (ms : List Move). Rest (Serves old) left ((Took turn.took ∷ ms) ++ moves)
           (text_of turn ++ text)) (all_posts turn.done.posts)
-          (subst (λ (ts : List ℕ). Rest (Serving_now old) left
+          (subst (λ (ts : List ℕ). Rest (Serves old) left
           ((Took turn.took ∷ take (length turn.done.posts) (all_handed turn.done.posts)) ++ moves)
           (ts ++ text)) (take-length (text_of turn))
-          (one_more (Serving_now old)
-          (Takes_turn n step (length turn.done.posts) (length (text_of turn))) left moves text
+          (one_more (Serves old)
+          (Turns n step (length turn.done.posts) (length (text_of turn))) left moves text
           (turn_may (length turn.done.posts) (length (text_of turn)) opened) rest))
 
       -- the last one, whole or not
       last_turn : (left : List Record) (handed written : ℕ) → Recovers next next left
-          → Rest (Serving_now old) left
+          → Rest (Serves old) left
           (Took turn.took ∷ take handed (all_handed turn.done.posts)) (take written (text_of turn))
       last_turn left handed written recovers = go (needs device next) refl
         where
           go : (shut : Bool) → needs device next ≡ shut
-              → Rest (Serving_now old) left
+              → Rest (Serves old) left
               (Took turn.took ∷ take handed (all_handed turn.done.posts))
               (take written (text_of turn))
           go false opened =
-              subst (λ (ms : List Move). Rest (Serving_now old) left ms
+              subst (λ (ms : List Move). Rest (Serves old) left ms
               (take written (text_of turn)))
               (append-nil (Took turn.took ∷ take handed (all_handed turn.done.posts)))
-              (subst (λ (ts : List ℕ). Rest (Serving_now old) left
+              (subst (λ (ts : List ℕ). Rest (Serves old) left
               ((Took turn.took ∷ take handed (all_handed turn.done.posts)) ++ []) ts)
               (append-nil (take written (text_of turn)))
-              (one_more (Serving_now old) (Takes_turn n step handed written) left [] []
+              (one_more (Serves old) (Turns n step handed written) left [] []
               (turn_may handed written opened) (ended next left recovers)))
           go true shut =
-              subst (λ (ms : List Move). Rest (Serving_now old) left ms
+              subst (λ (ms : List Move). Rest (Serves old) left ms
               (take written (text_of turn)))
               (append-nil (Took turn.took ∷ take handed (all_handed turn.done.posts)))
-              (subst (λ (ts : List ℕ). Rest (Serving_now old) left
+              (subst (λ (ts : List ℕ). Rest (Serves old) left
               ((Took turn.took ∷ take handed (all_handed turn.done.posts)) ++ []) ts)
               (append-nil (take written (text_of turn)))
-              (one_more (Serving_now old) (Fails n step handed written left) left [] []
+              (one_more (Serves old) (Fails n step handed written left) left [] []
               (fails_may handed written left shut
               (recovers_since old next left (follows device ports gives old next turn came).later
               recovers))
@@ -203,18 +204,18 @@ module _ {C : Type 0} (device : C → Device) (members : Membership)
     turns_more : (those : List Turned) (start mid : Serving C) (left : List Record)
         (moves : List Move) (text : List ℕ) → needs device start ≡ false
         → Leads rule start those mid
-        → (needs device mid ≡ false → Rest (Serving_now mid) left moves text)
-        → Rest (Serving_now start) left (flat_map served.moves_of those ++ moves)
+        → (needs device mid ≡ false → Rest (Serves mid) left moves text)
+        → Rest (Serves start) left (flat_map served.moves_of those ++ moves)
         (flat_map text_of those ++ text)
     turns_more [] start mid left moves text opened leads rest =
-        subst (λ (s : Serving C). Rest (Serving_now s) left moves text) (sym leads)
+        subst (λ (s : Serving C). Rest (Serves s) left moves text) (sym leads)
         (rest (subst (λ (s : Serving C). needs device s ≡ false) leads opened))
     turns_more (turn ∷ those) start mid left moves text opened (next, came, not_last, leads) rest =
         let still = (follows device ports gives start next turn came).opened opened not_last in
-        subst (λ (ms : List Move). Rest (Serving_now start) left ms
+        subst (λ (ms : List Move). Rest (Serves start) left ms
         (flat_map text_of (turn ∷ those) ++ text))
         (sym (append_assoc (served.moves_of turn) (flat_map served.moves_of those) moves))
-        (subst (λ (ts : List ℕ). Rest (Serving_now start) left
+        (subst (λ (ts : List ℕ). Rest (Serves start) left
         (served.moves_of turn ++ (flat_map served.moves_of those ++ moves)) ts)
         (sym (append_assoc (text_of turn) (flat_map text_of those) text))
         (turn_more start next turn came left (flat_map served.moves_of those ++ moves)
@@ -232,10 +233,10 @@ module _ {C : Type 0} (device : C → Device) (members : Membership)
 
     -- its idle turns are counted anew
     renews : (s : Serving C) (left : List Record) (moves : List Move) (text : List ℕ)
-        → Rest (Serving_now (begins s.site s.volatile)) left moves text
-        → Rest (Serving_now s) left moves text
+        → Rest (Serves (begins s.site s.volatile)) left moves text
+        → Rest (Serves s) left moves text
     renews s left moves text rest =
-        one_more (Serving_now s) (Renews n) left moves text (λ f is come. (s, (has, is))) rest
+        one_more (Serves s) (Renews n) left moves text (λ f is come. (s, (has, is))) rest
 
     -- ---- what is seen from outside
 
@@ -287,25 +288,26 @@ module _ {C : Type 0} (device : C → Device) (members : Membership)
 
     shown : (before after : Outside) (those : List Turned) (moves : List Move) (text : List ℕ)
         → Shows before after those moves text
-        → Seen before after (flat_map served.moves_of those ++ moves) (flat_map text_of those ++ text)
+        → Seen before after (flat_map served.moves_of those ++ moves)
+        (flat_map text_of those ++ text)
     shown before after those moves text s = record { traffic = s.0; written = s.1 }
 
     -- whole turns of a call, after which others come
     call_more : (wanted : ℕ) (before between after : Outside) (start mid : Serving C)
         (those : List Turned) (left : List Record) → needs device start ≡ false
-        → Serves rule before between start mid wanted those (Ok tt)
+        → served.Serves rule before between start mid wanted those (Ok tt)
         → (needs device mid ≡ false
-        → Account (Serving_now (begins mid.site mid.volatile)) left between after)
-        → Account (Serving_now start) left before after
+        → Account (Serves (begins mid.site mid.volatile)) left between after)
+        → Account (Serves start) left before after
     call_more wanted before between after start mid those left opened (count, (leads, shows)) next =
-        both_more (Serving_now start) (Serving_now (begins mid.site mid.volatile)) left before
+        both_more (Serves start) (Serves (begins mid.site mid.volatile)) left before
         between after (flat_map served.moves_of those ++ []) (flat_map text_of those ++ [])
         (shown before between those [] [] shows)
         (λ more longer rest.
-        subst (λ (ms : List Move). Rest (Serving_now start) left ms
+        subst (λ (ms : List Move). Rest (Serves start) left ms
         ((flat_map text_of those ++ []) ++ longer))
         (sym (append_assoc (flat_map served.moves_of those) [] more))
-        (subst (λ (ts : List ℕ). Rest (Serving_now start) left
+        (subst (λ (ts : List ℕ). Rest (Serves start) left
         (flat_map served.moves_of those ++ more) ts)
         (sym (append_assoc (flat_map text_of those) [] longer))
         (turns_more those start mid left more longer opened leads
@@ -315,11 +317,11 @@ module _ {C : Type 0} (device : C → Device) (members : Membership)
     calls_more : (wanted : ℕ) (before between after : Outside) (start here : Serving C)
         (calls : List (List Turned)) (left : List Record) → needs device start ≡ false
         → GoesOn rule wanted before between start here calls
-        → (needs device here ≡ false → Account (Serving_now here) left between after)
-        → Account (Serving_now start) left before after
+        → (needs device here ≡ false → Account (Serves here) left between after)
+        → Account (Serves start) left before after
     calls_more wanted before between after start here [] left opened (same, still) next =
-        subst (λ (o : Outside). Account (Serving_now start) left o after) still
-        (subst (λ (s : Serving C). Account (Serving_now s) left between after) same
+        subst (λ (o : Outside). Account (Serves start) left o after) still
+        (subst (λ (s : Serving C). Account (Serves s) left between after) same
         (next (subst (λ (s : Serving C). needs device s ≡ false) (sym same) opened)))
     calls_more wanted before between after start here (those ∷ calls) left opened
         (mid, inner, served_so, goes_on) next =
@@ -335,21 +337,21 @@ module _ {C : Type 0} (device : C → Device) (members : Membership)
         (failed : List Move) (left : List Record) → (failed ≡ []) ⊎ (failed ≡ Failed ∷ [])
         → needs device start ≡ false → Recovers end end left
         → served.EndsBetween rule before after start end those failed
-        → Account (Serving_now start) left before after
+        → Account (Serves start) left before after
     ends_between before after start end those failed left which opened recovers (leads, shows) =
-      record {
-        moves = flat_map served.moves_of those ++ [];
-        text = flat_map text_of those ++ [];
-        rest =
-            turns_more those start end left [] [] opened leads
-            (λ still. ended end left recovers);
-        failed = failed;
-        no_more = which;
-        seen =
-            subst (λ (ms : List Move). Seen before after ms (flat_map text_of those ++ []))
-            (sym (append_assoc (flat_map served.moves_of those) [] failed))
-            (shown before after those failed [] shows);
-      }
+        record {
+          moves = flat_map served.moves_of those ++ [];
+          text = flat_map text_of those ++ [];
+          rest =
+              turns_more those start end left [] [] opened leads
+              (λ still. ended end left recovers);
+          failed = failed;
+          no_more = which;
+          seen =
+              subst (λ (ms : List Move). Seen before after ms (flat_map text_of those ++ []))
+              (sym (append_assoc (flat_map served.moves_of those) [] failed))
+              (shown before after those failed [] shows);
+        }
 
     -- whole turns, and then a part of one
     ends_within : (before after : Outside) (start mid end : Serving C) (those : List Turned)
@@ -358,33 +360,34 @@ module _ {C : Type 0} (device : C → Device) (members : Membership)
         → turn_of device ports gives mid turn.took turn.done end
         → Shows before after those (Took turn.took ∷ take handed (all_handed turn.done.posts))
         (take written (text_of turn))
-        → Account (Serving_now start) left before after
+        → Account (Serves start) left before after
     ends_within before after start mid end those turn handed written left opened recovers leads came
         shows = record {
-      moves =
-          flat_map served.moves_of those
-          ++ (Took turn.took ∷ take handed (all_handed turn.done.posts));
-      text = flat_map text_of those ++ take written (text_of turn);
-      rest =
-          turns_more those start mid left
-          (Took turn.took ∷ take handed (all_handed turn.done.posts)) (take written (text_of turn))
-          opened leads (λ still. last_turn mid end turn came left handed written recovers);
-      failed = [];
-      no_more = inl refl;
-      seen =
-          subst (λ (ms : List Move). Seen before after ms
-          (flat_map text_of those ++ take written (text_of turn)))
-          (sym (append-nil (flat_map served.moves_of those
-          ++ (Took turn.took ∷ take handed (all_handed turn.done.posts)))))
-          (shown before after those _ _ shows);
-    }
+          moves =
+              flat_map served.moves_of those
+              ++ (Took turn.took ∷ take handed (all_handed turn.done.posts));
+          text = flat_map text_of those ++ take written (text_of turn);
+          rest =
+              turns_more those start mid left
+              (Took turn.took ∷ take handed (all_handed turn.done.posts))
+              (take written (text_of turn))
+              opened leads (λ still. last_turn mid end turn came left handed written recovers);
+          failed = [];
+          no_more = inl refl;
+          seen =
+              subst (λ (ms : List Move). Seen before after ms
+              (flat_map text_of those ++ take written (text_of turn)))
+              (sym (append-nil (flat_map served.moves_of those
+              ++ (Took turn.took ∷ take handed (all_handed turn.done.posts)))))
+              (shown before after those _ _ shows);
+        }
 
     -- whole turns, and then one that was handed out whole
     ends_in_writing : (shut : Bool) (before after : Outside) (start end : Serving C)
         (those : List Turned) (left : List Record) → needs device start ≡ false
         → Recovers end end left
         → served.EndsInWriting rule before after shut start end those
-        → Account (Serving_now start) left before after
+        → Account (Serves start) left before after
     ends_in_writing shut before after start end those left opened recovers
         (mid, leads, turn, came, last, count, shows) =
         ends_within before after start mid end those turn (length turn.done.posts) count left opened
@@ -395,8 +398,8 @@ module _ {C : Type 0} (device : C → Device) (members : Membership)
     ends_by : (fault : ServeFault) (wanted : ℕ) (before after : Outside) (start end : Serving C)
         (those : List Turned) (left : List Record) → needs device start ≡ false
         → Recovers end end left
-        → Serves rule before after start end wanted those (Err fault)
-        → Account (Serving_now start) left before after
+        → served.Serves rule before after start end wanted those (Err fault)
+        → Account (Serves start) left before after
     ends_by faults.Port wanted before after start end those left opened recovers (fewer, between) =
         ends_between before after start end those (Failed ∷ []) left (inr refl) opened recovers
         between
@@ -418,7 +421,7 @@ module _ {C : Type 0} (device : C → Device) (members : Membership)
         (calls : List (List Turned)) (result : Result (Unit {0}) ServeFault) (left : List Record)
         → needs device start ≡ false → Recovers end end left
         → ServesOn rule wanted most before after start end calls result
-        → Account (Serving_now start) left before after
+        → Account (Serves start) left before after
     serves_on wanted most before after start end calls (Ok tt) left opened recovers
         (all, goes_on) =
         calls_more wanted before after after start end calls left opened goes_on
@@ -463,7 +466,7 @@ module _ {C : Type 0} (device : C → Device) (members : Membership)
 
     -- ---- a process
 
-    module _ (how : Turns) (cell : C) (before after : Outside) (answer : Result ℕ ProgramFault)
+    module _ (how : arguments.Turns) (cell : C) (before after : Outside) (answer : Result ℕ ProgramFault)
         (records left : List Record)
         (reads : ReadGives (owner_of device members n) (device cell) records)
         (process : HasServed device rule (owner_of device members n) how cell before after answer)
@@ -471,7 +474,7 @@ module _ {C : Type 0} (device : C → Device) (members : Membership)
       abbrev start : Serving C
       start = begins process.site new_volatile
 
-      a : Account (Serving_now start) left before process.served.ended
+      a : Account (Serves start) left before process.served.ended
       a =
           serves_on (turns_in how) (most_calls how) before process.served.ended start
           process.served.end process.served.calls process.served.result left

@@ -38,14 +38,15 @@ moves_of account = flat_map (λ h. moves_shown (showing_of h)) account
 unfoldable pub lines_of : {C : Type 0} → List (Happening C) → List ℕ
 lines_of account = flat_map (λ h. text_shown (showing_of h)) account
 
--- The port has moved, and text was written, by these happenings and by nothing else, but that a last
--- receive may have failed, and that there may be a last line, which reports nothing.
-pub record IsSeen {C : Type 0} (before after : Outside) (account : List (Happening C)) : Type 0 where
-  pub rest : List Move
-  pub no_more : (rest ≡ []) ⊎ (rest ≡ Failed ∷ [])
-  pub traffic : Grows before.traffic after.traffic (moves_of account ++ rest)
-  pub line : List ℕ
-  pub written : Appends before.written after.written (lines_of account ++ line)
+-- The port has moved, and text was written, by these happenings and by nothing else, but that a
+-- last receive may have failed, and that there may be a last line, which reports nothing.
+pub record IsSeen {C : Type 0} (before after : Outside) (account : List (Happening C)) : Type 0
+  where
+    pub rest : List Move
+    pub no_more : (rest ≡ []) ⊎ (rest ≡ Failed ∷ [])
+    pub traffic : Grows before.traffic after.traffic (moves_of account ++ rest)
+    pub line : List ℕ
+    pub written : Appends before.written after.written (lines_of account ++ line)
 
 -- ---- an account
 

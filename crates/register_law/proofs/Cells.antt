@@ -1,4 +1,4 @@
--- Agreement and validity of histories that go on from the cells of a run, and what their cells show.
+-- Agreement and validity of histories that go on from the cells of a run, and what cells show.
 use Rattle.std.proofs.Common.{◌≡◌, inl, inr, refl}
 use Rattle.std.proofs.Common.{List, ◌∷◌, ◌++◌, Some}
 use Rattle.fed_types.specs.declared.bag_id.BagId.{BagId}
@@ -118,7 +118,8 @@ module _ {C : Type 0} (device : C → Device) (members : Membership)
     chosen_is_all_that_is_reported events history given slot bag is after_run are shown = (
       λ h other has r.
           no_other device members only_now is events history after_run given are slot bag other
-          shown ((l device members only_now is events history after_run).reports h has slot other r),
+          shown
+          ((l device members only_now is events history after_run).reports h has slot other r),
       λ notice other said report.
           no_other device members only_now is events history after_run given are slot bag other
           shown

@@ -25,6 +25,8 @@ use Rattle.world_law.proofs.Runs.{DepositOf, happens_kept, new_kept, run_kept}
 use Rattle.world_law.proofs.WellFormed.{new_is_well_formed, run_well_formed, members_are_sites}
 use Rattle.serving_law.proofs.Networks.{quorums, Stands}
 use Rattle.register_law.specs.Carried.{datagram_for, left_by, WasDepositedIn}
+use Rattle.register_law.specs.Carried.{NewCellsAreLeftByNone}
+use Rattle.serving_law.specs.Federations.{new_federation}
 use Rattle.register_law.proofs.Sayings.{run_speaks}
 use Rattle.register_law.specs.Laws.{ChosenRemains}
 
@@ -150,3 +152,8 @@ module _ {C : Type 0} (device : C → Device) (members : Membership)
           speaks = run_speaks (quorums device members) events from.0 from.1;
         });
   }
+
+pub new_cells_are_left_by_none : {C : Type 0} (device : C → Device) (members : Membership)
+    → NewCellsAreLeftByNone device members
+unfolding new_federation new_network new_site run
+new_cells_are_left_by_none device members history may = record { formed = tt; happens = may }

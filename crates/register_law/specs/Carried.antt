@@ -1,6 +1,6 @@
--- Histories that go on from the cells of an earlier run, by whatever program: of a run of a network,
--- since the cells say nothing of the program. Where the run has no events they begin with new cells.
-use Rattle.std.specs.Prelude.{◌≡◌, ◌⊎◌, ℕ, List, ◌∷◌, ◌++◌, map, Ok}
+-- Histories that go on from the cells of an earlier run, by whatever program: a run of a network,
+-- since cells say nothing of the program. Where it has no events they begin with new cells.
+use Rattle.std.specs.Prelude.{◌≡◌, ◌⊎◌, ℕ, List, [], ◌∷◌, ◌++◌, map, Ok}
 use Rattle.fed_types.specs.declared.bag_id.BagId.{BagId}
 use Rattle.fed_types.specs.Quorums.{QuorumSystem, quorums_of}
 use Rattle.fed_types.specs.Sites.{Membership}
@@ -17,7 +17,7 @@ use Rattle.world_law.specs.WellFormed.{AreWellFormedEvents}
 use Rattle.udp_site.specs.Traffic.{Post}
 use Rattle.serving_law.specs.Federations.{Federation, Down, Happening, after_all}
 use Rattle.serving_law.specs.Reports.{IsDeposit}
-use Rattle.serving_law.specs.Rules.{MayAll}
+use Rattle.serving_law.specs.Rules.{MayAll, IsHistory}
 
 -- ---- how they begin
 
@@ -48,14 +48,20 @@ pub record IsHistoryAfter {C : Type 0} (device : C → Device) (members : Member
   pub formed : AreWellFormedEvents events
   pub happens : MayAll device members (left_by members events) history
 
+-- where the run has no events, these are the histories of new cells
+abbrev pub NewCellsAreLeftByNone : {C : Type 0} → (C → Device) → Membership → Type 0
+NewCellsAreLeftByNone {C} device members =
+    (history : List (Happening C)) → IsHistory device members history
+    → IsHistoryAfter device members [] history
+
 -- the federation after it
 abbrev pub now : {C : Type 0} → Membership → List Event → List (Happening C) → Federation C
 now members events history = after_all (left_by members events) history
 
 -- ---- what was deposited
 
--- One of these events hands a site a tree that the check finds to be this bag, and after it the site
--- has the bag on record as its deposit.
+-- One of these events hands a site a tree that the check finds to be this bag, and after it the
+-- site has the bag on record as its deposit.
 pub record WasDepositedIn (q : QuorumSystem) (events : List Event) (slot : SlotName) (bag : BagId)
     : Type 0 where
   pub before : List Event

@@ -81,8 +81,8 @@ begun [] = []
 begun (Begins h ∷ moments) = h ∷ begun moments
 begun (HandsOut post ∷ moments) = begun moments
 
--- What is taken in may come, after what was handed out at earlier moments; and what is handed out is
--- a datagram of a happening that began earlier, and perhaps goes on while others begin.
+-- What is taken in may come, after what was handed out at earlier moments; and what is handed out
+-- is a datagram of a happening that began earlier, and perhaps goes on while others begin.
 unfoldable pub AreInTime : {C : Type 0} → (federation : ℕ) → (handed : List Post)
     → (earlier : List (Happening C)) → List (Moment C) → Type 0
 AreInTime federation handed earlier [] = ⊤

@@ -1,4 +1,5 @@
 ghost use Rattle.fed_types.specs.Sites.{Membership};
+ghost use Rattle.register_law.specs.Carried.{NewCellsAreLeftByNone};
 ghost use Rattle.register_law.specs.Laws.{CarriedReportsAgree, CarriedAgreeWithTheRun};
 ghost use Rattle.register_law.specs.Laws.{CarriedReportsWereDeposited, CellsHaveNoConflict};
 ghost use Rattle.register_law.specs.Laws.{ChosenIsAllThatIsReported, ChosenRemains, RecordsStay};
@@ -15,6 +16,12 @@ use cell_device::Cell;
 /// for which it was decided.
 pub fn histories_refine<C: Cell>()
     ensures { (members : Membership) → HistoriesRefine C.device members }
+{}
+
+/// A history of new cells goes on from a run without events: so what is said of those that go on is
+/// said of it too.
+pub fn new_cells_are_left_by_none<C: Cell>()
+    ensures { (members : Membership) → NewCellsAreLeftByNone C.device members }
 {}
 
 /// Turns of processes overlap: members' own accounts make a history, in the order in which what

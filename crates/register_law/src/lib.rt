@@ -1,6 +1,6 @@
-//! What a federation of sites that serve comes to: a register for each version of each object, which
-//! is decided once. The definitions stand in specs/; a function here does nothing, and its contract
-//! is a law.
+//! What a federation of sites that serve comes to: a register for each version of each object,
+//! which is decided once. The definitions stand in specs/. A function here does nothing, and its
+//! contract is a law, but for `starts_over_a_file`, which starts a site.
 #![tactic(auto)]
 
 mod examples;
@@ -10,5 +10,5 @@ pub use examples::{file_cells_tell_their_bytes, starts_over_a_file};
 pub use law::{
     carried_agree_with_the_run, carried_reports_agree, carried_reports_were_deposited,
     cells_have_no_conflict, chosen_is_all_that_is_reported, chosen_remains, histories_refine,
-    overlaps_are_histories, records_stay,
+    new_cells_are_left_by_none, overlaps_are_histories, records_stay,
 };
