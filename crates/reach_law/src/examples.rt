@@ -3,8 +3,8 @@ ghost use Rattle.reach_law.specs.Examples.{IsChosenAndOutOfReach, CanBeUndisturb
 
 // A function here does nothing: its contract is an example, computed.
 
-/// A bag may be chosen, and yet be out of reach of members that run, and are a quorum: neither of
-/// them knows it, or has a deposit.
+/// A bag may be chosen, and yet be out of reach of members that run, and are a quorum: none of them
+/// knows it, or has a deposit.
 pub fn a_chosen_bag_may_be_out_of_reach()
     ensures { (bag : BagId) → IsChosenAndOutOfReach bag }
 {}

@@ -26,7 +26,8 @@ pub fn a_decision_is_within_reach()
 {}
 
 /// Where none of the members that run has a deposit, or knows the bag, nothing that they do lets
-/// one of them know it, also where it was chosen: they need another member, or a deposit.
+/// one of them know it, also where it was chosen, unless a datagram of before still arrives: they
+/// need that, or another member, or a deposit.
 pub fn no_decision_without_a_deposit()
     ensures { (q : QuorumSystem) (w : Network) (running : List ℕ) (slot : SlotName)
         → HaveNothing w running slot → StaysUnknown q w running slot }
