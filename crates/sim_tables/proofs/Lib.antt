@@ -1,5 +1,6 @@
 pub mod Seen
 pub mod Named
 pub mod Found
-pub mod Entries
+pub mod Places
+pub mod Puts
 pub mod Ordered

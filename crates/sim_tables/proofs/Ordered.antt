@@ -47,6 +47,24 @@ same_number a b = grind (arith, nat_tests)
 number_by_order : eq_by_cmp nat_cmp ≡ nat_eq
 number_by_order = fun_ext (λ a. fun_ext (λ b. same_number a b))
 
+module _ {X : Type 0} where
+  -- a look-up of what a number has
+  pub at_by_order : (entries : List (ℕ × X)) (number : ℕ)
+      → lookup (eq_by_cmp nat_cmp number) entries ≡ lookup (nat_eq number) entries
+  at_by_order entries number =
+      ap (λ (same : ℕ → ℕ → Bool). lookup (same number) entries) number_by_order
+
+  -- one number has something else
+  pub put_by_order : (old new : List (ℕ × X)) (number : ℕ) (x : X)
+      → ((k : ℕ) → lookup (eq_by_cmp nat_cmp k) new
+      ≡ cond (eq_by_cmp nat_cmp number k) (Some x) (lookup (eq_by_cmp nat_cmp k) old))
+      → (k : ℕ) → lookup (nat_eq k) new
+      ≡ cond (nat_eq number k) (Some x) (lookup (nat_eq k) old)
+  put_by_order old new number x =
+      subst (λ (same : ℕ → ℕ → Bool).
+      (k : ℕ) → lookup (same k) new
+      ≡ cond (same number k) (Some x) (lookup (same k) old)) number_by_order
+
 -- a look-up
 pub has_by_order : (numbers : List ℕ) (number : ℕ)
     → list_any (eq_by_cmp nat_cmp number) numbers ≡ list_any (nat_eq number) numbers

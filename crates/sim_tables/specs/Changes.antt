@@ -1,15 +1,10 @@
 -- Declared trees, and what becomes of them where one changes.
-use Rattle.std.specs.Prelude.{ℕ, List, [], ◌∷◌, Option, Some, None}
+use Rattle.std.specs.Prelude.{ℕ, List, Option, Some, None}
 use Rattle.bag_tree.specs.declared.fault.TreeFault.{TreeFault}
 use Rattle.bag_tree.specs.Tree.{Files, with_folder, with_file, fault_of_added}
 use Rattle.world_law.specs.Trees.{NumberedTree, put_tree}
 use Rattle.sim_tables.specs.declared.trees.Added.{Added}
 use Rattle.sim_tables.specs.declared.trees.Added.TheVariants.{Done, NoTree, BadFile}
-
--- the trees of a table's entries
-unfoldable pub declared_trees : List (ℕ × Files) → List NumberedTree
-declared_trees [] = []
-declared_trees (e ∷ es) = record { number = e.0; files = e.1 } ∷ declared_trees es
 
 -- the trees after the payload folder of one was made, if it was declared
 abbrev pub trees_with_folder : ℕ → Option Files → List NumberedTree → List NumberedTree

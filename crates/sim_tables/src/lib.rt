@@ -1,7 +1,6 @@
 //! The tables of a run: the declared trees by their numbers, the bags that were seen in deposits,
 //! and the datagrams that were sent, with which of their numbers were named. Each call takes a time,
-//! amortized, that grows at most with the logarithm of what went before; but trees are found by
-//! hashes of their numbers.
+//! amortized, that grows at most with the logarithm of what went before.
 //!
 //! ```
 //! match self.trees.add_file(tree, path, bytes)? {

@@ -4,29 +4,52 @@ ghost use Rattle.bag_tree.specs.Tree.{no_files, fault_of_added};
 ghost use Rattle.world_law.specs.Trees.{tree_at};
 ghost use Rattle.sim_tables.specs.Changes.{trees_with_folder, trees_with_file};
 ghost use Rattle.sim_tables.specs.Changes.{outcome_of_adding, outcome_unless, files_after};
+ghost use Rattle.sim_tables.specs.Places.{place_of};
 
 use bag_tree::{Tree, TreeFault};
-use indexmap::IndexMap;
 use schedule::TreeNo;
 use std::alloc::{AllocError, Global};
+use std::collections::BTreeMap;
 use std::marker::Model;
 
 /// The trees that were declared, each found by its number. A clause sees them in the order of their
 /// declarations.
+///
+/// A tree is found in a time that grows with the logarithm of how many there are, whatever their
+/// numbers are: a schedule may choose them so that hashes of them collide.
 #[derive(Drop)]
 pub struct Trees {
     alloc: Global,
-    trees: IndexMap<u32, Tree>,
+    // In the order of their declarations, and the place of each number there, counted from 0.
+    trees: Vec<Declared>,
+    places: BTreeMap<u32, usize>,
 }
 
 impl Model for Trees {
     ghost use Rattle.std.specs.Prelude.{List};
     ghost use Rattle.world_law.specs.Trees.{NumberedTree};
-    ghost use Rattle.sim_tables.specs.Changes.{declared_trees};
+    ghost use Rattle.sim_tables.specs.Places.{ArePlaces};
 
     ghost Value = { List NumberedTree };
 
-    ghost view = { λ t. declared_trees t.trees.entries };
+    ghost view = { λ t. t.trees.items };
+
+    ghost invariant = { λ t. ArePlaces t.places.entries t.trees.items };
+}
+
+/// A tree and its number.
+#[derive(Drop)]
+struct Declared {
+    number: TreeNo,
+    files: Tree,
+}
+
+impl Model for Declared {
+    ghost use Rattle.world_law.specs.Trees.{NumberedTree};
+
+    ghost Value = { NumberedTree };
+
+    ghost view = { λ d. record { number = d.number; files = d.files } };
 }
 
 /// What became of a file that was to be added.
@@ -47,7 +70,8 @@ impl Trees {
     {
         Trees {
             alloc,
-            trees: IndexMap::new(alloc),
+            trees: Vec::new(alloc),
+            places: BTreeMap::new(alloc),
         }
     }
 
@@ -55,7 +79,8 @@ impl Trees {
     pub fn get(&self, number: TreeNo) -> Option<&Tree>
         ensures { option_copied result ≡ tree_at number self.now }
     {
-        self.trees.get(&number.number())
+        let place = self.place_of(number)?;
+        Some(&self.trees[place].files)
     }
 
     /// Declares an empty tree under this number, which has none.
@@ -65,7 +90,10 @@ impl Trees {
             (self.new ≡ self.old ++ record { number = number; files = no_files } ∷ []) }
         ensures err { OnErr result (self.new ≡ self.old) }
     {
-        self.trees.insert(number.number(), Tree::new(self.alloc))?;
+        self.trees.reserve(1)?;
+        self.places.insert(number.number(), self.trees.len())?;
+        let files = Tree::new(self.alloc);
+        self.trees.push_reserved(Declared { number, files });
         Ok(())
     }
 
@@ -74,10 +102,11 @@ impl Trees {
         ensures declared { result ≡ is_some (tree_at number self.old) }
         ensures after { self.new ≡ trees_with_folder number (tree_at number self.old) self.old }
     {
-        let Some(tree) = self.trees.get_mut(&number.number()) else {
+        let Some(place) = self.place_of(number) else {
             return false;
         };
-        tree.add_folder();
+        let declared = &mut self.trees[place];
+        declared.files.add_folder();
         true
     }
 
@@ -95,10 +124,18 @@ impl Trees {
             (tree_at number self.old) self.old) }
         ensures err { OnErr result (self.new ≡ self.old) }
     {
-        let Some(tree) = self.trees.get_mut(&number.number()) else {
+        let Some(place) = self.place_of(number) else {
             return Ok(Added::NoTree);
         };
-        add_to(tree, path, bytes)
+        let declared = &mut self.trees[place];
+        add_to(&mut declared.files, path, bytes)
+    }
+
+    /// The place of this number's tree, where it was declared.
+    fn place_of(&self, number: TreeNo) -> Option<usize>
+        ensures { result ≡ place_of number self.now }
+    {
+        self.places.get(&number.number()).copied()
     }
 }
 

@@ -1,7 +1,5 @@
-use Rattle.std.proofs.Common.{ap}
-use Rattle.sim_tables.specs.Changes.{declared_trees}
+use Rattle.sim_tables.proofs.Places.{no_places}
 use Rattle.sim_tables.proofs.trees.Trees.new.Goals as goal
 
-pub returns : goal.returns
-unfolding declared_trees
-returns c = ap declared_trees c.new.ensures.empty
+pub invariant_of-result : goal.invariant_of-result
+invariant_of-result c = no_places _ _ c.new-2.ensures.empty c.new.ensures.items
