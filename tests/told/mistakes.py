@@ -1,0 +1,159 @@
+"""Mistakes that are planted in a picture, each of which `picture` has to find. No test of
+itself."""
+import re
+import xml.etree.ElementTree as ElementTree
+
+from picture import SVG, classes, numbers
+
+ElementTree.register_namespace("", SVG[1:-1])
+# How far a thing is moved that is put elsewhere: no two columns or rows are so far from each other.
+ASIDE = 31
+# The shapes of some marks, but for their places.
+VOTE, ROUND = "m-6 -6h12v12h-12z", "m0 -6l6 11h-12z"
+STOP, START, DEPOSIT = "m-4 4l8 8m0 -8l-8 8", "m-4 -6l10 6l-10 6z", "m-5 -7h7l4 4v10h-11z"
+
+
+class Spoilt:
+    """A picture in which something is to be spoilt."""
+
+    def __init__(self, text):
+        self.drawn = ElementTree.fromstring(text)
+        self.columns = {}
+        for name in self.of_class("name"):
+            self.columns[int(re.match(r"site (\d+)", name.text)[1])] = int(name.get("x"))
+
+    def text(self):
+        return ElementTree.tostring(self.drawn, encoding="unicode")
+
+    def of_class(self, *wanted):
+        return [it for it in self.drawn.iter() if set(wanted) <= set(classes(it))]
+
+    def labels(self):
+        return [it for it in self.drawn.iter(f"{SVG}text") if it.get("dx") in ("13", "-13")]
+
+    def arrows(self):
+        """The arrows from one site to another, with their datagrams' lines and crosses."""
+        groups = [it for it in self.drawn.iter(f"{SVG}g")]
+        return [it for it in groups if re.search(r"site (\d+) to site (?!\1)", it[0].text)]
+
+    def delivered(self):
+        return [it for it in self.arrows() if "b" not in classes(it[1])]
+
+    def crosses(self, is_broken):
+        """Those of datagrams that were never delivered, or that were lost at a site."""
+        groups = [it for it in self.drawn.iter(f"{SVG}g") if len(it) > 2]
+        return [it[2] for it in groups if ("b" in classes(it[1])) == is_broken]
+
+    def marks(self, shape):
+        """The marks of a shape, the first ones first; that of the legend comes last."""
+        return [it for it in self.drawn if shape in (it.get("d") or "")]
+
+
+def moved(element, index, by):
+    """Moves a number of a path's."""
+    found = numbers(element.get("d"))
+    found[index] += by
+    pieces = re.split(r"-?\d+(?:\.\d+)?", element.get("d"))
+    together = [it for pair in zip(pieces, map(str, found)) for it in pair]
+    element.set("d", "".join([*together, pieces[-1]]))
+
+
+def put(element, name, by):
+    element.set(name, str(int(element.get(name)) + by))
+
+
+def exchanged(one, other, name):
+    value, another = one.get(name), other.get(name)
+    one.set(name, another)
+    other.set(name, value)
+
+
+def reworded(one, other):
+    one.text, other.text = other.text, one.text
+
+
+def recoloured(element):
+    """Another colour than the one it has."""
+    turned = lambda it: {"a": "b", "p": "r", "r": "p"}.get(it, "a")
+    words = [it[0] + turned(it[1]) if re.fullmatch("[sf][a-hpr]", it) else it for it in
+             classes(element)]
+    element.set("class", " ".join(words))
+
+
+def to_sender(spoilt):
+    arrow = spoilt.delivered()[0][1]
+    x, _, end, _ = numbers(arrow.get("d"))
+    moved(arrow, 2, x - end + (7 if end > x else -7))
+
+
+def other_class(old, new):
+    def change(spoilt):
+        for it in spoilt.of_class(old)[:1]:
+            it.set("class", it.get("class").replace(old, new))
+    return change
+
+
+# What is planted, and how.
+MISTAKES = {
+    "an arrow to its sender": to_sender,
+    "an arrow that begins elsewhere": lambda it: moved(it.delivered()[0][1], 0, ASIDE),
+    "an arrow from another row": lambda it: moved(it.delivered()[0][1], 1, ASIDE),
+    "an arrow to another row": lambda it: moved(it.delivered()[0][1], -1, ASIDE),
+    "an arrow on the wrong side": lambda it: moved(it.delivered()[0][1], -2, 14),
+    "an arrow without a head": lambda it: it.delivered()[0][1].attrib.pop("marker-end"),
+    "an arrow in another colour": lambda it: recoloured(it.delivered()[0][1]),
+    "an arrow with another title": lambda it: reworded(it.delivered()[0][0], it.arrows()[-1][0]),
+    "an arrow that is whole": lambda it: [one for one in it.arrows() if "b" in classes(
+        one[1])][0][1].set("class", "a sp"),
+    "no arrow": lambda it: it.drawn.remove(it.arrows()[0]),
+    "a cross of a lost one at the wrong end": lambda it: moved(it.crosses(False)[0], 0, -ASIDE),
+    "a cross of a lost one in another row": lambda it: moved(it.crosses(False)[0], 1, ASIDE),
+    "a cross of a broken one elsewhere": lambda it: moved(it.crosses(True)[0], 0, ASIDE),
+    "a cross too few": lambda it: it.arrows().pop() if not it.crosses(True) else [
+        group.remove(group[2]) for group in it.drawn.iter(f"{SVG}g") if len(group) > 2][:1],
+    "a repeat at another site": lambda it: moved(it.of_class("again")[0], -2, ASIDE),
+    "a repeat in another row": lambda it: moved(it.of_class("again")[0], -1, ASIDE),
+    "a repeat too few": lambda it: it.drawn.remove(it.of_class("again")[0]),
+    "a failed site drawn as down": other_class("failed", "down"),
+    "a site that is down drawn as failed": other_class("down", "failed"),
+    "a gap that begins later": lambda it: moved(it.of_class("down")[0], 1, ASIDE),
+    "a gap that ends later": lambda it: moved(it.of_class("down")[0], 2, ASIDE),
+    "a gap at another site": lambda it: moved(it.of_class("down")[0], 0, ASIDE),
+    "no gap": lambda it: it.drawn.remove(it.of_class("gap")[0]),
+    "words exchanged": lambda it: reworded(it.labels()[0], it.labels()[-1]),
+    "words at another site": lambda it: put(it.labels()[0], "x", ASIDE),
+    "words in another row": lambda it: put(it.labels()[-1], "y", -ASIDE),
+    "words in another colour": lambda it: recoloured(it.labels()[0]),
+    "words too few": lambda it: it.drawn.remove(it.labels()[-1]),
+    "a line's number elsewhere": lambda it: put(it.of_class("n")[0], "y", ASIDE),
+    "lines' numbers exchanged": lambda it: reworded(it.of_class("n")[0], it.of_class("n")[-1]),
+    "names exchanged": lambda it: reworded(it.of_class("name")[0], it.of_class("name")[1]),
+    "another weight": lambda it: setattr(it.of_class("name")[0], "text", "site 1, weight 9"),
+    "a vote drawn as a promise": lambda it: it.marks(VOTE)[0].set(
+        "d", it.marks(VOTE)[0].get("d").replace(VOTE, ROUND)),
+    "a vote in another colour": lambda it: recoloured(it.marks(VOTE)[0]),
+    "a vote at another site": lambda it: moved(it.marks(VOTE)[0], 0, ASIDE),
+    "a vote in another row": lambda it: moved(it.marks(VOTE)[0], 1, ASIDE),
+    "a deposit too few": lambda it: it.drawn.remove(it.marks(DEPOSIT)[0]),
+    "a stop at another site": lambda it: moved(it.marks(STOP)[0], 0, ASIDE),
+    "a stop too few": lambda it: it.drawn.remove(it.marks(STOP)[0]),
+    "a start too few": lambda it: it.drawn.remove(it.marks(START)[0]),
+    "a known bag in another colour": lambda it: recoloured(it.of_class("knows")[0]),
+    "a known bag since another row": lambda it: moved(it.of_class("knows")[0], 1, -ASIDE),
+    "the legend's words exchanged": lambda it: reworded(it.of_class("g")[0], it.of_class("g")[3]),
+    "the legend's bags exchanged": lambda it: reworded(it.of_class("g")[8], it.of_class("g")[9]),
+    "a broken one's words exchanged": lambda it: exchanged(
+        *[one for one in it.drawn.iter(f"{SVG}text") if one.get("dy") == "4" and not {"g", "n"} &
+          set(classes(one))][:2], "y"),
+}
+
+
+def spoilt(text, mistake):
+    """The picture with a mistake; None where it has nothing that could be spoilt so."""
+    made = Spoilt(text)
+    try:
+        MISTAKES[mistake](made)
+    except (IndexError, TypeError, KeyError, ValueError):
+        return None
+    changed = made.text()
+    return changed if changed != Spoilt(text).text() else None

@@ -1,0 +1,460 @@
+"""Where a picture of a run has everything: its columns are read by their names, its rows by the
+words beside events, its marks by its own legend, and all of it is held to the run. No test of
+itself."""
+import re
+import xml.etree.ElementTree as ElementTree
+from typing import NamedTuple
+
+SVG = "{http://www.w3.org/2000/svg}"
+# How far from a column an arrow may end; and how far from the middle of its row a stop may stand.
+NEAR, ROW = 12, 26
+MARKS = {
+    "deposit recorded": "deposit",
+    "round recorded": "round",
+    "promise recorded": "promise",
+    "vote recorded": "vote",
+    "known, recorded": "known",
+    "stops, or fails": "stop",
+    "starts again": "start",
+    "never delivered": "lost",
+}
+NUMBERS = r"-?\d+(?:\.\d+)?"
+DOT = "2.5"
+
+
+class Wrong(Exception):
+    """What is said or drawn isn't so."""
+
+
+def claim(holds, why):
+    if not holds:
+        raise Wrong(why)
+
+
+def same(what, got, wanted):
+    claim(got == wanted, f"{what}: {got!r} and not {wanted!r}")
+
+
+class Mark(NamedTuple):
+    """Something that stands in a column: its kind, where, and the letter of its colour."""
+
+    kind: str
+    x: int
+    y: int
+    colour: str
+
+
+class Way(NamedTuple):
+    """An arrow's line: from where to where, its colour and classes, and whether it has a head."""
+
+    begin: tuple
+    end: tuple
+    colour: str
+    classes: frozenset
+    has_head: bool
+
+
+def colour_of(tree):
+    """The letter of a bag's colour; that of what names none."""
+    return "abcdefgh"[(tree - 1) % 8] if tree else "p"
+
+
+# ---- the words beside events
+
+
+class Labels:
+    """The words beside the events of a run."""
+
+    def __init__(self, words):
+        self.words, self.run = words, words.run
+
+    def text(self, event):
+        if event.delivered:
+            said = self.words.message(event.delivered)
+            return f"#{event.number} {said}{self.note(event)}"
+        return self.deed(event) + self.outcome(event)
+
+    def note(self, event):
+        if event.outcome == "down":
+            return " · recorded, stops" if event.made else " · stops, no record"
+        told = {"skip down": " · down", "failed": " · device fails", "unopened": " · not heard"}
+        return told[event.outcome] if event.outcome in told else self.heard(event)
+
+    def heard(self, event):
+        if event.delivered.message.kind in ("Prepare", "Accept"):
+            return " · refused" if event.sent[0].message.kind == "Refused" else ""
+        if event.count is None:
+            return ""
+        heard, needed = event.count[0], self.words.needed
+        if self.words.has_weights:
+            return f" · weight {heard}, {needed} needed"
+        return f" · {heard} of {needed}" if heard <= needed else ""
+
+    def deed(self, event):
+        slot = f" {event.slot}" if self.words.has_slots and event.slot else ""
+        is_done, number = event.is_done, event.number
+        if event.deed == "deposit":
+            tree = "" if event.outcome == "registered" else f" of tree {number}"
+            return f"deposit{tree}{slot}: "
+        if event.deed == "propose":
+            return f"proposes{slot} in {event.made.ballot}" if is_done else f"proposal{slot}: "
+        if event.deed == "ask":
+            return f"asks {number}{slot}" if is_done else f"question to {number}{slot}: "
+        if event.deed == "start":
+            return f"starts, {event.said.split()[-1]} on record"
+        return {"query": f"asked{slot}: ", "raw": "foreign bytes: ", "stop": ""}[event.deed]
+
+    def outcome(self, event):
+        tree = event.bag_said
+        return {
+            "registered": f"bag {tree}",
+            "reply known": f"bag {tree} is known",
+            "reply pending": f"bag {tree} is pending",
+            "reply nothing": "nothing",
+            "refused": "no valid bag" if event.refusal == 10 else "refused",
+            "failed": "device fails",
+            "unopened": "needs opening",
+            "dropped": "dropped",
+            "down": "stops",
+        }.get(event.outcome, "")
+
+    def colour(self, event):
+        if event.delivered:
+            return self.colour_of(event.delivered)
+        return colour_of(event.tree)
+
+    def colour_of(self, datagram):
+        """That of a datagram: a refusal has one, and a promise none but the plain one."""
+        if datagram.message.kind == "Refused":
+            return "r"
+        if datagram.message.kind == "Promise":
+            return "p"
+        return colour_of(self.run.tree_of(datagram.message.bag))
+
+
+def is_drawn(event):
+    """Whether an event has a row."""
+    if event.deed == "tree":
+        return False
+    is_lost = event.deed == "deliver" and event.outcome == "skip down"
+    return is_lost or not event.outcome.startswith("skip")
+
+
+# ---- reading
+
+
+def classes(element):
+    return (element.get("class") or "").split()
+
+
+def numbers(text):
+    return [float(it) if "." in it else int(it) for it in re.findall(NUMBERS, text)]
+
+
+def letter(element, prefix):
+    """The letter of an element's colour: of `sa` or `fa`."""
+    found = [it[1] for it in classes(element) if re.fullmatch(prefix + "[a-hpr]", it)]
+    claim(len(found) <= 1, f"two colours: {element.attrib}")
+    return found[0] if found else ""
+
+
+def place_of(element):
+    """Where a shape stands, and what it is without that place."""
+    if element.tag == f"{SVG}circle":
+        return int(element.get("cx")), int(element.get("cy")), f"circle {element.get('r')}"
+    found = re.fullmatch(r"M(\d+) (\d+)(.*)", element.get("d"))
+    claim(found, f"no place: {element.attrib}")
+    return int(found[1]), int(found[2]), found[3]
+
+
+def place_of_words(text):
+    return int(text.get("x")), int(text.get("y"))
+
+
+def way_of(path):
+    """An arrow's line."""
+    found = numbers(path.get("d"))
+    colour = letter(path, "s")
+    head = path.get("marker-end")
+    claim(head in (None, f"url(#h{colour})"), f"another head: {path.attrib}")
+    kinds = frozenset(classes(path)) - {f"s{colour}"}
+    return Way(tuple(found[:2]), tuple(found[-2:]), colour, kinds, head is not None)
+
+
+class Picture:
+    """A picture, read and held to a run."""
+
+    def __init__(self, text, words):
+        self.drawn, self.words, self.run = ElementTree.fromstring(text), words, words.run
+        self.labels = Labels(words)
+        self.wide, self.high = int(self.drawn.get("width")), int(self.drawn.get("height"))
+        self.elements = [it for it in self.drawn if it.tag not in (f"{SVG}style", f"{SVG}defs")]
+        self.texts = [it for it in self.elements if it.tag == f"{SVG}text"]
+
+    def check(self):
+        self.check_names()
+        self.check_labels()
+        self.check_lines()
+        self.read_legend()
+        self.check_columns()
+        self.check_marks()
+        self.check_arrows()
+        self.check_repeats()
+        self.check_stub_words()
+        self.check_inside()
+
+    # ---- columns and rows
+
+    def check_names(self):
+        """Each site is named above its column and below it, with its weight where these differ."""
+        self.columns, heights = {}, set()
+        names = [it for it in self.texts if classes(it) == ["name"]]
+        same("names of columns", len(names), 2 * len(self.run.weights))
+        for name in names:
+            site = int(re.match(r"site (\d+)", name.text)[1])
+            weight = f", weight {self.run.weights[site - 1]}" if self.words.has_weights else ""
+            same("the name of a site", name.text, f"site {site}{weight}")
+            x, y = int(name.get("x")), int(name.get("y"))
+            heights.add(y)
+            same(f"the two names of site {site}", x, self.columns.setdefault(site, x))
+        same("sites", list(self.columns), list(range(1, len(self.run.weights) + 1)))
+        columns = list(self.columns.values())
+        claim(columns == sorted(set(columns)), f"columns from left to right: {columns}")
+        same("two rows of names", len(heights), 2)
+        self.top, self.bottom = sorted(heights)
+
+    def check_labels(self):
+        """The words beside each event, in its site's column, one row below the other."""
+        self.rows, events = {}, [(at, it) for at, it in enumerate(self.run.events) if is_drawn(it)]
+        labels = [it for it in self.texts if it.get("dx") in ("13", "-13")]
+        same("words beside events", len(labels), len(events))
+        last = self.top
+        for (place, event), label in zip(events, labels):
+            what = f"line {event.line}, the words of an event"
+            same(what, "".join(label.itertext()), self.labels.text(event))
+            same(f"{what}: column", int(label.get("x")), self.columns[event.site])
+            same(f"{what}: colour", letter(label, "f"), self.labels.colour(event))
+            same(f"{what}: side", ("l" in classes(label)), label.get("dx") == "-13")
+            row = int(label.get("y"))
+            claim(last < row < self.bottom, f"{what}: row {row} below {last}")
+            self.rows[place], last = row, row
+        self.last = last
+
+    def check_lines(self):
+        """The numbers of the schedule's lines, each in the row of its first event."""
+        wanted, line = [], None
+        for place, row in self.rows.items():
+            if self.run.events[place].line != line:
+                line = self.run.events[place].line
+                wanted.append((f"line {line}", row))
+        found = [(it.text, int(it.get("y"))) for it in self.texts if classes(it) == ["n"]]
+        same("numbers of lines", found, wanted)
+
+    def read_legend(self):
+        """What each mark means, and the bags' colours: a shape, and then its words."""
+        at = self.elements.index([it for it in self.texts if "g" not in classes(it)][-1]) + 1
+        shapes, self.shapes, bags, self.marked = [], {}, [], at
+        for element in self.elements[at:]:
+            if element.tag != f"{SVG}text":
+                shapes.append(element)
+                continue
+            places, words = [place_of(it) for it in shapes], place_of_words(element)
+            same(f"where the legend has {element.text}", {it[:2] for it in places}, {words})
+            found = [(it.tag, place[2]) for it, place in zip(shapes, places)]
+            if element.text in MARKS:
+                self.shapes[MARKS[element.text]] = found
+                same(f"the colours of {element.text}", {letter(it, "[sf]") for it in shapes} <=
+                     {"", "r" if MARKS[element.text] == "stop" else "p"}, True)
+            else:
+                bags.append((element.text, letter(shapes[0], "f")))
+            shapes = []
+        same("marks of the legend", sorted(self.shapes), sorted(MARKS.values()))
+        claim(len({str(it) for it in self.shapes.values()}) == len(MARKS), "two marks are alike")
+        trees = dict.fromkeys(it.tree for it in self.run.events if it.tree)
+        same("bags of the legend", bags, [(f"bag {it}", colour_of(it)) for it in trees])
+
+    def check_columns(self):
+        """Each site's column; where it is down or has failed; and what it knows."""
+        paths = [it for it in self.elements if it.tag == f"{SVG}path"]
+        found = [(it, re.fullmatch(r"M(\d+) (\d+)V(\d+)", it.get("d"))) for it in paths]
+        spans = [(classes(it), *map(int, at.groups())) for it, at in found if at]
+        ends = {end for kinds, _, _, end in spans if kinds == ["up"]}
+        same("one end of all columns", len(ends), 1)
+        self.end = ends.pop()
+        claim(self.last < self.end <= self.bottom, f"the end of columns: {self.end}")
+        ups = [(x, begin < min(self.rows.values(), default=self.end)) for kinds, x, begin, _ in
+               spans if kinds == ["up"]]
+        same("columns", ups, [(it, True) for it in self.columns.values()])
+        same("where sites are down", [it for it in spans if it[0][0] in ("gap", "down", "failed")],
+             list(self.gaps()))
+        same("what sites know", [it for it in spans if it[0][0] == "knows"], list(self.knowledge()))
+
+    def gaps(self):
+        """From each stop and each failure up to the next start of the site."""
+        for place, event in enumerate(self.run.events):
+            if event.outcome in ("down", "failed"):
+                x, begin, end = self.columns[event.site], self.rows[place], self.end
+                for later in range(place + 1, len(self.run.events)):
+                    then = self.run.events[later]
+                    if (then.site, then.outcome) == (event.site, "up"):
+                        end = self.rows[later]
+                        break
+                yield ["gap"], x, begin, end
+                yield [event.outcome], x, begin, end
+
+    def knowledge(self):
+        """From the event since which a Known is on record, where there is one slot."""
+        for place, event in enumerate(self.run.events):
+            if event.record and event.record.kind == "known" and not self.words.has_slots:
+                x = self.columns[event.site]
+                yield ["knows", f"s{colour_of(event.tree)}"], x, self.rows[place], self.end
+
+    # ---- marks
+
+    def check_marks(self):
+        """The mark of each event's record, and of what came of it."""
+        at = max(it for it, one in enumerate(self.elements) if one.tag == f"{SVG}g" or
+                 classes(one) == ["name"])
+        first = self.elements.index(next((it for it in self.texts if it.get("dx") in
+                                          ("13", "-13") or classes(it) == ["n"]), self.texts[-1]))
+        marks = [it for it in self.elements[at + 1 : first] if it.tag != f"{SVG}g"]
+        wanted = list(self.marks())
+        for mark in wanted:
+            claim(marks, f"no {mark}")
+            shapes = self.shapes.get(mark.kind) or [(f"{SVG}circle", f"circle {DOT}")]
+            taken, marks = marks[: len(shapes)], marks[len(shapes) :]
+            self.check_mark(mark, taken, shapes)
+        same("more marks", [it.attrib for it in marks], [])
+
+    def check_mark(self, mark, taken, shapes):
+        is_stop = mark.kind == "stop"
+        for element, (tag, shape) in zip(taken, shapes):
+            x, y, found = place_of(element)
+            if is_stop:
+                # A cross, somewhat lower than its row, so that a record's mark is seen.
+                moved = numbers(found)
+                y += moved[1] - numbers(shape)[1]
+                found = shape if moved[2:] == numbers(shape)[2:] else found
+                claim(moved[0] == numbers(shape)[0], f"{mark}: moved to {element.attrib}")
+                claim(mark.y <= y < mark.y + ROW / 2, f"{mark} at {y}")
+                y = mark.y
+            same(f"{mark}", (element.tag, x, y, found), (tag, mark.x, mark.y, shape))
+        colour = letter(taken[0], "s" if is_stop else "f")
+        same(f"{mark}: colour", colour, mark.colour)
+
+    def marks(self):
+        for place, row in self.rows.items():
+            event = self.run.events[place]
+            x, below = self.columns[event.site], 14 if event.deed == "start" else 0
+            if event.record:
+                kind = event.record.kind
+                colour = {"round": "p", "promise": ""}.get(kind, colour_of(event.tree))
+                yield Mark(kind, x, row + below, colour)
+            if event.outcome in ("down", "failed"):
+                yield Mark("stop", x, row, "r")
+            elif event.outcome == "up":
+                yield Mark("start", x, row, "p")
+            elif not event.record and not event.outcome.startswith("skip"):
+                yield Mark("nothing", x, row, "p")
+
+    # ---- arrows
+
+    def check_arrows(self):
+        """An arrow for each datagram, from its sender's column and row to where it went."""
+        arrows = [it for it in self.elements if it.tag == f"{SVG}g"]
+        same("arrows", [(it.get("class"), it.get("id")) for it in arrows],
+             [("datagram", f"datagram-{it.number}") for it in self.run.datagrams])
+        for arrow, sent in zip(arrows, self.run.datagrams):
+            what = f"#{sent.number} {self.words.message(sent)}"
+            title = f"{what}: site {sent.sender} to site {sent.to}"
+            same(f"the title of {what}", arrow.find(f"{SVG}title").text, title)
+            paths = arrow.findall(f"{SVG}path")
+            ways = [it for it in paths if "a" in classes(it)]
+            crosses = [it for it in paths if "x" in classes(it)]
+            same(f"{what}: lines", len(ways), 1)
+            same(f"{what}: others", len(paths) - len(crosses), 1)
+            self.check_arrow(what, sent, way_of(ways[0]), crosses)
+
+    def check_arrow(self, what, sent, way, crosses):
+        begin = self.columns[sent.sender], self.rows[sent.event]
+        same(f"{what}: its beginning", way.begin, begin)
+        same(f"{what}: its colour", way.colour, self.labels.colour_of(sent))
+        how, place = self.run.passages.get(sent.number, ("never", None))
+        middles = []
+        if how == "never":
+            self.check_broken(what, sent, way)
+            middles = [way.end]
+        else:
+            same(f"{what}: its classes", (way.classes, way.has_head), (frozenset("a"), True))
+            self.check_end(what, sent, way, place)
+            if how == "lost":
+                middles = [(self.columns[sent.to], self.rows[place])]
+        found = [place_of(it) for it in crosses]
+        same(f"{what}: its crosses", [it[:2] for it in found], middles)
+        cross = self.shapes["stop"][0][1]
+        same(f"{what}: crosses", [it[2] for it in found], [cross for _ in middles])
+        colours = [letter(it, "s") for it in crosses]
+        same(f"{what}: their colour", colours, [way.colour for _ in middles])
+
+    def check_end(self, what, sent, way, place):
+        """An arrow ends beside its addressee's column, on the side that it comes from, in the row
+        of the event that it reaches; one to its sender on the right."""
+        x, y = way.end
+        beside = x - self.columns[sent.to]
+        is_left = sent.sender < sent.to
+        claim(0 < abs(beside) <= NEAR and (beside < 0) == is_left, f"{what}: it ends at {x}")
+        same(f"{what}: the row of its end", y, self.rows[place])
+
+    def check_broken(self, what, sent, way):
+        """One that was never delivered breaks off on the side of its addressee, before the next
+        column and the next row; one to its sender on the right."""
+        same(f"{what}: its classes", (way.classes, way.has_head), (frozenset("ab"), False))
+        x, y = way.end
+        beside = x - way.begin[0]
+        gap = min((abs(it - way.begin[0]) for it in self.columns.values() if it != way.begin[0]),
+                  default=self.wide)
+        claim(NEAR < abs(beside) < gap, f"{what}: it breaks off at {x}")
+        claim((beside < 0) == (sent.to < sent.sender), f"{what}: it breaks off at {x}")
+        later = min((it for it in self.rows.values() if it > way.begin[1]), default=self.end)
+        claim(way.begin[1] < y < later, f"{what}: it breaks off in row {y}")
+
+    def check_repeats(self):
+        """A dotted line for each time that a datagram came again, to where it did."""
+        found = [way_of(it) for it in self.elements if "again" in classes(it)]
+        wanted = []
+        for place, event in enumerate(self.run.events):
+            is_first = self.run.passages.get(event.number, ("", place))[1] == place
+            if event.delivered and place in self.rows and not is_first:
+                wanted.append((event.delivered, place))
+        same("repeated datagrams", len(found), len(wanted))
+        for way, (sent, place) in zip(found, wanted):
+            what = f"#{sent.number} again"
+            dotted = frozenset(["a", "again"])
+            same(f"{what}: its classes", (way.classes, way.has_head), (dotted, True))
+            begin = self.columns[sent.sender], self.rows[sent.event]
+            same(f"{what}: its beginning", way.begin, begin)
+            same(f"{what}: its colour", way.colour, self.labels.colour_of(sent))
+            self.check_end(what, sent, way, place)
+
+    def check_stub_words(self):
+        """The words of each datagram that was never delivered, beyond the end of its arrow."""
+        labels = [it for it in self.texts if it.get("dy") == "4" and set(classes(it)) & set(
+            f"f{it}" for it in "abcdefghpr")]
+        sent = [it for it in self.run.datagrams if it.number not in self.run.passages]
+        same("words of broken arrows", [it.text for it in labels],
+             [f"#{it.number} {self.words.message(it)}" for it in sent])
+        arrows = {it.get("id"): it for it in self.elements if it.tag == f"{SVG}g"}
+        for label, it in zip(labels, sent):
+            path = arrows[f"datagram-{it.number}"].find(f"{SVG}path[@class]")
+            way, what = way_of(path), f"the words of #{it.number}"
+            same(f"{what}: row", int(label.get("y")), way.end[1])
+            same(f"{what}: colour", letter(label, "f"), way.colour)
+            is_left = way.end[0] < way.begin[0]
+            same(f"{what}: side", "l" in classes(label), is_left)
+            beyond = int(label.get("x")) - way.end[0]
+            claim(0 < abs(beyond) < 2 * NEAR and (beyond < 0) == is_left, f"{what}: at {beyond}")
+
+    def check_inside(self):
+        for words in self.drawn.iter(f"{SVG}text"):
+            is_inside = 0 < int(words.get("x")) < self.wide and 0 < int(words.get("y")) < self.high
+            claim(is_inside, f"words outside of the picture: {words.text}")
