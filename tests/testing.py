@@ -17,6 +17,12 @@ def built(name):
     return max(places, key=lambda it: it.stat().st_mtime if it.exists() else 0)
 
 
+def current(name):
+    """Where the program is that was proved of the sources as they are; it is built if need be."""
+    ran = subprocess.run([ROOT / "tools/program", name], stdout=subprocess.PIPE, text=True)
+    return pathlib.Path(ran.stdout.strip()) if ran.returncode == 0 else sys.exit(1)
+
+
 PROGRAM = pathlib.Path(os.environ.get("BAGPAXOS") or built("bagpaxos"))
 PROBE = pathlib.Path(os.environ.get("PROBE") or built("probe"))
 
