@@ -27,7 +27,8 @@ def stop(why):
 
 
 def wait_for(name):
-    """Says that this crate's proof is here, and waits for a file."""
+    """Says that this crate's proof is here, how far it is, and waits for a file."""
+    print("so far: 0 of 2 functions checked\nso far: 1 of 2 functions checked", flush=True)
     new = NOTES / f"{NAME}.new"
     new.write_text(str(os.getpid()))
     new.replace(NOTES / f"{NAME}.here")
@@ -78,5 +79,8 @@ def prove(verb):
 
 if sys.argv[1] == "version":
     print((NOTES / "version").read_text())
+elif sys.argv[1] == "ci":
+    note("begin ci")
+    print("5 passed, 0 failed")
 else:
     prove(sys.argv[1])

@@ -1,5 +1,6 @@
 """What the tests share: the built programs, what is counted, a room for each part. No test of
-itself. BAGPAXOS and PROBE name other programs in place of the built ones."""
+itself. BAGPAXOS and PROBE name the programs, as ./test does; without them a program is taken that
+was built in its crate's folder, or taken from release/, whichever came last."""
 import os
 import pathlib
 import subprocess
@@ -8,8 +9,22 @@ import tempfile
 
 TESTS = pathlib.Path(__file__).resolve().parent
 ROOT = TESTS.parent
-PROGRAM = pathlib.Path(os.environ.get("BAGPAXOS", ROOT / "crates/bagpaxos/out/bagpaxos"))
-PROBE = pathlib.Path(os.environ.get("PROBE", ROOT / "crates/probe/out/probe"))
+
+
+def built(name):
+    """Where the program is that came last."""
+    places = [ROOT / f"crates/{name}/out/{name}", ROOT / f"out/released/{name}"]
+    return max(places, key=lambda it: it.stat().st_mtime if it.exists() else 0)
+
+
+def current(name):
+    """Where the program is that was proved of the sources as they are; it is built if need be."""
+    ran = subprocess.run([ROOT / "tools/program", name], stdout=subprocess.PIPE, text=True)
+    return pathlib.Path(ran.stdout.strip()) if ran.returncode == 0 else sys.exit(1)
+
+
+PROGRAM = pathlib.Path(os.environ.get("BAGPAXOS") or built("bagpaxos"))
+PROBE = pathlib.Path(os.environ.get("PROBE") or built("probe"))
 
 
 class Count:
@@ -34,7 +49,7 @@ class Count:
 def need(*programs):
     """Ends a test where one of these isn't built."""
     if not all(os.access(it, os.X_OK) for it in programs):
-        print("there is no built program: run ./bagpaxos --help, or rt ci, first")
+        print("there is no built program: run ./test, or rt ci, first")
         print("0 passed, 1 failed")
         sys.exit(1)
 
