@@ -6,3 +6,5 @@ pub mod Refined
 pub mod Cells
 pub mod Overlapping
 pub mod NewFiles
+pub mod AskedDeposits
+pub mod DecidedOnce

@@ -8,3 +8,4 @@ pub mod Refinement
 pub mod Laws
 pub mod Overlaps
 pub mod FileCells
+pub mod Examples

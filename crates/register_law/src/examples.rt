@@ -1,6 +1,7 @@
 ghost use Rattle.std.specs.Prelude.{◌≡◌, true, IfOk};
 ghost use Rattle.fed_types.specs.Lists.{is_in};
 ghost use Rattle.fed_types.specs.Sites.{members_of};
+ghost use Rattle.register_law.specs.Examples.{ABagIsDeposited, ARegisterIsDecided};
 ghost use Rattle.register_law.specs.FileCells.{BeginsAHistory, TellTheirBytes};
 
 use book::OpenFault;
@@ -9,8 +10,19 @@ use records::Owner;
 use site::Site;
 use std::alloc::Global;
 
-/// A cell in a file of which all is known tells its bytes, so the laws are about it too. It does
-/// nothing: its contract is the example.
+// A function here does nothing but where it says so: its contract is an example, computed.
+
+/// There is a valid bag, and a request to deposit it.
+pub fn a_bag_is_deposited()
+    ensures { ABagIsDeposited }
+{}
+
+/// A register is open at first, is decided for such a bag, and then it is reported.
+pub fn a_register_is_decided()
+    ensures { ARegisterIsDecided }
+{}
+
+/// A cell in a file of which all is known tells its bytes, so the laws are about it too.
 pub fn file_cells_tell_their_bytes()
     ensures { TellTheirBytes ⟦<FileCell<MemoryFile> as Cell>⟧.device }
 {}
