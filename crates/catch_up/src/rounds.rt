@@ -69,7 +69,8 @@ pub fn catch_up_on<P: Port, C: Clock, W: CountedWrite>(
 ) -> Result<u8, ProgramFault>
     ensures told { IsCaughtUp asked.now versions.old (P.traffic port.old) (P.traffic port.new)
         (W.contents output.old) (W.contents output.new) result }
-    ensures cause { HasCause ProgramFault.Output (W.failures output.old) (W.failures output.new) result }
+    ensures cause { HasCause ProgramFault.Output (W.failures output.old) (W.failures output.new)
+        result }
 {
     match report_on(alloc, clock, port, asked, versions, seconds, output) {
         Ok(status) => Ok(status),

@@ -16,7 +16,8 @@ returns-in_err-same-clause-asked g c =
     (g.W.CountedWrite.contents c.ask_unless_known.new.output) c.from_residual.result
     c.in_err-same.field-0.0 c.from_residual.ensures.1
     (stopped c.args.asked.now c.args.versions.now (g.P.Port.traffic c.args.port.now)
-    (g.W.CountedWrite.contents c.args.output.now) c.loop-version.versions c.loop-version.version-index
+    (g.W.CountedWrite.contents c.args.output.now) c.loop-version.versions
+    c.loop-version.version-index
     c.version-item.result c.ask_unless_known.new.version (g.P.Port.traffic c.loop-version.port)
     (g.P.Port.traffic c.ask_unless_known.new.port) (g.W.CountedWrite.contents c.loop-version.output)
     (g.W.CountedWrite.contents c.ask_unless_known.new.output) c.loop-version.same
@@ -43,10 +44,13 @@ overflow_add-same g c =
 pub loop-version-preserved : goal.loop-version-preserved
 loop-version-preserved g c = (
   one_more c.args.asked.now c.args.versions.now (g.P.Port.traffic c.args.port.now)
-      (g.W.CountedWrite.contents c.args.output.now) c.loop-version.versions c.loop-version.version-index
+      (g.W.CountedWrite.contents c.args.output.now) c.loop-version.versions
+      c.loop-version.version-index
       c.version-item.result c.ask_unless_known.new.version (g.P.Port.traffic c.loop-version.port)
-      (g.P.Port.traffic c.ask_unless_known.new.port) (g.W.CountedWrite.contents c.loop-version.output)
-      (g.W.CountedWrite.contents c.ask_unless_known.new.output) c.loop-version.same c.in_ok-same.field-0
+      (g.P.Port.traffic c.ask_unless_known.new.port) (g.W.CountedWrite.contents
+      c.loop-version.output)
+      (g.W.CountedWrite.contents c.ask_unless_known.new.output) c.loop-version.same
+      c.in_ok-same.field-0
       (omega arith) (omega arith) c.in_ok-same.ensures.asked c.loop-version.invariant.0,
   c.in_ok-same.ensures.cause.same (λ is. absurd (cc is)) ∙ c.loop-version.invariant.1,
 )

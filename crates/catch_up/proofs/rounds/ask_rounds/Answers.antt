@@ -12,7 +12,8 @@ returns-in_err-same-clause-asked g c =
     (stops_at_round c.args.asked.now c.args.versions.now (g.P.Port.traffic c.args.port.now)
     (g.W.CountedWrite.contents c.args.output.now) c.loop.versions c.ask_round.new.versions
     (g.P.Port.traffic c.loop.port) (g.P.Port.traffic c.ask_round.new.port)
-    (g.W.CountedWrite.contents c.loop.output) (g.W.CountedWrite.contents c.ask_round.new.output) c.loop.same
+    (g.W.CountedWrite.contents c.loop.output) (g.W.CountedWrite.contents c.ask_round.new.output)
+    c.loop.same
     c.loop.counter c.in_err-same.field-0.0 c.loop.invariant.0 c.in_err-same.ensures.asked)
 
 pub overflow_add-same : goal.overflow_add-same
@@ -21,12 +22,15 @@ overflow_add-same g c =
       arith,
       same_at_most c.args.asked.now c.args.versions.now (g.P.Port.traffic c.args.port.now)
           (g.W.CountedWrite.contents c.args.output.now) c.ask_round.new.versions
-          (g.P.Port.traffic c.ask_round.new.port) (g.W.CountedWrite.contents c.ask_round.new.output) _ _
+          (g.P.Port.traffic c.ask_round.new.port) (g.W.CountedWrite.contents c.ask_round.new.output)
+          _ _
           (next_round c.args.asked.now c.args.versions.now (g.P.Port.traffic c.args.port.now)
           (g.W.CountedWrite.contents c.args.output.now) c.loop.versions c.ask_round.new.versions
           (g.P.Port.traffic c.loop.port) (g.P.Port.traffic c.ask_round.new.port)
-          (g.W.CountedWrite.contents c.loop.output) (g.W.CountedWrite.contents c.ask_round.new.output)
-          c.loop.same c.loop.counter c.in_ok-same.field-0 c.loop.invariant.0 c.in_ok-same.ensures.asked),
+          (g.W.CountedWrite.contents c.loop.output) (g.W.CountedWrite.contents
+          c.ask_round.new.output)
+          c.loop.same c.loop.counter c.in_ok-same.field-0 c.loop.invariant.0
+          c.in_ok-same.ensures.asked),
     )
 
 pub returns-then-all-clause-asked : goal.returns-then-all-clause-asked

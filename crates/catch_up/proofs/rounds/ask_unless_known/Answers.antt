@@ -10,5 +10,6 @@ pub returns-clause-asked : goal.returns-clause-asked
 returns-clause-asked g c =
     not_known c.args.asked.now c.args.version.now c.ask_version.new.version
     (g.P.Port.traffic c.args.port.now) (g.P.Port.traffic c.ask_version.new.port)
-    (g.W.CountedWrite.contents c.args.output.now) (g.W.CountedWrite.contents c.ask_version.new.output)
+    (g.W.CountedWrite.contents c.args.output.now) (g.W.CountedWrite.contents
+    c.ask_version.new.output)
     c.ask_version.result c.if-version.false c.ask_version.ensures.asked

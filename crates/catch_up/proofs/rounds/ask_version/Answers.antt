@@ -35,7 +35,8 @@ returns-in_err-line-clause-asked g c =
     (subst (λ (answer : Answer). IsAskedFor c.args.asked.now c.args.version.now.slot
     (g.P.Port.traffic c.args.port.now) (g.P.Port.traffic c.known_bag.new.port) (Ok answer))
     c.in-Some.is c.in_ok-bag.ensures)
-    (g.W.CountedWrite.contents c.args.output.now) (g.W.CountedWrite.contents c.args.output.now) Memory
+    (g.W.CountedWrite.contents c.args.output.now) (g.W.CountedWrite.contents c.args.output.now)
+    Memory
     (no_part (g.W.CountedWrite.contents c.args.output.now) _))
 
 pub returns-in_err-say-clause-asked : goal.returns-in_err-say-clause-asked
@@ -52,7 +53,8 @@ returns-in_err-say-clause-asked g c =
     (g.W.CountedWrite.contents c.args.output.now) (g.W.CountedWrite.contents c.say.new.output)
     c.in_err-say.field-0.0
     (subst (λ (line : List ℕ). AppendsPart (g.W.CountedWrite.contents c.args.output.now)
-    (g.W.CountedWrite.contents c.say.new.output) line) (c.as_str.ensures.value ∙ c.in_ok-line.ensures)
+    (g.W.CountedWrite.contents c.say.new.output) line) (c.as_str.ensures.value ∙
+    c.in_ok-line.ensures)
     c.in_err-say.ensures.part))
 
 pub returns-clause-asked : goal.returns-clause-asked

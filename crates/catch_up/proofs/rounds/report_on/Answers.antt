@@ -5,7 +5,8 @@ pub returns-in_err-same-clause-asked : goal.returns-in_err-same-clause-asked
 returns-in_err-same-clause-asked g c =
     stops_in_rounds c.args.asked.now c.args.versions.now (g.P.Port.traffic c.args.port.now)
     (g.P.Port.traffic c.ask_rounds.new.port) (g.W.CountedWrite.contents c.args.output.now)
-    (g.W.CountedWrite.contents c.ask_rounds.new.output) c.from_residual.result c.in_err-same.field-0.0
+    (g.W.CountedWrite.contents c.ask_rounds.new.output) c.from_residual.result
+    c.in_err-same.field-0.0
     c.from_residual.ensures.1 c.in_err-same.ensures.asked
 
 pub returns-in_err-write_open-clause-asked : goal.returns-in_err-write_open-clause-asked

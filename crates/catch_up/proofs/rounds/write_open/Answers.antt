@@ -10,7 +10,8 @@ use Rattle.catch_up.proofs.rounds.write_open.Goals as goal
 
 pub loop-version-init : goal.loop-version-init
 loop-version-init g c = (
-  subst (Appends (g.W.CountedWrite.contents c.args.output.now) (g.W.CountedWrite.contents c.args.output.now))
+  subst (Appends (g.W.CountedWrite.contents c.args.output.now) (g.W.CountedWrite.contents
+      c.args.output.now))
       no_open_lines (Appends-nil (g.W.CountedWrite.contents c.args.output.now)),
   refl,
 )
