@@ -45,8 +45,9 @@ pub fn rounds_are_left()
 
 /// An undisturbed ballot is decided: where a member begins one that is above all that the members
 /// that run, a quorum, have promised, and of the slot nothing arrives but what is sent since, each
-/// such datagram to one of them at least once, in any order, then all of them know a bag. Of other
-/// slots, and at other members, anything may happen meanwhile.
+/// such datagram to one of them at least once, in any order, then all of them know a bag. Meanwhile
+/// anything may happen of other slots in which nothing fails at those that run; and at other
+/// members, what isn't of the slot.
 pub fn an_undisturbed_ballot_is_decided()
     ensures { (q : QuorumSystem) (history : List Event) (running : List ℕ) (slot : SlotName)
         (site : ℕ) (events : List Event) → AreQuorums q → AreMembers q running
