@@ -43,7 +43,7 @@ use Rattle.serving_law.proofs.Happenings.{HasFolders, with_folders}
 use Rattle.serving_law.proofs.Scene.{OnlyNow}
 use Rattle.register_law.specs.Overlaps.{own_after, MayHappenTo, IsAccount}
 use Rattle.process_law.specs.Processes.{moves_of, lines_of, moves_shown, text_shown, IsSeen}
-use Rattle.process_law.specs.Processes.{after_account, ProcessesHaveAccounts}
+use Rattle.process_law.specs.Processes.{after_account, AccountsGoOn, ProcessesHaveAccounts}
 use Rattle.process_law.proofs.Parts.{needs, moment, follows}
 
 -- this moment of a device is one of those since an earlier one
@@ -512,6 +512,13 @@ module _ {C : Type 0} (device : C → Device) (members : Membership)
       is_account : (account : List (Happening C)) × IsAccount device members (Down records) account
           × (after_account (Down records) account ≡ Down left) × IsSeen before after account
       is_account = (all.account, all.is, all.ends, is_seen)
+
+pub accounts_go_on : {C : Type 0} (device : C → Device) (members : Membership)
+    → AccountsGoOn device members
+unfolding IsAccount after_account
+accounts_go_on device members m [] next is then_is = then_is
+accounts_go_on device members m (h ∷ first) next is then_is =
+    (is.0, accounts_go_on device members (own_after m h) first next is.1 then_is)
 
 module _ {C : Type 0} (device : C → Device) (members : Membership)
     (counts_now : CountsNow device) (only_now : OnlyNow device)

@@ -56,6 +56,13 @@ after_account m [] = m
 after_account m (h ∷ account) = after_account (own_after m h) account
 
 module _ {C : Type 0} (device : C → Device) (members : Membership) where
+  -- Accounts go on, as those of one process after another: where the one ends the next begins.
+  abbrev pub AccountsGoOn : Type 0
+  AccountsGoOn =
+      (m : Member C) (first next : List (Happening C))
+      → IsAccount device members m first → IsAccount device members (after_account m first) next
+      → IsAccount device members m (first ++ next)
+
   -- Let a cell say these records, as its member was left; a process opens the site over it, and
   -- serves, until it ends, and its cell then recovers to the records that are left. That is an
   -- account of the member, from the one to the other, of what the port and the writer were given.
