@@ -39,7 +39,7 @@ fn label_of(
 fn note(scene: &Scene<'_>, datagram: &Datagram) -> &'static str {
     match scene.event.outcome {
         Outcome::Skipped(_) => " · down",
-        Outcome::Down if scene.event.record.is_some() => " · recorded, stops",
+        Outcome::Down if scene.event.has_recorded() => " · recorded, stops",
         Outcome::Down => " · stops, no record",
         Outcome::Failed => " · device fails",
         Outcome::Unopened => " · not heard",

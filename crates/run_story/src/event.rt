@@ -69,6 +69,8 @@ pub struct Event {
     pub sent_after: usize,
     /// What the record says that is in the site's cell since.
     pub record: Option<Entry>,
+    /// The site's device had failed before it: the record is of the call that failed.
+    pub was_unopened: bool,
     /// The tree of the bag that its record or its line names, 0 where they name none.
     pub tree: u32,
 }
@@ -77,6 +79,11 @@ impl Event {
     /// The site did what it was called to do.
     pub fn is_done(&self) -> bool {
         matches!(self.outcome, Outcome::Done | Outcome::Learned)
+    }
+
+    /// Its own call made a record, which is in the site's cell since.
+    pub fn has_recorded(&self) -> bool {
+        self.record.is_some() && !self.was_unopened
     }
 
     /// The site forgets what it has heard.

@@ -27,6 +27,8 @@ pub(crate) struct Notes {
     slots: ListedRows<usize>,
     // How many records each site has, site 1 first.
     records: Vec<usize>,
+    // Whether each site needs opening, since its device has failed.
+    unopened: Vec<bool>,
     events: Vec<Event>,
     // How many of the federation's lines were read.
     lines: usize,
@@ -43,8 +45,10 @@ impl Notes {
     /// Nothing has happened.
     pub(crate) fn new(alloc: Global, members: Members) -> Result<Notes, AllocError> {
         let mut records = Vec::new(alloc);
+        let mut unopened = Vec::new(alloc);
         for _ in 0..members.count() {
             records.push(0)?;
+            unopened.push(false)?;
         }
         Ok(Notes {
             alloc,
@@ -53,6 +57,7 @@ impl Notes {
             passages: Vec::new(alloc),
             slots: ListedRows::new(alloc),
             records,
+            unopened,
             events: Vec::new(alloc),
             lines: 0,
         })
@@ -212,6 +217,7 @@ impl Notes {
             return Ok(());
         }
         let place = usize::from(event.site).wrapping_sub(1);
+        event.was_unopened = self.note_failure(place, event.outcome);
         if let Some(station) = federation.stations().get(place) {
             let recorded = recorded_at(self.alloc, self.members, station)?;
             if self.has_grown(place, recorded.count) {
@@ -222,6 +228,20 @@ impl Notes {
             }
         }
         Ok(())
+    }
+
+    // Notes whether the site at this place needs opening since: did it before?
+    fn note_failure(&mut self, place: usize, outcome: Outcome) -> bool {
+        let Some(unopened) = self.unopened.get_mut(place) else {
+            return false;
+        };
+        let before = *unopened;
+        match outcome {
+            Outcome::Failed => *unopened = true,
+            Outcome::Down | Outcome::Up => *unopened = false,
+            _ => {}
+        }
+        before
     }
 
     // Notes how many records the site at this place has: more than before?

@@ -14,7 +14,7 @@ pub(crate) fn stop(event: &Event) -> &'static str {
 
 // In a device call, if there was one.
 fn stop_in(event: &Event, device: DeviceCall) -> &'static str {
-    if event.record.is_none() {
+    if !event.has_recorded() {
         return " before it is done, with nothing of it on record";
     }
     match device {
