@@ -7,6 +7,8 @@ import itertools
 import string
 
 SEED, MULTIPLIER, WORD = 0x243F6A8885A308D3, 0x9E3779B97F4A7C15, 2**64 - 1
+# A table of 73,729 to 147,456 has so many groups.
+GROUPS = 16_384
 # What a name may begin with here: a schedule has these bytes as they are.
 PLAIN = (string.ascii_letters + string.digits).encode()
 
@@ -64,3 +66,17 @@ def names(count):
         if set(third) <= set(PLAIN):
             return [first + third + b"%08d" % it + b"-and-after-them-" for it in range(count)]
     raise AssertionError("no word begins names that collide")
+
+
+def numbers(count):
+    """Numbers of four bytes whose hashes lie at the first sixteenth of a table of 16,384 groups. A
+    group holds twelve; one that finds its group full goes to the next. So they fill one run, and
+    each look-up goes through it."""
+    found = (it for it in itertools.count(1) if group_of(it) < GROUPS // 16)
+    return list(itertools.islice(found, count))
+
+
+def group_of(number):
+    """The group at which a number's hash lies: its halves are joined, and the last bits count."""
+    state = folded(SEED ^ (number | number << 32), MULTIPLIER ^ 8)
+    return (state ^ state >> 32) % GROUPS
