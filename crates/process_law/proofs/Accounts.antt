@@ -8,16 +8,16 @@ use Rattle.std.specs.List.{flat_map}
 use Rattle.std.specs.Io.KnownBytes.{Appends}
 use Rattle.std.proofs.Math.Seq.{take-length}
 use Rattle.std.proofs.lemmas.List.{length-map}
+use Rattle.std.proofs.lemmas.List.Concat.{flat_map-append}
 use Rattle.bag_tree.specs.declared.fault.TreeFault.{TreeFault}
 use Rattle.bag_tree.specs.Facts.{TreeFacts}
-use Rattle.fed_types.specs.Lists.{Has}
+use Rattle.fed_types.specs.Lists.{Has, here, there}
 use Rattle.fed_types.specs.Sites.{Membership, members_of}
-use Rattle.fed_types.specs.Laws.Lists.{is_in_decides}
+use Rattle.fed_types.specs.Laws.Lists.{is_in_decides, has_none}
 use Rattle.cell_device.specs.Devices.{Device}
 use Rattle.cell_device.specs.Images.{MayLeave}
 use Rattle.records.specs.declared.record.Record.{Record}
 use Rattle.outcomes.specs.declared.fault.ProgramFault.{ProgramFault}
-use Rattle.outcomes.specs.Outcomes.{Outcome, no_memory}
 use Rattle.outcomes.proofs.KnownBytes.{Appends-trans}
 use Rattle.proposer.specs.VolatileStates.{new_volatile}
 use Rattle.book.specs.Opened.{Opens}
@@ -32,9 +32,8 @@ use Rattle.udp_site.specs.Served as served
 use Rattle.udp_site.specs.Requests.{request_of}
 use Rattle.udp_site.proofs.Growth.{Grows-trans, Grows-none, Appends-none}
 use Rattle.site_commands.specs.declared.site_arguments.Turns as arguments
-use Rattle.site_commands.specs.Answers.{IsWritten, IsTold}
-use Rattle.site_commands.specs.Services.{GoesOn, EndsBy, ServesOn, ServedBy, HasServed, IsConcluded}
-use Rattle.site_commands.specs.Services.{turns_in, most_calls, stopped}
+use Rattle.site_commands.specs.Services.{GoesOn, ServesOn, HasServed}
+use Rattle.site_commands.specs.Services.{turns_in, most_calls}
 use Rattle.serving_law.specs.Federations.{Member, Serves, Down, Federation, Step, Happening}
 use Rattle.serving_law.specs.Federations.{Turns, Fails, Ends, Renews, Starts}
 use Rattle.serving_law.specs.Reports.{showing_of}
@@ -42,7 +41,9 @@ use Rattle.serving_law.specs.Rules.{May, MayCome, MayRecoverTo, ReadGives, owner
 use Rattle.serving_law.proofs.Happenings.{HasFolders, with_folders}
 use Rattle.serving_law.proofs.Scene.{OnlyNow}
 use Rattle.register_law.specs.Overlaps.{own_after, MayHappenTo, IsAccount}
-use Rattle.process_law.specs.Processes.{moves_of, lines_of, moves_shown, text_shown, IsSeen}
+use Rattle.process_law.specs.Processes.{moves_of, lines_of, last_moves, IsSeen}
+use Rattle.process_law.specs.Processes.{turns_of, all_turns, MayFollow, IsWhole, EndsWithin, IsEnd}
+use Rattle.process_law.specs.Processes.{IsOfProcess}
 use Rattle.process_law.specs.Processes.{after_account, AccountsGoOn, ProcessesHaveAccounts}
 use Rattle.process_law.proofs.Parts.{needs, moment, follows}
 
@@ -66,28 +67,27 @@ module _ {C : Type 0} (device : C → Device) (members : Membership)
     abbrev rule : Rule C
     rule = turn_of device ports gives
 
-    -- an account from here on, until the member is down, with these moves and this text
-    record Rest (m : Member C) (left : List Record) (moves : List Move) (text : List ℕ) : Type 0
-      where
-        account : List (Happening C)
-        is : IsAccount device members m account
-        ends : after_account m account ≡ Down left
-        moves_are : moves_of account ≡ moves
-        text_is : lines_of account ≡ text
+    -- An account from here on, until the member is down: these whole turns, and then perhaps one
+    -- that may be shown in part, of which these moves were made and this text was written.
+    record Rest (result : Result (Unit {0}) ServeFault) (m : Member C) (left : List Record)
+        (turns : List Turned) (moves : List Move) (text : List ℕ) : Type 0 where
+      whole : List (Happening C)
+      end : List (Happening C)
+      are_whole : (h : Happening C) → Has h whole → IsWhole n ports gives h
+      is_end : IsEnd n ports gives result left end
+      turns_are : turns_of whole ≡ turns
+      is : IsAccount device members m (whole ++ end)
+      ends : after_account m (whole ++ end) ≡ Down left
+      moves_are : moves_of (whole ++ end) ≡ flat_map served.moves_of turns ++ moves
+      text_is : lines_of (whole ++ end) ≡ flat_map text_of turns ++ text
 
-    -- one happening more, before it
-    one_more : (m : Member C) (h : Happening C) (left : List Record) (moves : List Move)
-        (text : List ℕ) → MayHappenTo device members m h
-        → Rest (own_after m h) left moves text
-        → Rest m left (moves_shown (showing_of h) ++ moves) (text_shown (showing_of h) ++ text)
-    unfolding IsAccount after_account moves_of lines_of
-    one_more m h left moves text may rest = record {
-      account = h ∷ rest.account;
-      is = (may, rest.is);
-      ends = rest.ends;
-      moves_are = ap (λ (ms : List Move). moves_shown (showing_of h) ++ ms) rest.moves_are;
-      text_is = ap (λ (ts : List ℕ). text_shown (showing_of h) ++ ts) rest.text_is;
-    }
+    -- one whole happening more, before others
+    both_whole : (h : Happening C) (whole : List (Happening C)) → IsWhole n ports gives h
+        → ((k : Happening C) → Has k whole → IsWhole n ports gives k)
+        → (k : Happening C) → Has k (h ∷ whole) → IsWhole n ports gives k
+    both_whole h whole is are k (here e) =
+        subst (λ (j : Happening C). IsWhole n ports gives j) e is
+    both_whole h whole is are k (there among) = are k among
 
     -- ---- the end
 
@@ -109,21 +109,16 @@ module _ {C : Type 0} (device : C → Device) (members : Membership)
       says = m.says;
     }
 
-    no_more : (left : List Record) → Rest (Down left) left [] []
-    unfolding IsAccount after_account moves_of lines_of
-    no_more left = record {
-      account = [];
-      is = tt;
-      ends = refl;
-      moves_are = refl;
-      text_is = refl;
-    }
-
-    ended : (s : Serving C) (left : List Record) → Recovers s s left
-        → Rest (Serves s) left [] []
-    unfolding IsAccount after_account moves_of lines_of
-    ended s left recovers = record {
-      account = Ends n left ∷ [];
+    ended : (result : Result (Unit {0}) ServeFault) (s : Serving C) (left : List Record)
+        → IsEnd {C = C} n ports gives result left (Ends n left ∷ []) → Recovers s s left
+        → Rest result (Serves s) left [] [] []
+    unfolding IsAccount after_account moves_of lines_of turns_of
+    ended result s left between recovers = record {
+      whole = [];
+      end = Ends n left ∷ [];
+      are_whole = λ h among. absurd (has_none among);
+      is_end = between;
+      turns_are = refl;
       is = (λ f is come. (s, (has, is), recovers), tt);
       ends = refl;
       moves_are = refl;
@@ -131,6 +126,16 @@ module _ {C : Type 0} (device : C → Device) (members : Membership)
     }
 
     -- ---- turns
+
+    -- how much of a last turn is shown
+    abbrev IsShown : Type 1
+    IsShown = Turned → (handed written : ℕ) → Type 0
+
+    -- so a process may end that has this result
+    abbrev MayEnd : Result (Unit {0}) ServeFault → IsShown → List Record → Type 0
+    MayEnd result Shown left =
+        (end : List (Happening C)) → EndsWithin n ports gives Shown left end
+        → IsEnd n ports gives result left end
 
     module _ (old next : Serving C) (turn : Turned)
         (came : turn_of device ports gives old turn.took turn.done next) where
@@ -152,75 +157,110 @@ module _ {C : Type 0} (device : C → Device) (members : Membership)
       fails_may handed written left shut recovers f is come =
           (old, (has, is), record { may_come = come; comes = folders.2 }, shut, recovers)
 
+      abbrev whole_turn : Happening C
+      whole_turn = Turns n step (length turn.done.posts) (length (text_of turn))
+
       -- a whole turn
-      turn_more : (left : List Record) (moves : List Move) (text : List ℕ)
-          → needs device next ≡ false → Rest (Serves next) left moves text
-          → Rest (Serves old) left (served.moves_of turn ++ moves) (text_of turn ++ text)
-      turn_more left moves text opened rest =
-          subst (λ (ms : List Move). Rest (Serves old) left ((Took turn.took ∷ ms) ++ moves)
-          (text_of turn ++ text)) (all_posts turn.done.posts)
-          (subst (λ (ts : List ℕ). Rest (Serves old) left
-          ((Took turn.took ∷ take (length turn.done.posts) (all_handed turn.done.posts)) ++ moves)
-          (ts ++ text)) (take-length (text_of turn))
-          (one_more (Serves old)
-          (Turns n step (length turn.done.posts) (length (text_of turn))) left moves text
-          (turn_may (length turn.done.posts) (length (text_of turn)) opened) rest))
+      turn_more : (result : Result (Unit {0}) ServeFault) (left : List Record)
+          (turns : List Turned) (moves : List Move) (text : List ℕ)
+          → needs device next ≡ false → Rest result (Serves next) left turns moves text
+          → Rest result (Serves old) left (turn ∷ turns) moves text
+      unfolding IsAccount after_account moves_of lines_of turns_of
+      turn_more result left turns moves text opened rest = record {
+        whole = whole_turn ∷ rest.whole;
+        end = rest.end;
+        are_whole =
+            both_whole whole_turn rest.whole (refl, (refl, folders.1), refl, refl) rest.are_whole;
+        is_end = rest.is_end;
+        turns_are = ap (λ (ts : List Turned). turn ∷ ts) rest.turns_are;
+        is = (turn_may (length turn.done.posts) (length (text_of turn)) opened, rest.is);
+        ends = rest.ends;
+        moves_are =
+            ap (λ (ms : List Move). (Took turn.took ∷ ms) ++ moves_of (rest.whole ++ rest.end))
+            (all_posts turn.done.posts)
+            ∙ ap (λ (ms : List Move). served.moves_of turn ++ ms) rest.moves_are
+            ∙ sym (append_assoc (served.moves_of turn) (flat_map served.moves_of turns) moves);
+        text_is =
+            ap (λ (ts : List ℕ). ts ++ lines_of (rest.whole ++ rest.end))
+            (take-length (text_of turn))
+            ∙ ap (λ (ts : List ℕ). text_of turn ++ ts) rest.text_is
+            ∙ sym (append_assoc (text_of turn) (flat_map text_of turns) text);
+      }
 
       -- the last one, whole or not
-      last_turn : (left : List Record) (handed written : ℕ) → Recovers next next left
-          → Rest (Serves old) left
-          (Took turn.took ∷ take handed (all_handed turn.done.posts)) (take written (text_of turn))
-      last_turn left handed written recovers = go (needs device next) refl
-        where
-          go : (shut : Bool) → needs device next ≡ shut
-              → Rest (Serves old) left
-              (Took turn.took ∷ take handed (all_handed turn.done.posts))
-              (take written (text_of turn))
-          go false opened =
-              subst (λ (ms : List Move). Rest (Serves old) left ms
-              (take written (text_of turn)))
-              (append-nil (Took turn.took ∷ take handed (all_handed turn.done.posts)))
-              (subst (λ (ts : List ℕ). Rest (Serves old) left
-              ((Took turn.took ∷ take handed (all_handed turn.done.posts)) ++ []) ts)
-              (append-nil (take written (text_of turn)))
-              (one_more (Serves old) (Turns n step handed written) left [] []
-              (turn_may handed written opened) (ended next left recovers)))
-          go true shut =
-              subst (λ (ms : List Move). Rest (Serves old) left ms
-              (take written (text_of turn)))
-              (append-nil (Took turn.took ∷ take handed (all_handed turn.done.posts)))
-              (subst (λ (ts : List ℕ). Rest (Serves old) left
-              ((Took turn.took ∷ take handed (all_handed turn.done.posts)) ++ []) ts)
-              (append-nil (take written (text_of turn)))
-              (one_more (Serves old) (Fails n step handed written left) left [] []
-              (fails_may handed written left shut
-              (recovers_since old next left (follows device ports gives old next turn came).later
-              recovers))
-              (no_more left)))
+      module _ (result : Result (Unit {0}) ServeFault) (Shown : IsShown) (left : List Record)
+          (handed written : ℕ) (so : Shown turn handed written) (may : MayEnd result Shown left)
+          (recovers : Recovers next next left) where
+        abbrev last_moved : List Move
+        last_moved = Took turn.took ∷ take handed (all_handed turn.done.posts)
+
+        abbrev LastTurn : Type 0
+        LastTurn = Rest result (Serves old) left [] last_moved (take written (text_of turn))
+
+        turn_goes_on : needs device next ≡ false → LastTurn
+        unfolding IsAccount after_account moves_of lines_of turns_of
+        turn_goes_on opened = record {
+          whole = [];
+          end = Turns n step handed written ∷ Ends n left ∷ [];
+          are_whole = λ h among. absurd (has_none among);
+          is_end =
+              may (Turns n step handed written ∷ Ends n left ∷ [])
+              (step, (refl, folders.1), handed, written, so, inl refl);
+          turns_are = refl;
+          is = (
+            turn_may handed written opened,
+            ((λ f is come. (next, (has, is), recovers)), tt),
+          );
+          ends = refl;
+          moves_are = append-nil last_moved;
+          text_is = append-nil (take written (text_of turn));
+        }
+
+        turn_stops : needs device next ≡ true → LastTurn
+        unfolding IsAccount after_account moves_of lines_of turns_of
+        turn_stops shut = record {
+          whole = [];
+          end = Fails n step handed written left ∷ [];
+          are_whole = λ h among. absurd (has_none among);
+          is_end =
+              may (Fails n step handed written left ∷ [])
+              (step, (refl, folders.1), handed, written, so, inr refl);
+          turns_are = refl;
+          is = (
+            fails_may handed written left shut
+                (recovers_since old next left
+                (follows device ports gives old next turn came).later recovers),
+            tt,
+          );
+          ends = refl;
+          moves_are = append-nil last_moved;
+          text_is = append-nil (take written (text_of turn));
+        }
+
+        last_turn : LastTurn
+        last_turn = go (needs device next) refl
+          where
+            go : (shut : Bool) → needs device next ≡ shut → LastTurn
+            go false opened = turn_goes_on opened
+            go true shut = turn_stops shut
 
     -- ---- a call of `serve`
 
     -- whole turns, and then the rest
-    turns_more : (those : List Turned) (start mid : Serving C) (left : List Record)
-        (moves : List Move) (text : List ℕ) → needs device start ≡ false
+    turns_more : (result : Result (Unit {0}) ServeFault) (those : List Turned)
+        (start mid : Serving C) (left : List Record)
+        (turns : List Turned) (moves : List Move) (text : List ℕ) → needs device start ≡ false
         → Leads rule start those mid
-        → (needs device mid ≡ false → Rest (Serves mid) left moves text)
-        → Rest (Serves start) left (flat_map served.moves_of those ++ moves)
-        (flat_map text_of those ++ text)
-    turns_more [] start mid left moves text opened leads rest =
-        subst (λ (s : Serving C). Rest (Serves s) left moves text) (sym leads)
+        → (needs device mid ≡ false → Rest result (Serves mid) left turns moves text)
+        → Rest result (Serves start) left (those ++ turns) moves text
+    turns_more result [] start mid left turns moves text opened leads rest =
+        subst (λ (s : Serving C). Rest result (Serves s) left turns moves text) (sym leads)
         (rest (subst (λ (s : Serving C). needs device s ≡ false) leads opened))
-    turns_more (turn ∷ those) start mid left moves text opened (next, came, not_last, leads) rest =
+    turns_more result (turn ∷ those) start mid left turns moves text opened
+        (next, came, not_last, leads) rest =
         let still = (follows device ports gives start next turn came).opened opened not_last in
-        subst (λ (ms : List Move). Rest (Serves start) left ms
-        (flat_map text_of (turn ∷ those) ++ text))
-        (sym (append_assoc (served.moves_of turn) (flat_map served.moves_of those) moves))
-        (subst (λ (ts : List ℕ). Rest (Serves start) left
-        (served.moves_of turn ++ (flat_map served.moves_of those ++ moves)) ts)
-        (sym (append_assoc (text_of turn) (flat_map text_of those) text))
-        (turn_more start next turn came left (flat_map served.moves_of those ++ moves)
-        (flat_map text_of those ++ text) still
-        (turns_more those next mid left moves text still leads rest)))
+        turn_more start next turn came result left (those ++ turns) moves text still
+        (turns_more result those next mid left turns moves text still leads rest)
 
     -- after these turns no other needs opening
     still_open : (those : List Turned) (start mid : Serving C) → needs device start ≡ false
@@ -232,166 +272,188 @@ module _ {C : Type 0} (device : C → Device) (members : Membership)
         ((follows device ports gives start next turn came).opened opened not_last) leads
 
     -- its idle turns are counted anew
-    renews : (s : Serving C) (left : List Record) (moves : List Move) (text : List ℕ)
-        → Rest (Serves (begins s.site s.volatile)) left moves text
-        → Rest (Serves s) left moves text
-    renews s left moves text rest =
-        one_more (Serves s) (Renews n) left moves text (λ f is come. (s, (has, is))) rest
+    renews : (result : Result (Unit {0}) ServeFault) (s : Serving C) (left : List Record)
+        (turns : List Turned) (moves : List Move) (text : List ℕ)
+        → Rest result (Serves (begins s.site s.volatile)) left turns moves text
+        → Rest result (Serves s) left turns moves text
+    unfolding IsAccount after_account moves_of lines_of turns_of
+    renews result s left turns moves text rest = record {
+      whole = Renews n ∷ rest.whole;
+      end = rest.end;
+      are_whole = both_whole (Renews n) rest.whole refl rest.are_whole;
+      is_end = rest.is_end;
+      turns_are = rest.turns_are;
+      is = (λ f is come. (s, (has, is)), rest.is);
+      ends = rest.ends;
+      moves_are = rest.moves_are;
+      text_is = rest.text_is;
+    }
 
     -- ---- what is seen from outside
 
-    -- so it was outside, and so it is
-    record Seen (before after : Outside) (moves : List Move) (text : List ℕ) : Type 0 where
-      traffic : Grows before.traffic after.traffic moves
-      written : Appends before.written after.written text
+    shows_none : (o : Outside) → Shows o o [] [] []
+    shows_none o = (Grows-none o.traffic, Appends-none o.written)
 
-    seen_none : (o : Outside) → Seen o o [] []
-    seen_none o = record { traffic = Grows-none o.traffic; written = Appends-none o.written }
+    -- of these turns, and of others after them
+    joined : {X : Type 0} (f : Turned → List X) (those turns : List Turned) (rest : List X)
+        → (flat_map f those ++ []) ++ (flat_map f turns ++ rest)
+        ≡ flat_map f (those ++ turns) ++ rest
+    joined {X} f those turns rest =
+        ap (λ (xs : List X). xs ++ (flat_map f turns ++ rest)) (append-nil (flat_map f those))
+        ∙ sym (append_assoc (flat_map f those) (flat_map f turns) rest)
+        ∙ ap (λ (xs : List X). xs ++ rest) (sym (flat_map-append f those turns))
 
-    seen_more : (before between after : Outside) (moves more : List Move) (text longer : List ℕ)
-        → Seen before between moves text → Seen between after more longer
-        → Seen before after (moves ++ more) (text ++ longer)
-    seen_more before between after moves more text longer s t = record {
-      traffic =
-          Grows-trans before.traffic between.traffic after.traffic moves more s.traffic t.traffic;
-      written =
-          Appends-trans before.written between.written after.written text longer s.written
-          t.written;
-    }
+    shows_more : (before between after : Outside) (those turns : List Turned) (moves : List Move)
+        (text : List ℕ) → Shows before between those [] [] → Shows between after turns moves text
+        → Shows before after (those ++ turns) moves text
+    shows_more before between after those turns moves text s t = (
+      subst (λ (ms : List Move). Grows before.traffic after.traffic ms)
+          (joined served.moves_of those turns moves)
+          (Grows-trans before.traffic between.traffic after.traffic
+          (flat_map served.moves_of those ++ []) (flat_map served.moves_of turns ++ moves) s.0 t.0),
+      subst (λ (ts : List ℕ). Appends before.written after.written ts)
+          (joined text_of those turns text)
+          (Appends-trans before.written between.written after.written
+          (flat_map text_of those ++ []) (flat_map text_of turns ++ text) s.1 t.1),
+    )
 
-    -- an account from here on, and what is seen of it; the receive that failed last, if one did
-    record Account (m : Member C) (left : List Record) (before after : Outside) : Type 0 where
+    -- an account from here on, of these turns first, and what is seen of it
+    record Account (m : Member C) (left : List Record) (result : Result (Unit {0}) ServeFault)
+        (first : List Turned) (before after : Outside) : Type 0 where
+      more : List Turned
+      may_follow : MayFollow result more
       moves : List Move
       text : List ℕ
-      rest : Rest m left moves text
-      failed : List Move
-      no_more : (failed ≡ []) ⊎ (failed ≡ Failed ∷ [])
-      seen : Seen before after (moves ++ failed) text
-
-    -- moves and text, and then more
-    both_more : (m k : Member C) (left : List Record) (before between after : Outside)
-        (moves : List Move) (text : List ℕ) → Seen before between moves text
-        → ((more : List Move) (longer : List ℕ) → Rest k left more longer
-        → Rest m left (moves ++ more) (text ++ longer))
-        → Account k left between after → Account m left before after
-    both_more m k left before between after moves text seen grow a = record {
-      moves = moves ++ a.moves;
-      text = text ++ a.text;
-      rest = grow a.moves a.text a.rest;
-      failed = a.failed;
-      no_more = a.no_more;
-      seen =
-          subst (λ (ms : List Move). Seen before after ms (text ++ a.text))
-          (sym (append_assoc moves a.moves a.failed))
-          (seen_more before between after moves (a.moves ++ a.failed) text a.text seen a.seen);
-    }
-
-    shown : (before after : Outside) (those : List Turned) (moves : List Move) (text : List ℕ)
-        → Shows before after those moves text
-        → Seen before after (flat_map served.moves_of those ++ moves)
-        (flat_map text_of those ++ text)
-    shown before after those moves text s = record { traffic = s.0; written = s.1 }
+      rest : Rest result m left (first ++ more) moves text
+      seen : Shows before after (first ++ more) (moves ++ last_moves result) text
 
     -- whole turns of a call, after which others come
-    call_more : (wanted : ℕ) (before between after : Outside) (start mid : Serving C)
-        (those : List Turned) (left : List Record) → needs device start ≡ false
+    call_then : (result : Result (Unit {0}) ServeFault) (before between after : Outside)
+        (start mid : Serving C) (those first : List Turned) (left : List Record)
+        → needs device start ≡ false → Leads rule start those mid
+        → Shows before between those [] []
+        → Account (Serves (begins mid.site mid.volatile)) left result first between after
+        → Account (Serves start) left result (those ++ first) before after
+    call_then result before between after start mid those first left opened leads shows a = record {
+      more = a.more;
+      may_follow = a.may_follow;
+      moves = a.moves;
+      text = a.text;
+      rest =
+          subst (λ (ts : List Turned). Rest result (Serves start) left ts a.moves a.text)
+          (sym (append_assoc those first a.more))
+          (turns_more result those start mid left (first ++ a.more) a.moves a.text opened leads
+          (λ still. renews result mid left (first ++ a.more) a.moves a.text a.rest));
+      seen =
+          subst (λ (ts : List Turned). Shows before after ts (a.moves ++ last_moves result) a.text)
+          (sym (append_assoc those first a.more))
+          (shows_more before between after those (first ++ a.more) (a.moves ++ last_moves result)
+          a.text shows a.seen);
+    }
+
+    call_more : (result : Result (Unit {0}) ServeFault) (wanted : ℕ)
+        (before between after : Outside) (start mid : Serving C) (those first : List Turned)
+        (left : List Record) → needs device start ≡ false
         → served.Serves rule before between start mid wanted those (Ok tt)
         → (needs device mid ≡ false
-        → Account (Serves (begins mid.site mid.volatile)) left between after)
-        → Account (Serves start) left before after
-    call_more wanted before between after start mid those left opened (count, (leads, shows)) next =
-        both_more (Serves start) (Serves (begins mid.site mid.volatile)) left before
-        between after (flat_map served.moves_of those ++ []) (flat_map text_of those ++ [])
-        (shown before between those [] [] shows)
-        (λ more longer rest.
-        subst (λ (ms : List Move). Rest (Serves start) left ms
-        ((flat_map text_of those ++ []) ++ longer))
-        (sym (append_assoc (flat_map served.moves_of those) [] more))
-        (subst (λ (ts : List ℕ). Rest (Serves start) left
-        (flat_map served.moves_of those ++ more) ts)
-        (sym (append_assoc (flat_map text_of those) [] longer))
-        (turns_more those start mid left more longer opened leads
-        (λ still. renews mid left more longer rest))))
+        → Account (Serves (begins mid.site mid.volatile)) left result first between after)
+        → Account (Serves start) left result (those ++ first) before after
+    call_more result wanted before between after start mid those first left opened
+        (count, (leads, shows)) next =
+        call_then result before between after start mid those first left opened leads shows
         (next (still_open those start mid opened leads))
 
-    calls_more : (wanted : ℕ) (before between after : Outside) (start here : Serving C)
-        (calls : List (List Turned)) (left : List Record) → needs device start ≡ false
-        → GoesOn rule wanted before between start here calls
-        → (needs device here ≡ false → Account (Serves here) left between after)
-        → Account (Serves start) left before after
-    calls_more wanted before between after start here [] left opened (same, still) next =
-        subst (λ (o : Outside). Account (Serves start) left o after) still
-        (subst (λ (s : Serving C). Account (Serves s) left between after) same
+    calls_more : (result : Result (Unit {0}) ServeFault) (wanted : ℕ)
+        (before between after : Outside) (start now : Serving C) (calls : List (List Turned))
+        (left : List Record) → needs device start ≡ false
+        → GoesOn rule wanted before between start now calls
+        → (needs device now ≡ false → Account (Serves now) left result [] between after)
+        → Account (Serves start) left result (all_turns calls) before after
+    calls_more result wanted before between after start now [] left opened (same, still) next =
+        subst (λ (o : Outside). Account (Serves start) left result [] o after) still
+        (subst (λ (s : Serving C). Account (Serves s) left result [] between after) same
         (next (subst (λ (s : Serving C). needs device s ≡ false) (sym same) opened)))
-    calls_more wanted before between after start here (those ∷ calls) left opened
+    calls_more result wanted before between after start now (those ∷ calls) left opened
         (mid, inner, served_so, goes_on) next =
-        call_more wanted before inner after start mid those left opened served_so
+        call_more result wanted before inner after start mid those (all_turns calls) left opened
+        served_so
         (λ still.
-        calls_more wanted inner between after (begins mid.site mid.volatile) here calls left still
-        goes_on next)
+        calls_more result wanted inner between after (begins mid.site mid.volatile) now calls left
+        still goes_on next)
 
     -- ---- how it ends
 
+    -- of these whole turns, and then perhaps of one more
+    of_rest : (fault : ServeFault) (before after : Outside) (start : Serving C)
+        (those : List Turned) (moves : List Move) (text : List ℕ) (left : List Record)
+        → Rest (Err fault) (Serves start) left (those ++ []) moves text
+        → Shows before after those (moves ++ last_moves (Err fault)) text
+        → Account (Serves start) left (Err fault) [] before after
+    of_rest fault before after start those moves text left rest shows = record {
+      more = those;
+      may_follow = tt;
+      moves = moves;
+      text = text;
+      rest =
+          subst (λ (ts : List Turned). Rest (Err fault) (Serves start) left ts moves text)
+          (append-nil those) rest;
+      seen = shows;
+    }
+
     -- whole turns, and then no turn
-    ends_between : (before after : Outside) (start end : Serving C) (those : List Turned)
-        (failed : List Move) (left : List Record) → (failed ≡ []) ⊎ (failed ≡ Failed ∷ [])
-        → needs device start ≡ false → Recovers end end left
-        → served.EndsBetween rule before after start end those failed
-        → Account (Serves start) left before after
-    ends_between before after start end those failed left which opened recovers (leads, shows) =
-        record {
-          moves = flat_map served.moves_of those ++ [];
-          text = flat_map text_of those ++ [];
-          rest =
-              turns_more those start end left [] [] opened leads
-              (λ still. ended end left recovers);
-          failed = failed;
-          no_more = which;
-          seen =
-              subst (λ (ms : List Move). Seen before after ms (flat_map text_of those ++ []))
-              (sym (append_assoc (flat_map served.moves_of those) [] failed))
-              (shown before after those failed [] shows);
-        }
+    ends_between : (fault : ServeFault)
+        → ((left : List Record) → IsEnd {C = C} n ports gives (Err fault) left (Ends n left ∷ []))
+        → (before after : Outside) (start end : Serving C) (those : List Turned)
+        (left : List Record) → needs device start ≡ false → Recovers end end left
+        → served.EndsBetween rule before after start end those (last_moves (Err fault))
+        → Account (Serves start) left (Err fault) [] before after
+    ends_between fault between before after start end those left opened recovers (leads, shows) =
+        of_rest fault before after start those [] [] left
+        (turns_more (Err fault) those start end left [] [] [] opened leads
+        (λ still. ended (Err fault) end left (between left) recovers))
+        shows
+
+    -- the moves that were made of a turn
+    abbrev first_of : Turned → ℕ → List Move
+    first_of turn handed = Took turn.took ∷ take handed (all_handed turn.done.posts)
 
     -- whole turns, and then a part of one
-    ends_within : (before after : Outside) (start mid end : Serving C) (those : List Turned)
-        (turn : Turned) (handed written : ℕ) (left : List Record) → needs device start ≡ false
+    ends_within : (fault : ServeFault) → last_moves (Err fault) ≡ []
+        → (before after : Outside) (start mid end : Serving C) (those : List Turned)
+        (turn : Turned) (Shown : IsShown) (handed written : ℕ) (left : List Record)
+        → Shown turn handed written → MayEnd (Err fault) Shown left → needs device start ≡ false
         → Recovers end end left → Leads rule start those mid
         → turn_of device ports gives mid turn.took turn.done end
-        → Shows before after those (Took turn.took ∷ take handed (all_handed turn.done.posts))
-        (take written (text_of turn))
-        → Account (Serves start) left before after
-    ends_within before after start mid end those turn handed written left opened recovers leads came
-        shows = record {
-          moves =
-              flat_map served.moves_of those
-              ++ (Took turn.took ∷ take handed (all_handed turn.done.posts));
-          text = flat_map text_of those ++ take written (text_of turn);
-          rest =
-              turns_more those start mid left
-              (Took turn.took ∷ take handed (all_handed turn.done.posts))
-              (take written (text_of turn))
-              opened leads (λ still. last_turn mid end turn came left handed written recovers);
-          failed = [];
-          no_more = inl refl;
-          seen =
-              subst (λ (ms : List Move). Seen before after ms
-              (flat_map text_of those ++ take written (text_of turn)))
-              (sym (append-nil (flat_map served.moves_of those
-              ++ (Took turn.took ∷ take handed (all_handed turn.done.posts)))))
-              (shown before after those _ _ shows);
-        }
+        → Shows before after those (first_of turn handed) (take written (text_of turn))
+        → Account (Serves start) left (Err fault) [] before after
+    ends_within fault none before after start mid end those turn Shown handed written left so may
+        opened recovers leads came shows =
+        of_rest fault before after start those (first_of turn handed) (take written (text_of turn))
+        left
+        (turns_more (Err fault) those start mid left [] (first_of turn handed)
+        (take written (text_of turn)) opened leads
+        (λ still.
+        last_turn mid end turn came (Err fault) Shown left handed written so may recovers))
+        (subst (λ (ms : List Move). Shows before after those ms (take written (text_of turn)))
+        (sym (ap (λ (ms : List Move). first_of turn handed ++ ms) none
+        ∙ append-nil (first_of turn handed)))
+        shows)
+
+    abbrev whole_posts : IsShown
+    whole_posts turn handed written = handed ≡ length turn.done.posts
 
     -- whole turns, and then one that was handed out whole
-    ends_in_writing : (shut : Bool) (before after : Outside) (start end : Serving C)
-        (those : List Turned) (left : List Record) → needs device start ≡ false
+    ends_in_writing : (fault : ServeFault) → last_moves (Err fault) ≡ []
+        → ((left : List Record) → MayEnd (Err fault) whole_posts left)
+        → (shut : Bool) (before after : Outside) (start end : Serving C) (those : List Turned)
+        (left : List Record) → needs device start ≡ false
         → Recovers end end left
         → served.EndsInWriting rule before after shut start end those
-        → Account (Serves start) left before after
-    ends_in_writing shut before after start end those left opened recovers
+        → Account (Serves start) left (Err fault) [] before after
+    ends_in_writing fault none may shut before after start end those left opened recovers
         (mid, leads, turn, came, last, count, shows) =
-        ends_within before after start mid end those turn (length turn.done.posts) count left opened
-        recovers leads came
+        ends_within fault none before after start mid end those turn whole_posts
+        (length turn.done.posts) count left refl (may left) opened recovers leads came
         (subst (λ (ms : List Move). Shows before after those (Took turn.took ∷ ms)
         (take count (text_of turn))) (sym (all_posts turn.done.posts)) shows)
 
@@ -399,119 +461,129 @@ module _ {C : Type 0} (device : C → Device) (members : Membership)
         (those : List Turned) (left : List Record) → needs device start ≡ false
         → Recovers end end left
         → served.Serves rule before after start end wanted those (Err fault)
-        → Account (Serves start) left before after
+        → Account (Serves start) left (Err fault) [] before after
     ends_by faults.Port wanted before after start end those left opened recovers (fewer, between) =
-        ends_between before after start end those (Failed ∷ []) left (inr refl) opened recovers
+        ends_between faults.Port (λ left. refl) before after start end those left opened recovers
         between
     ends_by faults.Cell wanted before after start end those left opened recovers
         (fewer, writing, needs_opening) =
-        ends_in_writing true before after start end those left opened recovers writing
+        ends_in_writing faults.Cell refl (λ left end e. e) true before after start end those left
+        opened recovers writing
     ends_by faults.Memory wanted before after start end those left opened recovers
         (fewer, inl between) =
-        ends_between before after start end those [] left (inl refl) opened recovers between
+        ends_between faults.Memory (λ left. inl refl) before after start end those left opened
+        recovers between
     ends_by faults.Memory wanted before after start end those left opened recovers
         (fewer, inr (count, (mid, leads, turn, came, shows))) =
-        ends_within before after start mid end those turn count 0 left opened recovers leads came
-        shows
+        ends_within faults.Memory refl before after start mid end those turn
+        (λ turn handed written. written ≡ 0) count 0 left refl (λ end e. inr e) opened recovers
+        leads came shows
     ends_by faults.Output wanted before after start end those left opened recovers
         (fewer, writing) =
-        ends_in_writing false before after start end those left opened recovers writing
+        ends_in_writing faults.Output refl (λ left end e. e) false before after start end those left
+        opened recovers writing
 
     serves_on : (wanted most : ℕ) (before after : Outside) (start end : Serving C)
         (calls : List (List Turned)) (result : Result (Unit {0}) ServeFault) (left : List Record)
         → needs device start ≡ false → Recovers end end left
         → ServesOn rule wanted most before after start end calls result
-        → Account (Serves start) left before after
+        → Account (Serves start) left result (all_turns calls) before after
     serves_on wanted most before after start end calls (Ok tt) left opened recovers
         (all, goes_on) =
-        calls_more wanted before after after start end calls left opened goes_on
+        calls_more (Ok tt) wanted before after after start end calls left opened goes_on
         (λ still. record {
+          more = [];
+          may_follow = refl;
           moves = [];
           text = [];
-          rest = ended end left recovers;
-          failed = [];
-          no_more = inl refl;
-          seen = seen_none after;
+          rest = ended (Ok tt) end left refl recovers;
+          seen = shows_none after;
         })
     serves_on wanted most before after start end calls (Err fault) left opened recovers
         (fewer, (mid, between, goes_on, those, served_so)) =
-        calls_more wanted before between after start mid calls left opened goes_on
+        calls_more (Err fault) wanted before between after start mid calls left opened goes_on
         (λ still. ends_by fault wanted between after mid end those left still recovers served_so)
-
-    -- ---- the last line
-
-    written_line : (old new : Option (List ℕ)) (answer : Result ℕ ProgramFault) (o : Outcome)
-        → IsWritten old new answer o → (line : List ℕ) × Appends old new line
-    written_line old new (Ok status) o w = (o.text, w.1)
-    written_line old new (Err fault) o w = (take w.1.0 o.text, w.1.1)
-
-    told_line : (old new : Option (List ℕ)) (answer : Result ℕ ProgramFault) (o : Outcome)
-        → IsTold old new answer o → (line : List ℕ) × Appends old new line
-    told_line old new answer o (inl w) = written_line old new answer o w
-    told_line old new answer o (inr w) = written_line old new answer no_memory w
-
-    no_line : (old new : Option (List ℕ)) → new ≡ old → (line : List ℕ) × Appends old new line
-    no_line old new same =
-        ([], subst (λ (o : Option (List ℕ)). Appends old o []) (sym same) (Appends-none old))
-
-    last_line : (old new : Option (List ℕ)) (result : Result (Unit {0}) ServeFault)
-        (answer : Result ℕ ProgramFault) → IsConcluded old new result answer
-        → (line : List ℕ) × Appends old new line
-    last_line old new (Ok served_so) answer c = no_line old new c.0
-    last_line old new (Err faults.Output) answer c = no_line old new c.0
-    last_line old new (Err faults.Port) answer c = told_line old new answer (stopped faults.Port) c
-    last_line old new (Err faults.Cell) answer c = told_line old new answer (stopped faults.Cell) c
-    last_line old new (Err faults.Memory) answer c =
-        told_line old new answer (stopped faults.Memory) c
 
     -- ---- a process
 
-    module _ (how : arguments.Turns) (cell : C) (before after : Outside) (answer : Result ℕ ProgramFault)
-        (records left : List Record)
+    module _ (how : arguments.Turns) (cell : C) (before after : Outside)
+        (answer : Result ℕ ProgramFault) (records left : List Record)
         (reads : ReadGives (owner_of device members n) (device cell) records)
         (process : HasServed device rule (owner_of device members n) how cell before after answer)
         (recovers : Recovers process.served.end process.served.end left) where
       abbrev start : Serving C
       start = begins process.site new_volatile
 
-      a : Account (Serves start) left before process.served.ended
+      a : Account (Serves start) left process.served.result (all_turns process.served.calls) before
+          process.served.ended
       a =
           serves_on (turns_in how) (most_calls how) before process.served.ended start
           process.served.end process.served.calls process.served.result left
           process.opened.whose.1 recovers process.served.serves
 
+      abbrev account : List (Happening C)
+      account = Starts n cell process.site ∷ a.rest.whole ++ a.rest.end
+
       starts_may : MayHappenTo device members (Down records) (Starts n cell process.site)
       starts_may f is come = (has, (records, is, reads), process.opened)
 
-      all : Rest (Down records) left a.moves a.text
-      all =
-          one_more (Down records) (Starts n cell process.site) left a.moves a.text starts_may a.rest
+      account_is : IsAccount device members (Down records) account
+      unfolding IsAccount
+      account_is = (starts_may, a.rest.is)
 
-      line : (line : List ℕ) × Appends process.served.ended.written after.written line
-      line =
-          last_line process.served.ended.written after.written process.served.result answer
-          process.served.concluded
+      ends : after_account (Down records) account ≡ Down left
+      unfolding after_account
+      ends = a.rest.ends
 
-      is_seen : IsSeen before after all.account
-      is_seen = record {
-        rest = a.failed;
-        no_more = a.no_more;
-        traffic =
-            subst (λ (ms : List Move). Grows before.traffic after.traffic (ms ++ a.failed))
-            (sym all.moves_are)
-            (subst (λ (t : Option (List Move)). Grows before.traffic t (a.moves ++ a.failed))
-            (sym process.served.still) a.seen.traffic);
-        line = line.0;
-        written =
-            subst (λ (ts : List ℕ). Appends before.written after.written (ts ++ line.0))
-            (sym all.text_is)
-            (Appends-trans before.written process.served.ended.written after.written a.text line.0
-            a.seen.written line.1);
+      is_of : IsOfProcess n ports gives cell process.site process.served.calls
+          process.served.result left account
+      is_of = record {
+        whole = a.rest.whole;
+        end = a.rest.end;
+        split = refl;
+        are_whole = a.rest.are_whole;
+        more = a.more;
+        may_follow = a.may_follow;
+        turns_are = a.rest.turns_are;
+        is_end = a.rest.is_end;
       }
 
-      is_account : (account : List (Happening C)) × IsAccount device members (Down records) account
-          × (after_account (Down records) account ≡ Down left) × IsSeen before after account
-      is_account = (all.account, all.is, all.ends, is_seen)
+      abbrev these : List Turned
+      these = all_turns process.served.calls ++ a.more
+
+      moves_are : moves_of account ++ last_moves process.served.result
+          ≡ flat_map served.moves_of these ++ (a.moves ++ last_moves process.served.result)
+      unfolding moves_of
+      moves_are =
+          ap (λ (ms : List Move). ms ++ last_moves process.served.result) a.rest.moves_are
+          ∙ append_assoc (flat_map served.moves_of these) a.moves
+          (last_moves process.served.result)
+
+      text_is : lines_of account ≡ flat_map text_of these ++ a.text
+      unfolding lines_of
+      text_is = a.rest.text_is
+
+      is_seen : IsSeen before after process.served.result answer account
+      is_seen = record {
+        traffic =
+            subst (λ (ms : List Move). Grows before.traffic after.traffic ms) (sym moves_are)
+            (subst (λ (t : Option (List Move)). Grows before.traffic t
+            (flat_map served.moves_of these ++ (a.moves ++ last_moves process.served.result)))
+            (sym process.served.still) a.seen.0);
+        ended = process.served.ended.written;
+        written =
+            subst (λ (ts : List ℕ). Appends before.written process.served.ended.written ts)
+            (sym text_is) a.seen.1;
+        concluded = process.served.concluded;
+      }
+
+      is_account : (account : List (Happening C))
+          × IsAccount device members (Down records) account
+          × (after_account (Down records) account ≡ Down left)
+          × IsOfProcess n ports gives cell process.site process.served.calls process.served.result
+          left account
+          × IsSeen before after process.served.result answer account
+      is_account = (account, account_is, ends, is_of, is_seen)
 
 pub accounts_go_on : {C : Type 0} (device : C → Device) (members : Membership)
     → AccountsGoOn device members

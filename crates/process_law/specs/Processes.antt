@@ -1,20 +1,27 @@
 -- What a process does that serves a site is an account of its member: from the contract of the call
 -- that the program makes, `site_commands::open_and_serve`, to the laws of every history.
-use Rattle.std.specs.Prelude.{◌≡◌, ◌⊎◌, ℕ, List, [], ◌∷◌, ◌++◌, take, Option, Some, None, Result}
+use Rattle.std.specs.Prelude.{◌≡◌, ◌⊎◌, ⊤, ℕ, List, [], ◌∷◌, ◌++◌, take, length, Option, Some, None}
+use Rattle.std.specs.Prelude.{Result, Ok, Err, IfSome}
 use Rattle.std.specs.List.{flat_map}
 use Rattle.std.specs.Io.KnownBytes.{Appends}
 use Rattle.bag_tree.specs.declared.fault.TreeFault.{TreeFault}
 use Rattle.bag_tree.specs.Facts.{TreeFacts}
+use Rattle.fed_types.specs.Lists.{Has}
 use Rattle.fed_types.specs.Sites.{Membership}
 use Rattle.cell_device.specs.Devices.{Device}
 use Rattle.records.specs.declared.record.Record.{Record}
 use Rattle.outcomes.specs.declared.fault.ProgramFault.{ProgramFault}
+use Rattle.site.specs.Sites.{OpenSite}
+use Rattle.udp_site.specs.declared.fault.ServeFault.{ServeFault}
+use Rattle.udp_site.specs.declared.fault.ServeFault.TheVariants as faults
 use Rattle.udp_site.specs.Traffic.{Move, Took, Failed, Grows, all_handed}
 use Rattle.udp_site.specs.Turns.{turn_of}
-use Rattle.udp_site.specs.Served.{Outside, text_of}
+use Rattle.udp_site.specs.Served.{Outside, Turned, text_of}
 use Rattle.site_commands.specs.declared.site_arguments.Turns.{Turns}
-use Rattle.site_commands.specs.Services.{HasServed}
-use Rattle.serving_law.specs.Federations.{Member, Down, Happening}
+use Rattle.site_commands.specs.Services.{HasServed, IsConcluded}
+use Rattle.serving_law.specs.Federations.{Member, Down, Step, Happening, Fails, Ends, Renews}
+use Rattle.serving_law.specs.Federations.{Starts}
+use Rattle.serving_law.specs.Federations as happenings
 use Rattle.serving_law.specs.Reports.{Showing, showing_of}
 use Rattle.serving_law.specs.Rules.{MayRecoverTo, ReadGives, owner_of, device_of}
 use Rattle.register_law.specs.FileCells.{TellTheirBytes}
@@ -38,19 +45,91 @@ moves_of account = flat_map (λ h. moves_shown (showing_of h)) account
 unfoldable pub lines_of : {C : Type 0} → List (Happening C) → List ℕ
 lines_of account = flat_map (λ h. text_shown (showing_of h)) account
 
--- The port has moved, and text was written, by these happenings and by nothing else, but that a
--- last receive may have failed, and that there may be a last line, which reports nothing.
-pub record IsSeen {C : Type 0} (before after : Outside) (account : List (Happening C)) : Type 0
-  where
-    pub rest : List Move
-    pub no_more : (rest ≡ []) ⊎ (rest ≡ Failed ∷ [])
-    pub traffic : Grows before.traffic after.traffic (moves_of account ++ rest)
-    pub line : List ℕ
-    pub written : Appends before.written after.written (lines_of account ++ line)
+-- where a receive failed, which ends a process, the port's last move is that
+abbrev pub last_moves : Result (Unit {0}) ServeFault → List Move
+last_moves (Err faults.Port) = Failed ∷ []
+last_moves result = []
 
--- ---- an account
+-- A process has ended with this result and this answer. The port has moved by these happenings, and
+-- by nothing else but a last receive that failed. What was written is their lines, and then what
+-- says why it stopped, if it did (`IsConcluded`): whole, or a prefix, or `memory`.
+pub record IsSeen {C : Type 0} (before after : Outside) (result : Result (Unit {0}) ServeFault)
+    (answer : Result ℕ ProgramFault) (account : List (Happening C)) : Type 0 where
+  pub traffic : Grows before.traffic after.traffic (moves_of account ++ last_moves result)
+  pub ended : Option (List ℕ)
+  pub written : Appends before.written ended (lines_of account)
+  pub concluded : IsConcluded ended after.written result answer
 
--- what the member is after it
+-- ---- an account of a process
+
+-- its turns
+abbrev pub turn_shown : Option Showing → List Turned
+turn_shown None = []
+turn_shown (Some s) = s.turn ∷ []
+
+unfoldable pub turns_of : {C : Type 0} → List (Happening C) → List Turned
+turns_of account = flat_map (λ h. turn_shown (showing_of h)) account
+
+-- the turns of all these calls
+abbrev pub all_turns : List (List Turned) → List Turned
+all_turns calls = flat_map (λ turns. turns) calls
+
+-- after calls that were all Ok there are no other turns
+abbrev pub MayFollow : Result (Unit {0}) ServeFault → List Turned → Type 0
+MayFollow (Ok served) more = more ≡ []
+MayFollow (Err fault) more = ⊤
+
+module _ {C : Type 0} (n : ℕ) (ports : List ℕ)
+    (gives : Option (List ℕ → Result TreeFacts TreeFault)) where
+  -- its ports are these, and its folders give what it is known that they give
+  abbrev pub IsWith : Step C → Type 0
+  IsWith step = (step.ports ≡ ports) × IfSome gives (λ answer. step.folders ≡ answer)
+
+  -- A turn of this member that is whole: each datagram was handed out, and each byte written. Or
+  -- the member serves anew.
+  abbrev pub IsWhole : Happening C → Type 0
+  IsWhole (happenings.Turns m step handed written) =
+      (m ≡ n) × IsWith step × (handed ≡ length step.turn.done.posts)
+      × (written ≡ length (text_of step.turn))
+  IsWhole (Renews m) = m ≡ n
+  IsWhole h = ⊥
+
+  -- It ends between turns.
+  abbrev pub EndsBetween : List Record → List (Happening C) → Type 0
+  EndsBetween left end = end ≡ Ends n left ∷ []
+
+  -- Or after a last turn, or in one in which its cell fails it, of which so much is shown.
+  abbrev pub EndsWithin : (Turned → (handed written : ℕ) → Type 0) → List Record
+      → List (Happening C) → Type 0
+  EndsWithin Shown left end =
+      (step : Step C) × IsWith step × (handed : ℕ) × (written : ℕ) × Shown step.turn handed written
+      × ((end ≡ happenings.Turns n step handed written ∷ Ends n left ∷ [])
+      ⊎ (end ≡ Fails n step handed written left ∷ []))
+
+  -- Where memory ran out, nothing of a last turn is written; else it is handed out whole.
+  abbrev pub IsEnd : Result (Unit {0}) ServeFault → List Record → List (Happening C) → Type 0
+  IsEnd (Ok served) left end = EndsBetween left end
+  IsEnd (Err faults.Port) left end = EndsBetween left end
+  IsEnd (Err faults.Memory) left end =
+      EndsBetween left end ⊎ EndsWithin (λ turn handed written. written ≡ 0) left end
+  IsEnd (Err fault) left end =
+      EndsWithin (λ turn handed written. handed ≡ length turn.done.posts) left end
+
+  -- The process opens this cell as this site. Then its turns are whole: those of its calls that
+  -- were Ok, and of one that a fault ended, if one did; and it ends.
+  pub record IsOfProcess (cell : C) (site : OpenSite C) (calls : List (List Turned))
+      (result : Result (Unit {0}) ServeFault) (left : List Record)
+      (account : List (Happening C)) : Type 0 where
+    pub whole : List (Happening C)
+    pub end : List (Happening C)
+    pub split : account ≡ Starts n cell site ∷ whole ++ end
+    pub are_whole : (h : Happening C) → Has h whole → IsWhole h
+    pub more : List Turned
+    pub may_follow : MayFollow result more
+    pub turns_are : turns_of whole ≡ all_turns calls ++ more
+    pub is_end : IsEnd result left end
+
+-- what the member is after an account
 unfoldable pub after_account : {C : Type 0} → Member C → List (Happening C) → Member C
 after_account m [] = m
 after_account m (h ∷ account) = after_account (own_after m h) account
@@ -65,7 +144,8 @@ module _ {C : Type 0} (device : C → Device) (members : Membership) where
 
   -- Let a cell say these records, as its member was left; a process opens the site over it, and
   -- serves, until it ends, and its cell then recovers to the records that are left. That is an
-  -- account of the member, from the one to the other, of what the port and the writer were given.
+  -- account of the member, from the one to the other, of this process, and of what the port and
+  -- the writer were given.
   abbrev pub ProcessesHaveAccounts : Type 0
   ProcessesHaveAccounts =
       (n : ℕ) (ports : List ℕ) (gives : Option (List ℕ → Result TreeFacts TreeFault)) (how : Turns)
@@ -78,4 +158,7 @@ module _ {C : Type 0} (device : C → Device) (members : Membership) where
       → MayRecoverTo (owner_of device members n) (device_of device members process.served.end)
       (device_of device members process.served.end) left
       → (account : List (Happening C)) × IsAccount device members (Down records) account
-      × (after_account (Down records) account ≡ Down left) × IsSeen before after account
+      × (after_account (Down records) account ≡ Down left)
+      × IsOfProcess n ports gives cell process.site process.served.calls process.served.result left
+      account
+      × IsSeen before after process.served.result answer account
