@@ -1,8 +1,7 @@
 -- The account of a member whose process serves.
-use Rattle.std.proofs.Common.{ℕ, ◌≡◌, ◌⊎◌, ◌≤◌, inl, inr, refl, sym, ap, subst, ◌∙◌, Bool, true}
+use Rattle.std.proofs.Common.{ℕ, ◌≡◌, ◌≤◌, inl, inr, refl, sym, ap, subst, ◌∙◌, Bool, true}
 use Rattle.std.proofs.Common.{false}
 use Rattle.std.proofs.Common.{List, [], ◌∷◌, ◌++◌, append-nil, append_assoc, length, take, Option}
-use Rattle.std.proofs.Common.{Some, None}
 use Rattle.std.specs.Prelude.{Result, Ok, Err, IsSome}
 use Rattle.std.specs.List.{flat_map}
 use Rattle.std.specs.Io.KnownBytes.{Appends}
@@ -20,11 +19,9 @@ use Rattle.records.specs.declared.record.Record.{Record}
 use Rattle.outcomes.specs.declared.fault.ProgramFault.{ProgramFault}
 use Rattle.outcomes.proofs.KnownBytes.{Appends-trans}
 use Rattle.proposer.specs.VolatileStates.{new_volatile}
-use Rattle.book.specs.Opened.{Opens}
-use Rattle.site.specs.Sites.{OpenSite}
 use Rattle.udp_site.specs.declared.fault.ServeFault.{ServeFault}
 use Rattle.udp_site.specs.declared.fault.ServeFault.TheVariants as faults
-use Rattle.udp_site.specs.Traffic.{Post, Move, Took, Failed, Handed, Grows, all_handed}
+use Rattle.udp_site.specs.Traffic.{Post, Move, Took, Handed, Grows, all_handed}
 use Rattle.udp_site.specs.Turns as turns
 use Rattle.udp_site.specs.Turns.{Serving, begins, turn_of}
 use Rattle.udp_site.specs.Served.{Rule, Turned, Outside, Leads, Shows, text_of}
@@ -34,10 +31,9 @@ use Rattle.udp_site.proofs.Growth.{Grows-trans, Grows-none, Appends-none}
 use Rattle.site_commands.specs.declared.site_arguments.Turns as arguments
 use Rattle.site_commands.specs.Services.{GoesOn, ServesOn, HasServed}
 use Rattle.site_commands.specs.Services.{turns_in, most_calls}
-use Rattle.serving_law.specs.Federations.{Member, Serves, Down, Federation, Step, Happening}
+use Rattle.serving_law.specs.Federations.{Member, Serves, Down, Step, Happening}
 use Rattle.serving_law.specs.Federations.{Turns, Fails, Ends, Renews, Starts}
-use Rattle.serving_law.specs.Reports.{showing_of}
-use Rattle.serving_law.specs.Rules.{May, MayCome, MayRecoverTo, ReadGives, owner_of, device_of}
+use Rattle.serving_law.specs.Rules.{MayRecoverTo, ReadGives, owner_of, device_of}
 use Rattle.serving_law.proofs.Happenings.{HasFolders, with_folders}
 use Rattle.serving_law.proofs.Scene.{OnlyNow}
 use Rattle.register_law.specs.Overlaps.{own_after, MayHappenTo, IsAccount}

@@ -1,6 +1,6 @@
 -- What comes of a turn to the site, whatever is heard: whether it needs opening, and when it is.
 use Rattle.std.proofs.Common.{ℕ, ◌≡◌, ◌≤◌, inl, inr, refl, sym, ap, subst, ◌∙◌, Bool, true, false}
-use Rattle.std.proofs.Common.{List, [], ◌∷◌, Option, Some, None, le_trans, arith}
+use Rattle.std.proofs.Common.{List, Option, Some, None, arith}
 use Rattle.std.specs.Bool.{◌==◌}
 use Rattle.std.specs.Prelude.{Result, Ok, Err, ◌%◌, ◌+◌}
 use Rattle.std.proofs.lemmas.Bool.{false≢true}

@@ -98,7 +98,7 @@ module _ {C : Type 0} (n : ℕ) (ports : List ℕ)
   abbrev pub EndsBetween : List Record → List (Happening C) → Type 0
   EndsBetween left end = end ≡ Ends n left ∷ []
 
-  -- Or after a last turn, or in one in which its cell fails it, of which so much is shown.
+  -- It ends after a last turn, or in one in which its cell fails it; of that so much is shown.
   abbrev pub EndsWithin : (Turned → (handed written : ℕ) → Type 0) → List Record
       → List (Happening C) → Type 0
   EndsWithin Shown left end =
@@ -106,7 +106,8 @@ module _ {C : Type 0} (n : ℕ) (ports : List ℕ)
       × ((end ≡ happenings.Turns n step handed written ∷ Ends n left ∷ [])
       ⊎ (end ≡ Fails n step handed written left ∷ []))
 
-  -- Where memory ran out, nothing of a last turn is written; else it is handed out whole.
+  -- Where all is served, or a receive failed, it ends between turns. Where memory ran out it does
+  -- too, or nothing of a last turn is written; else a last turn is handed out whole.
   abbrev pub IsEnd : Result (Unit {0}) ServeFault → List Record → List (Happening C) → Type 0
   IsEnd (Ok served) left end = EndsBetween left end
   IsEnd (Err faults.Port) left end = EndsBetween left end
