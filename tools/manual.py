@@ -55,10 +55,10 @@ def as_it_stands(text):
 
 
 def manual(program, version):
-    """The page bagpaxos(1)."""
+    """The page bagpaxos(1). The version is told in several lines, the name and the number first."""
     whole, commands = helps(program)
     usages = "\n".join(it.usage for it in [whole, *commands.values()])
-    lines = [f'.TH BAGPAXOS 1 "" "{escaped(version)}"']
+    lines = [f'.TH BAGPAXOS 1 "" "{escaped(version.partition(chr(10))[0])}"']
     lines += [".SH NAME", f"bagpaxos \\- {escaped(whole.about)}"]
     lines += [".SH SYNOPSIS", *as_it_stands(usages)]
     lines += [".SH COMMANDS", *listed(whole.entries("Commands"))]
@@ -69,6 +69,7 @@ def manual(program, version):
         lines += listed(command.entries("Arguments") + command.entries("Options"))
         lines += as_it_stands(command.rest)
     lines += [".SH CODES", *as_it_stands(codes(program))]
+    lines += [".SH VERSION", *as_it_stands(version)]
     return "\n".join(lines) + "\n"
 
 

@@ -24,6 +24,11 @@ const EXAMPLE: &str =
 Example:
   bagpaxos run < examples/first.schedule";
 
+/// The program's version, and the layouts of bytes that it reads.
+const VERSION: &str = "0.1.0
+cells: layouts 1 and 2
+datagrams: layout 2";
+
 /// What the program is asked to do.
 #[derive(Debug, Drop)]
 pub enum Task<'a> {
@@ -147,7 +152,7 @@ fn program<'a>(alloc: Global) -> Command<'a> {
     Command::new(alloc, "bagpaxos")
         .about(ABOUT)
         .after_help(EXAMPLE)
-        .version("0.1.0")
+        .version(VERSION)
         .subcommand_required(true)
 }
 
