@@ -17,6 +17,7 @@ mod found_digest;
 mod lenient;
 mod listed;
 mod manifest_line;
+mod meant_manifest;
 mod near_names;
 mod oxum;
 mod place_words;

@@ -6,6 +6,7 @@ use crate::finding::Finding;
 use crate::found_digest::push_digests;
 use crate::listed::TextLines;
 use crate::manifest_line::push_malformed;
+use crate::meant_manifest::push_meant;
 use crate::near_names::NearNames;
 use bag_tree::{has_unsafe_part, is_payload};
 use code_words::{push_name, push_quoted};
@@ -27,6 +28,7 @@ pub(crate) fn push_place<'a>(
         1 => push_no_declaration(text, bag)?,
         2..=4 => push_declared(text, finding, texts.line_at(bag, finding)?)?,
         7 => push_no_manifest(text, bag)?,
+        8 => push_unknown_manifest(text, bag, finding)?,
         9 => push_malformed(text, finding, texts.line_at(bag, finding)?)?,
         10 => push_astray(text, bag, finding)?,
         11 => push_entry(text, finding, " again")?,
@@ -72,6 +74,17 @@ fn is_like_manifest(path: &str) -> bool {
         Some((front, _)) => front.eq_ignore_ascii_case(MANIFEST) && !path.contains('/'),
         None => false,
     }
+}
+
+fn push_unknown_manifest(
+    text: &mut String,
+    bag: &Bag<'_, '_>,
+    finding: &Finding<'_>,
+) -> Result<(), AllocError> {
+    let path = finding.path.as_str();
+    push_path(text, path)?;
+    text.push_str(" is of an algorithm that isn't read here")?;
+    push_meant(text, bag, path)
 }
 
 // `MANIFEST line N lists PATH`, and more.
@@ -153,7 +166,6 @@ fn push_presence(text: &mut String, finding: &Finding<'_>) -> Result<(), AllocEr
     push_path(text, finding.path.as_str())?;
     match finding.number {
         6 => text.push_str(" isn't there, or is no folder"),
-        8 => text.push_str(" is of an algorithm that isn't read here"),
         _ => text.push_str(" is in the bag"),
     }
 }

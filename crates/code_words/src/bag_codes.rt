@@ -29,12 +29,12 @@ pub static INVALID: [Meaning; 15] = [
     Meaning {
         code: "invalid 5",
         words: "there is a fetch.txt",
-        advice: "fetch the files that it lists, and take it out of the bag",
+        advice: "fetch the files that it lists, check them, and keep it elsewhere",
     },
     Meaning {
         code: "invalid 6",
         words: "there is no folder data",
-        advice: "make it, also for a bag without files",
+        advice: "put it back from a copy; without any file it is an empty folder",
     },
     Meaning {
         code: "invalid 7",
@@ -44,12 +44,12 @@ pub static INVALID: [Meaning; 15] = [
     Meaning {
         code: "invalid 8",
         words: "there is a manifest of another algorithm than md5, sha1, sha256 and sha512",
-        advice: "take it out of the bag: manifest-sha512.txt is what counts here",
+        advice: "rename it if its name is nearly right, else keep it elsewhere",
     },
     Meaning {
         code: "invalid 9",
         words: "a line of a manifest isn't a digest, blanks and a path",
-        advice: "write the line anew",
+        advice: "write it as it was meant, and keep the old manifest",
     },
     Meaning {
         code: "invalid 10",
@@ -59,22 +59,22 @@ pub static INVALID: [Meaning; 15] = [
     Meaning {
         code: "invalid 11",
         words: "a payload manifest lists a path twice",
-        advice: "remove the line that is too many",
+        advice: "keep the line with the right digest, and the old manifest",
     },
     Meaning {
         code: "invalid 12",
         words: "a listed file isn't there",
-        advice: "put it back, or list what is there",
+        advice: "put it back from a copy; its line says what was there",
     },
     Meaning {
         code: "invalid 13",
         words: "a file below data/ is in the bag, but not in every payload manifest",
-        advice: "list it, or take it out of the bag",
+        advice: "list it if it belongs to the bag, or else keep it elsewhere",
     },
     Meaning {
         code: "invalid 14",
         words: "a file isn't the one that was listed: it has another digest",
-        advice: "put back the right one from a copy, or find out who changed it",
+        advice: "put back the right one from a copy; its line says what was there",
     },
     Meaning {
         code: "invalid 15",
@@ -93,7 +93,7 @@ pub static UNREAD: [Meaning; 7] = [
     Meaning {
         code: "unread 2",
         words: "an entry is neither a file nor a folder, as a link or a pipe",
-        advice: "put a copy of the file in its place, or take it out of the bag",
+        advice: "put a copy of the file in a link's place, or keep it elsewhere",
     },
     Meaning {
         code: "unread 3",
