@@ -1,4 +1,4 @@
-ghost use Rattle.std.specs.Prelude.{◌≡◌, ◌≢◌, false, IfOk, IfErr, IfSome, string_bytes};
+ghost use Rattle.std.specs.Prelude.{◌≡◌, ◌≢◌, true, false, IfOk, IfErr, IfSome, string_bytes};
 ghost use Rattle.bag_digest.specs.Algorithms.{no_algorithms};
 ghost use Rattle.bag_tree.specs.Path.{is_read_text};
 ghost use Rattle.bag_check.specs.Check.{first_fault};
@@ -10,9 +10,9 @@ use crate::folder_listing::{FolderListing, ListedFile};
 use crate::hash_listed::hash_listed;
 use crate::open_bag::OpenBag;
 use crate::watcher::Silent;
-use bag_check::{BagFault, check};
+use bag_check::{BagFault, check, named_by};
 use bag_digest::{Algorithms, Digester};
-use bag_tree::{Facts, FileFacts, is_read_text};
+use bag_tree::{Facts, FileFacts, LONGEST_TEXT, TreeFault, is_read_text};
 use std::alloc::{AllocError, Global};
 use std::fs::Files;
 
@@ -72,7 +72,8 @@ fn bare_facts<R: Files + AllocGlobal + Clone + Drop>(
     Ok(Facts::new(files, listing.payload))
 }
 
-/// What is known of a file that was listed: a text that describes the bag is read.
+/// What is known of a file that was listed: a text that describes the bag is read, unless no manifest
+/// of its algorithm may be there at all, which the list shows.
 fn bare_fact<R: Files + AllocGlobal + Clone + Drop>(
     alloc: Global,
     bag: &mut OpenBag<'_, R>,
@@ -82,11 +83,33 @@ fn bare_fact<R: Files + AllocGlobal + Clone + Drop>(
         IsFactBy no_algorithms (string_bytes listed.now.path) facts) }
     ensures faults { IfErr result (λ failure. IsWalkFault failure.fault) }
 {
-    if is_read_text(listed.path.as_bytes()) {
-        hash_listed(alloc, bag, listed, Algorithms::none(), &mut Silent)
-    } else {
+    if !is_read_text(listed.path.as_bytes()) {
         unread_fact(alloc, listed.path.as_str())
+    } else if is_of_no_algorithm(listed.path.as_str()) {
+        unread_text(alloc, listed)
+    } else {
+        hash_listed(alloc, bag, listed, Algorithms::none(), &mut Silent)
     }
+}
+
+/// Whether a text that describes the bag is a manifest of an algorithm that isn't read.
+fn is_of_no_algorithm(path: &str) -> bool {
+    path != "bagit.txt" && named_by(path) == Algorithms::none()
+}
+
+/// What is known of such a manifest: nothing of its bytes is asked for, since the bag has that fault
+/// or one before it. So there may be many of them, and all together take no memory.
+fn unread_text(alloc: Global, listed: &ListedFile) -> Result<FileFacts, Failure>
+    requires { is_read_text (string_bytes listed.now.path) ≡ true }
+    ensures digests { IfOk result (λ facts.
+        IsFactBy no_algorithms (string_bytes listed.now.path) facts) }
+    ensures faults { IfErr result (λ failure. IsWalkFault failure.fault) }
+{
+    let path = String::from_str(alloc, listed.path.as_str())?;
+    if listed.look.length > LONGEST_TEXT as u64 {
+        return Err(Failure::at(path, TreeFault::TextTooLong));
+    }
+    Ok(FileFacts::kept(path, Algorithms::none(), Vec::new(alloc)))
 }
 
 /// What is known of a file of this path that isn't read and is no text that describes a bag.

@@ -4,6 +4,7 @@ ghost use Rattle.bag_folders.specs.Folders.{IsWalkFault};
 
 use crate::failure::Failure;
 use crate::folder_listing::ListedFile;
+use crate::listed_bytes::ListedBytes;
 use crate::open_bag::OpenBag;
 use crate::read_file::hash_watched;
 use crate::watcher::Watcher;
@@ -35,7 +36,8 @@ pub(crate) fn hash_listed<R: Files + AllocGlobal + Clone + Drop, W: Watcher>(
     }
 }
 
-/// The same. A file that was put in its place since it was listed is not read.
+/// The same. A file that was put in its place since it was listed is not read, and of one that grows
+/// no more than it had then.
 fn hash_file<R: Files + AllocGlobal + Clone + Drop, W: Watcher>(
     alloc: Global,
     bag: &mut OpenBag<'_, R>,
@@ -47,5 +49,6 @@ fn hash_file<R: Files + AllocGlobal + Clone + Drop, W: Watcher>(
     ensures faults { IfErr result IsWalkFault }
 {
     let mut file = bag.open(listed)?;
+    let mut file = ListedBytes::new(&mut file, listed.look.length);
     hash_watched(alloc, listed.path.as_str(), wanted, &mut file, watcher)
 }

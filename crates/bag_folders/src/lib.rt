@@ -18,6 +18,7 @@ mod hash_listed;
 mod hash_state;
 mod law;
 mod list_sum;
+mod listed_bytes;
 mod look;
 mod memory_folders;
 mod now;
