@@ -18,7 +18,8 @@ OBJ. Without PATH it asks which bag is version V of OBJ. It prints one line, of 
   refused N CODE               11 another bag is deposited       14 out of memory
                                12 another bag is known           15 the site has to be restarted
                                13 the site's cell failed
-                               20 + n: the folder can't be read, as `unread n` of bagpaxos check
+                               20 + n: the folder can't be read, as `unread n` of bagpaxos check;
+                                       24 also: more bytes than --most-bytes of the site
                                40 + n: it is no valid bag, as `invalid n` of bagpaxos check
   no answer                    the site doesn't answer
 or `members unread`, `members line N`, `not a member`, `socket` or `memory`, as bagpaxos site.

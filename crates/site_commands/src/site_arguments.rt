@@ -33,8 +33,9 @@ propose it; but not while a proposal of its own is under way. So they are where 
 bag that is pending, a second after the last proposal.
 
 With --bags a path that is absolute or has `..` in it is refused as a missing folder (21). With
---most-bytes a larger bag is refused as one of too many files (24). A folder that was refused isn't
-read again within a minute, while its files are the same: it is listed, and has the same answer.
+--most-bytes a larger bag is refused as one of too many files (24). A folder that was refused as no
+valid bag, for a long text or for a file that can't be read isn't read again within a minute, while
+its files are the same: it is listed, and has the same answer.
 
 With --log each line is also written to a file, which grows: after the time in UTC and the port
 from which came what it is about (`-` where nothing came). After `refused` comes what was asked for,
