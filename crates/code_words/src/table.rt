@@ -13,11 +13,11 @@ With --words, check, run, send and site say it on standard error, with names and
 ";
 
 const CHECKS: &str = "
-check: no valid bag. Of a deposit send adds 40 to N; site and run write `refused S 10 N`
+check: no valid bag. For a deposit send adds 40 to N; site and run write `refused S 10 N`
 ";
 
 const FOLDERS: &str = "
-check: a folder that can't be read. Of a deposit send, and the log of site, add 20 to N
+check: a folder that can't be read. For a deposit send, and the log of site, add 20 to N
 ";
 
 const REFUSALS: &str = "
