@@ -89,8 +89,8 @@ on_propose q site records volatile slot =
 
 -- ---- a recovery
 
--- A site recovers where no bag is known, it has a vote or a deposit on record, and a ballot is left;
--- the first of these that isn't so is why it refuses. What comes of the ballot is as after a
+-- A site recovers where no bag is known, it has a vote or a deposit on record, and a ballot is
+-- left; the first of these that isn't so is why it refuses. What comes of the ballot is as after a
 -- proposal: a site without a deposit proposes only what promises name.
 abbrev pub recovers_if :
     QuorumSystem → SlotName → (known : Option BagId) → (has : Bool) → Option BallotNumber

@@ -1,5 +1,5 @@
--- What beginning a ballot does to the tables, the record and answer that it gives, and what it comes
--- to.
+-- What beginning a ballot does to the tables, the record and answer that it gives, and what it
+-- comes to.
 use Rattle.std.specs.Prelude.{◌≡◌, List, map, Some, None, IsSome, Result, Ok, Err}
 use Rattle.fed_types.specs.Ballots.{BallotNumber}
 use Rattle.fed_types.specs.Quorums.{quorums_of}
