@@ -15,7 +15,7 @@ const EXAMPLE: &str = "A schedule is a text of commands, one a line:
   file T PATH HEX       adds a file, its bytes in hex (`-` for none)
   deposit S T OBJ V     deposits the tree at site S, as version V of the object OBJ
   propose S OBJ V       site S proposes its deposit to all
-  recover S OBJ V       site S proposes the bag that may be chosen already, else its deposit
+  recover S OBJ V       site S, which has voted or has a deposit, has all decide what may be chosen
   deliver K             the K-th datagram that was sent arrives
   pump N                N times: the oldest datagram arrives that no deliver or pump has named
   ask S TO OBJ V        site S asks site TO which bag it knows

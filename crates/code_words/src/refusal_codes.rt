@@ -54,7 +54,7 @@ pub static REFUSED: [Meaning; 10] = [
     },
     Meaning {
         code: "refused S 19",
-        words: "the site has neither voted for a bag of this version nor has a deposit of it",
+        words: "the site has neither a vote nor a deposit of this version",
         advice: "recover it at another site, or deposit a bag",
     },
 ];

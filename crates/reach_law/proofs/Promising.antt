@@ -504,7 +504,7 @@ module _ (q : QuorumSystem) (laws : AreQuorums q) (running : List ℕ) (slot : S
           → HasPromised n y
       all_promised y first rest n h = elim (f.cases n h) [
         | inl same ↦ rw same first
-        | inr there ↦ rest n there
+        | inr later ↦ rest n later
       ]
 
 -- ---- the second recovery
@@ -543,7 +543,7 @@ module _ (q : QuorumSystem) (laws : AreQuorums q) (running : List ℕ) (slot : S
       b : BallotNumber
       b = ballot q running slot before members p runs (1 + l)
 
-      abbrev Begun : Network → Type 0
+      Begun : Network → Type 0
       Begun x =
           Took w p (Some (of_slot slot (entry.Round b.round)))
           (with_current (volatile_at w p) slot b) (to_each slot (Prepare b) q.members) x

@@ -228,11 +228,11 @@ chosen_within_reach q events running slot bag laws members quorum chosen left =
     within_reach q events running slot laws members quorum
     (record {
       site = voter.0;
-      runs = voter.1;
+      runs = voter.2;
       can =
           inr (
             has_voted (run q new_network events) voter.0 slot _
-                (chosen.chosen.voted voter.0 voter.2),
-            left voter.0 voter.1,
+                (chosen.chosen.voted voter.0 voter.3),
+            left voter.0 voter.2,
           );
     })

@@ -380,7 +380,7 @@ module _ (slot : SlotName) where
             let one' = one same in
             omega (arith, last, one')
 
-        abbrev b : BallotNumber
+        b : BallotNumber
         b = record { round = 1 + last_round s (records_at w n) v.heard; site = n }
 
         go : (t : Bool) → EffectWithin l (begins_next q s (cond t (Some b) None) v)
