@@ -144,7 +144,8 @@ module _ {C : Type 0} (device : C → Device) (old mid : OpenSite C) (slot : Slo
               subst (λ (e : Effect). IsAnswered device old new volatile e result)
               (begins_it (Some ballot) next)
               (concluded device old mid new volatile (begins stands.0 slot ballot)
-              (begins_next (quorums_of old.book.owner.members) slot (Some ballot) volatile) None (map handed_out x.1.sends.items) result
+              (begins_next (quorums_of old.book.owner.members) slot (Some ballot) volatile) None
+              (map handed_out x.1.sends.items) result
               (subst (λ (r : Record). Concludes device mid new (Some r) None
               (map handed_out x.1.sends.items) result) of_ballot.record_is
               (rw (← of_ballot.line) c))

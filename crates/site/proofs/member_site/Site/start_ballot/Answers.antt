@@ -27,12 +27,14 @@ returns-in_err-new g c = rw (← c.self.view_is) (record {
       (not_started g.C.Cell.device _
       (record { book = c.self.inside.book; tables = c.begin_ballot.new.tables })
       c.args.slot.now refl c.begin_ballot.result c.owner-owner.result
-      c.owner-owner.ensures c.begin_ballot.ensures c.self.invariant volatile stands c.in_err-new.field-0.0 c.in_err-new.was);
+      c.owner-owner.ensures c.begin_ballot.ensures c.self.invariant volatile stands
+      c.in_err-new.field-0.0 c.in_err-new.was);
   refused = λ volatile stands.
       refused_or_started g.C.Cell.device _
       (record { book = c.self.inside.book; tables = c.begin_ballot.new.tables })
       c.args.slot.now refl c.begin_ballot.result c.owner-owner.result
-      c.owner-owner.ensures c.begin_ballot.ensures c.self.invariant volatile stands c.from_residual.result
+      c.owner-owner.ensures c.begin_ballot.ensures c.self.invariant volatile stands
+      c.from_residual.result
       (λ fault. refused_as c.begin_ballot.result c.from_residual.result c.in_err-new.field-0.0 fault
       c.in_err-new.was
       (answer_err_of c.from_residual.result c.in_err-new.field-0.0 c.from_residual.ensures.1));
@@ -51,14 +53,16 @@ returns g c = rw (← c.self.view_is) (record {
       started g.C.Cell.device _
       (record { book = c.self.inside.book; tables = c.begin_ballot.new.tables })
       c.args.slot.now refl c.begin_ballot.result c.owner-owner.result
-      c.owner-owner.ensures c.begin_ballot.ensures c.self.invariant volatile stands c.commit_and_answer.new.self
+      c.owner-owner.ensures c.begin_ballot.ensures c.self.invariant volatile stands
+      c.commit_and_answer.new.self
       (c.in_ok-new.new, c.in_ok-new.answer) c.commit_and_answer.result c.in_ok-new.was
       c.commit_and_answer.ensures;
   refused = λ volatile stands.
       refused_or_started g.C.Cell.device _
       (record { book = c.self.inside.book; tables = c.begin_ballot.new.tables })
       c.args.slot.now refl c.begin_ballot.result c.owner-owner.result
-      c.owner-owner.ensures c.begin_ballot.ensures c.self.invariant volatile stands c.commit_and_answer.result
+      c.owner-owner.ensures c.begin_ballot.ensures c.self.invariant volatile stands
+      c.commit_and_answer.result
       (λ fault. not_refused c.begin_ballot.result c.commit_and_answer.result
       (c.in_ok-new.new, c.in_ok-new.answer) fault c.in_ok-new.was);
 })
