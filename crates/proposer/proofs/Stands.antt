@@ -176,7 +176,8 @@ refused_stands old mid new slot n from asked standing records volatile under sam
 
 -- ---- a promise heard
 pub heard_at : (q : QuorumSystem) (own : Option BagId) (ballot : BallotNumber) (p : Promise)
-    (old new : Rows Row) (slot : SlotName) (before after : Row) (given : Option BagId) → Some before ≡ row_at old slot
+    (old new : Rows Row) (slot : SlotName) (before after : Row) (given : Option BagId)
+    → Some before ≡ row_at old slot
     → (IsSome (row_at old slot) → IsWith old new slot after)
     → HeardPromise q own ballot p before after given → HeardAt q own ballot p old new slot given
 heard_at q own ballot p old new slot before after given is put heard =

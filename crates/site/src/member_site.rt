@@ -1,5 +1,6 @@
-ghost use Rattle.std.specs.Prelude.{◌≡◌, ◌↔◌, true, false, [], None, Some, Ok, Err, map};
-ghost use Rattle.std.specs.Prelude.{Result, IfOk, IsErrOf};
+ghost use Rattle.std.specs.Prelude.{◌≡◌, ◌↔◌, ◌||◌, true, false, [], None, Some, Ok, Err, map};
+ghost use Rattle.std.specs.Prelude.{is_some, Result, IfOk, IsErrOf};
+ghost use Rattle.records.specs.SlotStates.{deposit_of, vote_of};
 ghost use Rattle.std.specs.Option.{option_copied};
 ghost use Rattle.site_tables.specs.Contents.{deposits_of, slot_at};
 ghost use Rattle.bag_check.specs.Check.{check_of};
@@ -195,10 +196,10 @@ impl<C: Cell> Site<C> {
         if self.tables.known(slot).is_some() {
             return Err(SiteFault::AlreadyKnown);
         }
-        if self.tables.deposit(slot).is_none() {
-            return Err(SiteFault::NoDeposit);
+        match self.tables.deposit(slot) {
+            Some(_) => self.start_ballot(slot),
+            None => Err(SiteFault::NoDeposit),
         }
-        self.start_ballot(slot)
     }
 
     /// Recovers what may be chosen for the slot: where the site has a vote or a deposit, begins the
@@ -221,12 +222,20 @@ impl<C: Cell> Site<C> {
             return Err(SiteFault::NeedsOpen);
         }
         if self.tables.known(slot).is_some() {
-            return Err(SiteFault::AlreadyKnown);
+            Err(SiteFault::AlreadyKnown)
+        } else if self.has_vote_or_deposit(slot) {
+            self.start_ballot(slot)
+        } else {
+            Err(SiteFault::NothingToRecover)
         }
-        if self.tables.vote(slot).is_none() && self.tables.deposit(slot).is_none() {
-            return Err(SiteFault::NothingToRecover);
-        }
-        self.start_ballot(slot)
+    }
+
+    // Whether the site has a vote or a deposit for the slot on record.
+    fn has_vote_or_deposit(&self, slot: &Slot) -> bool
+        ensures { result ≡ (is_some (vote_of slot.now self.now.book.records)
+            || is_some (deposit_of slot.now self.now.book.records)) }
+    {
+        self.tables.vote(slot).is_some() || self.tables.deposit(slot).is_some()
     }
 
     // Takes a valid bag as the slot's deposit.
