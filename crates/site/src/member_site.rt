@@ -203,9 +203,8 @@ impl<C: Cell> Site<C> {
     }
 
     /// Recovers what may be chosen for the slot: where the site has a vote or a deposit, begins the
-    /// next ballot, and asks all members to promise it. What comes of it is as after `propose`, and
-    /// without a deposit only a bag that promises name is proposed. Where that is refused, it takes
-    /// no memory.
+    /// next ballot, and asks all members to promise it. What comes of it is as after `propose`;
+    /// without a deposit it proposes only a bag that promises name. A refusal takes no memory.
     pub fn recover(&mut self, slot: &Slot) -> Result<Answer, SiteFault>
         ensures answer { self.old.book.needs_opening ≡ false → (volatile : VolatileState)
             → Represents self.old volatile
