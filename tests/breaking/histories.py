@@ -32,7 +32,6 @@ RIGHT = """\
         stand {n} {next}
         (record {{
           within = {within};
-          deposit = {deposit};
           known = refl;
           votes = {votes};
         }});
@@ -216,7 +215,6 @@ class History:
         self.say(RIGHT.format(
             k=k, input=input, are=are, why=why, keep=keep, n=site.number, next=site.state,
             within="omega arith" if issued else "tt",
-            deposit="λ b e. e" if issued else "λ b e. absurd (cc e)",
             votes="λ none. absurd (cc none)" if knows else "λ none v k. refl",
         ))
         return k

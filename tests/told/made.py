@@ -12,7 +12,7 @@ STRANGER = sealed(bytes.fromhex(HEAD.format("01", "3f") + "000000013f")).hex()
 NAMES = ("a", "b%20c", "%C3%A9%25", "x<&>y")
 # How many commands come after the trees, and how often each does.
 COMMANDS = 60
-OFTEN = {"deposit": 8, "propose": 9, "deliver": 50, "pump": 8, "ask": 4, "query": 5, "raw": 3,
+OFTEN = {"deposit": 8, "propose": 6, "recover": 4, "deliver": 50, "pump": 8, "ask": 4, "query": 5, "raw": 3,
          "stop": 3, "start": 9, "tree": 1}
 
 
@@ -94,7 +94,7 @@ class Making:
         if word == "deposit":
             tree = self.chance.choice((1, 1, 2, 2, 3, 4, 9))
             self.say(word, site, tree, slot, self.fate())
-        elif word == "propose":
+        elif word in ("propose", "recover"):
             self.say(word, site, slot, self.fate())
         elif word == "deliver":
             self.say(word, self.datagram(), self.fate())

@@ -98,6 +98,8 @@ class Labels:
             return f"deposit{tree}{slot}: "
         if event.deed == "propose":
             return f"proposes{slot} in {event.made.ballot}" if is_done else f"proposal{slot}: "
+        if event.deed == "recover":
+            return f"recovers{slot} in {event.made.ballot}" if is_done else f"recovery{slot}: "
         if event.deed == "ask":
             return f"asks {number}{slot}" if is_done else f"question to {number}{slot}: "
         if event.deed == "start":

@@ -78,7 +78,7 @@ class Site:
 
     def forget(self):
         """What is heard, and the current ballots, are volatile."""
-        self.current, self.own_bag, self.floor = {}, {}, {}
+        self.current, self.floor = {}, {}
         # Who has promised a ballot, in order, with the vote that he named; who has cast a vote.
         self.promises, self.votes = {}, {}
 
@@ -127,12 +127,23 @@ class Site:
             return Effect(refusal=18)
         if own is None:
             return Effect(refusal=16)
+        return self.begins(slot)
+
+    def recover(self, slot):
+        if self.first_bag("known", slot):
+            return Effect(refusal=18)
+        if self.vote(slot) is None and self.first_bag("deposit", slot) is None:
+            return Effect(refusal=19)
+        return self.begins(slot)
+
+    def begins(self, slot):
+        """A ballot is begun, unless none is left."""
         used = max((it.ballot.round for it in self.of_slot("round", slot)), default=0)
         next_round = max(used, self.floor.get(slot, 0)) + 1
         if next_round > MOST_ROUNDS:
             return Effect(refusal=17)
         ballot = Ballot(next_round, self.number)
-        self.current[slot], self.own_bag[slot] = ballot, own
+        self.current[slot] = ballot
         return Effect(Record("round", slot, ballot), self.to_all(Message("Prepare", slot, ballot)))
 
     def ask(self, to, slot):
@@ -169,7 +180,9 @@ class Site:
         highest = max(
             (it for it in heard.values() if it.other), key=lambda it: it.other, default=None
         )
-        bag = highest.bag if highest else self.own_bag[slot]
+        bag = highest.bag if highest else self.first_bag("deposit", slot)
+        if bag is None:
+            return Effect()
         return Effect(messages=self.to_all(Message("Accept", slot, ballot, bag=bag)))
 
     def on_accept(self, sender, message):

@@ -7,6 +7,7 @@ from typing import NamedTuple, Optional
 from bags import Tree
 from rules import Effect, Message, Site, Slot
 
+WITH_FATES = ("deposit", "propose", "recover", "deliver", "ask")
 KINDS = ["Prepare", "Promise", "Accept", "Accepted", "Refused", "Ask", "Known"]
 # What of a client may come, with its body's bytes; a Deposit says how long its path is.
 CLIENTS = {16: None, 17: 0}
@@ -87,13 +88,13 @@ class Run:
 
     def event_of(self, line, words):
         word, rest, fate = words[0], words[1:], None
-        if word in ("deposit", "propose", "deliver", "ask") and rest[-3:-2] in (["stop"], ["fail"]):
+        if word in WITH_FATES and rest[-3:-2] in (["stop"], ["fail"]):
             rest, fate = rest[:-3], (rest[-3], int(rest[-2]), int(rest[-1]))
         if word in ("tree", "folder", "file"):
             return Event(line, "tree")
         numbers = [int(it) for it in rest[:2] if it.isdigit()]
         slot = None
-        if word in ("deposit", "propose", "ask", "query"):
+        if word in ("deposit", "propose", "recover", "ask", "query"):
             slot = Slot(urllib.parse.unquote_to_bytes(rest[-2]), int(rest[-1]))
             self.slots.add(slot)
         if word == "deliver":
@@ -212,6 +213,8 @@ class Run:
             return site.deposit(event.slot, tree.fault, None if tree.fault else tree.identity)
         if event.deed == "propose":
             return site.propose(event.slot)
+        if event.deed == "recover":
+            return site.recover(event.slot)
         if event.deed == "ask":
             return site.ask(event.number, event.slot)
         return site.arrives(event.delivered.sender, event.delivered.message)
@@ -268,7 +271,7 @@ class Run:
             named = self.names(event, bag)
             event.outcome = effect.said
             event.said = f"{effect.said} {event.site} {event.slot} {named}"
-        if event.deed == "propose":
+        if event.deed in ("propose", "recover"):
             self.last_issued[event.site][event.slot] = effect.record.ballot
         self.counts(event)
 

@@ -9,6 +9,7 @@ REFUSALS = {
     16: "there is no deposit for the slot",
     17: "no round is left for the slot",
     18: "a bag is known for the slot",
+    19: "there is neither a vote nor a deposit for the slot",
 }
 FAULTS = {
     1: "there is no bagit.txt",
@@ -133,7 +134,8 @@ class Words:
             records = "1 record" if count == 1 else f"{count} records"
             return f"site {site} is up again, with {records}; what it had heard is forgotten"
         if event.is_done:
-            issued = f"issues ballot {event.made.ballot}" if event.deed == "propose" else ""
+            begins = event.deed in ("propose", "recover")
+            issued = f"issues ballot {event.made.ballot}" if begins else ""
             return f"site {site} {issued or f'asks site {event.number}'}"
         told = {
             "reply known": f"site {site} knows that bag {tree} was chosen",

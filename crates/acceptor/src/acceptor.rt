@@ -1,6 +1,7 @@
 ghost use Rattle.std.specs.Prelude.{◌≡◌, ◌++◌, ◌∷◌, [], List, Some, OnOk, OnErr, IsOk, IsSome};
 ghost use Rattle.fed_types.specs.Slots.{SlotName};
 ghost use Rattle.records.specs.Records.{Records};
+ghost use Rattle.records.specs.SlotStates.{vote_of};
 ghost use Rattle.slot_table.specs.Rows.{row_at, IsWith, HasRooms};
 ghost use Rattle.acceptor.specs.Decisions.{
   on_prepare,
@@ -48,6 +49,14 @@ impl Acceptor {
         Acceptor {
             table: SlotTable::new(alloc),
         }
+    }
+
+    /// The slot's vote, the one of the greatest ballot.
+    pub fn vote(&self, slot: &Slot) -> Option<Vote>
+        ensures { (records : Records) → Represents self.now records
+            → result ≡ vote_of slot.now records }
+    {
+        self.row(slot).vote
     }
 
     /// What it decides when it is asked to promise a ballot. It takes no memory and changes

@@ -15,6 +15,7 @@ const EXAMPLE: &str = "A schedule is a text of commands, one a line:
   file T PATH HEX       adds a file, its bytes in hex (`-` for none)
   deposit S T OBJ V     deposits the tree at site S, as version V of the object OBJ
   propose S OBJ V       site S proposes its deposit to all
+  recover S OBJ V       site S, which has voted or has a deposit, has all decide what may be chosen
   deliver K             the K-th datagram that was sent arrives
   pump N                N times: the oldest datagram arrives that no deliver or pump has named
   ask S TO OBJ V        site S asks site TO which bag it knows
@@ -22,7 +23,7 @@ const EXAMPLE: &str = "A schedule is a text of commands, one a line:
   raw S HEX             bytes that no site sent arrive at site S
   stop S                stops site S between calls
   start S               opens its cell again
-A deposit, propose, deliver or ask may end in a fate:
+A deposit, propose, recover, deliver or ask may end in a fate:
   stop 1 K, stop 2 K    the site stops as it writes its record, or syncs it; of it K bytes are kept
   stop 3 J              the site stops when the first J of its datagrams were sent
   fail 1 K, fail 2 K    the write, or the sync, fails; the site has to be started again

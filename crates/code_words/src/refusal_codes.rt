@@ -6,7 +6,7 @@ use crate::meaning::Meaning;
 pub(crate) const FIRST_REFUSAL: usize = 10;
 
 /// What `refused S N` says, N from 10 on. Of `refused S 10 N` a fault of the bag says more.
-pub static REFUSED: [Meaning; 9] = [
+pub static REFUSED: [Meaning; 10] = [
     Meaning {
         code: "refused S 10 N",
         words: "the deposit is no valid bag, for the reason of `invalid N`",
@@ -51,5 +51,10 @@ pub static REFUSED: [Meaning; 9] = [
         code: "refused S 18",
         words: "a bag is known as this version, so nothing is to be proposed",
         advice: "",
+    },
+    Meaning {
+        code: "refused S 19",
+        words: "the site has neither a vote nor a deposit of this version",
+        advice: "recover it at another site, or deposit a bag",
     },
 ];

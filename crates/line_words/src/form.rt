@@ -14,7 +14,7 @@ pub(crate) struct Form {
 }
 
 /// Each command but `federation`.
-pub(crate) static FORMS: [Form; 12] = [
+pub(crate) static FORMS: [Form; 13] = [
     Form {
         name: "tree",
         takes: "the number of a tree",
@@ -41,6 +41,12 @@ pub(crate) static FORMS: [Form; 12] = [
     },
     Form {
         name: "propose",
+        takes: "a site, an object and a version",
+        kinds: &[Kind::Site, Kind::Object, Kind::Version],
+        has_fate: true,
+    },
+    Form {
+        name: "recover",
         takes: "a site, an object and a version",
         kinds: &[Kind::Site, Kind::Object, Kind::Version],
         has_fate: true,

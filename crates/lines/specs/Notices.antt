@@ -7,7 +7,7 @@ use Rattle.site.specs.declared.answer.Line.TheVariants as site_lines
 use Rattle.site.specs.declared.answer.Reply.{Reply}
 use Rattle.site.specs.declared.answer.Reply.TheVariants as replies
 use Rattle.site.specs.declared.fault.SiteFault.{SiteFault}
-use Rattle.site.specs.Calls.{Input, Deposits, Proposes, Asks, Arrives}
+use Rattle.site.specs.Calls.{Input, Deposits, Proposes, Recovers, Asks, Arrives}
 use Rattle.lines.specs.declared.notice.Notice.{Notice}
 use Rattle.lines.specs.declared.notice.Notice.TheVariants.{Registered, Learned, Replied}
 use Rattle.lines.specs.declared.notice.Notice.TheVariants.{Refused, Dropped, GoesDown, ComesUp}
@@ -31,6 +31,7 @@ notice_of site input (Err fault) = Some (Refused site fault)
 abbrev pub deposited_in : Input → Option SlotName
 deposited_in (Deposits slot checked) = Some slot
 deposited_in (Proposes slot) = None
+deposited_in (Recovers slot) = None
 deposited_in (Asks slot member) = None
 deposited_in (Arrives message) = None
 

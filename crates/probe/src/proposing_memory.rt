@@ -83,13 +83,13 @@ fn notes(proposer: &mut Proposer<Members>, used: &Record) -> Result<bool, Fault>
 /// Begins a ballot, which has to be of this round. Whether an allocation failed.
 fn begins_round(proposer: &mut Proposer<Members>, slot: &Slot, round: u32) -> Result<bool, Fault> {
     let wanted = ballot(round)?;
-    match proposer.begin(slot, OWN) {
+    match proposer.begin(slot) {
         Ok(ballot) => {
             check(ballot == wanted)?;
             Ok(false)
         }
         Err(ProposeFault::Memory) => {
-            check(proposer.begin(slot, OWN) == Ok(wanted))?;
+            check(proposer.begin(slot) == Ok(wanted))?;
             Ok(true)
         }
         Err(ProposeFault::RoundsSpent) => Err(Fault::Wrong),
@@ -128,11 +128,12 @@ fn is_promised(proposer: &mut Proposer<Members>, slot: &Slot, ballot: Ballot) ->
         ballot: Ballot::new(1, second)?,
         bag: PRIOR,
     });
-    check(proposer.promise(third, slot, ballot, prior) == None)?;
-    check(proposer.promise(third, slot, ballot, prior) == None)?;
-    check(proposer.promise(second, slot, ballot, None) == Some(PRIOR))?;
+    let own = Some(OWN);
+    check(proposer.promise(third, slot, ballot, prior, own) == None)?;
+    check(proposer.promise(third, slot, ballot, prior, own) == None)?;
+    check(proposer.promise(second, slot, ballot, None, own) == Some(PRIOR))?;
     proposer.issued(slot);
-    check(proposer.promise(site()?, slot, ballot, None) == None)
+    check(proposer.promise(site()?, slot, ballot, None, own) == None)
 }
 
 /// Makes a vector of `MARK` bytes.

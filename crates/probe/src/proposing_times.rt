@@ -51,7 +51,7 @@ fn begin_all(
 }
 
 fn begin(proposer: &mut Proposer<Members>, record: &Record, ballot: Ballot) -> Result<(), Fault> {
-    if proposer.begin(&record.slot, BAG) != Ok(ballot) {
+    if proposer.begin(&record.slot) != Ok(ballot) {
         return Err(Fault::Wrong);
     }
     Ok(proposer.note(record)?)
@@ -81,7 +81,8 @@ fn promises(
 ) -> usize {
     let mut ready = 0usize;
     for record in records.iter() {
-        if proposer.promise(from, &record.slot, ballot, None).is_some() {
+        let bag = proposer.promise(from, &record.slot, ballot, None, Some(BAG));
+        if bag.is_some() {
             ready = ready.wrapping_add(1);
         }
     }

@@ -12,6 +12,7 @@ use std::alloc::Global;
 pub(crate) enum Call<'a> {
     Deposit(&'a Slot, &'a Facts),
     Propose(&'a Slot),
+    Recover(&'a Slot),
     Ask(&'a Slot, SiteNo),
     Arrive(&'a [u8]),
 }
@@ -91,6 +92,7 @@ fn make_once(site: &mut Site<MemoryCell>, call: &Call) -> Result<Answer, SiteFau
     match *call {
         Call::Deposit(slot, facts) => site.deposit(slot, facts),
         Call::Propose(slot) => site.propose(slot),
+        Call::Recover(slot) => site.recover(slot),
         Call::Ask(slot, to) => site.ask(slot, to),
         Call::Arrive(bytes) => site.arrive(bytes),
     }
@@ -134,7 +136,7 @@ fn push_replies(
         push(replies, site.query(&record.slot))?;
     }
     match *call {
-        Call::Deposit(slot, _) | Call::Propose(slot) | Call::Ask(slot, _) => {
+        Call::Deposit(slot, _) | Call::Propose(slot) | Call::Recover(slot) | Call::Ask(slot, _) => {
             push(replies, site.query(slot))?;
         }
         Call::Arrive(bytes) => push_reply_of(alloc, site, bytes, replies)?,

@@ -104,6 +104,17 @@ impl Federation {
         }
     }
 
+    pub(crate) fn recover(&mut self, words: &[&str]) -> Result<Answer, Failure> {
+        match words {
+            [site, object, version] => {
+                let site = site_of(site)?;
+                let slot = slot_of(self.alloc, object, version)?;
+                call_at(self.alloc, &mut self.places, site, &Call::Recover(&slot))
+            }
+            _ => Err(Failure::Faulty(ToolFault::Line)),
+        }
+    }
+
     pub(crate) fn ask(&mut self, words: &[&str]) -> Result<Answer, Failure> {
         match words {
             [site, to, object, version] => {

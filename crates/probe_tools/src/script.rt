@@ -3,8 +3,9 @@
 //!     sites F N                new sites 1 to N of federation F, each over a cell without bytes
 //!     bag HEX                  the next tree: a bag whose SHA-512 manifest has these bytes
 //!     tree HEX                 the next tree, without the folder that a bag has
-//!     deposit S TREE OBJ V     a call of site S, as are the next four
+//!     deposit S TREE OBJ V     a call of site S, as are the next five
 //!     propose S OBJ V
+//!     recover S OBJ V
 //!     ask S TO OBJ V
 //!     query S OBJ V
 //!     arrive S HEX
@@ -87,6 +88,7 @@ enum Command {
     Tree,
     Deposit,
     Propose,
+    Recover,
     Ask,
     Query,
     Arrive,
@@ -104,6 +106,7 @@ fn command_of(word: &str) -> Option<Command> {
         "tree" => Some(Command::Tree),
         "deposit" => Some(Command::Deposit),
         "propose" => Some(Command::Propose),
+        "recover" => Some(Command::Recover),
         "ask" => Some(Command::Ask),
         "query" => Some(Command::Query),
         "arrive" => Some(Command::Arrive),
@@ -130,6 +133,7 @@ fn run(
         Command::Tree => federation.add_tree(false, words),
         Command::Deposit => output.answer(federation.deposit(words)),
         Command::Propose => output.answer(federation.propose(words)),
+        Command::Recover => output.answer(federation.recover(words)),
         Command::Ask => output.answer(federation.ask(words)),
         Command::Query => output.reply(federation.query(words)),
         Command::Arrive => output.answer(federation.arrive(words)),

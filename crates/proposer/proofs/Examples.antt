@@ -109,6 +109,16 @@ of_an_even_membership :
 unfolding proposal promisers highest_prior priors is_in sites_to
 of_an_even_membership = (refl, refl, refl)
 
+-- without an own deposit only the bag of a vote is proposed; where a quorum names none nothing is,
+-- and no later promise makes a proposal ready
+without_a_deposit :
+    (proposal of_three None (from 1 None ∷ []) (from 2 (Some (vote 1 3 7))) ≡ Some (bag 7))
+    × (proposal of_three None (from 1 None ∷ []) (from 2 None) ≡ None)
+    × (proposal of_three None (from 1 None ∷ from 2 None ∷ []) (from 3 (Some (vote 1 3 7)))
+    ≡ None)
+unfolding proposal promisers highest_prior priors is_in ballot_cmp sites_to
+without_a_deposit = (refl, refl, refl)
+
 -- ---- the next ballot
 abbrev used : ℕ → Record
 used n = record { slot = a1; body = entry.Round n }

@@ -1,8 +1,7 @@
 -- What waits is counted, and what a record makes of a volatile state.
 use Rattle.std.proofs.Common.{◌≡◌, ℕ, max, Bool, true, false, cond, refl, sym, ap, subst}
 use Rattle.std.proofs.Common.{◌∙◌, List, [], ◌∷◌, ◌++◌, length, Option, None, Some, IsSome}
-use Rattle.std.specs.Prelude.{◌==◌, option_map}
-use Rattle.fed_types.specs.declared.bag_id.BagId.{BagId}
+use Rattle.std.specs.Prelude.{option_map}
 use Rattle.fed_types.specs.Ballots.{BallotNumber, same_ballot}
 use Rattle.fed_types.specs.Slots.{SlotName, same_slot}
 use Rattle.fed_types.specs.Laws.Ballots.{same_ballot_decides}
@@ -15,7 +14,7 @@ use Rattle.dgram.specs.declared.message.Message.{Message}
 use Rattle.dgram.specs.Heard.{bodies_of, refused_round, floor_of}
 use Rattle.slot_table.specs.Rows.{Rows, row_at, row_or, IsWith}
 use Rattle.proposer.specs.declared.ballot_state.Promise.{Promise}
-use Rattle.proposer.specs.BallotStates.{BallotState}
+use Rattle.proposer.specs.BallotStates.{BallotState, fresh}
 use Rattle.proposer.specs.declared.row.Row.{Row}
 use Rattle.proposer.specs.Proposals.{Current}
 use Rattle.proposer.specs.VolatileStates.{VolatileState, at_slot, hears, with_current}
@@ -23,7 +22,7 @@ use Rattle.proposer.specs.UnderWay.{UnderWay, waits}
 use Rattle.proposer.specs.VolatileStates.{promise_message}
 use Rattle.proposer.specs.UnderWay.{heard_if, of_round, current_by, current_if}
 use Rattle.proposer.specs.UnderWay.{under_way_if}
-use Rattle.proposer.specs.Rows.{empty_row, BeginsFor, Counts, CountsFor, Knows, Represents, row_of}
+use Rattle.proposer.specs.Rows.{empty_row, Counts, CountsFor, Knows, Represents, row_of}
 use Rattle.proposer.specs.Rows.{begun_in, current_in, waiting_as, waiting_in}
 use Rattle.proposer.specs.inner.BallotStates.{issued, issued_with}
 use Rattle.proposer.specs.inner.Rows.{IssuesWaiting, IssuesAt, is_of_round, noted_row}
@@ -57,26 +56,7 @@ issued_nowhere old new slot is e =
           (record { used = refl; floor = refl; begun = refl; current = refl })),
     )
 
-module _ (slot : SlotName) (own : Option BagId) (heard : List Message) where
-  -- a ballot of which nothing waits any more
-  waits_no_more : (c : Current) (state : BallotState) → Counts slot own heard c state
-      → Counts slot own heard c
-      (record {
-        ballot = state.ballot;
-        own = state.own;
-        promised_by = state.promised_by;
-        best =
-            state.best;
-        waiting = None;
-      })
-  waits_no_more c state h = record {
-    ballot = h.ballot;
-    promised_by = h.promised_by;
-    best = h.best;
-    own = h.own;
-    within = h.within;
-  }
-
+module _ (slot : SlotName) (heard : List Message) where
   -- the messages with what waits
   abbrev heard_with : Option Message → List Message
   heard_with None = heard
@@ -86,17 +66,16 @@ module _ (slot : SlotName) (own : Option BagId) (heard : List Message) where
   same_itself b = (same_ballot_decides b b).1 refl
 
   issued_counts : (c : Current) (state : BallotState) (w : Option Promise) → state.waiting ≡ w
-      → Counts slot own heard c state
-      → Counts slot own (heard_with (waiting_as slot state.ballot w)) c (issued_with state w)
+      → Counts slot heard c state
+      → Counts slot (heard_with (waiting_as slot state.ballot w)) c (issued_with state w)
   issued_counts c state None e h = h
   issued_counts c state (Some p) e h =
-      let more = counts_more slot p.site state.ballot p.prior own heard c state h
+      let more = counts_more slot p.site state.ballot p.prior heard c state h
       (same_itself state.ballot) in
       record {
         ballot = more.ballot;
         promised_by = more.promised_by;
         best = more.best;
-        own = more.own;
         within = more.within;
       }
 
@@ -105,8 +84,8 @@ module _ (slot : SlotName) (own : Option BagId) (heard : List Message) where
   issued_waits state None e = ap (waiting_as slot state.ballot) e
   issued_waits state (Some p) e = refl
 
-  pub issued_current : (c : Option Current) (o : Option BallotState) → CountsFor slot own heard c o
-      → CountsFor slot own (heard_with (waiting_in slot o)) c (option_map issued o)
+  pub issued_current : (c : Option Current) (o : Option BallotState) → CountsFor slot heard c o
+      → CountsFor slot (heard_with (waiting_in slot o)) c (option_map issued o)
   issued_current None None h = h
   issued_current None (Some state) h = absurd h
   issued_current (Some c) None h = absurd h
@@ -125,7 +104,7 @@ issued_stands old new slot records volatile under at stands =
     subst (λ (w : Option Message). Represents new records (heard_if volatile w)
     (waits under slot None)) h.waiting
     (by_state (current_in (row_of old slot)) (sym now.current)
-    (issued_current slot (under.current_bag slot) volatile.heard (volatile.current slot)
+    (issued_current slot volatile.heard (volatile.current slot)
     (current_in (row_of old slot)) h.current))
   where
     now : IssuesWaiting (row_of old slot) (row_of new slot)
@@ -134,15 +113,14 @@ issued_stands old new slot records volatile under at stands =
     -- the row from which nothing waits
     row_knows : (heard : List Message)
         → floor_of (bodies_of slot heard) ≡ floor_of (bodies_of slot volatile.heard)
-        → CountsFor slot (under.current_bag slot) heard (volatile.current slot)
+        → CountsFor slot heard (volatile.current slot)
         (current_in (row_of new slot))
         → Knows slot records heard (volatile.current slot) (under.begun slot)
-        (under.begun_bag slot) (under.current_bag slot)
         (at_slot slot None under.waiting slot) (row_of new slot)
     row_knows heard floor counts =
         let h = stands slot in
         subst (λ (w : Option Message). Knows slot records heard (volatile.current slot)
-        (under.begun slot) (under.begun_bag slot) (under.current_bag slot) w (row_of new slot))
+        (under.begun slot) w (row_of new slot))
         (sym (at_here slot None under.waiting))
         (record {
           used = now.used ∙ h.used;
@@ -150,21 +128,21 @@ issued_stands old new slot records volatile under at stands =
           begun = rw now.begun h.begun;
           current = counts;
           waiting = ap (waiting_in slot) now.current
-              ∙ issued_none slot (under.current_bag slot) heard (current_in (row_of old slot));
+              ∙ issued_none slot heard (current_in (row_of old slot));
         })
 
     other : (s : SlotName) → same_slot slot s ≡ false → (heard : List Message)
-        → Knows s records heard (volatile.current s) (under.begun s) (under.begun_bag s)
-        (under.current_bag s) (under.waiting s) (row_of old s)
-        → Knows s records heard (volatile.current s) (under.begun s) (under.begun_bag s)
-        (under.current_bag s) (at_slot slot None under.waiting s) (row_of old s)
+        → Knows s records heard (volatile.current s) (under.begun s) (under.waiting s)
+        (row_of old s)
+        → Knows s records heard (volatile.current s) (under.begun s)
+        (at_slot slot None under.waiting s) (row_of old s)
     other s e heard k =
-        subst (λ (w : Option Message). Knows s records heard (volatile.current s) (under.begun s)
-        (under.begun_bag s) (under.current_bag s) w (row_of old s))
+        subst (λ (w : Option Message). Knows s records heard (volatile.current s) (under.begun s) w
+        (row_of old s))
         (sym (at_other slot s None under.waiting e)) k
 
     with_message : (from : ℕ) (b : BallotNumber) (p : Promise)
-        → CountsFor slot (under.current_bag slot)
+        → CountsFor slot
         (volatile.heard ++ promise_message slot p.site b p.prior ∷ []) (volatile.current slot)
         (current_in (row_of new slot))
         → Represents new records (hears volatile (promise_message slot p.site b p.prior))
@@ -181,11 +159,10 @@ issued_stands old new slot records volatile under at stands =
         counts)
         (λ s e. other s e (volatile.heard ++ m ∷ [])
         (other_knows s records volatile.heard (volatile.current s) (under.begun s)
-        (under.begun_bag s)
-        (under.current_bag s) (under.waiting s) m (row_of old s) (says_nothing slot s m.body e)
+        (under.waiting s) m (row_of old s) (says_nothing slot s m.body e)
         (stands s)))
 
-    without : CountsFor slot (under.current_bag slot) volatile.heard (volatile.current slot)
+    without : CountsFor slot volatile.heard (volatile.current slot)
         (current_in (row_of new slot))
         → Represents new records volatile (waits under slot None)
     without counts =
@@ -194,8 +171,8 @@ issued_stands old new slot records volatile under at stands =
         (λ s e. other s e volatile.heard (stands s))
 
     by_waiting : (b : BallotNumber) (w : Option Promise)
-        → CountsFor slot (under.current_bag slot)
-        (heard_with slot (under.current_bag slot) volatile.heard (waiting_as slot b w))
+        → CountsFor slot
+        (heard_with slot volatile.heard (waiting_as slot b w))
         (volatile.current slot) (current_in (row_of new slot))
         → Represents new records (heard_if volatile (waiting_as slot b w)) (waits under slot None)
     by_waiting b None counts = without counts
@@ -204,38 +181,35 @@ issued_stands old new slot records volatile under at stands =
     by_state : (o : Option BallotState)
         → option_map issued (current_in (row_of old slot)) ≡ current_in
         (row_of new slot)
-        → CountsFor slot (under.current_bag slot)
-        (heard_with slot (under.current_bag slot) volatile.heard (waiting_in slot o))
+        → CountsFor slot
+        (heard_with slot volatile.heard (waiting_in slot o))
         (volatile.current slot) (option_map issued (current_in (row_of old slot)))
         → Represents new records (heard_if volatile (waiting_in slot o)) (waits under slot None)
     by_state None e counts =
-        without (subst (CountsFor slot (under.current_bag slot) volatile.heard
+        without (subst (CountsFor slot volatile.heard
         (volatile.current slot)) e counts)
     by_state (Some state) e counts =
         by_waiting state.ballot state.waiting
-        (subst (CountsFor slot (under.current_bag slot)
-        (heard_with slot (under.current_bag slot) volatile.heard
+        (subst (CountsFor slot
+        (heard_with slot volatile.heard
         (waiting_as slot state.ballot state.waiting)) (volatile.current slot)) e counts)
 
 -- ---- a record noted
 -- the ballot that was begun is of this round where its row says so
-of_round_is : (own : Option BagId) (b : Option BallotNumber) (o : Option BallotState) (n : ℕ)
-    → BeginsFor own b o → of_round b n ≡ cond (is_of_round n o) b None
-of_round_is own None None n h = refl
-of_round_is own None (Some state) n h = absurd h
-of_round_is own (Some b) None n h = absurd h
-of_round_is own (Some b) (Some state) n h =
-    ap (λ (x : BallotState). cond (x.ballot.round == n) (Some b) None) (sym h.is)
+of_round_is : (b : Option BallotNumber) (n : ℕ)
+    → of_round b n ≡ cond (is_of_round n (option_map fresh b)) b None
+of_round_is None n = refl
+of_round_is (Some b) n = refl
 
 module _ (old new : Rows Row) (r : Record) (records : List Record) (volatile : VolatileState)
     (under : UnderWay) (stands : Represents old records volatile under) where
   -- of another slot the record says nothing
   others_stay : (s : SlotName) → same_slot r.slot s ≡ false
       → Knows s (records ++ r ∷ []) volatile.heard (volatile.current s) (under.begun s)
-      (under.begun_bag s) (under.current_bag s) (under.waiting s) (row_of old s)
+      (under.waiting s) (row_of old s)
   others_stay s e =
       raised_knows s records r volatile.heard (volatile.current s) (under.begun s)
-      (under.begun_bag s) (under.current_bag s) (under.waiting s) (row_of old s) (row_of old s)
+      (under.waiting s) (row_of old s) (row_of old s)
       (ap (λ (t : Bool). with_one max (row_of old s).used
       (if_some round_in (cond t (Some r.body) None))) (sym e))
       refl refl refl (stands s)
@@ -252,7 +226,7 @@ module _ (old new : Rows Row) (r : Record) (records : List Record) (volatile : V
   raised row n is puts used floor begun current =
       stands_at old new r.slot row (records ++ r ∷ []) volatile under puts
       (raised_knows r.slot records r volatile.heard (volatile.current r.slot) (under.begun r.slot)
-      (under.begun_bag r.slot) (under.current_bag r.slot) (under.waiting r.slot)
+      (under.waiting r.slot)
       (row_of old r.slot) row
       (used ∙ ap (with_one max (row_of old r.slot).used) (sym (says n is))) floor begun current
       (stands r.slot))
@@ -268,63 +242,32 @@ module _ (old new : Rows Row) (r : Record) (records : List Record) (volatile : V
       stands_at old new r.slot row (records ++ r ∷ []) (with_current volatile r.slot b)
       (under_way_if under r.slot (Some b)) puts
       (subst (λ (c : Option Current). Knows r.slot (records ++ r ∷ []) volatile.heard c
-      (at_slot r.slot None under.begun r.slot) (at_slot r.slot None under.begun_bag r.slot)
-      (at_slot r.slot (under.begun_bag r.slot) under.current_bag r.slot)
-      (at_slot r.slot None under.waiting r.slot) row)
+      (at_slot r.slot None under.begun r.slot) (at_slot r.slot None under.waiting r.slot) row)
       (sym (at_here r.slot (Some now) volatile.current))
       (subst (λ (x : Option BallotNumber). Knows r.slot (records ++ r ∷ []) volatile.heard
-      (Some now)
-      x (at_slot r.slot None under.begun_bag r.slot)
-      (at_slot r.slot (under.begun_bag r.slot) under.current_bag r.slot)
-      (at_slot r.slot None under.waiting r.slot) row)
+      (Some now) x (at_slot r.slot None under.waiting r.slot) row)
       (sym (at_here r.slot None under.begun))
-      (subst (λ (bag : Option BagId). Knows r.slot (records ++ r ∷ []) volatile.heard
-      (Some now) None
-      bag (at_slot r.slot (under.begun_bag r.slot) under.current_bag r.slot)
-      (at_slot r.slot None under.waiting r.slot) row)
-      (sym (at_here r.slot None under.begun_bag))
-      (subst (λ (own : Option BagId). Knows r.slot (records ++ r ∷ []) volatile.heard
-      (Some now) None
-      None own (at_slot r.slot None under.waiting r.slot) row)
-      (sym (at_here r.slot (under.begun_bag r.slot) under.current_bag))
       (subst (λ (w : Option Message). Knows r.slot (records ++ r ∷ []) volatile.heard
-      (Some now) None
-      None (under.begun_bag r.slot) w row)
+      (Some now) None w row)
       (sym (at_here r.slot None under.waiting))
       (issued_knows r.slot records r volatile.heard (volatile.current r.slot) b
-      (under.begun_bag r.slot) (under.current_bag r.slot) (under.waiting r.slot)
-      (row_of old r.slot) row
+      (under.waiting r.slot) (row_of old r.slot) row
       (used ∙ ap (with_one max (row_of old r.slot).used) (sym (says (Some n) is))) floor begun
       current
       (subst (λ (x : Option BallotNumber). Knows r.slot records volatile.heard
-      (volatile.current r.slot) x (under.begun_bag r.slot) (under.current_bag r.slot)
-      (under.waiting r.slot) (row_of old r.slot)) next
-      (stands r.slot))))))))
+      (volatile.current r.slot) x (under.waiting r.slot) (row_of old r.slot)) next
+      (stands r.slot))))))
       (λ s e.
       subst (λ (c : Option Current). Knows s (records ++ r ∷ []) volatile.heard c
-      (at_slot r.slot None under.begun s) (at_slot r.slot None under.begun_bag s)
-      (at_slot r.slot (under.begun_bag r.slot) under.current_bag s)
-      (at_slot r.slot None under.waiting s) (row_of old s))
+      (at_slot r.slot None under.begun s) (at_slot r.slot None under.waiting s) (row_of old s))
       (sym (at_other r.slot s (Some now) volatile.current e))
       (subst (λ (x : Option BallotNumber). Knows s (records ++ r ∷ []) volatile.heard
-      (volatile.current s) x (at_slot r.slot None under.begun_bag s)
-      (at_slot r.slot (under.begun_bag r.slot) under.current_bag s)
-      (at_slot r.slot None under.waiting s) (row_of old s))
+      (volatile.current s) x (at_slot r.slot None under.waiting s) (row_of old s))
       (sym (at_other r.slot s None under.begun e))
-      (subst (λ (bag : Option BagId). Knows s (records ++ r ∷ []) volatile.heard
-      (volatile.current s) (under.begun s) bag
-      (at_slot r.slot (under.begun_bag r.slot) under.current_bag s)
-      (at_slot r.slot None under.waiting s) (row_of old s))
-      (sym (at_other r.slot s None under.begun_bag e))
-      (subst (λ (own : Option BagId). Knows s (records ++ r ∷ []) volatile.heard
-      (volatile.current s) (under.begun s) (under.begun_bag s) own
-      (at_slot r.slot None under.waiting s) (row_of old s))
-      (sym (at_other r.slot s (under.begun_bag r.slot) under.current_bag e))
       (subst (λ (w : Option Message). Knows s (records ++ r ∷ []) volatile.heard
-      (volatile.current s)
-      (under.begun s) (under.begun_bag s) (under.current_bag s) w (row_of old s))
+      (volatile.current s) (under.begun s) w (row_of old s))
       (sym (at_other r.slot s None under.waiting e))
-      (others_stay s e))))))
+      (others_stay s e))))
     where
       now : Current
       now = record { ballot = b; heard_before = length volatile.heard }
@@ -359,21 +302,18 @@ module _ (old new : Rows Row) (r : Record) (records : List Record) (volatile : V
         current = (row_of old r.slot).current;
       })
       (Some n) is puts refl refl refl refl
-  round_stands n true is of puts = go (under.begun r.slot) (begun_in (row_of old r.slot)) refl of
-      (stands r.slot).begun
+  round_stands n true is of puts =
+      go (under.begun r.slot) refl (sym (ap (is_of_round n) (stands r.slot).begun) ∙ of)
     where
-      go : (b : Option BallotNumber) (o : Option BallotState) → under.begun r.slot ≡ b
-          → is_of_round n o ≡ true
-          → BeginsFor (under.begun_bag r.slot) b o
+      go : (b : Option BallotNumber) → under.begun r.slot ≡ b
+          → is_of_round n (option_map fresh b) ≡ true
           → Represents new (records ++ r ∷ []) (current_if volatile r.slot b)
           (under_way_if under r.slot b)
-      go None None e f h = absurd (cc f)
-      go None (Some state) e f h = absurd h
-      go (Some b) o e f h =
+      go None e f = absurd (cc f)
+      go (Some b) e f =
           made_current (record {
             used = max (row_of old r.slot).used n;
-            floor =
-                (row_of old r.slot).floor;
+            floor = (row_of old r.slot).floor;
             begun = None;
             current = begun_in (row_of old r.slot);
           })
@@ -388,8 +328,9 @@ module _ (old new : Rows Row) (r : Record) (records : List Record) (volatile : V
   entry_stands (entry.Round n) e puts =
       subst (λ (b : Option BallotNumber). Represents new (records ++ r ∷ [])
       (current_if volatile r.slot b) (under_way_if under r.slot b))
-      (sym (of_round_is (under.begun_bag r.slot) (under.begun r.slot)
-      (begun_in (row_of old r.slot)) n (stands r.slot).begun))
+      (sym (of_round_is (under.begun r.slot) n
+      ∙ ap (λ (o : Option BallotState). cond (is_of_round n o) (under.begun r.slot) None)
+      (sym (stands r.slot).begun)))
       (round_stands n (is_of_round n (begun_in (row_of old r.slot))) (ap round_in e) refl puts)
   entry_stands (entry.Deposit v) e puts = raised (row_of old r.slot) None (ap round_in e) puts refl
       refl refl refl

@@ -25,8 +25,8 @@ use Rattle.proposer.specs.Proposals.{Current, gathered, highest_prior, bag_of}
 use Rattle.proposer.specs.Proposals.{proposal, ready}
 use Rattle.proposer.specs.VolatileStates.{promise_message}
 use Rattle.proposer.specs.Rows.{Counts, CountsFor, waiting_in}
-use Rattle.proposer.specs.inner.BallotStates.{bag_or, higher_prior, counted, is_ready, given_bag}
-use Rattle.proposer.specs.inner.BallotStates.{after_promise}
+use Rattle.proposer.specs.inner.BallotStates.{higher_prior, counted, completes_with, bag_after}
+use Rattle.proposer.specs.inner.BallotStates.{waits_or_counts, given_bag, after_promise}
 use Rattle.proposer.proofs.Gathered.{one_of, gathered-push}
 use Rattle.proposer.proofs.Known.{longer, counts_same}
 
@@ -65,10 +65,6 @@ highest-push ps p =
     go None = refl
     go (Some v) = refl
 
-bag_of_own : (o : Option Vote) (own : BagId) → bag_of o (Some own) ≡ Some (bag_or o own)
-bag_of_own None own = refl
-bag_of_own (Some v) own = refl
-
 flip : (a b : BallotNumber) → same_ballot a b ≡ same_ballot b a
 flip a b = go (same_ballot a b) (same_ballot b a) refl refl
   where
@@ -79,7 +75,7 @@ flip a b = go (same_ballot a b) (same_ballot b a) refl refl
     go false true e f = sym e ∙ (same_ballot_decides a b).1 (sym ((same_ballot_decides b a).0 f))
 
 module _ (slot : SlotName) (from : ℕ) (ballot : BallotNumber) (prior : Option Vote)
-    (own : Option BagId) (heard : List Message) where
+    (heard : List Message) where
   abbrev m : Message
   m = promise_message slot from ballot prior
 
@@ -95,7 +91,7 @@ module _ (slot : SlotName) (from : ℕ) (ballot : BallotNumber) (prior : Option 
   promise_is b = ap (λ (t : Bool). if_some (promise_in b) (cond t (Some m.body) None))
       ((same_slot_decides slot slot).1 refl)
 
-  gathered_more : (c : Current) (state : BallotState) → Counts slot own heard c state
+  gathered_more : (c : Current) (state : BallotState) → Counts slot heard c state
       → same_ballot state.ballot ballot ≡ true
       → gathered slot c (heard ++ m ∷ []) ≡ gathered slot c heard ++ named ∷ []
   gathered_more c state h same =
@@ -105,9 +101,9 @@ module _ (slot : SlotName) (from : ℕ) (ballot : BallotNumber) (prior : Option 
       (flip ballot c.ballot ∙ ap (λ (b : BallotNumber). same_ballot b ballot) (sym h.ballot)
       ∙ same))
 
-  pub counts_more : (c : Current) (state : BallotState) → Counts slot own heard c state
+  pub counts_more : (c : Current) (state : BallotState) → Counts slot heard c state
       → same_ballot state.ballot ballot ≡ true
-      → Counts slot own (heard ++ m ∷ []) c (counted state p)
+      → Counts slot (heard ++ m ∷ []) c (counted state p)
   counts_more c state h same =
       let more = gathered_more c state h same in
       record {
@@ -120,17 +116,16 @@ module _ (slot : SlotName) (from : ℕ) (ballot : BallotNumber) (prior : Option 
         best = ap (λ (o : Option Vote). higher_prior o prior) h.best
             ∙ sym (highest-push (gathered slot c heard) named)
             ∙ ap highest_prior (sym more);
-        own = h.own;
         within = let l = longer heard m in let o = h.within in omega (arith, l);
       }
 
   -- the proposal, by what was gathered
-  proposal_is : (q : QuorumSystem) → AreQuorums q → (c : Current) (state : BallotState)
-      → Counts slot own heard c state
-      → proposal q own (gathered slot c heard) named
-      ≡ cond (is_ready q state p) (Some (bag_or (higher_prior state.best prior) state.own)) None
+  proposal_is : (q : QuorumSystem) → AreQuorums q → (own : Option BagId) (c : Current)
+      (state : BallotState)
+      → Counts slot heard c state
+      → proposal q own (gathered slot c heard) named ≡ bag_after q own state p
   unfolding proposal
-  proposal_is q laws c state h =
+  proposal_is q laws own c state h =
       ap (λ (t : Bool). cond (t && not (q.is_quorum (promisers (gathered slot c heard))))
       (bag_of (highest_prior (gathered slot c heard ++ named ∷ [])) own) None)
       (same_quorum q (promisers (gathered slot c heard ++ named ∷ []))
@@ -143,69 +138,50 @@ module _ (slot : SlotName) (from : ℕ) (ballot : BallotNumber) (prior : Option 
       (bag_of (highest_prior (gathered slot c heard ++ named ∷ [])) own) None)
       (same_quorum q (promisers (gathered slot c heard)) state.promised_by laws
       (λ n. sym (h.promised_by n)))
-      ∙ ap (λ (o : Option BagId). cond (is_ready q state p) o None)
-      (ap (λ (o : Option Vote). bag_of o own)
+      ∙ ap (λ (o : Option Vote). cond (completes_with q state p) (bag_of o own) None)
       (highest-push (gathered slot c heard) named
       ∙ ap (λ (o : Option Vote). higher_prior o prior) (sym h.best))
-      ∙ ap (bag_of (higher_prior state.best prior)) h.own
-      ∙ bag_of_own (higher_prior state.best prior) state.own)
 
   -- the bag that a row gives is the one to propose
-  pub gives_ready : (q : QuorumSystem) → AreQuorums q
-      → (c : Option Current) (o : Option BallotState)
-      → CountsFor slot own heard c o
-      → given_bag q ballot p o ≡ ready q own slot c heard ballot named
-  gives_ready q laws None None h = refl
-  gives_ready q laws None (Some state) h = absurd h
-  gives_ready q laws (Some c) None h = absurd h
-  gives_ready q laws (Some c) (Some state) h =
+  pub gives_ready : (q : QuorumSystem) → AreQuorums q → (own : Option BagId)
+      (c : Option Current) (o : Option BallotState)
+      → CountsFor slot heard c o
+      → given_bag q own ballot p o ≡ ready q own slot c heard ballot named
+  gives_ready q laws own None None h = refl
+  gives_ready q laws own None (Some state) h = absurd h
+  gives_ready q laws own (Some c) None h = absurd h
+  gives_ready q laws own (Some c) (Some state) h =
       ap (λ (x : Option BagId). cond (same_ballot state.ballot ballot) x None)
-      (sym (proposal_is q laws c state h))
+      (sym (proposal_is q laws own c state h))
       ∙ ap (λ (b : BallotNumber). cond (same_ballot b ballot)
       (proposal q own (gathered slot c heard) named) None) h.ballot
 
   -- what a row becomes, by whether it gives a bag
   abbrev pub After : Option Current → Option Message → Option BallotState → Option BagId → Type 0
-  After c w o None = CountsFor slot own (heard ++ m ∷ []) c o × (waiting_in slot o ≡ w)
-  After c w o (Some bag) = CountsFor slot own heard c o × (waiting_in slot o ≡ Some m)
+  After c w o None = CountsFor slot (heard ++ m ∷ []) c o × (waiting_in slot o ≡ w)
+  After c w o (Some bag) = CountsFor slot heard c o × (waiting_in slot o ≡ Some m)
 
-  pub after_is : (q : QuorumSystem) (c : Option Current) (w : Option Message)
+  pub after_is : (q : QuorumSystem) (own : Option BagId) (c : Option Current) (w : Option Message)
       (o : Option BallotState)
-      → CountsFor slot own heard c o → waiting_in slot o ≡ w
-      → After c w (after_promise q ballot p o) (given_bag q ballot p o)
-  after_is q None w None h e = (h, e)
-  after_is q None w (Some state) h e = absurd h
-  after_is q (Some c) w None h e = absurd h
-  after_is q (Some c) w (Some state) h e = go (same_ballot state.ballot ballot) (is_ready q state p)
-      refl
+      → CountsFor slot heard c o → waiting_in slot o ≡ w
+      → After c w (after_promise q own ballot p o) (given_bag q own ballot p o)
+  after_is q own None w None h e = (h, e)
+  after_is q own None w (Some state) h e = absurd h
+  after_is q own (Some c) w None h e = absurd h
+  after_is q own (Some c) w (Some state) h e =
+      go (same_ballot state.ballot ballot) (bag_after q own state p) refl
     where
-      go : (t u : Bool) → same_ballot state.ballot ballot ≡ t
-          → After (Some c) w
-          (Some (cond t (cond u (record {
-            ballot = state.ballot;
-            own = state.own;
-            promised_by =
-                state.promised_by;
-            best = state.best;
-            waiting = Some p;
-          }) (counted state p)) state))
-          (cond t (cond u (Some (bag_or (higher_prior state.best prior) state.own)) None) None)
-      go true true same = (
-        record {
-          ballot = h.ballot;
-          promised_by = h.promised_by;
-          best = h.best;
-          own =
-              h.own;
-          within = h.within;
-        },
+      go : (t : Bool) (bag : Option BagId) → same_ballot state.ballot ballot ≡ t
+          → After (Some c) w (Some (cond t (waits_or_counts bag state p) state)) (cond t bag None)
+      go true (Some bag) same = (
+        record { ballot = h.ballot; promised_by = h.promised_by; best = h.best; within = h.within },
         ap
             (λ (b : BallotNumber). Some (promise_message slot from b prior))
             ((same_ballot_decides state.ballot ballot).0 same),
       )
-      go true false same = (counts_more c state h same, e)
-      go false u differ = (
-        counts_same slot own heard m (Some c) (Some state)
+      go true None same = (counts_more c state h same, e)
+      go false bag differ = (
+        counts_same slot heard m (Some c) (Some state)
             (promise_is c.ballot ∙ ap (λ (t : Bool). cond t (Some named) None)
             (flip ballot c.ballot ∙ ap (λ (b : BallotNumber). same_ballot b ballot)
             (sym h.ballot) ∙ differ))

@@ -25,7 +25,7 @@ use Rattle.proposer.specs.UnderWay.{UnderWay, nothing}
 use Rattle.proposer.specs.VolatileStates.{promise_message, refusal_message}
 use Rattle.proposer.specs.UnderWay.{begins, waits, heard_after}
 use Rattle.proposer.specs.UnderWay.{waiting_after}
-use Rattle.proposer.specs.Rows.{empty_row, BeginsFor, Knows, Represents, row_of, begun_in}
+use Rattle.proposer.specs.Rows.{empty_row, Knows, Represents, row_of, begun_in}
 use Rattle.proposer.specs.Rows.{current_in, ProposerState}
 use Rattle.proposer.specs.inner.BallotStates.{after_promise}
 use Rattle.proposer.specs.inner.Rows.{OnlyAt, HeardPromise, HeardAt}
@@ -53,8 +53,8 @@ says_nothing slot s body e = ap (λ (t : Bool). cond t (Some body) None) e
 pub nothing_known : (rows : Rows Row) → rows ≡ [] → Represents rows [] new_volatile nothing
 unfolding used_of floor_of bodies_of
 nothing_known rows e slot =
-    subst (λ (r : Rows Row). Knows slot [] [] None None None None None (row_of r slot)) (sym e)
-    (record { used = refl; floor = refl; begun = tt; current = tt; waiting = refl })
+    subst (λ (r : Rows Row). Knows slot [] [] None None None (row_of r slot)) (sym e)
+    (record { used = refl; floor = refl; begun = refl; current = tt; waiting = refl })
 
 -- ---- a ballot begun
 pub next_is : (rows : Rows Row) (site : ℕ) (slot : SlotName)
@@ -84,37 +84,27 @@ begins_at old mid new slot box plan same put is =
       },
     )
 
-pub begun_stands : (old new : Rows Row) (slot : SlotName) (ballot : BallotNumber) (own : BagId)
+pub begun_stands : (old new : Rows Row) (slot : SlotName) (ballot : BallotNumber)
     (records : List Record) (volatile : VolatileState) (under : UnderWay)
-    → BeginsAt (fresh ballot own) old new slot → Represents old records volatile under
-    → Represents new records volatile (begins under slot ballot own)
-begun_stands old new slot ballot own records volatile under at stands =
+    → BeginsAt (fresh ballot) old new slot → Represents old records volatile under
+    → Represents new records volatile (begins under slot ballot)
+begun_stands old new slot ballot records volatile under at stands =
     let h = stands slot in
     let now = at.1 in
-    stands_at old new slot (row_of new slot) records volatile (begins under slot ballot own) at.0
+    stands_at old new slot (row_of new slot) records volatile (begins under slot ballot) at.0
     (subst (λ (b : Option BallotNumber). Knows slot records volatile.heard (volatile.current slot) b
-    (at_slot slot (Some own) under.begun_bag slot) (under.current_bag slot)
     (under.waiting slot) (row_of new slot))
     (sym (at_here slot (Some ballot) under.begun))
-    (subst (λ (bag : Option BagId). Knows slot records volatile.heard (volatile.current slot)
-    (Some ballot) bag (under.current_bag slot) (under.waiting slot) (row_of new slot))
-    (sym (at_here slot (Some own) under.begun_bag))
     (record {
       used = now.used ∙ h.used;
       floor = now.floor ∙ h.floor;
-      begun = subst (BeginsFor (Some own) (Some ballot)) (sym now.begun)
-          (record { is = refl; own = refl });
+      begun = now.begun;
       current = rw now.current h.current;
       waiting = rw now.current h.waiting;
-    })))
+    }))
     (λ s e. subst (λ (b : Option BallotNumber). Knows s records volatile.heard
-    (volatile.current s) b
-    (at_slot slot (Some own) under.begun_bag s) (under.current_bag s) (under.waiting s)
-    (row_of old s))
-    (sym (at_other slot s (Some ballot) under.begun e))
-    (subst (λ (bag : Option BagId). Knows s records volatile.heard (volatile.current s)
-    (under.begun s) bag (under.current_bag s) (under.waiting s) (row_of old s))
-    (sym (at_other slot s (Some own) under.begun_bag e)) (stands s)))
+    (volatile.current s) b (under.waiting s) (row_of old s))
+    (sym (at_other slot s (Some ballot) under.begun e)) (stands s))
 
 -- the row that was put in is there
 pub put_present : (old new : Rows Row) (slot : SlotName) (row : Row) → IsWith old new slot row
@@ -130,8 +120,8 @@ pub heard_stands : (rows : Rows Row) (m : Message)
     → ((b : BallotNumber) → promise_in b m.body ≡ None) → Represents rows records volatile under
     → Represents rows records (hears volatile m) under
 heard_stands rows m records volatile under refuses promises stands s =
-    heard_knows s records volatile.heard (volatile.current s) (under.begun s) (under.begun_bag s)
-    (under.current_bag s) (under.waiting s) m (row_of rows s) (row_of rows s) refl refl refl
+    heard_knows s records volatile.heard (volatile.current s) (under.begun s)
+    (under.waiting s) m (row_of rows s) (row_of rows s) refl refl refl
     (floor_same (same_slot m.slot s)) (no_promise (volatile.current s) (same_slot m.slot s) refl)
     (stands s)
   where
@@ -160,7 +150,7 @@ refused_stands old mid new slot n from asked standing records volatile under sam
     stands_at old new slot (with_floor (row_of mid slot) n) records (hears volatile m) under
     (puts_at old mid new slot (with_floor (row_of mid slot) n) same put)
     (heard_knows slot records volatile.heard (volatile.current slot) (under.begun slot)
-    (under.begun_bag slot) (under.current_bag slot) (under.waiting slot) m (row_of old slot)
+    (under.waiting slot) m (row_of old slot)
     (with_floor (row_of mid slot) n)
     (ap (λ (r : Row). r.used) (same slot)) (ap (λ (r : Row). r.begun) (same slot))
     (ap (λ (r : Row). r.current) (same slot))
@@ -170,7 +160,7 @@ refused_stands old mid new slot n from asked standing records volatile under sam
     (no_promise (volatile.current slot))
     (stands slot))
     (λ s e. other_knows s records volatile.heard (volatile.current s) (under.begun s)
-    (under.begun_bag s) (under.current_bag s) (under.waiting s) m (row_of old s)
+    (under.waiting s) m (row_of old s)
     (says_nothing slot s m.body e) (stands s))
   where
     m : Message
@@ -185,17 +175,18 @@ refused_stands old mid new slot n from asked standing records volatile under sam
     no_promise (Some c) = rw here refl
 
 -- ---- a promise heard
-pub heard_at : (q : QuorumSystem) (ballot : BallotNumber) (p : Promise) (old new : Rows Row)
-    (slot : SlotName) (before after : Row) (given : Option BagId) → Some before ≡ row_at old slot
+pub heard_at : (q : QuorumSystem) (own : Option BagId) (ballot : BallotNumber) (p : Promise)
+    (old new : Rows Row) (slot : SlotName) (before after : Row) (given : Option BagId)
+    → Some before ≡ row_at old slot
     → (IsSome (row_at old slot) → IsWith old new slot after)
-    → HeardPromise q ballot p before after given → HeardAt q ballot p old new slot given
-heard_at q ballot p old new slot before after given is put heard =
+    → HeardPromise q own ballot p before after given → HeardAt q own ballot p old new slot given
+heard_at q own ballot p old new slot before after given is put heard =
     let puts = puts_at old old new slot after (λ s. refl) (put (subst IsSome is refl)) in
     let there : row_of new slot ≡ after = row_there old new slot after puts in
     let was : before ≡ row_of old slot = ap (row_or empty_row) is in (
       only_at old new slot after puts,
-      subst (λ (r : Row). HeardPromise q ballot p (row_of old slot) r given) (sym there)
-          (subst (λ (r : Row). HeardPromise q ballot p r after given) was heard),
+      subst (λ (r : Row). HeardPromise q own ballot p (row_of old slot) r given) (sym there)
+          (subst (λ (r : Row). HeardPromise q own ballot p r after given) was heard),
     )
 
 -- a table that is as it was
@@ -206,28 +197,29 @@ stays_only old new slot e s = go (same_slot slot s) refl
     go true f = ap (row_of new) (sym ((same_slot_decides slot s).0 f))
     go false f = ap (λ (r : Rows Row). row_of r s) e
 
-pub heard_nowhere : (q : QuorumSystem) (ballot : BallotNumber) (p : Promise) (old new : Rows Row)
-    (slot : SlotName) → None ≡ row_at old slot → new ≡ old → HeardAt q ballot p old new slot None
-heard_nowhere q ballot p old new slot is e =
+pub heard_nowhere : (q : QuorumSystem) (own : Option BagId) (ballot : BallotNumber) (p : Promise)
+    (old new : Rows Row) (slot : SlotName) → None ≡ row_at old slot → new ≡ old
+    → HeardAt q own ballot p old new slot None
+heard_nowhere q own ballot p old new slot is e =
     let was : empty_row ≡ row_of old slot = ap (row_or empty_row) is in (
       stays_only old new slot e,
-      subst (λ (r : Rows Row). HeardPromise q ballot p (row_of old slot) (row_of r slot) None)
+      subst (λ (r : Rows Row). HeardPromise q own ballot p (row_of old slot) (row_of r slot) None)
           (sym e)
-          (subst (λ (r : Row). HeardPromise q ballot p r r None) was
+          (subst (λ (r : Row). HeardPromise q own ballot p r r None) was
           (record { used = refl; floor = refl; begun = refl; current = refl; bag = refl })),
     )
 
 module _ (q : QuorumSystem) (laws : AreQuorums q) (slot : SlotName) (from : ℕ)
-    (ballot : BallotNumber) (prior : Option Vote) (old new : Rows Row) (given : Option BagId)
-    (records : List Record) (volatile : VolatileState) (under : UnderWay)
-    (at : HeardAt q ballot (record { site = from; prior = prior }) old new slot given)
+    (ballot : BallotNumber) (prior : Option Vote) (own : Option BagId) (old new : Rows Row)
+    (given : Option BagId) (records : List Record) (volatile : VolatileState) (under : UnderWay)
+    (at : HeardAt q own ballot (record { site = from; prior = prior }) old new slot given)
     (stands : Represents old records volatile under) where
   pub promise_ready :
-      given ≡ ready q (under.current_bag slot) slot (volatile.current slot) volatile.heard ballot
+      given ≡ ready q own slot (volatile.current slot) volatile.heard ballot
       (record { site = from; prior = prior })
   promise_ready =
       (at.1).bag
-      ∙ gives_ready slot from ballot prior (under.current_bag slot) volatile.heard q laws
+      ∙ gives_ready slot from ballot prior volatile.heard q laws own
       (volatile.current slot) (current_in (row_of old slot)) (stands slot).current
 
   pub promise_stands :
@@ -238,18 +230,18 @@ module _ (q : QuorumSystem) (laws : AreQuorums q) (slot : SlotName) (from : ℕ)
       m : Message
       m = promise_message slot from ballot prior
 
-      after : After slot from ballot prior (under.current_bag slot) volatile.heard
+      after : After slot from ballot prior volatile.heard
           (volatile.current slot) (under.waiting slot) (current_in (row_of new slot)) given
       after =
           let h = stands slot in
-          subst (λ (o : Option BallotState). After slot from ballot prior (under.current_bag slot)
+          subst (λ (o : Option BallotState). After slot from ballot prior
           volatile.heard (volatile.current slot) (under.waiting slot) o given)
           (sym (at.1).current)
-          (subst (After slot from ballot prior (under.current_bag slot) volatile.heard
+          (subst (After slot from ballot prior volatile.heard
           (volatile.current slot) (under.waiting slot)
-          (after_promise q ballot (record { site = from; prior = prior })
+          (after_promise q own ballot (record { site = from; prior = prior })
           (current_in (row_of old slot)))) (sym (at.1).bag)
-          (after_is slot from ballot prior (under.current_bag slot) volatile.heard q
+          (after_is slot from ballot prior volatile.heard q own
           (volatile.current slot) (under.waiting slot) (current_in (row_of old slot)) h.current
           h.waiting))
 
@@ -262,7 +254,7 @@ module _ (q : QuorumSystem) (laws : AreQuorums q) (slot : SlotName) (from : ℕ)
           ((same_slot_decides slot slot).1 refl)
 
       go : (o : Option BagId)
-          → After slot from ballot prior (under.current_bag slot) volatile.heard
+          → After slot from ballot prior volatile.heard
           (volatile.current slot) (under.waiting slot) (current_in (row_of new slot)) o
           → Represents new records (heard_after o volatile (promise_message slot from ballot prior))
           (waiting_after o under (promise_message slot from ballot prior))
@@ -277,13 +269,13 @@ module _ (q : QuorumSystem) (laws : AreQuorums q) (slot : SlotName) (from : ℕ)
             waiting = k.1;
           })
           (λ s e. other_knows s records volatile.heard (volatile.current s) (under.begun s)
-          (under.begun_bag s) (under.current_bag s) (under.waiting s) m (row_of old s)
+          (under.waiting s) m (row_of old s)
           (says_nothing slot s m.body e) (stands s))
       go (Some bag) k =
           let h = stands slot in
           stands_at old new slot (row_of new slot) records volatile (waits under slot (Some m)) at.0
           (subst (λ (w : Option Message). Knows slot records volatile.heard (volatile.current slot)
-          (under.begun slot) (under.begun_bag slot) (under.current_bag slot) w (row_of new slot))
+          (under.begun slot) w (row_of new slot))
           (sym (at_here slot (Some m) under.waiting))
           (record {
             used = (at.1).used ∙ h.used;
@@ -293,27 +285,28 @@ module _ (q : QuorumSystem) (laws : AreQuorums q) (slot : SlotName) (from : ℕ)
             waiting = k.1;
           }))
           (λ s e. subst (λ (w : Option Message). Knows s records volatile.heard (volatile.current s)
-          (under.begun s) (under.begun_bag s) (under.current_bag s) w (row_of old s))
+          (under.begun s) w (row_of old s))
           (sym (at_other slot s (Some m) under.waiting e)) (stands s))
 
 -- what a proposer hears of a promise, as a clause sees it: what gets ready, and what it represents
 pub promise_heard : {Q : Type 0} (system : Q → QuorumSystem)
     → ((members : Q) → AreQuorums (system members)) → {inside now : ProposerState Q} → inside ≡ now
-    → (slot : SlotName) (from : ℕ) (ballot : BallotNumber) (prior : Option Vote) (new : Rows Row)
-    (given : Option BagId) (records : List Record) (volatile : VolatileState) (under : UnderWay)
-    → HeardAt (system inside.members) ballot (record { site = from; prior = prior }) inside.rows
+    → (slot : SlotName) (from : ℕ) (ballot : BallotNumber) (prior : Option Vote)
+    (own : Option BagId) (new : Rows Row) (given : Option BagId) (records : List Record)
+    (volatile : VolatileState) (under : UnderWay)
+    → HeardAt (system inside.members) own ballot (record { site = from; prior = prior }) inside.rows
     new slot given
     → Represents now.rows records volatile under
-    → (given ≡ ready (system now.members) (under.current_bag slot) slot (volatile.current slot)
+    → (given ≡ ready (system now.members) own slot (volatile.current slot)
     volatile.heard ballot (record { site = from; prior = prior }))
     × Represents new records (heard_after given volatile (promise_message slot from ballot prior))
     (waiting_after given under (promise_message slot from ballot prior))
-promise_heard {Q} system laws {inside} {now} seen slot from ballot prior new given records volatile
-    under at stands =
-    let here = subst (λ (p : ProposerState Q). HeardAt (system p.members) ballot
+promise_heard {Q} system laws {inside} {now} seen slot from ballot prior own new given records
+    volatile under at stands =
+    let here = subst (λ (p : ProposerState Q). HeardAt (system p.members) own ballot
     (record { site = from; prior = prior }) p.rows new slot given) seen at in (
-      promise_ready (system now.members) (laws now.members) slot from ballot prior now.rows new
+      promise_ready (system now.members) (laws now.members) slot from ballot prior own now.rows new
           given records volatile under here stands,
-      promise_stands (system now.members) (laws now.members) slot from ballot prior now.rows new
+      promise_stands (system now.members) (laws now.members) slot from ballot prior own now.rows new
           given records volatile under here stands,
     )

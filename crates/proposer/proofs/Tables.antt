@@ -43,22 +43,22 @@ only_at old new slot row puts s =
 pub stands_at : (old new : Rows Row) (slot : SlotName) (row : Row)
     (records : List Record) (volatile : VolatileState) (under : UnderWay) → PutsAt old new slot row
     → Knows slot records volatile.heard (volatile.current slot) (under.begun slot)
-    (under.begun_bag slot) (under.current_bag slot) (under.waiting slot) row
+    (under.waiting slot) row
     → ((s : SlotName) → same_slot slot s ≡ false
-    → Knows s records volatile.heard (volatile.current s) (under.begun s) (under.begun_bag s)
-    (under.current_bag s) (under.waiting s) (row_of old s))
+    → Knows s records volatile.heard (volatile.current s) (under.begun s)
+    (under.waiting s) (row_of old s))
     → Represents new records volatile under
 stands_at old new slot row records volatile under puts at others s =
-    subst (Knows s records volatile.heard (volatile.current s) (under.begun s) (under.begun_bag s)
-    (under.current_bag s) (under.waiting s))
+    subst (Knows s records volatile.heard (volatile.current s) (under.begun s)
+    (under.waiting s))
     (sym (puts s)) (go (same_slot slot s) refl)
   where
     go : (t : Bool) → same_slot slot s ≡ t
-        → Knows s records volatile.heard (volatile.current s) (under.begun s) (under.begun_bag s)
-        (under.current_bag s) (under.waiting s) (cond t row (row_of old s))
+        → Knows s records volatile.heard (volatile.current s) (under.begun s)
+        (under.waiting s) (cond t row (row_of old s))
     go true e =
         subst (λ (k : SlotName). Knows k records volatile.heard (volatile.current k) (under.begun k)
-        (under.begun_bag k) (under.current_bag k) (under.waiting k) row)
+        (under.waiting k) row)
         ((same_slot_decides slot s).0 e) at
     go false e = others s e
 
@@ -67,8 +67,8 @@ pub same_stands : (old new : Rows Row) → ((s : SlotName) → row_of new s ≡ 
     → (records : List Record) (volatile : VolatileState) (under : UnderWay)
     → Represents old records volatile under → Represents new records volatile under
 same_stands old new same records volatile under stands s =
-    subst (Knows s records volatile.heard (volatile.current s) (under.begun s) (under.begun_bag s)
-    (under.current_bag s) (under.waiting s))
+    subst (Knows s records volatile.heard (volatile.current s) (under.begun s)
+    (under.waiting s))
     (sym (same s)) (stands s)
 
 -- a slot that had a row has one after a row is put in

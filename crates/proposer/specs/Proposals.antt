@@ -43,8 +43,8 @@ unfoldable pub highest_prior : List PromiseFrom → Option Vote
 highest_prior promises = highest (λ v. v.ballot) (priors promises)
 
 -- P2c, the value: that of the highest-numbered proposal, 'or is any value if the responses reported
--- no proposals': the given one. It is the bag that the ballot was begun with, the site's own
--- deposit, which stays the same, since the first one counts.
+-- no proposals': the given one. It is the site's own deposit, if it has one when the promise comes,
+-- and stays the same, since the first one counts.
 abbrev pub bag_of : Option Vote → Option BagId → Option BagId
 bag_of None own = own
 bag_of (Some prior) own = Some prior.bag

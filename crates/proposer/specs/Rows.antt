@@ -1,7 +1,6 @@
 -- What a proposer knows of each slot.
 use Rattle.std.specs.Prelude.{◌≡◌, ◌≤◌, ℕ, List, length, Option, Some, None, box_value}
 use Rattle.std.specs.Prelude.{option_map}
-use Rattle.fed_types.specs.declared.bag_id.BagId.{BagId}
 use Rattle.fed_types.specs.Ballots.{BallotNumber}
 use Rattle.fed_types.specs.Lists.{is_in}
 use Rattle.fed_types.specs.Slots.{SlotName}
@@ -47,33 +46,21 @@ begun_in row = option_map (λ plan. state_of (box_value plan)) row.begun
 abbrev pub current_in : Row → Option BallotState
 current_in row = row.current
 
--- the ballot that was begun, with this bag, and nothing was gathered for it
-pub record Begins (bag : Option BagId) (ballot : BallotNumber) (state : BallotState) : Type 0 where
-  pub is : state ≡ fresh ballot state.own
-  pub own : bag ≡ Some state.own
-
-abbrev pub BeginsFor : Option BagId → Option BallotNumber → Option BallotState → Type 0
-BeginsFor own None None = Unit {0}
-BeginsFor own (Some ballot) (Some state) = Begins own ballot state
-BeginsFor own _ _ = ⊥
-
--- the current ballot, which was begun with this bag: it counts the promises that were gathered
+-- the current ballot: it counts the promises that were gathered
 pub record Counts
-    (slot : SlotName) (bag : Option BagId) (heard : List Message) (c : Current)
-    (state : BallotState)
+    (slot : SlotName) (heard : List Message) (c : Current) (state : BallotState)
     : Type 0 where
   pub ballot : state.ballot ≡ c.ballot
   pub promised_by : (n : ℕ)
       → is_in state.promised_by n ≡ is_in (promisers (gathered slot c heard)) n
   pub best : state.best ≡ highest_prior (gathered slot c heard)
-  pub own : bag ≡ Some state.own
   pub within : c.heard_before ≤ length heard
 
 abbrev pub CountsFor :
-    SlotName → Option BagId → List Message → Option Current → Option BallotState → Type 0
-CountsFor slot own heard None None = Unit {0}
-CountsFor slot own heard (Some c) (Some state) = Counts slot own heard c state
-CountsFor slot own heard _ _ = ⊥
+    SlotName → List Message → Option Current → Option BallotState → Type 0
+CountsFor slot heard None None = Unit {0}
+CountsFor slot heard (Some c) (Some state) = Counts slot heard c state
+CountsFor slot heard _ _ = ⊥
 
 -- the promise that waits, as it was heard
 abbrev pub waiting_as : SlotName → BallotNumber → Option Waiting → Option Message
@@ -86,15 +73,15 @@ waiting_in slot None = None
 waiting_in slot (Some state) = waiting_as slot state.ballot state.waiting
 
 -- the row knows what records and messages say of the slot, its current ballot, the next one that is
--- begun, with which bags they were begun, and what waits
+-- begun, for which nothing was gathered, and what waits
 pub record Knows
     (slot : SlotName) (records : List Record) (heard : List Message) (c : Option Current)
-    (next : Option BallotNumber) (next_own own : Option BagId) (m : Option Message) (row : Row)
+    (next : Option BallotNumber) (m : Option Message) (row : Row)
     : Type 0 where
   pub used : row.used ≡ used_of slot records
   pub floor : row.floor ≡ floor_of (bodies_of slot heard)
-  pub begun : BeginsFor next_own next (begun_in row)
-  pub current : CountsFor slot own heard c (current_in row)
+  pub begun : begun_in row ≡ option_map fresh next
+  pub current : CountsFor slot heard c (current_in row)
   pub waiting : waiting_in slot (current_in row) ≡ m
 
 -- so it is of every slot
@@ -102,4 +89,4 @@ abbrev pub Represents : tables.Rows Row → List Record → VolatileState → Un
 Represents rows records volatile under =
     (slot : SlotName)
     → Knows slot records volatile.heard (volatile.current slot) (under.begun slot)
-    (under.begun_bag slot) (under.current_bag slot) (under.waiting slot) (row_of rows slot)
+    (under.waiting slot) (row_of rows slot)

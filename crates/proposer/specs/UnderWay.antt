@@ -10,41 +10,24 @@ use Rattle.dgram.specs.declared.message.Message.{Message}
 use Rattle.proposer.specs.VolatileStates.{VolatileState, hears, at_slot, with_current}
 
 -- Of each slot, what the volatile state doesn't show: where memory runs out meanwhile, nothing has
--- happened. A ballot that was begun, while its Round record isn't noted, and the bag that it was
--- begun with; the bag that the current ballot was begun with; and the promise that made a proposal
--- ready, while the proposal isn't issued.
+-- happened. A ballot that was begun, while its Round record isn't noted; and the promise that made
+-- a proposal ready, while the proposal isn't issued.
 pub record UnderWay : Type 0 where
   pub begun : SlotName → Option BallotNumber
-  pub begun_bag : SlotName → Option BagId
-  pub current_bag : SlotName → Option BagId
   pub waiting : SlotName → Option Message
 
 -- nothing is
 abbrev pub nothing : UnderWay
-nothing = record {
-  begun = λ slot. None;
-  begun_bag = λ slot. None;
-  current_bag = λ slot. None;
-  waiting = λ slot. None;
-}
+nothing = record { begun = λ slot. None; waiting = λ slot. None }
 
--- a ballot is begun with a bag
-abbrev pub begins : UnderWay → SlotName → BallotNumber → BagId → UnderWay
-begins under slot ballot own = record {
-  begun = at_slot slot (Some ballot) under.begun;
-  begun_bag = at_slot slot (Some own) under.begun_bag;
-  current_bag = under.current_bag;
-  waiting = under.waiting;
-}
+-- a ballot is begun
+abbrev pub begins : UnderWay → SlotName → BallotNumber → UnderWay
+begins under slot ballot =
+    record { begun = at_slot slot (Some ballot) under.begun; waiting = under.waiting }
 
 -- this promise waits, or none does
 abbrev pub waits : UnderWay → SlotName → Option Message → UnderWay
-waits under slot m = record {
-  begun = under.begun;
-  begun_bag = under.begun_bag;
-  current_bag = under.current_bag;
-  waiting = at_slot slot m under.waiting;
-}
+waits under slot m = record { begun = under.begun; waiting = at_slot slot m under.waiting }
 
 -- a promise that makes a proposal of this bag ready isn't heard yet; one that makes none ready is
 abbrev pub heard_after : Option BagId → VolatileState → Message → VolatileState
@@ -76,12 +59,10 @@ abbrev pub current_if : VolatileState → SlotName → Option BallotNumber → V
 current_if volatile slot None = volatile
 current_if volatile slot (Some ballot) = with_current volatile slot ballot
 
--- and what is under way: of this slot nothing but the bag of the ballot that is current now
+-- and what is under way: of this slot nothing
 abbrev pub under_way_if : UnderWay → SlotName → Option BallotNumber → UnderWay
 under_way_if under slot None = under
 under_way_if under slot (Some ballot) = record {
   begun = at_slot slot None under.begun;
-  begun_bag = at_slot slot None under.begun_bag;
-  current_bag = at_slot slot (under.begun_bag slot) under.current_bag;
   waiting = at_slot slot None under.waiting;
 }

@@ -1,9 +1,10 @@
 ghost use Rattle.std.specs.Prelude.{◌≡◌, Some, box_value};
 ghost use Rattle.fed_types.specs.Voters.{with_voter};
 ghost use Rattle.proposer.specs.BallotStates.{fresh, state_of};
+ghost use Rattle.proposer.specs.Proposals.{bag_of};
 ghost use Rattle.proposer.specs.inner.BallotStates.{counted, higher_prior, becomes_quorum, issued};
-ghost use Rattle.proposer.specs.inner.BallotStates.{is_ready, state_after, bag_or, after_promise};
-ghost use Rattle.proposer.specs.inner.BallotStates.{makes_ready};
+ghost use Rattle.proposer.specs.inner.BallotStates.{bag_after, state_after, given_bag};
+ghost use Rattle.proposer.specs.inner.BallotStates.{after_promise};
 
 use fed_types::{BagId, Ballot, Quorums, SiteNo, Vote, Voters};
 use std::marker::Model;
@@ -15,13 +16,10 @@ pub(crate) struct Promise {
     pub(crate) prior: Option<Vote>,
 }
 
-/// A ballot that was begun, and what is seldom asked for once it is current: what is proposed, and
-/// the promise that waits.
+/// A ballot that was begun, and what is seldom asked for once it is current.
 #[derive(Clone, Copy, Debug)]
 pub(crate) struct Plan {
     pub(crate) ballot: Ballot,
-    /// The bag that is proposed where no vote was named.
-    own: BagId,
     /// The highest of the votes that were named.
     best: Option<Vote>,
     /// The promise that made the proposal ready, until the proposal is issued.
@@ -30,12 +28,11 @@ pub(crate) struct Plan {
 
 impl Plan {
     /// The plan of a ballot that nobody has promised.
-    pub(crate) fn new(ballot: Ballot, own: BagId) -> Plan
-        ensures { state_of result ≡ fresh ballot own }
+    pub(crate) fn new(ballot: Ballot) -> Plan
+        ensures { state_of result ≡ fresh ballot }
     {
         Plan {
             ballot,
-            own,
             best: None,
             waiting: None,
         }
@@ -61,7 +58,6 @@ impl Model for BallotState {
     ghost view = { λ r. record {
       ballot = r.ballot;
       promised_by = r.promised_by;
-      own = (box_value r.plan).own;
       best = (box_value r.plan).best;
       waiting = (box_value r.plan).waiting;
     } };
@@ -79,40 +75,44 @@ impl BallotState {
         }
     }
 
-    /// Hears a promise: only one for this ballot counts. Whether it makes the proposal ready.
+    /// Hears a promise, of which only one for this ballot counts, and gives the bag to propose.
     pub(crate) fn promise_for<Q: Quorums>(
         &mut self,
         members: &Q,
         ballot: Ballot,
         promise: &Promise,
-    ) -> bool
+        own: Option<BagId>,
+    ) -> Option<BagId>
         ensures state { Some self.new
-            ≡ after_promise (Q.quorum_system members.now) ballot promise.now (Some self.old) }
-        ensures ready { result
-            ≡ makes_ready (Q.quorum_system members.now) ballot promise.now self.old }
+            ≡ after_promise (Q.quorum_system members.now) own ballot promise.now (Some self.old) }
+        ensures bag { result
+            ≡ given_bag (Q.quorum_system members.now) own ballot promise.now (Some self.old) }
     {
-        self.ballot == ballot && self.promise(members, promise)
-    }
-
-    /// Hears a promise of the ballot: it counts, unless it makes the proposal ready; then it waits.
-    pub(crate) fn promise<Q: Quorums>(&mut self, members: &Q, promise: &Promise) -> bool
-        ensures ready { result ≡ is_ready (Q.quorum_system members.now) self.old promise.now }
-        ensures state { self.new ≡ state_after (Q.quorum_system members.now) self.old promise.now }
-    {
-        let ready = becomes_quorum(members, self.promised_by, self.promised_with(promise.site));
-        if ready {
-            self.plan.waiting = Some(*promise);
+        if self.ballot == ballot {
+            self.promise(members, promise, own)
         } else {
-            self.count(promise);
+            None
         }
-        ready
     }
 
-    /// The bag to propose, with this vote among those that were named.
-    pub(crate) fn bag_with(&self, prior: &Option<Vote>) -> BagId
-        ensures { result ≡ bag_or (higher_prior self.now.best prior.now) self.now.own }
+    /// Hears a promise of the ballot, and gives the bag to propose. The promise counts, unless it
+    /// makes the proposal ready; then it waits.
+    pub(crate) fn promise<Q: Quorums>(
+        &mut self,
+        members: &Q,
+        promise: &Promise,
+        own: Option<BagId>,
+    ) -> Option<BagId>
+        ensures bag { result ≡ bag_after (Q.quorum_system members.now) own self.old promise.now }
+        ensures state { self.new
+            ≡ state_after (Q.quorum_system members.now) own self.old promise.now }
     {
-        bag_or(higher(self.plan.best, *prior), self.plan.own)
+        let bag = self.bag_after(members, promise, own);
+        match bag {
+            Some(_) => self.plan.waiting = Some(*promise),
+            None => self.count(promise),
+        }
+        bag
     }
 
     /// The promise that waits counts from now on, if one waits.
@@ -122,6 +122,22 @@ impl BallotState {
         if let Some(promise) = self.plan.waiting {
             self.count(&promise);
             self.plan.waiting = None;
+        }
+    }
+
+    // The bag to propose once this promise is heard.
+    fn bag_after<Q: Quorums>(
+        &self,
+        members: &Q,
+        promise: &Promise,
+        own: Option<BagId>,
+    ) -> Option<BagId>
+        ensures { result ≡ bag_after (Q.quorum_system members.now) own self.now promise.now }
+    {
+        if becomes_quorum(members, self.promised_by, self.promised_with(promise.site)) {
+            bag_of(higher(self.plan.best, promise.prior), own)
+        } else {
+            None
         }
     }
 
@@ -166,11 +182,11 @@ fn higher(best: Option<Vote>, prior: Option<Vote>) -> Option<Vote>
 }
 
 // The bag of the vote, or the own one.
-fn bag_or(best: Option<Vote>, own: BagId) -> BagId
-    ensures { result ≡ bag_or best own }
+fn bag_of(best: Option<Vote>, own: Option<BagId>) -> Option<BagId>
+    ensures { result ≡ bag_of best own }
 {
     match best {
-        Some(vote) => vote.bag,
+        Some(vote) => Some(vote.bag),
         None => own,
     }
 }

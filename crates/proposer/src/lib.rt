@@ -2,8 +2,8 @@
 //! once: its next ballot, and the bag that it proposes once a quorum has promised.
 //!
 //! ```
-//! check(proposer.promise(third, slot, ballot, prior) == None)?;
-//! check(proposer.promise(second, slot, ballot, None) == Some(PRIOR))?;
+//! check(proposer.promise(third, slot, ballot, prior, own) == None)?;
+//! check(proposer.promise(second, slot, ballot, None, own) == Some(PRIOR))?;
 //! proposer.issued(slot);
 //! ```
 #![tactic(auto)]

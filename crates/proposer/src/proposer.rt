@@ -67,11 +67,10 @@ impl<Q: Quorums + Drop> Proposer<Q> {
         self.table.reserve(slot, Row::empty())
     }
 
-    /// Begins the slot's next ballot, to propose this bag where no vote stands in the way. The
-    /// ballot becomes current once its Round record is noted, which takes no memory. `RoundsSpent`
-    /// where the greatest round was used or stood in the way; else `Memory` where an allocation
-    /// fails.
-    pub fn begin(&mut self, slot: &Slot, own: BagId) -> Result<Ballot, ProposeFault>
+    /// Begins the slot's next ballot. It becomes current once its Round record is noted, which
+    /// takes no memory. `RoundsSpent` where the greatest round was used or stood in the way; else
+    /// `Memory` where an allocation fails.
+    pub fn begin(&mut self, slot: &Slot) -> Result<Ballot, ProposeFault>
         ensures answer { (records : Records) (volatile : VolatileState) (under : UnderWay)
             → Represents self.old.rows records volatile under
             → IsOrFault ProposeFault.Memory result
@@ -83,7 +82,7 @@ impl<Q: Quorums + Drop> Proposer<Q> {
         ensures begun { IfOk result (λ ballot.
             (records : Records) (volatile : VolatileState) (under : UnderWay)
             → Represents self.old.rows records volatile under
-            → Represents self.new.rows records volatile (begins under slot.now ballot own)) }
+            → Represents self.new.rows records volatile (begins under slot.now ballot)) }
         ensures present { IfOk result (λ ballot. IsSome (row_at self.new.rows slot.now)) }
         ensures unchanged { OnErr result (KnowsSame self.old.rows self.new.rows) }
         ensures rooms { HasRooms self.old.rows self.new.rows }
@@ -91,7 +90,7 @@ impl<Q: Quorums + Drop> Proposer<Q> {
     {
         match self.next(slot) {
             None => Err(ProposeFault::RoundsSpent),
-            Some(ballot) => match self.begin_ballot(slot, Plan::new(ballot, own)) {
+            Some(ballot) => match self.begin_ballot(slot, Plan::new(ballot)) {
                 Ok(()) => Ok(ballot),
                 Err(_) => Err(ProposeFault::Memory),
             },
@@ -99,19 +98,21 @@ impl<Q: Quorums + Drop> Proposer<Q> {
     }
 
     /// Hears a promise, and gives the bag to propose exactly when it makes the proposal ready: that
-    /// of the highest vote named, or the one that the ballot was begun with. Then the promise
-    /// waits, and counts once `issued` is called. It takes no memory.
+    /// of the highest vote named, or where none is the own one, if there is one. Then the promise
+    /// waits, and counts once `issued` is called. Where a quorum has promised and there is no bag,
+    /// nothing is proposed in this ballot. It takes no memory.
     pub fn promise(
         &mut self,
         from: SiteNo,
         slot: &Slot,
         ballot: Ballot,
         prior: Option<Vote>,
+        own: Option<BagId>,
     ) -> Option<BagId>
         ensures ready { (records : Records) (volatile : VolatileState) (under : UnderWay)
             → Represents self.old.rows records volatile under
-            → result ≡ ready (Q.quorum_system self.old.members) (under.current_bag slot.now)
-            slot.now (volatile.current slot.now) volatile.heard ballot
+            → result ≡ ready (Q.quorum_system self.old.members) own slot.now
+            (volatile.current slot.now) volatile.heard ballot
             (record { site = from; prior = prior }) }
         ensures heard { HearsPromise (Represents self.old.rows) (Represents self.new.rows)
             (promise_message slot.now from ballot prior) result }
@@ -119,7 +120,7 @@ impl<Q: Quorums + Drop> Proposer<Q> {
         ensures whose { IsOfSameSite self.old self.new }
     {
         let promise = Promise { site: from, prior };
-        promise_in(&mut self.table, &self.members, slot, ballot, &promise)
+        promise_in(&mut self.table, &self.members, slot, ballot, &promise, own)
     }
 
     /// The proposal that became ready is sent: the promise that waits counts from now on, if one
@@ -239,13 +240,14 @@ fn promise_in<Q: Quorums>(
     slot: &Slot,
     ballot: Ballot,
     promise: &Promise,
+    own: Option<BagId>,
 ) -> Option<BagId>
-    ensures heard { HeardAt (Q.quorum_system members.now) ballot promise.now table.old table.new
-        slot.now result }
+    ensures heard { HeardAt (Q.quorum_system members.now) own ballot promise.now table.old
+        table.new slot.now result }
     ensures rooms { HasRooms table.old table.new }
 {
     match table.get_mut(slot) {
-        Some(row) => row.promise(members, ballot, promise),
+        Some(row) => row.promise(members, ballot, promise, own),
         None => None,
     }
 }

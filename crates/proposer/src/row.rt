@@ -40,24 +40,20 @@ impl Row {
         self.used.max(self.floor)
     }
 
-    /// Hears a promise: only one for the current ballot counts.
+    /// Hears a promise, of which only one for the current ballot counts, and gives the bag to
+    /// propose.
     pub(crate) fn promise<Q: Quorums>(
         &mut self,
         members: &Q,
         ballot: Ballot,
         promise: &Promise,
+        own: Option<BagId>,
     ) -> Option<BagId>
-        ensures { HeardPromise (Q.quorum_system members.now) ballot promise.now self.old self.new
-            result }
+        ensures { HeardPromise (Q.quorum_system members.now) own ballot promise.now self.old
+            self.new result }
     {
         match &mut self.current {
-            Some(state) => {
-                if state.promise_for(members, ballot, promise) {
-                    Some(state.bag_with(&promise.prior))
-                } else {
-                    None
-                }
-            }
+            Some(state) => state.promise_for(members, ballot, promise, own),
             None => None,
         }
     }

@@ -1,4 +1,4 @@
--- A site proposes, and hears which ballots the members that run have promised: its next ballot is
+-- A site recovers, and hears which ballots the members that run have promised: its next ballot is
 -- above them all.
 use Rattle.std.proofs.Common.{ℕ, ◌≡◌, ◌≤◌, ◌<◌, ◌+◌, ◌⊎◌, max, Bool, true, false, cond, inl, inr}
 use Rattle.std.proofs.Common.{refl, sym, ap, subst, ◌∙◌, List, [], ◌∷◌, ◌++◌, length}
@@ -29,12 +29,12 @@ use Rattle.site.specs.Effects.{Effect, Send, to_each}
 use Rattle.world_law.proofs.Order.{below_is}
 use Rattle.world_law.specs.Networks.{Network}
 use Rattle.reach_law.proofs.Words.{of_slot, said_self, Silent, promised_silent, used_silent}
-use Rattle.reach_law.proofs.Words.{deposit_stays, used_now, promised_now, about, floor_quiet}
+use Rattle.reach_law.proofs.Words.{has_stays, used_now, promised_now, about, floor_quiet}
 use Rattle.reach_law.proofs.Words.{floor_refused, to_site, to_each_has}
 use Rattle.reach_law.proofs.Leads.{IsUp, Fresh, Took, took_stay, took_volatile, took_up}
 use Rattle.reach_law.proofs.Leads.{took_later, took_fresh, took_new, spent, Leads, each}
-use Rattle.reach_law.proofs.Leads.{answered_leads, propose_leads}
-use Rattle.reach_law.specs.Running.{records_at, volatile_at}
+use Rattle.reach_law.proofs.Leads.{answered_leads, recover_leads}
+use Rattle.reach_law.specs.Running.{records_at, volatile_at, HasVoteOrDeposit}
 use Rattle.reach_law.proofs.Words.{some_same}
 
 -- it sends these, and has heard what came
@@ -96,8 +96,7 @@ prepare_cases slot rs b = go (promised_of slot rs) refl
     go (Some a) e = stands a e (below a b) refl
 
 module _ (q : QuorumSystem) (running : List ℕ) (slot : SlotName) (before : ℕ)
-    (members : (n : ℕ) → Has n running → Has n q.members) (p : ℕ) (runs : Has p running)
-    (own : BagId) where
+    (members : (n : ℕ) → Has n running → Has n q.members) (p : ℕ) (runs : Has p running) where
   abbrev pub last : Network → ℕ
   last w = last_round slot (records_at w p) (volatile_at w p).heard
 
@@ -109,7 +108,7 @@ module _ (q : QuorumSystem) (running : List ℕ) (slot : SlotName) (before : ℕ
   pub record Room (w : Network) : Type 0 where
     pub up : (n : ℕ) → Has n running → IsUp w n
     pub later : before ≤ length w.sent
-    pub deposit : deposit_of slot (records_at w p) ≡ Some own
+    pub has : HasVoteOrDeposit slot (records_at w p)
     pub room : last w < greatest_round
     pub rooms : (n : ℕ) → Has n running → (b : BallotNumber)
         → promised_of slot (records_at w n) ≡ Some b → b.round < greatest_round
@@ -125,7 +124,7 @@ module _ (q : QuorumSystem) (running : List ℕ) (slot : SlotName) (before : ℕ
     pub asked : (n : ℕ) → Has n running
         → Fresh before w.sent (to_site n slot (Prepare (ballot r)))
 
-  -- ---- a proposal
+  -- ---- a recovery
 
   pub next_is : (w : Network) → last w < greatest_round
       → next_ballot p slot (records_at w p) (volatile_at w p).heard
@@ -152,13 +151,11 @@ module _ (q : QuorumSystem) (running : List ℕ) (slot : SlotName) (before : ℕ
     begun_asked l n h =
         took_new t before _ l (to_each_has slot _ q.members n (members n h))
 
-    pub begun_deposit : deposit_of slot (records_at w p) ≡ Some own
-        → deposit_of slot (records_at x p) ≡ Some own
-    begun_deposit e =
-        took_stay (λ (rs : List Record). deposit_of slot rs ≡ Some own) t
-        (λ e.
-        deposit_stays slot (records_at w p) own e
-        (Some (of_slot slot (entry.Round (1 + last w))))) p e
+    pub begun_has : HasVoteOrDeposit slot (records_at w p) → HasVoteOrDeposit slot (records_at x p)
+    begun_has has =
+        took_stay (HasVoteOrDeposit slot) t
+        (λ h.
+        has_stays slot (records_at w p) h (Some (of_slot slot (entry.Round (1 + last w))))) p has
 
     pub begun_promised : (n : ℕ)
         → promised_of slot (records_at x n) ≡ promised_of slot (records_at w n)
@@ -175,7 +172,7 @@ module _ (q : QuorumSystem) (running : List ℕ) (slot : SlotName) (before : ℕ
       base = record {
         up = λ n h. took_up t n (r.up n h);
         later = took_later t before r.later;
-        deposit = begun_deposit r.deposit;
+        has = begun_has r.has;
         room = omega (arith, begun_used, begun_floor);
         rooms = λ n h b e. r.rooms n h b (sym (begun_promised n) ∙ e);
       };
@@ -183,14 +180,14 @@ module _ (q : QuorumSystem) (running : List ℕ) (slot : SlotName) (before : ℕ
       asked = begun_asked r.later;
     }
 
-  -- the site proposes for the first time
-  pub proposes_first : (w : Network) (k : ℕ) → Room w
+  -- the site recovers for the first time
+  pub recovers_first : (w : Network) (k : ℕ) → Room w
       → known_of slot (records_at w p) ≡ None → 2 + last w ≤ greatest_round
       → ((x : Network) → Asking (1 + last w) x → Leads q running slot before x k)
       → Leads q running slot before w (1 + k)
-  proposes_first w k r unknown l next =
-      propose_leads q running slot before members w p (ballot (1 + last w)) own k runs
-      (r.up p runs) unknown r.deposit (next_is w r.room)
+  recovers_first w k r unknown l next =
+      recover_leads q running slot before members w p (ballot (1 + last w)) k runs
+      (r.up p runs) unknown r.has (next_is w r.room)
       (λ x t. next x (begun_asking w x t r l))
 
   -- ---- what one member answers
@@ -252,10 +249,10 @@ module _ (q : QuorumSystem) (running : List ℕ) (slot : SlotName) (before : ℕ
         base = record {
           up = λ m h. took_up u m (took_up t m (a.base.up m h));
           later = took_later u before (took_later t before a.base.later);
-          deposit =
-              same_records (λ (rs : List Record). deposit_of slot rs ≡ Some own) p
-              (took_stay (λ (rs : List Record). deposit_of slot rs ≡ Some own) t
-              (λ e. deposit_stays slot (records_at w n) own e commits) p a.base.deposit);
+          has =
+              same_records (HasVoteOrDeposit slot) p
+              (took_stay (HasVoteOrDeposit slot) t
+              (λ h. has_stays slot (records_at w n) h commits) p a.base.has);
           room = bound;
           rooms = rooms_stay;
         };

@@ -41,9 +41,10 @@ use Rattle.site.specs.declared.fault.SiteFault.{SiteFault}
 use Rattle.site.specs.declared.fault.SiteFault.TheVariants as faults
 use Rattle.site.specs.Arrivals.{answer_body, addressees, proposing, learning, telling}
 use Rattle.site.specs.Arrivals.{is_member, on_arrival, on_body}
-use Rattle.site.specs.Calls.{Input, Deposits, Proposes, Asks, Arrives, effect_of, on_deposit}
-use Rattle.site.specs.Calls.{on_propose, on_ask, registering, deposit_fault, other_than}
-use Rattle.site.specs.Calls.{deposit_entry, begins_ballot_if}
+use Rattle.site.specs.Calls.{Input, Deposits, Proposes, Recovers, Asks, Arrives, effect_of}
+use Rattle.site.specs.Calls.{on_deposit, on_propose, on_recover, on_ask, registering}
+use Rattle.site.specs.Calls.{deposit_fault, other_than, deposit_entry, begins_next}
+use Rattle.site.specs.Calls.{begins_ballot_if, recovers_if}
 use Rattle.site.specs.Effects.{Effect, Send, record_of, to_each, commits_and_sends}
 use Rattle.site.specs.Effects.{commits_and_says}
 use Rattle.site.specs.Effects as effects
@@ -256,6 +257,7 @@ module _ (slot : SlotName) where
     abbrev pub OtherInput : Input → Type 0
     OtherInput (Deposits s checked) = Other s
     OtherInput (Proposes s) = Other s
+    OtherInput (Recovers s) = Other s
     OtherInput (Asks s member) = Other s
     OtherInput (Arrives None) = ⊤
     OtherInput (Arrives (Some m)) = Other m.slot
@@ -275,6 +277,14 @@ module _ (slot : SlotName) where
             says_other v v s (deposit_entry (deposit_of s rs) bag) (site_lines.Registered bag)
             other (same_for v)
 
+    next_other : (s : SlotName) → Other s → (next : Option BallotNumber)
+        → OtherEffect v (begins_next q s next v)
+    next_other s other None = nothing_other v _ refl refl (same_for v)
+    next_other s other (Some b) =
+        sends_other v (with_current v s b) s (Some (entry.Round b.round)) (Prepare b)
+        q.members other
+        (begins_other v s b other)
+
     propose_other : (s : SlotName) → Other s → OtherEffect v (on_propose q n rs v s)
     unfolding on_propose
     propose_other s other =
@@ -284,17 +294,24 @@ module _ (slot : SlotName) where
             → OtherEffect v (begins_ballot_if q s known own next v)
         go (Some known) own next = nothing_other v _ refl refl (same_for v)
         go None None next = nothing_other v _ refl refl (same_for v)
-        go None (Some own) None = nothing_other v _ refl refl (same_for v)
-        go None (Some own) (Some b) =
-            sends_other v (with_current v s b) s (Some (entry.Round b.round)) (Prepare b)
-            q.members other
-            (begins_other v s b other)
+        go None (Some own) next = next_other s other next
+
+    recover_other : (s : SlotName) → Other s → OtherEffect v (on_recover q n rs v s)
+    unfolding on_recover
+    recover_other s other = go (known_of s rs) _ (next_ballot n s rs v.heard)
+      where
+        go : (known : Option BagId) (has : Bool) (next : Option BallotNumber)
+            → OtherEffect v (recovers_if q s known has next v)
+        go (Some known) has next = nothing_other v _ refl refl (same_for v)
+        go None false next = nothing_other v _ refl refl (same_for v)
+        go None true next = next_other s other next
 
     input_other : (input : Input) → OtherInput input
         → OtherEffect v (effect_of q n rs v input)
     unfolding on_arrival on_ask
     input_other (Deposits s checked) other = deposit_other s checked other
     input_other (Proposes s) other = propose_other s other
+    input_other (Recovers s) other = recover_other s other
     input_other (Asks s member) other =
         sends_other v v s None (Ask n) (member ∷ []) other (same_for v)
     input_other (Arrives None) other = nothing_other v _ refl refl (same_for v)
@@ -495,6 +512,8 @@ module _ (slot : SlotName) where
         taken x n (Deposits s checked) h.0 fate h.1 (up n)
     event_elsewhere x up (networks.Propose n s fate) h =
         taken x n (Proposes s) h.0 fate h.1 (up n)
+    event_elsewhere x up (networks.Recover n s fate) h =
+        taken x n (Recovers s) h.0 fate h.1 (up n)
     event_elsewhere x up (networks.Ask n m s fate) h =
         taken x n (Asks s m) h.0 fate h.1 (up n)
     event_elsewhere x up (networks.Query n s) h = member (is_in q.members n)

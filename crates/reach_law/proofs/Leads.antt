@@ -1,10 +1,10 @@
 -- From a network some events lead on, in which nothing fails, to one where all that run know a bag.
 use Rattle.std.proofs.Common.{◌⊎◌}
-use Rattle.std.proofs.Common.{ℕ, zero, suc, ◌≡◌, ◌≤◌, ◌<◌, ◌+◌, ◌*◌, Bool}
+use Rattle.std.proofs.Common.{ℕ, zero, suc, ◌≡◌, ◌≤◌, ◌<◌, ◌+◌, ◌*◌, Bool, true, false, ◌||◌}
 use Rattle.std.proofs.Common.{cond, inl, inr, refl, sym, ap, subst, ◌∙◌, List, [], ◌∷◌, ◌++◌}
 use Rattle.std.proofs.Common.{length, Option, None, Some, append-nil, arith, length-append, eq-eqb}
 use Rattle.std.specs.Bool.{◌==◌}
-use Rattle.std.specs.Prelude.{IsSome, slice_get}
+use Rattle.std.specs.Prelude.{IsSome, is_some, slice_get}
 use Rattle.std.specs.Option.{option_to_list}
 use Rattle.std.proofs.lemmas.Bool.{cases_eq, ne_eqb}
 use Rattle.fed_types.specs.declared.bag_id.BagId.{BagId}
@@ -16,7 +16,7 @@ use Rattle.fed_types.specs.Laws.Lists.{is_in_decides, has_none}
 use Rattle.records.specs.declared.entry.Entry.{Entry}
 use Rattle.records.specs.declared.entry.Entry.TheVariants as entry
 use Rattle.records.specs.declared.record.Record.{Record}
-use Rattle.records.specs.SlotStates.{deposit_of, known_of}
+use Rattle.records.specs.SlotStates.{vote_of, deposit_of, known_of}
 use Rattle.dgram.specs.declared.body.Body.{Body}
 use Rattle.dgram.specs.declared.body.Body.TheVariants.{Prepare, Ask}
 use Rattle.dgram.specs.Encoding.{body_from}
@@ -24,15 +24,15 @@ use Rattle.proposer.specs.Proposals.{next_ballot}
 use Rattle.proposer.specs.VolatileStates.{VolatileState, new_volatile, hears, with_current}
 use Rattle.schedule.specs.declared.fate.Fate.TheVariants.{Whole}
 use Rattle.site.specs.Arrivals.{is_member, on_arrival, on_body}
-use Rattle.site.specs.Calls.{Input, Proposes, Asks, Arrives, effect_of, on_propose, on_ask}
-use Rattle.site.specs.Calls.{begins_ballot}
+use Rattle.site.specs.Calls.{Input, Proposes, Recovers, Asks, Arrives, effect_of, on_propose}
+use Rattle.site.specs.Calls.{on_recover, on_ask, begins_ballot}
 use Rattle.site.specs.Effects.{Effect, Send, record_of, to_each, commits_and_sends}
 use Rattle.world_law.specs.Networks.{Mode, Up, Down, NeedsOpening, volatile_in, SiteState, Network}
 use Rattle.world_law.specs.Networks.{Event, Deliver, Start, datagram_at, nothing, reaches, takes}
 use Rattle.world_law.specs.Networks.{arrives, starts, outcome, happens, run}
 use Rattle.world_law.specs.Networks as networks
 use Rattle.reach_law.proofs.Words.{of_slot, about, to_site, to_each_has}
-use Rattle.reach_law.specs.Running.{records_at, volatile_at}
+use Rattle.reach_law.specs.Running.{records_at, volatile_at, HasVoteOrDeposit}
 use Rattle.reach_law.specs.Reach.{IsCalm, AreCalm}
 
 -- ---- a site, and what was sent
@@ -213,7 +213,17 @@ pub spent_is : (cost : ℕ) (ns : List ℕ) (k : ℕ) → spent cost ns k ≡ co
 spent_is cost [] k = omega arith
 spent_is cost (n ∷ ns) k = omega (arith, spent_is cost ns k)
 
+-- a site with a vote or a deposit may recover
+has_one_of : (s t : Bool) → (s ≡ true) ⊎ (t ≡ true) → (s || t) ≡ true
+has_one_of true t h = refl
+has_one_of false t (inl h) = absurd (cc h)
+has_one_of false t (inr h) = h
+
 module _ (q : QuorumSystem) (running : List ℕ) (slot : SlotName) (before : ℕ) where
+  has_either : (rs : List Record) → HasVoteOrDeposit slot rs
+      → (is_some (vote_of slot rs) || is_some (deposit_of slot rs)) ≡ true
+  has_either rs h = has_one_of (is_some (vote_of slot rs)) (is_some (deposit_of slot rs)) h
+
   pub record Leads (w : Network) (most : ℕ) : Type 0 where
     pub events : List Event
     pub few : length events ≤ most
@@ -390,26 +400,26 @@ module _ (q : QuorumSystem) (running : List ℕ) (slot : SlotName) (before : ℕ
             ≡ begins_ballot q slot b (volatile_at w n)
         begins = rw (unknown, deposit, left) refl
 
-    -- a site proposes
-    pub propose_leads : (w : Network) (n : ℕ) (b : BallotNumber) (own : BagId) (k : ℕ)
+    -- a site recovers
+    pub recover_leads : (w : Network) (n : ℕ) (b : BallotNumber) (k : ℕ)
         → Has n running → IsUp w n → known_of slot (records_at w n) ≡ None
-        → deposit_of slot (records_at w n) ≡ Some own
+        → HasVoteOrDeposit slot (records_at w n)
         → next_ballot n slot (records_at w n) (volatile_at w n).heard ≡ Some b
         → ((x : Network)
         → Took w n (Some (of_slot slot (entry.Round b.round)))
         (with_current (volatile_at w n) slot b) (to_each slot (Prepare b) q.members) x
         → Leads x k)
         → Leads w (1 + k)
-    unfolding happens on_propose
-    propose_leads w n b own k h up unknown deposit left next =
-        leads_to w n (networks.Propose n slot Whole)
+    unfolding happens on_recover
+    recover_leads w n b k h up unknown has left next =
+        leads_to w n (networks.Recover n slot Whole)
         (begins_ballot q slot b (volatile_at w n)) k (h, refl, refl)
-        (takes_whole w n (Proposes slot) (begins_ballot q slot b (volatile_at w n)) h up begins)
+        (takes_whole w n (Recovers slot) (begins_ballot q slot b (volatile_at w n)) h up begins)
         next
       where
-        begins : on_propose q n (records_at w n) (volatile_at w n) slot
+        begins : on_recover q n (records_at w n) (volatile_at w n) slot
             ≡ begins_ballot q slot b (volatile_at w n)
-        begins = rw (unknown, deposit, left) refl
+        begins = rw (unknown, has_either (records_at w n) has, left) refl
 
     -- a site asks another
     pub ask_leads : (w : Network) (n m k : ℕ) → Has n running → Has m running → IsUp w n

@@ -670,7 +670,7 @@ module _ (q : QuorumSystem) (running : List ℕ) (slot : SlotName) (before : ℕ
             deposit = subst IsSome (sym inv.deposit) refl;
           };
           ballot = record { round = 1 + last x; site = p };
-          next = next_is q running slot before members p runs own x inv.room;
+          next = next_is q running slot before members p runs x inv.room;
           above = λ n a h f.
               let l = seen_in_the_end n h a f in inl (omega (arith, l));
         })
@@ -691,11 +691,11 @@ module _ (q : QuorumSystem) (running : List ℕ) (slot : SlotName) (members : Ar
   abbrev x : Network
   x = begun q w slot p
 
-  room : Room q running slot before members p can.ready.runs own.0 w
+  room : Room q running slot before members p can.ready.runs w
   room = record {
     up = can.ready.up;
     later = omega arith;
-    deposit = own.1;
+    has = inr can.ready.deposit;
     room = let l = can.left.own in omega (arith, l);
     rooms = λ n h a e. can.left.promised n a h e;
   }
@@ -704,16 +704,20 @@ module _ (q : QuorumSystem) (running : List ℕ) (slot : SlotName) (members : Ar
       (with_current (volatile_at w p) slot b) (to_each slot (Prepare b) q.members) x
   t = propose_took q running slot before members w p b own.0 can.ready.runs
       (can.ready.up p can.ready.runs) can.ready.unknown own.1
-      (next_is q running slot before members p can.ready.runs own.0 w room.room)
+      (next_is q running slot before members p can.ready.runs w room.room)
 
-  asking : Asking q running slot before members p can.ready.runs own.0 b.round x
-  asking = begun_asking q running slot before members p can.ready.runs own.0 w x t room can.left.own
+  asking : Asking q running slot before members p can.ready.runs b.round x
+  asking = begun_asking q running slot before members p can.ready.runs w x t room can.left.own
 
   begins : Inv q running slot before members p can.ready.runs own.0 b refl x []
   begins = record {
     up = asking.base.up;
     later = asking.base.later;
-    deposit = asking.base.deposit;
+    deposit =
+        took_stay (λ (rs : List Record). deposit_of slot rs ≡ Some own.0) t
+        (λ e.
+        deposit_stays slot (records_at w p) own.0 e (Some (of_slot slot (entry.Round b.round)))) p
+        own.1;
     prepared = asking.asked;
     used = asking.used;
     room = asking.base.room;

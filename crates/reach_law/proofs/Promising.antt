@@ -1,17 +1,18 @@
--- A site proposes in a ballot above all that was promised: those that run promise it, and the site
+-- A site recovers in a ballot above all that was promised: those that run promise it, and the site
 -- asks for votes.
 use Rattle.std.proofs.Common.{ℕ, ◌≡◌, ◌≤◌, ◌+◌, ◌⊎◌, Bool, true, false, cond, not, ◌&&◌, inl, inr}
 use Rattle.std.proofs.Common.{refl, sym, ap, subst, ◌∙◌, List, [], ◌∷◌, ◌++◌, length, map, drop}
 use Rattle.std.proofs.Common.{Option, None, Some, append-nil, arith}
+use Rattle.std.specs.Prelude.{IsSome}
 use Rattle.std.proofs.lemmas.Bool.{cases_eq, false≢true}
 use Rattle.fed_types.specs.declared.bag_id.BagId.{BagId}
 use Rattle.fed_types.specs.declared.vote.Vote.{Vote}
 use Rattle.fed_types.specs.Ballots.{BallotNumber, Below}
-use Rattle.fed_types.specs.Lists.{Has, here}
+use Rattle.fed_types.specs.Lists.{Has, here, there}
 use Rattle.fed_types.specs.Quorums.{QuorumSystem, IsQuorum, AreQuorums}
 use Rattle.fed_types.specs.Slots.{SlotName}
 use Rattle.fed_types.specs.Laws.Ballots.{same_ballot_decides}
-use Rattle.fed_types.specs.Laws.Lists.{has_none, has_right, map_has}
+use Rattle.fed_types.specs.Laws.Lists.{has_none, has_left, has_right, map_has}
 use Rattle.fed_types.specs.Laws.Slots.{same_slot_decides}
 use Rattle.records.specs.declared.entry.Entry.TheVariants as entry
 use Rattle.records.specs.declared.record.Record.{Record}
@@ -25,24 +26,64 @@ use Rattle.proposer.specs.VolatileStates.{VolatileState, hears, with_current}
 use Rattle.site.specs.Arrivals.{decided, proposing, on_body}
 use Rattle.site.specs.Effects.{Effect, Send, to_each, commits_and_sends}
 use Rattle.world_law.specs.Networks.{Network}
-use Rattle.world_law.proofs.Heard.{gathered_promise, gathered_stays}
+use Rattle.world_law.proofs.Heard.{gathered_promise, gathered_stays, highest_prior_is}
 use Rattle.reach_law.proofs.Words.{of_slot, said_self, vote_silent}
-use Rattle.reach_law.proofs.Words.{deposit_stays, promised_now, vote_below, about}
+use Rattle.reach_law.proofs.Words.{some_of, deposit_stays, has_stays, promised_now, vote_below}
+use Rattle.reach_law.proofs.Words.{about}
 use Rattle.reach_law.proofs.Words.{gathered_quiet, longer, to_site, to_each_has}
 use Rattle.reach_law.proofs.Leads.{IsUp, Fresh, Took, took_stay, took_volatile, took_up}
-use Rattle.reach_law.proofs.Leads.{took_later, took_fresh, took_new, spent, Leads, each}
-use Rattle.reach_law.proofs.Leads.{leads_more, answered_leads, propose_leads}
+use Rattle.reach_law.proofs.Leads.{took_later, took_fresh, took_new, spent, spent_is, Leads, each}
+use Rattle.reach_law.proofs.Leads.{leads_more, answered_leads, recover_leads}
 use Rattle.reach_law.proofs.Discovering.{sending, promise_if, last, Seen, Room, ballot, next_is}
-use Rattle.reach_law.proofs.Discovering.{begun_asked, begun_deposit, begun_promised}
-use Rattle.reach_law.specs.Running.{records_at, volatile_at}
+use Rattle.reach_law.proofs.Discovering.{begun_asked, begun_has, begun_promised}
+use Rattle.reach_law.specs.Running.{records_at, volatile_at, HasVoteOrDeposit}
+
+-- one of a list, and the others
+record Front (x : ℕ) (xs : List ℕ) : Type 0 where
+  rest : List ℕ
+  count : length xs ≡ 1 + length rest
+  among : (n : ℕ) → Has n rest → Has n xs
+  cases : (n : ℕ) → Has n xs → (n ≡ x) ⊎ Has n rest
+
+front : {x : ℕ} (xs : List ℕ) → Has x xs → Front x xs
+front {x} (y ∷ xs) (here e) = record {
+  rest = xs;
+  count = omega arith;
+  among = λ n h. there h;
+  cases = λ n h. first n h;
+}
+  where
+    first : (n : ℕ) → Has n (y ∷ xs) → (n ≡ x) ⊎ Has n xs
+    first n (here f) = inl (sym f ∙ e)
+    first n (there h) = inr h
+front {x} (y ∷ xs) (there h) =
+    let f = front xs h in
+    record {
+      rest = y ∷ f.rest;
+      count = let count = f.count in omega (arith, count);
+      among = λ n h. among f n h;
+      cases = λ n h. cases f n h;
+    }
+  where
+    among : (f : Front x xs) (n : ℕ) → Has n (y ∷ f.rest) → Has n (y ∷ xs)
+    among f n (here e) = here e
+    among f n (there h) = there (f.among n h)
+
+    cases : (f : Front x xs) (n : ℕ) → Has n (y ∷ xs) → (n ≡ x) ⊎ Has n (y ∷ f.rest)
+    cases f n (here e) = inr (here e)
+    cases f n (there h) = elim (f.cases n h) [
+      | inl same ↦ inl same
+      | inr rest ↦ inr (there rest)
+    ]
+front [] h = absurd (has_none h)
 
 abbrev pub vote_for : BallotNumber → BagId → Vote
 vote_for b bag = record { ballot = b; bag = bag }
 
 module _ (q : QuorumSystem) (laws : AreQuorums q) (running : List ℕ) (slot : SlotName)
     (before : ℕ) (members : (n : ℕ) → Has n running → Has n q.members)
-    (quorum : IsQuorum q running) (p : ℕ) (runs : Has p running) (own : BagId)
-    (b : BallotNumber) (mine : b.site ≡ p) (old : ℕ) where
+    (quorum : IsQuorum q running) (p : ℕ) (runs : Has p running) (b : BallotNumber)
+    (mine : b.site ≡ p) (old : ℕ) where
   abbrev pub current : Current
   current = record { ballot = b; heard_before = old }
 
@@ -68,7 +109,7 @@ module _ (q : QuorumSystem) (laws : AreQuorums q) (running : List ℕ) (slot : S
   pub record Gathering (w : Network) : Type 0 where
     pub up : (n : ℕ) → Has n running → IsUp w n
     pub later : before ≤ length w.sent
-    pub deposit : deposit_of slot (records_at w p) ≡ Some own
+    pub has : HasVoteOrDeposit slot (records_at w p)
     pub asked : (n : ℕ) → Has n running
         → Fresh before w.sent (to_site n slot (Prepare b))
     pub is_current : (volatile_at w p).current slot ≡ Some current
@@ -186,12 +227,11 @@ module _ (q : QuorumSystem) (laws : AreQuorums q) (running : List ℕ) (slot : S
     gathering_stays asks = record {
       up = λ m h'. took_up u m (took_up t m (g.up m h'));
       later = took_later u before (took_later t before g.later);
-      deposit =
-          same_records (λ (rs : List Record). deposit_of slot rs ≡ Some own) p
-          (took_stay (λ (rs : List Record). deposit_of slot rs ≡ Some own) t
-          (λ e.
-          deposit_stays slot (records_at w n) own e (Some (of_slot slot (entry.Promise b)))) p
-          g.deposit);
+      has =
+          same_records (HasVoteOrDeposit slot) p
+          (took_stay (HasVoteOrDeposit slot) t
+          (λ h. has_stays slot (records_at w n) h (Some (of_slot slot (entry.Promise b)))) p
+          g.has);
       asked = λ m h'. took_fresh u before _ (took_fresh t before _ (g.asked m h'));
       is_current =
           took_volatile (λ (s : VolatileState). s.current slot ≡ Some current) u (λ e. e) p
@@ -208,10 +248,18 @@ module _ (q : QuorumSystem) (laws : AreQuorums q) (running : List ℕ) (slot : S
 
   -- ---- what the site makes of it
 
-  -- the bag that it proposes, where this promise completes a quorum
-  bag_is : (o : Option Vote) → (bag : BagId) × (bag_of o (Some own) ≡ Some bag)
-  bag_is None = (own, refl)
-  bag_is (Some v) = (v.bag, refl)
+  -- there is a bag to propose: a deposit, or that of a vote that promises name
+  abbrev pub HasBag : Option BagId → List PromiseFrom → Type 0
+  HasBag own promises = IsSome own ⊎ IsSome (highest_prior promises)
+
+  abbrev pub HasBagAt : Network → Type 0
+  HasBagAt w = HasBag (deposit_of slot (records_at w p)) (gathered_at w)
+
+  bag_is : (own : Option BagId) (best : Option Vote) → IsSome own ⊎ IsSome best
+      → (bag : BagId) × (bag_of best own ≡ Some bag)
+  bag_is own (Some v) h = (v.bag, refl)
+  bag_is own None (inl some) = some_of own some
+  bag_is own None (inr none) = absurd (cc none)
 
   completed : (t u : Bool) → (t && not u) ≡ false → t ≡ true → u ≡ true
   completed true true e f = refl
@@ -220,7 +268,13 @@ module _ (q : QuorumSystem) (laws : AreQuorums q) (running : List ℕ) (slot : S
 
   module _ (n : ℕ) (h : Has n running) (w : Network) (g : Gathering w) (waits : Waits n w)
       (k : ℕ)
-      (next : (y : Network) → Gathering y → HasPromised n y
+      (bag : (x : Network)
+      → Took w n (Some (of_slot slot (entry.Promise b)))
+      (hears (volatile_at w n) (about slot (Prepare b)))
+      (to_each slot (Promise n b (vote_of slot (records_at w n))) (p ∷ [])) x
+      → HasBag (deposit_of slot (records_at x p))
+      (gathered_at w ++ record { site = n; prior = vote_of slot (records_at w n) } ∷ []))
+      (next : (y : Network) → Gathering y → HasBagAt y → HasPromised n y
       → ((m : ℕ) → Has m running → HasPromised m w → HasPromised m y)
       → Leads q running slot before y k) where
     abbrev v : Option Vote
@@ -242,24 +296,45 @@ module _ (q : QuorumSystem) (laws : AreQuorums q) (running : List ℕ) (slot : S
         → completes q (gathered_at x) from_n ≡ t
         → ready q (deposit_of slot (records_at x p)) slot ((volatile_at x p).current slot)
         (volatile_at x p).heard b from_n
-        ≡ cond t (bag_of (highest_prior (gathered_at x ++ from_n ∷ [])) (Some own)) None
+        ≡ cond t (bag_of (highest_prior (gathered_at x ++ from_n ∷ []))
+        (deposit_of slot (records_at x p))) None
     unfolding proposal
     ready_is x t c e =
-        ap (λ (o : Option BagId).
-        ready q o slot ((volatile_at x p).current slot) (volatile_at x p).heard b from_n)
-        (took_stay (λ (rs : List Record). deposit_of slot rs ≡ Some own) t
-        (λ e.
-        deposit_stays slot (records_at w n) own e (Some (of_slot slot (entry.Promise b)))) p
-        g.deposit)
-        ∙ ap (λ (c : Option Current).
-        ready q (Some own) slot c (volatile_at x p).heard b from_n)
+        ap (λ (c : Option Current).
+        ready q (deposit_of slot (records_at x p)) slot c (volatile_at x p).heard b from_n)
         (took_volatile (λ (s : VolatileState). s.current slot ≡ Some current) t (λ e. e) p
         g.is_current)
         ∙ ap (λ (t : Bool).
-        cond t (proposal q (Some own) (gathered_at x) from_n) None)
+        cond t (proposal q (deposit_of slot (records_at x p)) (gathered_at x) from_n) None)
         ((same_ballot_decides b b).1 refl)
         ∙ ap (λ (t : Bool).
-        cond t (bag_of (highest_prior (gathered_at x ++ from_n ∷ [])) (Some own)) None) e
+        cond t (bag_of (highest_prior (gathered_at x ++ from_n ∷ []))
+        (deposit_of slot (records_at x p))) None) e
+
+    -- there is a bag once this promise is heard
+    bag_then : (x : Network) → First x
+        → HasBag (deposit_of slot (records_at x p)) (gathered_at x ++ from_n ∷ [])
+    bag_then x t =
+        rw (took_gathered x t) (bag x t)
+      where
+        took_gathered : (x : Network) → First x → gathered_at x ≡ gathered_at w
+        took_gathered x t =
+            (took_volatile
+            (λ (s : VolatileState).
+            (old ≤ length s.heard) × (gathered slot current s.heard ≡ gathered_at w)) t
+            (λ l. (
+              longer (volatile_at w n).heard (about slot (Prepare b)) old l.0,
+              gathered_quiet slot (volatile_at w n).heard (Prepare b) current l.0 refl ∙ l.1,
+            ))
+            p (g.within, refl)).1
+
+    bag_now : (x y : Network) (sends : List Send) → (t : First x)
+        → Took x p None (heard_at x) sends y → HasBagAt y
+    bag_now x y sends t u =
+        rw (gathered_now w x y n h v _ sends g waits refl t u)
+        (same_records w x y n h v _ sends g waits refl t u
+        (λ (rs : List Record). HasBag (deposit_of slot rs) (gathered_at w ++ from_n ∷ [])) p
+        (bag x t))
 
     abbrev Continues : Network → Type 0
     Continues x =
@@ -278,7 +353,9 @@ module _ (q : QuorumSystem) (laws : AreQuorums q) (running : List ℕ) (slot : S
         → Continues x
     unfolding on_body
     then x t true e =
-        let f = bag_is (highest_prior (gathered_at x ++ from_n ∷ [])) in (
+        let f =
+        bag_is (deposit_of slot (records_at x p)) (highest_prior (gathered_at x ++ from_n ∷ []))
+        (bag_then x t) in (
           commits_and_sends slot None (Accept (vote_for b f.0)) q.members (heard_at x),
           ap (λ (o : Option BagId). proposing q slot b o (heard_at x))
               (ready_is x t true e ∙ f.1),
@@ -291,6 +368,7 @@ module _ (q : QuorumSystem) (laws : AreQuorums q) (running : List ℕ) (slot : S
                     took_new u before _ (took_later t before g.later)
                     (to_each_has slot _ q.members m (members m h'));
               }))
+              (bag_now x y _ t u)
               (promises_now w x y n h v _ _ g waits refl t u)
               (promises_stay w x y n h v _ _ g waits refl t u),
         )
@@ -307,6 +385,7 @@ module _ (q : QuorumSystem) (laws : AreQuorums q) (running : List ℕ) (slot : S
           (rw (← same) (completed (q.is_quorum (promisers (gathered_at x ++ from_n ∷ [])))
           (q.is_quorum (promisers (gathered_at x))) e
           (rw same quorum))))))
+          (bag_now x y _ t u)
           (promises_now w x y n h v _ _ g waits refl t u)
           (promises_stay w x y n h v _ _ g waits refl t u),
     )
@@ -324,34 +403,111 @@ module _ (q : QuorumSystem) (laws : AreQuorums q) (running : List ℕ) (slot : S
         (k ∷ []) (hears (volatile_at w n) (about slot (Prepare b)))) mine)
         (λ x t. then x t (completes q (gathered_at x) (record { site = n; prior = v })) refl)
 
-  visit : (n : ℕ) → Has n running → (w : Network) → Gathering w → (k : ℕ)
-      → ((y : Network) → Gathering y → HasPromised n y
+  -- ---- each in turn, the site itself first: its promise names its vote
+
+  named_once : (promises : List PromiseFrom) (n : ℕ) (prior : Option Vote) → IsSome prior
+      → IsSome (highest_prior (promises ++ record { site = n; prior = prior } ∷ []))
+  named_once promises n None none = absurd (cc none)
+  named_once promises n (Some vote) some =
+      let all = promises ++ record { site = n; prior = Some vote } ∷ [] in
+      let top =
+      (highest_prior_is all).bounds (record { site = n; prior = Some vote }) vote
+      (has_right promises (here refl)) refl in
+      rw top.is refl
+
+  named_still : (promises others : List PromiseFrom) → IsSome (highest_prior promises)
+      → IsSome (highest_prior (promises ++ others))
+  named_still promises others some = go (highest_prior promises) refl some
+    where
+      go : (o : Option Vote) → highest_prior promises ≡ o → IsSome o
+          → IsSome (highest_prior (promises ++ others))
+      go None e none = absurd (cc none)
+      go (Some vote) e some =
+          let named = (highest_prior_is promises).named vote e in
+          let top =
+          (highest_prior_is (promises ++ others)).bounds named.promise vote
+          (has_left others named.among) named.names in
+          rw top.is refl
+
+  deposit_there : (w x : Network) (n : ℕ) (volatile : VolatileState) (sends : List Send)
+      (commits : Option Record) → Took w n commits volatile sends x
+      → IsSome (deposit_of slot (records_at w p)) → IsSome (deposit_of slot (records_at x p))
+  deposit_there w x n volatile sends commits t some =
+      took_stay (λ (rs : List Record). IsSome (deposit_of slot rs)) t
+      (λ some.
+      let own = some_of (deposit_of slot (records_at w n)) some in
+      rw (deposit_stays slot (records_at w n) own.0 own.1 commits) refl)
+      p some
+
+  visit_first : (w : Network) → Gathering w → Waits p w → (k : ℕ)
+      → ((y : Network) → Gathering y → HasBagAt y → HasPromised p y
+      → Leads q running slot before y k)
+      → Leads q running slot before w (2 + k)
+  visit_first w g waits k next =
+      asks p runs w g waits k
+      (λ x t. elim g.has [
+        | inl vote ↦ inr (named_once (gathered_at w) p (vote_of slot (records_at w p)) vote)
+        | inr deposit ↦ inl (deposit_there w x p _ _ _ t deposit)
+      ])
+      (λ y g' bag promised stays. next y g' bag promised)
+
+  record Going (w : Network) : Type 0 where
+    gathering : Gathering w
+    bag : HasBagAt w
+
+  visit : (n : ℕ) → Has n running → (w : Network) → Going w → (k : ℕ)
+      → ((y : Network) → Going y → HasPromised n y
       → ((m : ℕ) → Has m running → HasPromised m w → HasPromised m y)
       → Leads q running slot before y k)
       → Leads q running slot before w (2 + k)
   visit n h w g k next =
-      elim (g.each_one n h) [
-        | inl waits ↦ asks n h w g waits k next
+      elim (g.gathering.each_one n h) [
+        | inl waits ↦
+            asks n h w g.gathering waits k
+            (λ x t. elim g.bag [
+              | inl deposit ↦ inl (deposit_there w x n _ _ _ t deposit)
+              | inr named ↦
+                  inr (named_still (gathered_at w)
+                  (record { site = n; prior = vote_of slot (records_at w n) } ∷ []) named)
+            ])
+            (λ y g' bag promised stays.
+            next y (record { gathering = g'; bag = bag }) promised stays)
         | inr done ↦
             leads_more q running slot before w k (2 + k) (omega arith)
             (next w g done (λ m h d. d))
       ]
 
   -- all that run are asked, and promise: then all are asked to vote
-  pub promises_all : (w : Network) (k : ℕ) → Gathering w
+  pub promises_all : (w : Network) (k : ℕ) → Gathering w → Waits p w
       → ((y : Network) → ((n : ℕ) → Has n running → IsUp y n) → before ≤ length y.sent
       → ((n : ℕ) → Has n running → HasPromised n y) → VotesAsked y
       → Leads q running slot before y k)
       → Leads q running slot before w (spent 2 running k)
-  promises_all w k g next =
-      each q running slot before Gathering HasPromised 2 visit running (λ n h. h) w g k
-      (λ y g' promised stays.
-      next y g'.up g'.later promised
-      (g'.ready
-      (laws.grow running (promisers (gathered_at y)) quorum
-      (λ n member h. (promised n h).heard))))
+  promises_all w k g waits next =
+      leads_more q running slot before w (2 + spent 2 f.rest k) (spent 2 running k)
+      (omega (arith, f.count, spent_is 2 f.rest k, spent_is 2 running k))
+      (visit_first w g waits (spent 2 f.rest k)
+      (λ x g' bag first.
+      each q running slot before Going HasPromised 2 visit f.rest f.among x
+      (record { gathering = g'; bag = bag }) k
+      (λ y going promised stays.
+      let all = all_promised y (stays p runs first) promised in
+      next y going.gathering.up going.gathering.later all
+      (going.gathering.ready
+      (laws.grow running (promisers (gathered_at y)) quorum (λ n member h. (all n h).heard))))))
+    where
+      f : Front p running
+      f = front running runs
 
--- ---- the second proposal
+      all_promised : (y : Network) → HasPromised p y
+          → ((n : ℕ) → Has n f.rest → HasPromised n y) → (n : ℕ) → Has n running
+          → HasPromised n y
+      all_promised y first rest n h = elim (f.cases n h) [
+        | inl same ↦ rw same first
+        | inr later ↦ rest n later
+      ]
+
+-- ---- the second recovery
 
 drop_all : {X : Type 0} (xs : List X) → drop (length xs) xs ≡ []
 drop_all [] = refl
@@ -359,7 +515,7 @@ drop_all (x ∷ xs) = drop_all xs
 
 module _ (q : QuorumSystem) (laws : AreQuorums q) (running : List ℕ) (slot : SlotName)
     (before : ℕ) (members : (n : ℕ) → Has n running → Has n q.members)
-    (quorum : IsQuorum q running) (p : ℕ) (runs : Has p running) (own : BagId) where
+    (quorum : IsQuorum q running) (p : ℕ) (runs : Has p running) where
   pub none_gathered : (b : BallotNumber) (heard : List _)
       → promisers (gathered slot (record { ballot = b; heard_before = length heard }) heard) ≡ []
   unfolding gathered bodies_of promises_for promisers
@@ -367,35 +523,47 @@ module _ (q : QuorumSystem) (laws : AreQuorums q) (running : List ℕ) (slot : S
       ap (λ ms. map (λ (p : PromiseFrom). p.site) (promises_for b (bodies_of slot ms)))
       (drop_all heard)
 
-  pub proposes_second : (w : Network) (k : ℕ)
-      → Room q running slot before members p runs own w
-      → ((n : ℕ) → Has n running → Seen q running slot before members p runs own n w)
+  pub recovers_second : (w : Network) (k : ℕ)
+      → Room q running slot before members p runs w
+      → ((n : ℕ) → Has n running → Seen q running slot before members p runs n w)
       → known_of slot (records_at w p) ≡ None
       → ((x : Network) (b : BallotNumber) (mine : b.site ≡ p) (old : ℕ)
-      → Gathering q laws running slot before members quorum p runs own b mine old x
+      → Gathering q laws running slot before members quorum p runs b mine old x
+      → Waits q laws running slot before members quorum p runs b mine old p x
       → Leads q running slot before x k)
       → Leads q running slot before w (1 + k)
-  proposes_second w k r seen unknown next =
-      propose_leads q running slot before members w p b own k runs (r.up p runs) unknown
-      r.deposit (next_is q running slot before members p runs own w r.room)
-      (λ x t. next x b refl (length (volatile_at w p).heard) (begun x t))
+  recovers_second w k r seen unknown next =
+      recover_leads q running slot before members w p b k runs (r.up p runs) unknown r.has
+      (next_is q running slot before members p runs w r.room)
+      (λ x t. next x b refl (length (volatile_at w p).heard) (begun x t) (waits x t p runs))
     where
       l : ℕ
-      l = last q running slot before members p runs own w
+      l = last q running slot before members p runs w
 
       b : BallotNumber
-      b = ballot q running slot before members p runs own (1 + l)
+      b = ballot q running slot before members p runs (1 + l)
 
-      begun : (x : Network)
-          → Took w p (Some (of_slot slot (entry.Round b.round)))
+      Begun : Network → Type 0
+      Begun x =
+          Took w p (Some (of_slot slot (entry.Round b.round)))
           (with_current (volatile_at w p) slot b) (to_each slot (Prepare b) q.members) x
-          → Gathering q laws running slot before members quorum p runs own b refl
+
+      waits : (x : Network) → Begun x → (n : ℕ) → Has n running → (a : BallotNumber)
+          → promised_of slot (records_at x n) ≡ Some a → Below a b
+      waits x t n h a e =
+          let s =
+          seen n h a
+          (sym (begun_promised q running slot before members p runs w x t n) ∙ e) in
+          inl (omega (arith, s))
+
+      begun : (x : Network) → Begun x
+          → Gathering q laws running slot before members quorum p runs b refl
           (length (volatile_at w p).heard) x
       begun x t = record {
         up = λ n h. took_up t n (r.up n h);
         later = took_later t before r.later;
-        deposit = begun_deposit q running slot before members p runs own w x t r.deposit;
-        asked = begun_asked q running slot before members p runs own w x t r.later;
+        has = begun_has q running slot before members p runs w x t r.has;
+        asked = begun_asked q running slot before members p runs w x t r.later;
         is_current =
             ap (λ (s : VolatileState). s.current slot) t.volatile_is
             ∙ ap (λ (t : Bool).
@@ -406,11 +574,7 @@ module _ (q : QuorumSystem) (laws : AreQuorums q) (running : List ℕ) (slot : S
             ((same_slot_decides slot slot).1 refl);
         within =
             rw t.volatile_is (omega arith);
-        each_one = λ n h. inl (λ a e.
-            let s =
-            seen n h a
-            (sym (begun_promised q running slot before members p runs own w x t n) ∙ e) in
-            inl (omega (arith, s)));
+        each_one = λ n h. inl (waits x t n h);
         ready = λ e.
             let none =
             ap (λ (s : VolatileState).

@@ -6,12 +6,13 @@ use Rattle.fed_types.specs.Lists.{Has}
 use Rattle.fed_types.specs.Quorums.{QuorumSystem, IsQuorum, AreQuorums}
 use Rattle.fed_types.specs.Slots.{SlotName}
 use Rattle.records.specs.declared.entry.Entry.TheVariants as entry
-use Rattle.records.specs.SlotStates.{promised_of, deposit_of, known_of}
-use Rattle.records.proofs.Bounds.{known_among}
+use Rattle.records.specs.SlotStates.{promised_of, vote_of, known_of}
+use Rattle.records.proofs.Bounds.{vote_bounds, known_among}
 use Rattle.proposer.specs.Proposals.{last_round}
 use Rattle.proposer.specs.VolatileStates.{VolatileState}
 use Rattle.records.specs.declared.record.Record.{Record}
-use Rattle.world_law.specs.Laws.{IsChosen}
+use Rattle.fed_types.specs.declared.vote.Vote.{Vote}
+use Rattle.world_law.specs.Laws.{OnRecord, IsChosen}
 use Rattle.world_law.specs.Networks.{Network, Event, new_network, happens, run}
 use Rattle.world_law.proofs.Kept.{Kept}
 use Rattle.world_law.proofs.Reports.{chosen_from}
@@ -19,11 +20,12 @@ use Rattle.world_law.proofs.Induction.{chosen_once}
 use Rattle.world_law.proofs.Runs.{run_kept, happens_kept}
 use Rattle.reach_law.proofs.Leads.{IsUp, spent, spent_is, Leads, leads_more}
 use Rattle.reach_law.proofs.Opening.{Same, opens}
-use Rattle.reach_law.proofs.Discovering.{Room, Seen, last, proposes_first, discovers}
-use Rattle.reach_law.proofs.Promising.{vote_for, promises_all, proposes_second}
+use Rattle.reach_law.proofs.Discovering.{Room, Seen, last, recovers_first, discovers}
+use Rattle.reach_law.proofs.Promising.{vote_for, promises_all, recovers_second}
 use Rattle.reach_law.proofs.Voting.{votes_all}
 use Rattle.reach_law.proofs.Spreading.{KnowsAt, spreads}
-use Rattle.reach_law.specs.Running.{records_at, volatile_at, AreMembers, RoundsAreLeft, CanDecide}
+use Rattle.reach_law.specs.Running.{records_at, volatile_at, AreMembers, HasVoteOrDeposit}
+use Rattle.reach_law.specs.Running.{RoundsAreLeft, CanDecide}
 use Rattle.reach_law.specs.Reach.{IsWithinReach}
 use Rattle.reach_law.proofs.Words.{some_of}
 
@@ -56,15 +58,15 @@ module _ (q : QuorumSystem) (laws : AreQuorums q) (running : List ℕ) (slot : S
         spread x up (later_of x same)
         (f.0, ap (known_of slot) (same.records p) ∙ f.1)))
 
-    module _ (own : BagId) (deposit : deposit_of slot (records_at w p) ≡ Some own)
+    module _ (has : HasVoteOrDeposit slot (records_at w p))
         (left : RoundsAreLeft w running slot p) where
       abbrev RoomAt : Network → Type 0
-      RoomAt x = Room q running slot before members p runs own x
+      RoomAt x = Room q running slot before members p runs x
 
       abbrev last_of : Network → ℕ
-      last_of x = last q running slot before members p runs own x
+      last_of x = last q running slot before members p runs x
 
-      -- after the second proposal
+      -- after the second recovery
       abbrev third : ℕ
       third = spent 2 running (spent 2 running (spent 3 running 0))
 
@@ -82,7 +84,7 @@ module _ (q : QuorumSystem) (laws : AreQuorums q) (running : List ℕ) (slot : S
       room_of x same up = record {
         up = up;
         later = later_of x same;
-        deposit = ap (deposit_of slot) (same.records p) ∙ deposit;
+        has = rw (same.records p) has;
         room = let own = left.own in omega (arith, own, same_last x same);
         rooms = λ n h b e.
             left.promised n b h (sym (ap (promised_of slot) (same.records n)) ∙ e);
@@ -90,7 +92,7 @@ module _ (q : QuorumSystem) (laws : AreQuorums q) (running : List ℕ) (slot : S
 
       decides : (x : Network) → RoomAt x
           → ((n : ℕ) → Has n running
-          → Seen q running slot before members p runs own n x)
+          → Seen q running slot before members p runs n x)
           → (o : Option BagId) → known_of slot (records_at x p) ≡ o → Reaches x (1 + third)
       decides x r seen (Some bag) e =
           leads_more q running slot before x (spent 3 running 0) (1 + third)
@@ -102,10 +104,10 @@ module _ (q : QuorumSystem) (laws : AreQuorums q) (running : List ℕ) (slot : S
           ))
           (spread x r.up r.later (bag, e))
       decides x r seen None e =
-          proposes_second q laws running slot before members quorum p runs own x third r seen e
-          (λ y b mine old g.
-          promises_all q laws running slot before members quorum p runs own b mine old y
-          (spent 2 running (spent 3 running 0)) g
+          recovers_second q laws running slot before members quorum p runs x third r seen e
+          (λ y b mine old g waits.
+          promises_all q laws running slot before members quorum p runs b mine old y
+          (spent 2 running (spent 3 running 0)) g waits
           (λ z up later promised asked.
           votes_all q running slot before members p runs (vote_for b asked.bag) mine z
           (spent 3 running 0)
@@ -131,15 +133,15 @@ module _ (q : QuorumSystem) (laws : AreQuorums q) (running : List ℕ) (slot : S
           ))
           (spread x up (later_of x same) (bag, e))
       begins x same up None e =
-          proposes_first q running slot before members p runs own x second
+          recovers_first q running slot before members p runs x second
           (room_of x same up) e
           (let own = left.own in omega (arith, own, same_last x same))
           (λ y a.
-          discovers q running slot before members p runs own (1 + last_of x) y (1 + third) a
+          discovers q running slot before members p runs (1 + last_of x) y (1 + third) a
           (λ z r seen. decides z r seen (known_of slot (records_at z p)) refl))
 
-      from_deposit : Reaches w (10 * length running + 2)
-      from_deposit =
+      from_bag : Reaches w (10 * length running + 2)
+      from_bag =
           leads_more q running slot before w (spent 1 running (1 + second))
           (10 * length running + 2)
           (omega (
@@ -157,8 +159,7 @@ module _ (q : QuorumSystem) (laws : AreQuorums q) (running : List ℕ) (slot : S
   pub leads : CanDecide w running slot → Reaches w (10 * length running + 2)
   leads c = elim c.can [
     | inl known ↦ from_known c.site c.runs (some_of _ known)
-    | inr able ↦
-        let own = some_of _ able.0 in from_deposit c.site c.runs own.0 own.1 able.1
+    | inr able ↦ from_bag c.site c.runs able.0 able.1
   ]
 
 -- ---- of a network of a run all know the bag that was chosen
@@ -207,3 +208,31 @@ within_reach q events running slot laws members quorum can =
 
     x : Network
     x = run q w l.events
+
+-- ---- what is chosen
+
+-- a vote on record is one
+has_voted : (w : Network) (n : ℕ) (slot : SlotName) (vote : Vote)
+    → OnRecord w n slot (entry.Vote vote) → HasVoteOrDeposit slot (records_at w n)
+has_voted w n slot vote h =
+    let top = vote_bounds slot (records_at w n) vote h in
+    inl (rw top.is refl)
+
+pub chosen_within_reach : (q : QuorumSystem) (events : List Event) (running : List ℕ)
+    (slot : SlotName) (bag : BagId) → AreQuorums q → AreMembers q running → IsQuorum q running
+    → IsChosen q (run q new_network events) slot bag
+    → ((n : ℕ) → Has n running → RoundsAreLeft (run q new_network events) running slot n)
+    → IsWithinReach q (run q new_network events) running slot
+chosen_within_reach q events running slot bag laws members quorum chosen left =
+    let voter = laws.meet running chosen.chosen.voters quorum chosen.chosen.quorum in
+    within_reach q events running slot laws members quorum
+    (record {
+      site = voter.0;
+      runs = voter.2;
+      can =
+          inr (
+            has_voted (run q new_network events) voter.0 slot _
+                (chosen.chosen.voted voter.0 voter.3),
+            left voter.0 voter.2,
+          );
+    })

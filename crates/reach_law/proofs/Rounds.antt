@@ -41,9 +41,10 @@ use Rattle.site.specs.declared.fault.SiteFault.{SiteFault}
 use Rattle.site.specs.declared.fault.SiteFault.TheVariants as faults
 use Rattle.site.specs.Arrivals.{decided, proposing, learning, telling}
 use Rattle.site.specs.Arrivals.{is_member, on_arrival, on_body}
-use Rattle.site.specs.Calls.{Input, Deposits, Proposes, Asks, Arrives, effect_of, on_deposit}
-use Rattle.site.specs.Calls.{on_propose, on_ask, registering, deposit_fault, other_than}
-use Rattle.site.specs.Calls.{begins_ballot_if}
+use Rattle.site.specs.Calls.{Input, Deposits, Proposes, Recovers, Asks, Arrives, effect_of}
+use Rattle.site.specs.Calls.{on_deposit, on_propose, on_recover, on_ask, registering}
+use Rattle.site.specs.Calls.{deposit_fault, other_than, begins_next, begins_ballot_if}
+use Rattle.site.specs.Calls.{recovers_if}
 use Rattle.site.specs.Effects.{Effect, Send, record_of, to_each, commits_and_sends}
 use Rattle.site.specs.Effects.{commits_and_says}
 use Rattle.site.specs.Effects as effects
@@ -363,14 +364,13 @@ module _ (slot : SlotName) where
             floor_within k (bodies_of slot v.heard)
             (λ body i. h.sent body (heard (about slot body) (has_message slot v.heard body i)))
 
-    propose_within : (q : QuorumSystem) (v : VolatileState) (s : SlotName)
+    next_within : (q : QuorumSystem) (v : VolatileState) (s : SlotName)
         → ((m : Message) → Has m v.heard → WasSent w m.slot m.body)
         → (s ≡ slot → 1 + k ≤ l)
-        → EffectWithin l (on_propose q n (records_at w n) v s)
-    unfolding on_propose next_ballot
-    propose_within q v s heard one =
-        go (known_of s (records_at w n)) (deposit_of s (records_at w n))
-        (nat_lt (last_round s (records_at w n) v.heard) greatest_round)
+        → EffectWithin l (begins_next q s (next_ballot n s (records_at w n) v.heard) v)
+    unfolding next_ballot
+    next_within q v s heard one =
+        go (nat_lt (last_round s (records_at w n) v.heard) greatest_round)
       where
         low : s ≡ slot → 1 + last_round s (records_at w n) v.heard ≤ l
         low same =
@@ -380,27 +380,43 @@ module _ (slot : SlotName) where
             let one' = one same in
             omega (arith, last, one')
 
-        go : (known own : Option BagId) (t : Bool)
+        b : BallotNumber
+        b = record { round = 1 + last_round s (records_at w n) v.heard; site = n }
+
+        go : (t : Bool) → EffectWithin l (begins_next q s (cond t (Some b) None) v)
+        go false = nothing_within l _ refl refl
+        go true =
+            sends_within l s (Some (entry.Round b.round)) (Prepare b) q.members
+            (with_current v s b) (λ f x e. subst (EntryWithin l) (some_same e) (low f)) low
+
+    propose_within : (q : QuorumSystem) (v : VolatileState) (s : SlotName)
+        → ((m : Message) → Has m v.heard → WasSent w m.slot m.body)
+        → (s ≡ slot → 1 + k ≤ l)
+        → EffectWithin l (on_propose q n (records_at w n) v s)
+    unfolding on_propose
+    propose_within q v s heard one =
+        go (known_of s (records_at w n)) (deposit_of s (records_at w n))
+      where
+        go : (known own : Option BagId)
             → EffectWithin l
-            (begins_ballot_if q s known own (cond t (Some (record {
-              round = 1 + last_round s (records_at w n) v.heard;
-              site = n;
-            })) None) v)
-        go (Some known) own t = nothing_within l _ refl refl
-        go None None t = nothing_within l _ refl refl
-        go None (Some own) false = nothing_within l _ refl refl
-        go None (Some own) true =
-            sends_within l s
-            (Some (entry.Round (1 + last_round s (records_at w n) v.heard)))
-            (Prepare (record {
-              round = 1 + last_round s (records_at w n) v.heard;
-              site = n;
-            })) q.members
-            (with_current v s (record {
-              round = 1 + last_round s (records_at w n) v.heard;
-              site = n;
-            }))
-            (λ f x e. subst (EntryWithin l) (some_same e) (low f)) low
+            (begins_ballot_if q s known own (next_ballot n s (records_at w n) v.heard) v)
+        go (Some known) own = nothing_within l _ refl refl
+        go None None = nothing_within l _ refl refl
+        go None (Some own) = next_within q v s heard one
+
+    recover_within : (q : QuorumSystem) (v : VolatileState) (s : SlotName)
+        → ((m : Message) → Has m v.heard → WasSent w m.slot m.body)
+        → (s ≡ slot → 1 + k ≤ l)
+        → EffectWithin l (on_recover q n (records_at w n) v s)
+    unfolding on_recover
+    recover_within q v s heard one = go (known_of s (records_at w n)) _
+      where
+        go : (known : Option BagId) (has : Bool)
+            → EffectWithin l
+            (recovers_if q s known has (next_ballot n s (records_at w n) v.heard) v)
+        go (Some known) has = nothing_within l _ refl refl
+        go None false = nothing_within l _ refl refl
+        go None true = next_within q v s heard one
 
   -- ---- what happens
 
@@ -516,6 +532,19 @@ module _ (slot : SlotName) where
       go false e =
           takes_within q (0 + k) w (within_more k (0 + k) (omega arith) w h) n (Proposes s) fate
           (propose_within k (0 + k) (omega arith) w h n q (volatile_at w n) s
+          (inv.volatiles n).heard
+          (λ f. absurd (cc (sym e ∙ (same_slot_decides s slot).1 f))))
+  step_within q k w h inv (networks.Recover n s fate) = go (same_slot s slot) refl
+    where
+      go : (t : Bool) → same_slot s slot ≡ t
+          → Within (cond t 1 0 + k) (takes q w n (Recovers s) fate).network
+      go true e =
+          takes_within q (1 + k) w (within_more k (1 + k) (omega arith) w h) n (Recovers s) fate
+          (recover_within k (1 + k) (omega arith) w h n q (volatile_at w n) s
+          (inv.volatiles n).heard (λ f. omega arith))
+      go false e =
+          takes_within q (0 + k) w (within_more k (0 + k) (omega arith) w h) n (Recovers s) fate
+          (recover_within k (0 + k) (omega arith) w h n q (volatile_at w n) s
           (inv.volatiles n).heard
           (λ f. absurd (cc (sym e ∙ (same_slot_decides s slot).1 f))))
   step_within q k w h inv (networks.Ask n m s fate) =

@@ -1,12 +1,10 @@
--- The examples of three sites, computed.
+-- The example of three sites, computed.
 use Rattle.std.proofs.Common.{ℕ, ◌≡◌, refl, sym, [], ◌∷◌, length, Option, None, Some}
 use Rattle.std.proofs.Common.{◌∙◌, arith}
-use Rattle.fed_types.specs.declared.bag_id.BagId.{BagId}
 use Rattle.fed_types.specs.Ballots.{BallotNumber, ballot_cmp}
-use Rattle.fed_types.specs.Lists.{Has, here, there, is_in}
+use Rattle.fed_types.specs.Lists.{Has, here, is_in}
 use Rattle.fed_types.specs.Sites.{sites_to}
 use Rattle.fed_types.specs.Slots.{same_slot}
-use Rattle.records.specs.declared.entry.Entry.TheVariants as entry
 use Rattle.records.specs.SlotStates.{promised_of, vote_of, used_of, deposit_of, known_of}
 use Rattle.dgram.specs.Heard.{bodies_of, promises_for, promisers, priors, voters_for, floor_of}
 use Rattle.acceptor.specs.Decisions.{prepare_decision, accept_decision}
@@ -15,43 +13,11 @@ use Rattle.proposer.specs.Proposals.{next_ballot, gathered, highest_prior, propo
 use Rattle.site.specs.Arrivals.{on_body, on_arrival}
 use Rattle.site.specs.Calls.{on_deposit, on_propose}
 use Rattle.site.specs.Effects.{to_each}
-use Rattle.world_law.specs.Laws.{OnRecord}
 use Rattle.world_law.specs.Networks.{Up, new_site, new_network, outcome, happens, run}
 use Rattle.reach_law.specs.Running.{records_at, volatile_at}
 use Rattle.reach_law.specs.Undisturbed.{begun, in_the_end}
-use Rattle.reach_law.specs.Examples.{three, a, after_two_votes, IsChosenAndOutOfReach, deposited}
-use Rattle.reach_law.specs.Examples.{arrivals, CanBeUndisturbed}
-use Rattle.reach_law.proofs.Arriving.{of_two, of_three, undisturbed, has_each}
-
-pub chosen_and_out_of_reach : (bag : BagId) → IsChosenAndOutOfReach bag
-unfolding ballot_cmp is_in sites_to same_slot promised_of vote_of used_of deposit_of known_of
-    bodies_of promises_for promisers priors voters_for floor_of prepare_decision accept_decision
-    chosen_by next_ballot gathered highest_prior proposal on_body on_arrival on_deposit on_propose
-    to_each new_site new_network outcome happens run
-chosen_and_out_of_reach bag = record {
-  chosen = record {
-    ballot = record { round = 1; site = 1 };
-    chosen = record {
-      voters = 1 ∷ 2 ∷ [];
-      quorum = refl;
-      voted = of_two HasVoted 1 2 (there (there (there (here refl)))) (there (here refl));
-    };
-  };
-  quorum = refl;
-  nothing = of_two HasNothing 2 3 (refl, refl) (refl, refl);
-}
-  where
-    HasVoted : ℕ → Type 0
-    HasVoted n =
-        OnRecord (after_two_votes bag) n a
-        (entry.Vote (record { ballot = record { round = 1; site = 1 }; bag = bag }))
-
-    HasNothing : ℕ → Type 0
-    HasNothing n =
-        (deposit_of a (records_at (after_two_votes bag) n) ≡ None)
-        × (known_of a (records_at (after_two_votes bag) n) ≡ None)
-
--- ---- an undisturbed ballot
+use Rattle.reach_law.specs.Examples.{three, a, deposited, arrivals, CanBeUndisturbed}
+use Rattle.reach_law.proofs.Arriving.{of_three, undisturbed, has_each}
 
 eighteen : length (in_the_end three deposited a 1 (arrivals 0 18)).sent ≡ 18
 unfolding ballot_cmp is_in sites_to same_slot promised_of vote_of used_of deposit_of known_of

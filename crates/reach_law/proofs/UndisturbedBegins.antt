@@ -147,7 +147,7 @@ module _ (q : QuorumSystem) (laws : AreQuorums q) (running : List ℕ) (slot : S
           ballot = b;
           heard_before = old;
         }) heard)) (heard_same p)
-        ∙ none_gathered q laws running slot before members quorum p can.ready.runs own.0 b
+        ∙ none_gathered q laws running slot before members quorum p can.ready.runs b
         (volatile_at w p).heard in
         let nobody = subst (IsQuorum q) none e in
         let met = laws.meet [] [] nobody nobody in

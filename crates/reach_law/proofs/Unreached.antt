@@ -1,4 +1,5 @@
--- Where none of those that run knows a bag or has a deposit, none of them comes to know one.
+-- Where none of those that run knows a bag, has voted or has a deposit, none of them comes to know
+-- one.
 use Rattle.std.proofs.Common.{ℕ, ◌≡◌, ◌<◌, Bool, true, false, cond, inl, inr, refl}
 use Rattle.std.proofs.Common.{sym, ap, ◌∙◌, List, [], ◌∷◌, ◌++◌, length, Option, None, Some}
 use Rattle.std.proofs.Common.{append-nil}
@@ -11,12 +12,13 @@ use Rattle.fed_types.specs.Quorums.{QuorumSystem}
 use Rattle.fed_types.specs.Slots.{SlotName}
 use Rattle.fed_types.specs.Laws.Lists.{has_none, has_one}
 use Rattle.records.specs.declared.record.Record.{Record}
-use Rattle.records.specs.SlotStates.{deposit_of, known_of}
+use Rattle.records.specs.SlotStates.{vote_of, deposit_of, known_of}
 use Rattle.dgram.specs.declared.body.Body.TheVariants.{Ask}
 use Rattle.proposer.specs.VolatileStates.{VolatileState, new_volatile, hears}
 use Rattle.schedule.specs.declared.fate.Fate.TheVariants.{Whole}
 use Rattle.site.specs.Arrivals.{telling, on_arrival, on_body}
-use Rattle.site.specs.Calls.{Input, Proposes, Asks, Arrives, effect_of, on_propose, on_ask}
+use Rattle.site.specs.Calls.{Input, Proposes, Recovers, Asks, Arrives, effect_of, on_propose}
+use Rattle.site.specs.Calls.{on_recover, on_ask}
 use Rattle.site.specs.Effects.{Effect, Send, to_each}
 use Rattle.world_law.specs.Networks.{Mode, Up, Down, NeedsOpening, SiteState, Network, Event}
 use Rattle.world_law.specs.Networks.{SiteOutcome, Deliver, Start, datagram_at, nothing, happening}
@@ -42,11 +44,15 @@ module _ (q : QuorumSystem) (running : List ℕ) (slot : SlotName) (w : Network)
 
   known_none : (x : Network) → Still x → (n : ℕ) → Has n running
       → known_of slot (records_at x n) ≡ None
-  known_none x s n h = ap (known_of slot) (s.records n) ∙ (have n h).1
+  known_none x s n h = ap (known_of slot) (s.records n) ∙ (have n h).2
 
   deposit_none : (x : Network) → Still x → (n : ℕ) → Has n running
       → deposit_of slot (records_at x n) ≡ None
   deposit_none x s n h = ap (deposit_of slot) (s.records n) ∙ (have n h).0
+
+  vote_none : (x : Network) → Still x → (n : ℕ) → Has n running
+      → vote_of slot (records_at x n) ≡ None
+  vote_none x s n h = ap (vote_of slot) (s.records n) ∙ (have n h).1
 
   -- a site that records nothing, and sends only questions
   abbrev became : Network → ℕ → SiteState → List Send → Network
@@ -123,6 +129,13 @@ module _ (q : QuorumSystem) (running : List ℕ) (slot : SlotName) (w : Network)
   quiet_propose x s n h v =
       rw (known_none x s n h) (rw (deposit_none x s n h) (record { none = refl; asks = no_sends }))
 
+  quiet_recover : (x : Network) → Still x → (n : ℕ) → Has n running → (v : VolatileState)
+      → Quiet (on_recover q n (records_at x n) v slot)
+  unfolding on_recover
+  quiet_recover x s n h v =
+      rw (known_none x s n h) (rw (vote_none x s n h) (rw (deposit_none x s n h)
+      (record { none = refl; asks = no_sends })))
+
   quiet_ask : (n m : ℕ) (v : VolatileState) → Quiet (on_ask n v slot m)
   unfolding on_ask to_each
   quiet_ask n m v = record {
@@ -171,6 +184,8 @@ module _ (q : QuorumSystem) (running : List ℕ) (slot : SlotName) (w : Network)
       go false = s
   step_still x s (networks.Propose n k fate) h =
       rw h.2 (rw h.1 (takes_still x s n (Proposes slot) (λ v is. quiet_propose x s n h.0 v)))
+  step_still x s (networks.Recover n k fate) h =
+      rw h.2 (rw h.1 (takes_still x s n (Recovers slot) (λ v is. quiet_recover x s n h.0 v)))
   step_still x s (networks.Ask n m k fate) h =
       rw h.3 (rw h.2 (takes_still x s n (Asks slot m) (λ v is. quiet_ask n m v)))
   step_still x s (Deliver number fate) h =

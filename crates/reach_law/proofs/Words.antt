@@ -1,12 +1,12 @@
 -- What one more record, or one more message that was heard, makes of the words of a slot.
-use Rattle.std.proofs.Common.{ℕ, ◌≡◌, ◌≤◌, max}
+use Rattle.std.proofs.Common.{ℕ, ◌≡◌, ◌≤◌, max, Bool, true, false, cond, inl, inr}
 use Rattle.std.proofs.Common.{refl, ap, ◌∙◌, List, [], ◌∷◌, ◌++◌, length}
 use Rattle.std.proofs.Common.{Option, None, Some, append-nil, arith, length-append}
 use Rattle.std.specs.Prelude.{⊤}
 use Rattle.std.specs.Option.{option_to_list}
 use Rattle.fed_types.specs.declared.bag_id.BagId.{BagId}
 use Rattle.fed_types.specs.declared.vote.Vote.{Vote}
-use Rattle.fed_types.specs.Ballots.{BallotNumber, Below}
+use Rattle.fed_types.specs.Ballots.{BallotNumber, below, Below}
 use Rattle.fed_types.specs.Lists.{Has}
 use Rattle.fed_types.specs.Slots.{SlotName}
 use Rattle.fed_types.specs.Laws.Ballots.{below_decides}
@@ -34,6 +34,7 @@ use Rattle.std.proofs.Common.{zero, suc, ◌<◌}
 use Rattle.std.specs.Prelude.{IsSome}
 use Rattle.std.proofs.lemmas.Option.{slice_get_within}
 use Rattle.world_law.specs.Networks.{datagram_at}
+use Rattle.reach_law.specs.Running.{HasVoteOrDeposit}
 
 -- ---- what is there
 
@@ -101,6 +102,34 @@ module _ (slot : SlotName) (rs : List Record) where
       known-push slot rs r
       ∙ ap (λ (o : Option BagId). with_one earlier o (said_in known_in slot r)) e
       ∙ first_stays v (said_in known_in slot r)
+
+  -- so does it that there is a vote, or a deposit
+  higher_some : (v : Vote) (s : Option Vote)
+      → IsSome (with_one (higher (λ (v : Vote). v.ballot)) (Some v) s)
+  higher_some v None = refl
+  higher_some v (Some u) = go (below v.ballot u.ballot)
+    where
+      go : (t : Bool) → IsSome (cond t (Some u) (Some v))
+      go true = refl
+      go false = refl
+
+  vote_stays : IsSome (vote_of slot rs) → (o : Option Record)
+      → IsSome (vote_of slot (rs ++ option_to_list o))
+  vote_stays h None = rw (append-nil rs) h
+  vote_stays h (Some r) =
+      rw (vote-push slot rs r) (go (vote_of slot rs) h)
+    where
+      go : (v : Option Vote) → IsSome v
+          → IsSome (with_one (higher (λ (v : Vote). v.ballot)) v (said_in vote_in slot r))
+      go None none = absurd (cc none)
+      go (Some v) some = higher_some v (said_in vote_in slot r)
+
+  pub has_stays : HasVoteOrDeposit slot rs → (o : Option Record)
+      → HasVoteOrDeposit slot (rs ++ option_to_list o)
+  has_stays (inl vote) o = inl (vote_stays vote o)
+  has_stays (inr deposit) o =
+      let own = some_of (deposit_of slot rs) deposit in
+      inr (rw (deposit_stays own.0 own.1 o) refl)
 
   -- a Known where none is known
   pub known_now : (v : BagId) → known_of slot rs ≡ None

@@ -4,21 +4,22 @@ use Rattle.fed_types.specs.declared.bag_id.BagId.{BagId}
 use Rattle.fed_types.specs.Lists.{Has}
 use Rattle.fed_types.specs.Quorums.{QuorumSystem}
 use Rattle.fed_types.specs.Slots.{SlotName}
-use Rattle.records.specs.SlotStates.{deposit_of, known_of}
+use Rattle.records.specs.SlotStates.{vote_of, deposit_of, known_of}
 use Rattle.schedule.specs.declared.fate.Fate.TheVariants.{Whole}
 use Rattle.site.specs.Effects.{Send}
 use Rattle.world_law.specs.Laws.{IsChosen}
-use Rattle.world_law.specs.Networks.{Network, Event, Deposit, Propose, Ask, Query, Deliver, Raw}
-use Rattle.world_law.specs.Networks.{Stop, Start, datagram_at, happens, run}
+use Rattle.world_law.specs.Networks.{Network, Event, Deposit, Propose, Recover, Ask, Query, Deliver}
+use Rattle.world_law.specs.Networks.{Raw, Stop, Start, datagram_at, happens, run}
 use Rattle.reach_law.specs.Running.{records_at}
 
 -- ---- events at those that run, in which nothing fails
 
--- One of those that run is opened, proposes for the slot, or asks another of them; or a datagram
--- that wasn't among the first so many reaches one of them.
+-- One of those that run is opened, proposes for the slot, recovers it, or asks another of them; or a
+-- datagram that wasn't among the first so many reaches one of them.
 abbrev pub IsCalm : (running : List ℕ) → SlotName → (before : ℕ) → Network → Event → Type 0
 IsCalm running slot before w (Start n) = Has n running
 IsCalm running slot before w (Propose n s fate) = Has n running × (s ≡ slot) × (fate ≡ Whole)
+IsCalm running slot before w (Recover n s fate) = Has n running × (s ≡ slot) × (fate ≡ Whole)
 IsCalm running slot before w (Ask n m s fate) =
     Has n running × Has m running × (s ≡ slot) × (fate ≡ Whole)
 IsCalm running slot before w (Deliver number fate) =
@@ -53,11 +54,12 @@ pub record IsWithinReach
 
 -- ---- out of reach
 
--- none of those that run has a deposit for the slot, or knows its bag
+-- none of those that run has a deposit for the slot, has voted for a bag of it, or knows one
 abbrev pub HaveNothing : Network → (running : List ℕ) → SlotName → Type 0
 HaveNothing w running slot =
     (n : ℕ) → Has n running
-    → (deposit_of slot (records_at w n) ≡ None) × (known_of slot (records_at w n) ≡ None)
+    → (deposit_of slot (records_at w n) ≡ None) × (vote_of slot (records_at w n) ≡ None)
+    × (known_of slot (records_at w n) ≡ None)
 
 -- whatever such events there are, none of those that run comes to know one
 abbrev pub StaysUnknown : QuorumSystem → Network → (running : List ℕ) → SlotName → Type 0

@@ -7,10 +7,10 @@ use Rattle.fed_types.specs.Lists.{Has}
 use Rattle.fed_types.specs.Quorums.{QuorumSystem}
 use Rattle.fed_types.specs.Slots.{SlotName, same_slot}
 use Rattle.records.specs.declared.record.Record.{Record}
-use Rattle.records.specs.SlotStates.{promised_of, deposit_of, known_of}
+use Rattle.records.specs.SlotStates.{promised_of, vote_of, deposit_of, known_of}
 use Rattle.proposer.specs.Proposals.{last_round}
 use Rattle.proposer.specs.VolatileStates.{VolatileState}
-use Rattle.world_law.specs.Networks.{Network, volatile_in, Event, Propose}
+use Rattle.world_law.specs.Networks.{Network, volatile_in, Event, Propose, Recover}
 
 -- what site n has on record, and what it has heard
 abbrev pub records_at : Network → (n : ℕ) → List Record
@@ -31,16 +31,22 @@ pub record RoundsAreLeft (w : Network) (running : List ℕ) (slot : SlotName) (s
     pub promised : (n : ℕ) (b : BallotNumber) → Has n running
         → promised_of slot (records_at w n) ≡ Some b → b.round < greatest_round
 
--- One of those that run knows the slot's bag, or has a deposit for the slot and rounds left.
+-- a site has voted for a bag of the slot, or has a deposit for it: so it may recover the slot
+abbrev pub HasVoteOrDeposit : SlotName → List Record → Type 0
+HasVoteOrDeposit slot records = IsSome (vote_of slot records) ⊎ IsSome (deposit_of slot records)
+
+-- One of those that run knows the slot's bag; or it has voted for one or has a deposit, and has
+-- rounds left.
 pub record CanDecide (w : Network) (running : List ℕ) (slot : SlotName) : Type 0 where
   pub site : ℕ
   pub runs : Has site running
   pub can : IsSome (known_of slot (records_at w site))
-      ⊎ (IsSome (deposit_of slot (records_at w site)) × RoundsAreLeft w running slot site)
+      ⊎ (HasVoteOrDeposit slot (records_at w site) × RoundsAreLeft w running slot site)
 
--- how many of these events are proposals for the slot
+-- how many of these events are proposals for the slot, or recoveries of it
 abbrev pub proposals_in : SlotName → Event → ℕ
 proposals_in slot (Propose n s fate) = if same_slot s slot then 1 else 0
+proposals_in slot (Recover n s fate) = if same_slot s slot then 1 else 0
 proposals_in slot _ = 0
 
 unfoldable pub proposals_for : SlotName → List Event → ℕ

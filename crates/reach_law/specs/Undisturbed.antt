@@ -8,8 +8,8 @@ use Rattle.records.specs.SlotStates.{promised_of, deposit_of, known_of}
 use Rattle.proposer.specs.Proposals.{next_ballot}
 use Rattle.schedule.specs.declared.fate.Fate.TheVariants.{Whole}
 use Rattle.site.specs.Effects.{Send}
-use Rattle.world_law.specs.Networks.{Network, Event, Up, Deposit, Propose, Ask, Query, Deliver, Raw}
-use Rattle.world_law.specs.Networks.{Stop, Start, datagram_at, happens, run}
+use Rattle.world_law.specs.Networks.{Network, Event, Up, Deposit, Propose, Recover, Ask, Query}
+use Rattle.world_law.specs.Networks.{Deliver, Raw, Stop, Start, datagram_at, happens, run}
 use Rattle.reach_law.specs.Running.{records_at, volatile_at, RoundsAreLeft}
 
 -- ---- who proposes
@@ -42,6 +42,7 @@ abbrev pub IsElsewhere : (running : List ℕ) → SlotName → Network → Event
 IsElsewhere running slot w (Deposit n s checked fate) =
     (s ≡ slot → ⊥) × (Has n running → fate ≡ Whole)
 IsElsewhere running slot w (Propose n s fate) = (s ≡ slot → ⊥) × (Has n running → fate ≡ Whole)
+IsElsewhere running slot w (Recover n s fate) = (s ≡ slot → ⊥) × (Has n running → fate ≡ Whole)
 IsElsewhere running slot w (Ask n m s fate) = (s ≡ slot → ⊥) × (Has n running → fate ≡ Whole)
 IsElsewhere running slot w (Query n s) = ⊤
 IsElsewhere running slot w (Deliver number fate) =

@@ -1,8 +1,11 @@
 ghost use Rattle.std.specs.Prelude.{ℕ, ◌+◌, ◌≤◌, List};
+ghost use Rattle.fed_types.specs.declared.bag_id.BagId.{BagId};
 ghost use Rattle.fed_types.specs.Limits.{greatest_round};
+ghost use Rattle.fed_types.specs.Lists.{Has};
 ghost use Rattle.fed_types.specs.Quorums.{QuorumSystem, AreQuorums, IsQuorum};
 ghost use Rattle.fed_types.specs.Slots.{SlotName};
 ghost use Rattle.records.specs.declared.record.Record.{Record};
+ghost use Rattle.world_law.specs.Laws.{IsChosen};
 ghost use Rattle.world_law.specs.Networks.{Network, Event, new_network, run};
 ghost use Rattle.reach_law.specs.Running.{AreMembers, RoundsAreLeft, CanDecide, proposals_for};
 ghost use Rattle.reach_law.specs.Reach.{IsWithinReach, HaveNothing, StaysUnknown};
@@ -15,9 +18,9 @@ ghost use Rattle.reach_law.specs.InTurn.{AreProposingTurns, Waits, IsProposedInT
 // ---- what is within reach
 
 /// A decision is always within reach. Whatever has happened, where the members that run are a
-/// quorum, and one of them knows the slot's bag, or has a deposit for it and rounds left, some
-/// events in which only they take part and nothing fails let all of them know one bag: ten for each
-/// of them and two more, at most. If a bag was chosen before, it is this one.
+/// quorum, and one of them knows the slot's bag, or has voted for one or has a deposit, and has
+/// rounds left, some events in which only they take part and nothing fails let all of them know one
+/// bag: ten for each of them and two more, at most. If a bag was chosen before, it is this one.
 pub fn a_decision_is_within_reach()
     ensures { (q : QuorumSystem) (events : List Event) (running : List ℕ) (slot : SlotName)
         → AreQuorums q → AreMembers q running → IsQuorum q running
@@ -25,16 +28,26 @@ pub fn a_decision_is_within_reach()
         → IsWithinReach q (run q new_network events) running slot }
 {}
 
-/// Where none of the members that run has a deposit, or knows the bag, nothing that they do lets
-/// one of them know it, also where it was chosen, unless a datagram of before still arrives: they
-/// need that, or another member, or a deposit.
-pub fn no_decision_without_a_deposit()
+/// What was chosen is within reach of every quorum that runs and has rounds left, whoever has
+/// deposited it, and whoever is lost.
+pub fn what_is_chosen_is_within_reach()
+    ensures { (q : QuorumSystem) (events : List Event) (running : List ℕ) (slot : SlotName)
+        (bag : BagId) → AreQuorums q → AreMembers q running → IsQuorum q running
+        → IsChosen q (run q new_network events) slot bag
+        → ((n : ℕ) → Has n running → RoundsAreLeft (run q new_network events) running slot n)
+        → IsWithinReach q (run q new_network events) running slot }
+{}
+
+/// Where none of the members that run has a deposit, has voted, or knows the bag, nothing that they
+/// do lets one of them know it, unless a datagram of before still arrives: they need that, or
+/// another member, or a deposit.
+pub fn no_decision_without_a_vote_or_a_deposit()
     ensures { (q : QuorumSystem) (w : Network) (running : List ℕ) (slot : SlotName)
         → HaveNothing w running slot → StaysUnknown q w running slot }
 {}
 
 /// Rounds are left for a slot, at every site, as long as there were fewer than 4,294,967,294
-/// proposals for it.
+/// proposals for it and recoveries of it.
 pub fn rounds_are_left()
     ensures { (q : QuorumSystem) (events : List Event) (running : List ℕ) (slot : SlotName)
         (site : ℕ) → AreQuorums q → proposals_for slot events + 2 ≤ greatest_round

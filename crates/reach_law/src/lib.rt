@@ -1,15 +1,15 @@
 //! What a federation can still do, whatever has happened: it is never stuck. From every network of
-//! a run a decision is within reach of the members that run, and two proposals that nothing disturbs
-//! decide. The definitions stand in specs/; a function here does nothing, and its contract is a
+//! a run a decision is within reach of the members that run, what was chosen is within reach of
+//! every quorum, and two proposals that nothing disturbs decide. The definitions stand in specs/; a function here does nothing, and its contract is a
 //! law.
 #![tactic(auto)]
 
 mod examples;
 mod law;
 
-pub use examples::{a_ballot_may_be_undisturbed, a_chosen_bag_may_be_out_of_reach};
+pub use examples::a_ballot_may_be_undisturbed;
 pub use law::{
     a_decision_is_within_reach, an_undisturbed_ballot_is_decided, an_undisturbed_proposal_outbids,
-    each_deposit_has_its_turn, no_decision_without_a_deposit, rounds_are_left,
-    two_undisturbed_proposals_decide,
+    each_deposit_has_its_turn, no_decision_without_a_vote_or_a_deposit, rounds_are_left,
+    two_undisturbed_proposals_decide, what_is_chosen_is_within_reach,
 };

@@ -14,8 +14,8 @@ use Rattle.cell_device.specs.Devices.{Device}
 use Rattle.records.specs.declared.entry.Entry.TheVariants as entry
 use Rattle.schedule.specs.declared.fate.Fate.{Fate}
 use Rattle.world_law.specs.Laws.{OnRecord, IsChosen, site_of}
-use Rattle.world_law.specs.Networks.{Network, Event, Deposit, Propose, Query, Deliver, Raw, Stop}
-use Rattle.world_law.specs.Networks.{Start, new_network, new_site, happens, run}
+use Rattle.world_law.specs.Networks.{Network, Event, Deposit, Propose, Recover, Query, Deliver}
+use Rattle.world_law.specs.Networks.{Raw, Stop, Start, new_network, new_site, happens, run}
 use Rattle.world_law.specs.Networks as networks
 use Rattle.world_law.specs.WellFormed.{AreWellFormedEvents}
 use Rattle.world_law.proofs.Deeds.{some_same}
@@ -64,6 +64,7 @@ module _ (q : QuorumSystem) where
       is : Deposit site s checked fate ≡ Deposit n slot (Ok bag) fate
       is = cc
   came_first w (Propose site s fate) es n slot bag at none kept = absurd none
+  came_first w (Recover site s fate) es n slot bag at none kept = absurd none
   came_first w (networks.Ask site member s fate) es n slot bag at none kept = absurd none
   came_first w (Query site s) es n slot bag at none kept = absurd none
   came_first w (Deliver number fate) es n slot bag at none kept = absurd none

@@ -9,14 +9,16 @@ use Rattle.std.proofs.Common.{inl, inr}
 use Rattle.records.specs.declared.record.Record.{Record}
 use Rattle.proposer.specs.VolatileStates.{new_volatile}
 use Rattle.site.specs.declared.fault.SiteFault.TheVariants as faults
-use Rattle.site.specs.Calls.{Input, Deposits, Proposes, Asks, Arrives, effect_of}
+use Rattle.site.specs.Calls.{Input, Deposits, Proposes, Recovers, Asks, Arrives}
+use Rattle.site.specs.Calls.{effect_of}
 use Rattle.site.specs.Effects.{Effect, Send, refuses}
 use Rattle.schedule.specs.declared.fate.Fate.{Fate}
 use Rattle.schedule.specs.declared.fate.Fate.TheVariants.{Whole, StopsIn, StopsAfter, FailsIn}
 use Rattle.world_law.specs.Networks.{Network, SiteState, SiteOutcome, Mode, Up, Down, NeedsOpening}
 use Rattle.world_law.specs.Networks.{Happening, outcome, step, nothing, happening, if_member}
 use Rattle.world_law.specs.Networks.{reaches, takes, replies, arrives, stops, starts, datagram_at}
-use Rattle.world_law.specs.Networks.{Event, Deposit, Propose, Query, Deliver, Raw, Stop, Start}
+use Rattle.world_law.specs.Networks.{Event, Deposit, Propose, Recover, Query, Deliver, Raw, Stop}
+use Rattle.world_law.specs.Networks.{Start}
 use Rattle.world_law.specs.Networks.{goes_down, opened, new_network, happens, run}
 use Rattle.world_law.specs.Networks as networks
 use Rattle.serving_law.proofs.Spoken.{Speak, effect_speaks}
@@ -98,6 +100,7 @@ module _ (q : QuorumSystem) where
     unfolding happens
     event_speaks (Deposit n slot checked fate) = takes_speaks n (Deposits slot checked) fate
     event_speaks (Propose n slot fate) = takes_speaks n (Proposes slot) fate
+    event_speaks (Recover n slot fate) = takes_speaks n (Recovers slot) fate
     event_speaks (networks.Ask n member slot fate) = takes_speaks n (Asks slot member) fate
     event_speaks (Query n slot) =
         member_speaks n (replies w n (w.sites n).mode slot)

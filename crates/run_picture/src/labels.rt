@@ -77,6 +77,8 @@ fn deed(event: &Event) -> &'static str {
         Deed::Deposit => "deposit of tree $n$u: ",
         Deed::Propose if event.is_done() => "proposes$u in $b",
         Deed::Propose => "proposal$u: ",
+        Deed::Recover if event.is_done() => "recovers$u in $b",
+        Deed::Recover => "recovery$u: ",
         Deed::Ask if event.is_done() => "asks $n$u",
         Deed::Ask => "question to $n$u: ",
         Deed::Query => "asked$u: ",

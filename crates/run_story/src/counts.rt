@@ -62,7 +62,7 @@ impl Story {
         if event.is_forgetting() {
             return nothing();
         }
-        if let Deed::Propose = event.deed {
+        if matches!(event.deed, Deed::Propose | Deed::Recover) {
             return self.issued(heard, datagram, event);
         }
         match self.heard_in(event) {
@@ -71,7 +71,7 @@ impl Story {
         }
     }
 
-    // The site proposes, maybe for the slot of the datagram.
+    // The site begins a ballot, maybe for the slot of the datagram.
     fn issued(&self, heard: Heard, datagram: &Datagram, event: &Event) -> Heard {
         let mut heard = heard;
         if event.is_done() && event.slot == datagram.slot {

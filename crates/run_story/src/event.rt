@@ -9,6 +9,7 @@ pub enum Deed {
     Tree,
     Deposit,
     Propose,
+    Recover,
     Ask,
     Deliver,
     Query,

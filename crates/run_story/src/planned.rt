@@ -20,6 +20,7 @@ fn event_of_call(line: usize, call: &Call, fate: Fate) -> Event {
     let (deed, site, number) = match call {
         Call::Deposit { site, tree, .. } => (Deed::Deposit, *site, tree.number()),
         Call::Propose { site, .. } => (Deed::Propose, *site, 0),
+        Call::Recover { site, .. } => (Deed::Recover, *site, 0),
         Call::Ask { site, to, .. } => (Deed::Ask, *site, u32::from(*to)),
         Call::Deliver { datagram } => (Deed::Deliver, 0, *datagram),
     };
@@ -54,6 +55,7 @@ pub(crate) fn slot_in(command: &Command) -> Option<&Slot> {
         Command::Call { call, .. } => match call {
             Call::Deposit { slot, .. } => Some(slot),
             Call::Propose { slot, .. } => Some(slot),
+            Call::Recover { slot, .. } => Some(slot),
             Call::Ask { slot, .. } => Some(slot),
             Call::Deliver { .. } => None,
         },

@@ -9,6 +9,7 @@ pub(crate) fn command(event: &Event) -> &'static str {
         Deed::Tree => "line $l, tree",
         Deed::Deposit => "line $l, deposit $s $n$a",
         Deed::Propose => "line $l, propose $s$a",
+        Deed::Recover => "line $l, recover $s$a",
         Deed::Ask => "line $l, ask $s $n$a",
         Deed::Deliver => "line $l, deliver $n",
         Deed::Query => "line $l, query $s$a",

@@ -28,10 +28,10 @@ fn registered(event: &Event) -> &'static str {
     }
 }
 
-// A call that prints nothing: a proposal, or a question.
+// A call that prints nothing: a ballot is begun, or a question is asked.
 fn interrupted_or_quiet(event: &Event) -> &'static str {
     match event.deed {
-        Deed::Propose if event.is_done() => "site $s issues ballot $b",
+        Deed::Propose | Deed::Recover if event.is_done() => "site $s issues ballot $b",
         Deed::Ask if event.is_done() => "site $s asks site $n",
         _ => interruption(event),
     }

@@ -8,15 +8,15 @@ use Rattle.std.proofs.lemmas.Option.{same_Some}
 use Rattle.fed_types.specs.Limits.{greatest_version}
 use Rattle.fed_types.specs.Slots.{SlotName}
 use Rattle.schedule.specs.declared.call.Call.{Call}
-use Rattle.schedule.specs.declared.call.Call.TheVariants.{Deposit, Propose, Deliver, Ask}
+use Rattle.schedule.specs.declared.call.Call.TheVariants.{Deposit, Propose, Recover, Deliver, Ask}
 use Rattle.schedule.specs.declared.command.Command.{Command}
 use Rattle.schedule.specs.declared.command.Command.TheVariants as commands
 use Rattle.schedule.specs.declared.fate.Fate.{Fate}
 use Rattle.words.specs.Slots.{slot_of}
 use Rattle.schedule.specs.Commands.{site_of, tree_of, amount_of, call_command}
 use Rattle.schedule.specs.Commands.{only, file_command, deposit_command, propose_command}
-use Rattle.schedule.specs.Commands.{deliver_command, ask_command, query_command, raw_command}
-use Rattle.schedule.specs.Commands.{command_of}
+use Rattle.schedule.specs.Commands.{recover_command, deliver_command, ask_command}
+use Rattle.schedule.specs.Commands.{query_command, raw_command, command_of}
 use Rattle.schedule.specs.Limits.{greatest_site, greatest_tree}
 use Rattle.schedule.specs.Lines.{site_token, tree_token, slot_tokens, call_tokens}
 use Rattle.schedule.specs.Lines.{fate_tokens, command_tokens}
@@ -60,7 +60,7 @@ IsRead command words = command_of words ≡ Some command
 call_of-from : (call : Call) (fate : Fate) (words : List (List ℕ))
     → AreWordsFor words (call_tokens call ++ fate_tokens fate)
     → IsRead (commands.Call call fate) words
-unfolding command_of deposit_command propose_command deliver_command ask_command
+unfolding command_of deposit_command propose_command recover_command deliver_command ask_command
 call_of-from (Deposit s t slot) fate words are =
     of_each_and (call_tokens (Deposit s t slot)) (fate_tokens fate)
     (IsRead (commands.Call (Deposit s t slot) fate))
@@ -78,6 +78,13 @@ call_of-from (Propose s slot) fate words are =
     (λ name is site s_is object o_is version v_is rest rest_are.
     rw (is, site-from site s s_is, slot-from object version slot o_is v_is)
     (call-from (Propose s slot) fate rest rest_are))
+    words are
+call_of-from (Recover s slot) fate words are =
+    of_each_and (call_tokens (Recover s slot)) (fate_tokens fate)
+    (IsRead (commands.Call (Recover s slot) fate))
+    (λ name is site s_is object o_is version v_is rest rest_are.
+    rw (is, site-from site s s_is, slot-from object version slot o_is v_is)
+    (call-from (Recover s slot) fate rest rest_are))
     words are
 call_of-from (Deliver k) fate words are =
     of_each_and (call_tokens (Deliver k)) (fate_tokens fate)
@@ -232,6 +239,15 @@ propose_command-says (site ∷ object ∷ version ∷ fate) command is =
     slot.2 (refl, (site-says site s.0 s.1, slot-says object version slot.0 slot.1))
 propose_command-says words command is = absurd (cc is)
 
+recover_command-says : Says (codes "recover") recover_command
+unfolding recover_command
+recover_command-says (site ∷ object ∷ version ∷ fate) command is =
+    let s = bind_some _ _ command is in
+    let slot = bind_some _ _ command s.2 in
+    call-says (codes "recover" ∷ site ∷ object ∷ version ∷ []) fate (Recover s.0 slot.0) command
+    slot.2 (refl, (site-says site s.0 s.1, slot-says object version slot.0 slot.1))
+recover_command-says words command is = absurd (cc is)
+
 deliver_command-says : Says (codes "deliver") deliver_command
 unfolding deliver_command
 deliver_command-says (datagram ∷ fate) command is =
@@ -299,6 +315,7 @@ command_of-says (name ∷ words) command is =
     (named (codes "file") file_command _ name words command file_command-says
     (named (codes "deposit") deposit_command _ name words command deposit_command-says
     (named (codes "propose") propose_command _ name words command propose_command-says
+    (named (codes "recover") recover_command _ name words command recover_command-says
     (named (codes "deliver") deliver_command _ name words command deliver_command-says
     (named (codes "ask") ask_command _ name words command ask_command-says
     (named (codes "query") query_command _ name words command query_command-says
@@ -312,4 +329,4 @@ command_of-says (name ∷ words) command is =
     (named (codes "start") _ None name words command
     (only-says (codes "start") site_of (λ s. commands.Start s)
     (λ word s says. (refl, (site-says word s says, tt))))
-    (λ none. absurd (cc none))))))))))))) is
+    (λ none. absurd (cc none)))))))))))))) is

@@ -14,7 +14,7 @@ use Rattle.std.proofs.lemmas.List.Splits.{slice_split_none, slice_split_at, leng
 use Rattle.fed_types.specs.Sites.{Membership, count_of}
 use Rattle.fed_types.specs.Values.{IsMembership}
 use Rattle.schedule.specs.declared.call.Call.{Call}
-use Rattle.schedule.specs.declared.call.Call.TheVariants.{Deposit, Propose, Deliver, Ask}
+use Rattle.schedule.specs.declared.call.Call.TheVariants.{Deposit, Propose, Recover, Deliver, Ask}
 use Rattle.schedule.specs.declared.command.Command.{Command}
 use Rattle.schedule.specs.declared.command.Command.TheVariants as commands
 use Rattle.schedule.specs.declared.fate.DeviceCall.TheVariants.{Append, Sync}
@@ -121,6 +121,7 @@ plain_fate (FailsIn Sync kept) = refl
 plain_call : (call : Call) → are_plain (call_tokens call) ≡ true
 plain_call (Deposit s t slot) = refl
 plain_call (Propose s slot) = refl
+plain_call (Recover s slot) = refl
 plain_call (Deliver k) = refl
 plain_call (Ask s to slot) = refl
 

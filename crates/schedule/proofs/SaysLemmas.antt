@@ -5,7 +5,7 @@ use Rattle.std.proofs.Common.{None, refl, sym, ap, ◌∙◌, subst, inl, inr, a
 use Rattle.std.specs.Option.{option_map}
 use Rattle.std.proofs.lemmas.Bool.{cases_Bool, eqb-true, ne_eqb}
 use Rattle.std.proofs.lemmas.Option.{same_Some}
-use Rattle.schedule.specs.declared.call.Call.TheVariants.{Deposit, Propose, Deliver, Ask}
+use Rattle.schedule.specs.declared.call.Call.TheVariants.{Deposit, Propose, Recover, Deliver, Ask}
 use Rattle.schedule.specs.declared.command.Command.{Command}
 use Rattle.schedule.specs.declared.command.Command.TheVariants as commands
 use Rattle.words.specs.Words.{words_of}
@@ -112,6 +112,7 @@ begins_command (commands.Folder t) = refl
 begins_command (commands.File t path content) = refl
 begins_command (commands.Call (Deposit s t slot) fate) = refl
 begins_command (commands.Call (Propose s slot) fate) = refl
+begins_command (commands.Call (Recover s slot) fate) = refl
 begins_command (commands.Call (Deliver k) fate) = refl
 begins_command (commands.Call (Ask s to slot) fate) = refl
 begins_command (commands.Query s slot) = refl

@@ -4,7 +4,7 @@ use Rattle.std.specs.Prelude.{codes}
 use Rattle.std.specs.List.{join_with_byte}
 use Rattle.std.proofs.lemmas.List.{append-nil, map-append}
 use Rattle.schedule.specs.declared.call.Call.{Call}
-use Rattle.schedule.specs.declared.call.Call.TheVariants.{Deposit, Propose, Deliver, Ask}
+use Rattle.schedule.specs.declared.call.Call.TheVariants.{Deposit, Propose, Recover, Deliver, Ask}
 use Rattle.schedule.specs.declared.command.Command.TheVariants as commands
 use Rattle.schedule.specs.declared.fate.Fate.{Fate}
 use Rattle.schedule.specs.Lines.{site_token, tree_token, amount_token, slot_tokens, call_tokens}
@@ -48,6 +48,8 @@ join-call (Deposit s t slot) fate =
     (fate_tokens fate)
 join-call (Propose s slot) fate =
     join-tokens (Keyword (codes "propose")) (site_token s ∷ slot_tokens slot) (fate_tokens fate)
+join-call (Recover s slot) fate =
+    join-tokens (Keyword (codes "recover")) (site_token s ∷ slot_tokens slot) (fate_tokens fate)
 join-call (Deliver k) fate =
     join-tokens (Keyword (codes "deliver")) (amount_token k ∷ []) (fate_tokens fate)
 join-call (Ask s to slot) fate =

@@ -7,7 +7,7 @@ use Rattle.std.specs.Str.{bytes_eq}
 use Rattle.fed_types.specs.Limits.{greatest_federation, most_members, greatest_weight}
 use Rattle.fed_types.specs.Sites.{Membership, membership_of}
 use Rattle.schedule.specs.declared.call.Call.{Call}
-use Rattle.schedule.specs.declared.call.Call.TheVariants.{Deposit, Propose, Deliver, Ask}
+use Rattle.schedule.specs.declared.call.Call.TheVariants.{Deposit, Propose, Recover, Deliver, Ask}
 use Rattle.schedule.specs.declared.command.Command.{Command}
 use Rattle.schedule.specs.declared.command.Command.TheVariants as commands
 use Rattle.schedule.specs.declared.fate.DeviceCall.{DeviceCall}
@@ -129,6 +129,14 @@ propose_command (site ∷ object ∷ version ∷ fate) = do
   call_command (Propose s slot) fate
 propose_command words = None
 
+-- `recover S OBJ V`, and a fate
+unfoldable pub recover_command : List (List ℕ) → Option Command
+recover_command (site ∷ object ∷ version ∷ fate) = do
+  s ← site_of site
+  slot ← slot_of object version
+  call_command (Recover s slot) fate
+recover_command words = None
+
 -- `deliver K`, and a fate
 unfoldable pub deliver_command : List (List ℕ) → Option Command
 deliver_command (datagram ∷ fate) = do
@@ -172,6 +180,7 @@ command_of (name ∷ arguments) =
     else if bytes_eq name (codes "file") then file_command arguments
     else if bytes_eq name (codes "deposit") then deposit_command arguments
     else if bytes_eq name (codes "propose") then propose_command arguments
+    else if bytes_eq name (codes "recover") then recover_command arguments
     else if bytes_eq name (codes "deliver") then deliver_command arguments
     else if bytes_eq name (codes "ask") then ask_command arguments
     else if bytes_eq name (codes "query") then query_command arguments

@@ -5,7 +5,7 @@ use Rattle.fed_types.specs.Limits.{greatest_version}
 use Rattle.fed_types.specs.Sites.{Membership, count_of}
 use Rattle.fed_types.specs.Slots.{SlotName}
 use Rattle.schedule.specs.declared.call.Call.{Call}
-use Rattle.schedule.specs.declared.call.Call.TheVariants.{Deposit, Propose, Deliver, Ask}
+use Rattle.schedule.specs.declared.call.Call.TheVariants.{Deposit, Propose, Recover, Deliver, Ask}
 use Rattle.schedule.specs.declared.command.Command.{Command}
 use Rattle.schedule.specs.declared.command.Command.TheVariants as commands
 use Rattle.schedule.specs.declared.fate.DeviceCall.{DeviceCall}
@@ -46,11 +46,12 @@ fate_tokens (StopsAfter sent) =
 fate_tokens (FailsIn device kept) =
     Keyword (codes "fail") ∷ device_token device ∷ amount_token kept ∷ []
 
--- `deposit S T OBJ V`, `propose S OBJ V`, `deliver K`, `ask S TO OBJ V`
+-- `deposit S T OBJ V`, `propose S OBJ V`, `recover S OBJ V`, `deliver K`, `ask S TO OBJ V`
 abbrev pub call_tokens : Call → List Token
 call_tokens (Deposit s t slot) =
     Keyword (codes "deposit") ∷ site_token s ∷ tree_token t ∷ slot_tokens slot
 call_tokens (Propose s slot) = Keyword (codes "propose") ∷ site_token s ∷ slot_tokens slot
+call_tokens (Recover s slot) = Keyword (codes "recover") ∷ site_token s ∷ slot_tokens slot
 call_tokens (Deliver k) = Keyword (codes "deliver") ∷ amount_token k ∷ []
 call_tokens (Ask s to slot) =
     Keyword (codes "ask") ∷ site_token s ∷ site_token to ∷ slot_tokens slot

@@ -1,6 +1,6 @@
 ghost use Rattle.std.specs.Prelude.{◌≡◌, map, IfOk};
 ghost use Rattle.schedule.specs.Commands.{call_command, deposit_command, propose_command};
-ghost use Rattle.schedule.specs.Commands.{deliver_command, ask_command};
+ghost use Rattle.schedule.specs.Commands.{recover_command, deliver_command, ask_command};
 
 use crate::call::Call;
 use crate::command::Command;
@@ -53,6 +53,23 @@ pub(crate) fn parse_propose(alloc: Global, words: &[&[u8]]) -> Result<Option<Com
         return Ok(None);
     };
     Ok(with_fate(Call::Propose { site, slot }, fate))
+}
+
+#[tactic(auto, unfolding(crate::specs::Commands::recover_command))]
+pub(crate) fn parse_recover(alloc: Global, words: &[&[u8]]) -> Result<Option<Command>, AllocError>
+    ensures { IfOk result
+        (λ command. command ≡ recover_command (map (λ word. word.now) words.now)) }
+{
+    let [site, object, version, fate @ ..] = words else {
+        return Ok(None);
+    };
+    let Some(site) = parse_site(site) else {
+        return Ok(None);
+    };
+    let Some(slot) = parse_slot(alloc, object, version)? else {
+        return Ok(None);
+    };
+    Ok(with_fate(Call::Recover { site, slot }, fate))
 }
 
 #[tactic(auto, unfolding(crate::specs::Commands::deliver_command))]

@@ -3,7 +3,7 @@ ghost use Rattle.schedule.specs.Commands.{site_of, tree_of, amount_of, only, fil
 ghost use Rattle.schedule.specs.Commands.{query_command, raw_command, command_of};
 
 use crate::command::Command;
-use crate::parse_call::{parse_ask, parse_deliver, parse_deposit, parse_propose};
+use crate::parse_call::{parse_ask, parse_deliver, parse_deposit, parse_propose, parse_recover};
 use crate::tree_no::TreeNo;
 use crate::value::{parse_amount, parse_bytes, parse_path, parse_site, parse_tree_no};
 use std::alloc::{AllocError, Global};
@@ -29,6 +29,8 @@ pub(crate) fn parse_command(alloc: Global, words: &[&[u8]]) -> Result<Option<Com
         parse_deposit(alloc, arguments)
     } else if name == b"propose".as_slice() {
         parse_propose(alloc, arguments)
+    } else if name == b"recover".as_slice() {
+        parse_recover(alloc, arguments)
     } else if name == b"deliver".as_slice() {
         Ok(parse_deliver(arguments))
     } else if name == b"ask".as_slice() {

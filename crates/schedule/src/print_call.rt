@@ -25,6 +25,10 @@ pub(crate) fn push_call(text: &mut String, call: &Call) -> Result<(), AllocError
             write!(text, "propose {site} ")?;
             push_slot(text, slot)
         }
+        Call::Recover { site, slot } => {
+            write!(text, "recover {site} ")?;
+            push_slot(text, slot)
+        }
         Call::Deliver { datagram } => write!(text, "deliver {datagram}"),
         Call::Ask { site, to, slot } => {
             write!(text, "ask {site} {to} ")?;

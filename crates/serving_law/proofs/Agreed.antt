@@ -19,6 +19,7 @@ use Rattle.dgram.specs.Encoding.{datagram_of}
 use Rattle.dgram.specs.Heard.{bodies_of, floor_of, promises_for, promisers, priors, voters_for}
 use Rattle.learner.specs.declared.row.Row.TheVariants as rows
 use Rattle.proposer.specs.Proposals.{gathered, highest_prior, next_ballot}
+use Rattle.proposer.specs.UnderWay.{nothing}
 use Rattle.site.specs.declared.answer.Line.TheVariants as site_lines
 use Rattle.site.specs.Calls as calls
 use Rattle.site.specs.Calls.{effect_of, on_deposit, on_propose}
@@ -53,7 +54,7 @@ use Rattle.records.specs.declared.owner.Owner.{Owner}
 use Rattle.serving_law.proofs.Agreement.{m, r, to_all}
 use Rattle.serving_law.proofs.Sites.{volatile_of, issued}
 use Rattle.serving_law.proofs.Sites.{stands_idle, stands_issued}
-use Rattle.serving_law.proofs.Tables.{Rows, records_of, tables, begun_bag}
+use Rattle.serving_law.proofs.Tables.{Rows, records_of, tables}
 use Rattle.records.specs.Records.{IsRecord}
 use Rattle.serving_law.specs.Federations.{Serves}
 use Rattle.serving_law.specs.ExamplesAgreed.{PrintsKnown}
@@ -63,7 +64,7 @@ use Rattle.serving_law.proofs.AgreedTurns.{Turn, Asked1, Asked2, Promised1, Prom
 use Rattle.serving_law.proofs.AgreedTurns.{Votes2}
 use Rattle.serving_law.proofs.AgreedTurns.{Hears11, Hears12, Hears21, Hears22, Hears31, Hears32}
 use Rattle.serving_law.proofs.AgreedTurns.{HearsAgain, HearsOther, HearsLate, hearing, fits}
-use Rattle.serving_law.proofs.AgreedTurns.{answers, under, stands, unheard, own_rows}
+use Rattle.serving_law.proofs.AgreedTurns.{answers, stands, unheard, own_rows}
 use Rattle.serving_law.proofs.NewSites.{starts_new, may_start}
 use Rattle.serving_law.proofs.AgreedMessages.{deposited, proposed, promised, voted}
 
@@ -101,7 +102,7 @@ module _ (bag : BagId) (request : Request 7 a bag) where
       ∙ on_deposit_is
 
   deposited_stands : Represents (tables a three 1 none_heard) (records_of a (deposited bag ∷ []))
-      (volatile_of [] None) (begun_bag a None)
+      (volatile_of [] None) nothing
   unfolding known_of used_of voters_for bodies_of floor_of is_in same_slot
   deposited_stands =
       stands_idle 1 (deposited bag ∷ []) [] rows.Unheard refl (λ none u k. refl) refl refl
@@ -144,7 +145,7 @@ module _ (bag : BagId) (request : Request 7 a bag) where
           called three three_are 1 [] tt (tables a three 1 none_heard) (tables a three 1 none_heard)
               (volatile_of [] None) 0 0 (calls.Deposits a (check_of request.facts)) registering
               (Some (site_lines.Registered bag)) registers refl (is_d bag request) tt (omega arith)
-              (begun_bag a None) deposited_stands,
+              nothing deposited_stands,
           refl,
         ),
       )
@@ -166,12 +167,12 @@ module _ (bag : BagId) (request : Request 7 a bag) where
 
   prepared_stands : Represents (tables a three 1 none_promised)
       (records_of a (deposited bag ∷ proposed bag ∷ [])) (volatile_of [] (Some issued))
-      (begun_bag a (Some bag))
+      nothing
   unfolding known_of used_of deposit_of voters_for bodies_of floor_of is_in same_slot gathered
       promises_for promisers priors highest_prior
   prepared_stands =
       stands_issued 1 (deposited bag ∷ proposed bag ∷ []) [] rows.Unheard refl (λ none u k. refl) refl
-      bag [] refl refl refl refl
+      [] refl refl refl
 
   abbrev three_prepares : AreMessages (to_all (Prepare ballot))
   three_prepares = let is = is_prepare bag request in (is, (is, (is, tt)))
@@ -208,7 +209,7 @@ module _ (bag : BagId) (request : Request 7 a bag) where
     called three three_are 1 (r (deposited bag) ∷ []) (is_d bag request, tt) (tables a three 1 none_heard)
         (tables a three 1 none_promised) (volatile_of [] None) 1 1 (calls.Proposes a)
         preparing None proposes_it refl (is_r bag request) three_prepares (omega arith)
-        (begun_bag a (Some bag)) prepared_stands,
+        nothing prepared_stands,
     λ opened fault e.
         absurd (not_refused fault (sym (ap (λ (f : Effect). f.says) proposes_it) ∙ e)),
     refl,
@@ -286,7 +287,7 @@ module _ (bag : BagId) (request : Request 7 a bag) where
   unfolding MayAll
   may turn place count written f later from to handed serving rest = (
     may_turn (hears turn) (fits bag request turn) (answers bag request turn)
-        (under bag request (hears turn).n) (stands bag request turn) f (hears turn).n
+        (stands bag request turn) f (hears turn).n
         (at_index place f.handed _ handed) (member (hears turn).n from to) serving count written,
     rest,
   )
@@ -382,7 +383,7 @@ module _ (bag : BagId) (request : Request 7 a bag) where
             serves 2 (hears Votes2).old,
             (member 2 (omega arith) (omega arith), refl),
             takes (hears Votes2) (fits bag request Votes2) (answers bag request Votes2)
-                (under bag request 2) (stands bag request Votes2) then 2
+                (stands bag request Votes2) then 2
                 (at_index 7 then.handed _ refl),
             record {
               told = refl;

@@ -29,7 +29,6 @@ use Rattle.learner.specs.LearnerStates as ledgers
 use Rattle.learner.specs.declared.row.Row.{Row as heard_row}
 use Rattle.learner.specs.declared.row.Row.TheVariants as rows
 use Rattle.proposer.specs.Proposals.{gathered, highest_prior, proposal}
-use Rattle.proposer.specs.UnderWay.{UnderWay}
 use Rattle.site.specs.declared.answer.Line.TheVariants as site_lines
 use Rattle.site.specs.Arrivals.{on_body, on_arrival}
 use Rattle.site.specs.Effects.{Send, to_each}
@@ -47,7 +46,7 @@ use Rattle.serving_law.proofs.Answers.{AreMessages, seals}
 use Rattle.serving_law.proofs.Sites.{issued, no_ballot, promised_row, voted_by, counted}
 use Rattle.serving_law.proofs.Sites.{stands_idle, stands_issued}
 use Rattle.serving_law.proofs.DiskCalls.{IsKept}
-use Rattle.serving_law.proofs.Tables.{Rows, records_of, begun_bag}
+use Rattle.serving_law.proofs.Tables.{Rows, records_of}
 
 -- Sites 1 and 2 are asked to promise; site 1 hears both promises, and then proposes; both are asked
 -- to vote; and each site hears of the vote of site 1, and then of that of site 2.
@@ -79,7 +78,7 @@ module _ (bag : BagId) (request : Request 7 a bag) where
   unheard = record { own = no_ballot; heard = rows.Unheard }
 
   abbrev pub own_rows : List ℕ → heard_row → Rows
-  own_rows voters heard = record { own = promised_row bag voters; heard = heard }
+  own_rows voters heard = record { own = promised_row voters; heard = heard }
 
   -- the first records of site 1, and of site 2
   abbrev pub records_1 : ℕ → List Entry
@@ -213,11 +212,6 @@ module _ (bag : BagId) (request : Request 7 a bag) where
       counts 3 (idle (entry.Known bag ∷ []) (heard_again 3) (rows.Known bag)) (Accepted 1 v)
       (rows.Known bag)
 
-  -- site 1 proposes the bag, and no other site does
-  abbrev pub under : ℕ → UnderWay
-  under (suc zero) = begun_bag a (Some bag)
-  under n = begun_bag a None
-
   -- ---- what comes of each message by the rules
 
   -- the vote is the same as itself
@@ -259,33 +253,33 @@ module _ (bag : BagId) (request : Request 7 a bag) where
   twice true n = refl
   twice false n = refl
 
-  pub stands : (turn : Turn) → Stands (hearing turn) (under (hearing turn).n)
+  pub stands : (turn : Turn) → Stands (hearing turn)
   unfolding known_of used_of deposit_of voters_for bodies_of floor_of is_in same_slot gathered
       promises_for promisers priors highest_prior
   stands Asked1 =
-      stands_issued 1 (records_1 3) (heard_1 1) rows.Unheard refl (λ none u k. refl) refl bag []
-      refl refl refl refl
+      stands_issued 1 (records_1 3) (heard_1 1) rows.Unheard refl (λ none u k. refl) refl []
+      refl refl refl
   stands Asked2 =
       stands_idle 2 (records_2 1) (heard_2 1) rows.Unheard refl (λ none u k. refl) refl refl
   stands Promised1 =
-      stands_issued 1 (records_1 3) (heard_1 2) rows.Unheard refl (λ none u k. refl) refl bag
-      (1 ∷ []) refl refl refl refl
+      stands_issued 1 (records_1 3) (heard_1 2) rows.Unheard refl (λ none u k. refl) refl
+      (1 ∷ []) refl refl refl
   stands Promised2 =
-      stands_issued 1 (records_1 3) (heard_1 3) rows.Unheard refl (λ none u k. refl) refl bag
-      (1 ∷ 2 ∷ []) refl refl refl refl
+      stands_issued 1 (records_1 3) (heard_1 3) rows.Unheard refl (λ none u k. refl) refl
+      (1 ∷ 2 ∷ []) refl refl refl
   stands Votes1 =
-      stands_issued 1 (records_1 4) (heard_1 4) rows.Unheard refl (λ none u k. refl) refl bag
-      (1 ∷ 2 ∷ []) refl refl refl refl
+      stands_issued 1 (records_1 4) (heard_1 4) rows.Unheard refl (λ none u k. refl) refl
+      (1 ∷ 2 ∷ []) refl refl refl
   stands Votes2 =
       stands_idle 2 (records_2 2) (heard_2 2) rows.Unheard refl (λ none u k. refl) refl refl
   stands Hears11 =
       stands_issued 1 (records_1 4) (heard_1 5) one_vote refl
       (λ none u k. ap (λ (xs : List ℕ). is_in xs k)
       (counted bag (1 ∷ []) u ∙ one (same_vote v u) 1))
-      refl bag (1 ∷ 2 ∷ []) refl refl refl refl
+      refl (1 ∷ 2 ∷ []) refl refl refl
   stands Hears12 =
       stands_issued 1 (records_1 5) (heard_1 6) (rows.Known bag) refl (λ none. absurd (cc none))
-      refl bag (1 ∷ 2 ∷ []) refl refl refl refl
+      refl (1 ∷ 2 ∷ []) refl refl refl
   stands Hears21 =
       stands_idle 2 (records_2 2) (heard_2 3) one_vote refl
       (λ none u k. ap (λ (xs : List ℕ). is_in xs k)

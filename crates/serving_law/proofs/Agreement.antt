@@ -14,7 +14,7 @@ use Rattle.dgram.specs.declared.message.Message.{Message}
 use Rattle.dgram.specs.Encoding.{datagram_of}
 use Rattle.dgram.specs.Messages.{IsMessage}
 use Rattle.proposer.specs.Proposals.{Current}
-use Rattle.proposer.specs.UnderWay.{UnderWay}
+use Rattle.proposer.specs.UnderWay.{nothing}
 use Rattle.site.specs.declared.answer.Answer.{Answer}
 use Rattle.site.specs.declared.answer.Line.{Line}
 use Rattle.site.specs.Calls as calls
@@ -110,10 +110,10 @@ Answers h =
     (volatile_of h.old.bs h.old.current) (calls.Arrives (Some (m h.body))) ≡ comes_to h
 
 -- and the rows then represent what is on record and was heard
-abbrev pub Stands : Hearing → UnderWay → Type 0
-Stands h under =
+abbrev pub Stands : Hearing → Type 0
+Stands h =
     Represents (tables a three h.n h.rows) (kept (records_of a h.old.es) h.commits)
-    (volatile_of h.bs h.old.current) under
+    (volatile_of h.bs h.old.current) nothing
 
 -- what is on record, comes and is recorded is well-formed
 pub record Fits (h : Hearing) : Type 0 where
@@ -123,8 +123,8 @@ pub record Fits (h : Hearing) : Type 0 where
   pub fits : AreBytes (datagram_of 7 (m h.body))
   pub keep : IsKept h.commits
 
-module _ (h : Hearing) (fits : Fits h) (answers : Answers h) (under : UnderWay)
-    (stands : Stands h under) (f : Federation Disk) (port : ℕ)
+module _ (h : Hearing) (fits : Fits h) (answers : Answers h) (stands : Stands h)
+    (f : Federation Disk) (port : ℕ)
     (handed : Has (port, datagram_of 7 (m h.body)) f.handed) where
   pub takes : Takes device three f (serves h.n h.old) (step_of h)
   takes = record {
@@ -137,7 +137,7 @@ module _ (h : Hearing) (fits : Fits h) (answers : Answers h) (under : UnderWay)
         (tables a three h.n h.old.rows) (tables a three h.n h.rows)
         (volatile_of h.old.bs h.old.current) h.old.turns h.old.turns
         (calls.Arrives (Some (m h.body))) (comes_to h) h.line answers refl fits.keep h.ms h.few
-        under stands);
+        nothing stands);
   }
 
   pub may_turn : Has h.n (members_of three) → f.members h.n ≡ Serves (serves h.n h.old)

@@ -29,7 +29,8 @@ use Rattle.site.specs.declared.answer.Reply.{Reply}
 use Rattle.site.specs.declared.fault.SiteFault.{SiteFault}
 use Rattle.site.specs.declared.fault.SiteFault.TheVariants as faults
 use Rattle.site.specs.Answered.{Keeps, Gives}
-use Rattle.site.specs.Calls.{Input, Deposits, Proposes, Asks, Arrives, effect_of}
+use Rattle.site.specs.Calls.{Input, Deposits, Proposes, Recovers, Asks, Arrives}
+use Rattle.site.specs.Calls.{effect_of}
 use Rattle.site.specs.Datagrams.{handed_out, datagram}
 use Rattle.site.specs.Effects.{Effect}
 use Rattle.site.specs.Reported.{line_report}
@@ -311,6 +312,7 @@ module _ {C : Type 0} (device : C → Device) (members : Membership) (s : Scene 
           by_known (Some (site_lines.Registered bag)) g (Deposits slot checked) same =
               absurd (cc same)
           by_known (Some (site_lines.Registered bag)) g (Proposes slot) same = absurd (cc same)
+          by_known (Some (site_lines.Registered bag)) g (Recovers slot) same = absurd (cc same)
           by_known (Some (site_lines.Registered bag)) g (Asks slot member) same = absurd (cc same)
           by_known (Some (site_lines.Registered bag)) g (Arrives message) same = absurd (cc same)
           by_known (Some (site_lines.Known found_slot found)) g i {k = k} {slot = slot} {bag = bag}
@@ -332,6 +334,7 @@ module _ {C : Type 0} (device : C → Device) (members : Membership) (s : Scene 
           no_reply (Some (site_lines.Known slot bag)) i same = cc
           no_reply (Some (site_lines.Registered bag)) (Deposits slot checked) same = cc
           no_reply (Some (site_lines.Registered bag)) (Proposes slot) same = cc
+          no_reply (Some (site_lines.Registered bag)) (Recovers slot) same = cc
           no_reply (Some (site_lines.Registered bag)) (Asks slot member) same = cc
           no_reply (Some (site_lines.Registered bag)) (Arrives message) same = cc
 
@@ -357,6 +360,7 @@ module _ {C : Type 0} (device : C → Device) (members : Membership) (s : Scene 
           by_line (Some site_lines.Dropped) g i f same = absurd (cc same)
           by_line (Some (site_lines.Known slot bag)) g i f same = absurd (cc same)
           by_line (Some (site_lines.Registered bag)) g (Proposes slot) f same = absurd (cc same)
+          by_line (Some (site_lines.Registered bag)) g (Recovers slot) f same = absurd (cc same)
           by_line (Some (site_lines.Registered bag)) g (Asks slot member) f same = absurd (cc same)
           by_line (Some (site_lines.Registered bag)) g (Arrives message) f same = absurd (cc same)
           by_line (Some (site_lines.Registered found)) g (Deposits slot checked) f
@@ -411,6 +415,7 @@ module _ {C : Type 0} (device : C → Device) (members : Membership) (s : Scene 
     err_stands faults.NoDeposit new keeps gives opened = gives.1
     err_stands faults.RoundsSpent new keeps gives opened = gives.1
     err_stands faults.AlreadyKnown new keeps gives opened = gives.1
+    err_stands faults.NothingToRecover new keeps gives opened = gives.1
 
     -- a call after which the site needs opening met a failing device
     pub failed_by_device : (result : Result Answer SiteFault) (new : Serving C)

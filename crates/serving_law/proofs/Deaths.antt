@@ -21,6 +21,7 @@ use Rattle.dgram.specs.Heard.{bodies_of, floor_of, voters_for}
 use Rattle.learner.specs.declared.row.Row.TheVariants as rows
 use Rattle.proposer.specs.Rows.{empty_row}
 use Rattle.proposer.specs.VolatileStates.{new_volatile}
+use Rattle.proposer.specs.UnderWay.{nothing}
 use Rattle.site.specs.declared.answer.Answer.{Answer}
 use Rattle.site.specs.declared.answer.Line.TheVariants as site_lines
 use Rattle.site.specs.Calls.{on_deposit}
@@ -41,7 +42,7 @@ use Rattle.serving_law.proofs.Answers.{answer_of}
 use Rattle.serving_law.proofs.DiskJournals.{holds, says}
 use Rattle.serving_law.proofs.Replies.{checked_is}
 use Rattle.serving_law.proofs.Requests.{deposit_is_slot}
-use Rattle.serving_law.proofs.Tables.{records_of, tables, begun_bag, stands, used_by_none}
+use Rattle.serving_law.proofs.Tables.{records_of, tables, stands, used_by_none}
 use Rattle.serving_law.proofs.NewSites.{may_start}
 
 module _ (members : Membership) (is_membership : IsMembership members) (slot : SlotName)
@@ -65,19 +66,19 @@ module _ (members : Membership) (is_membership : IsMembership members) (slot : S
       go false = refl
 
   it_stands : Represents its_tables (records_of slot (entry.Deposit bag ∷ [])) new_volatile
-      (begun_bag slot None)
+      nothing
   unfolding floor_of bodies_of voters_for
   it_stands =
-      stands slot members 1 (entry.Deposit bag ∷ []) [] new_volatile refl (λ s f. refl) None
+      stands slot members 1 (entry.Deposit bag ∷ []) [] new_volatile refl (λ s f. refl)
       (record { own = empty_row; heard = rows.Unheard })
       (record {
         used = sym (used_by_none slot (entry.Deposit bag) refl);
         floor = refl;
-        begun = tt;
+        begun = refl;
         current = tt;
         waiting = refl;
       })
-      (λ other e. absurd (cc e)) (sym none_known) (λ none vote n. refl)
+      (sym none_known) (λ none vote n. refl)
 
   -- ---- the call
 
@@ -153,7 +154,7 @@ module _ (members : Membership) (is_membership : IsMembership members) (slot : S
             called members is_membership 1 [] tt its_tables its_tables new_volatile 0 0
                 (calls.Deposits slot (check_of request.facts)) registering
                 (Some (site_lines.Registered bag)) effect_is refl is_record tt (omega arith)
-                (begun_bag slot None) it_stands,
+                nothing it_stands,
             refl,
           ),
         )

@@ -238,6 +238,7 @@ module _ {C : Type 0} (device : C → Device) (members : Membership) (s : Scene 
       fault_right faults.NoDeposit new gives x answer f = absurd (cc f)
       fault_right faults.RoundsSpent new gives x answer f = absurd (cc f)
       fault_right faults.AlreadyKnown new gives x answer f = absurd (cc f)
+      fault_right faults.NothingToRecover new gives x answer f = absurd (cc f)
 
       call_ends : (result : Result Answer SiteFault) (new : Serving C)
           → IsCalled device old input result new → (port : ℕ)

@@ -24,6 +24,7 @@ use Rattle.dgram.specs.Messages.{IsMessage}
 use Rattle.learner.specs.declared.row.Row.TheVariants as rows
 use Rattle.proposer.specs.Rows.{empty_row}
 use Rattle.proposer.specs.VolatileStates.{VolatileState, new_volatile, hears as heard_in}
+use Rattle.proposer.specs.UnderWay.{nothing}
 use Rattle.site.specs.declared.answer.Answer.{Answer}
 use Rattle.site.specs.declared.answer.Line.TheVariants as site_lines
 use Rattle.site.specs.Arrivals.{on_arrival, on_body, is_member}
@@ -40,7 +41,7 @@ use Rattle.serving_law.specs.Reports.{step_of}
 use Rattle.serving_law.proofs.DiskCalls.{owner, serving, called, hears, heard_step, no_folders}
 use Rattle.serving_law.proofs.Answers.{answer_of}
 use Rattle.serving_law.proofs.DiskJournals.{holds}
-use Rattle.serving_law.proofs.Tables.{records_of, tables, begun_bag, stands, used_by_none}
+use Rattle.serving_law.proofs.Tables.{records_of, tables, stands, used_by_none}
 use Rattle.serving_law.proofs.NewSites.{may_start}
 
 module _ (members : Membership) (is_membership : IsMembership members) (two : 2 ≤ count_of members)
@@ -79,18 +80,18 @@ module _ (members : Membership) (is_membership : IsMembership members) (two : 2 
   after_tables = tables slot members 1 (record { own = empty_row; heard = rows.Known bag })
 
   it_stands : Represents after_tables (records_of slot (entry.Known bag ∷ [])) heard
-      (begun_bag slot None)
+      nothing
   it_stands =
-      stands slot members 1 (entry.Known bag ∷ []) (Known 2 bag ∷ []) heard refl (λ s f. refl) None
+      stands slot members 1 (entry.Known bag ∷ []) (Known 2 bag ∷ []) heard refl (λ s f. refl)
       (record { own = empty_row; heard = rows.Known bag })
       (record {
         used = sym (used_by_none slot (entry.Known bag) refl);
         floor = sym no_floor;
-        begun = tt;
+        begun = refl;
         current = tt;
         waiting = refl;
       })
-      (λ other e. absurd (cc e)) (sym known_is)
+      (sym known_is)
       (λ none vote n. absurd (not_none (sym known_is ∙ none)))
     where
       not_none : Some bag ≡ None → ⊥
@@ -136,7 +137,7 @@ module _ (members : Membership) (is_membership : IsMembership members) (two : 2 
       answer
       (called members is_membership 1 [] tt before_tables after_tables new_volatile 0 0
       (calls.Arrives (Some m)) learning (Some (site_lines.Known slot bag)) effect_is refl
-      (is_slot, is_bag) tt (omega arith) (begun_bag slot None) it_stands)
+      (is_slot, is_bag) tt (omega arith) nothing it_stands)
 
   one : Has 1 (members_of members)
   one = sites_to_has (count_of members) 1 (omega arith) is_membership.1.0.0

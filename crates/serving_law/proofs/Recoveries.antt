@@ -90,6 +90,7 @@ module _ {C : Type 0} (device : C → Device) (owner : Owner) where
     kept_err (Some r) faults.NoDeposit new (inr c) = inl (unchanged r new c)
     kept_err (Some r) faults.RoundsSpent new (inr c) = inl (unchanged r new c)
     kept_err (Some r) faults.AlreadyKnown new (inr c) = inl (unchanged r new c)
+    kept_err (Some r) faults.NothingToRecover new (inr c) = inl (unchanged r new c)
 
     -- where the device failed, the book needs opening
     pub device_needs : (o : Option Record) (new : OpenBook C) → IsSome o

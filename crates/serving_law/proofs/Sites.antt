@@ -16,9 +16,10 @@ use Rattle.learner.proofs.HeardVotes.{same_vote_decides}
 use Rattle.proposer.specs.declared.row.Row.{Row as own_row}
 use Rattle.proposer.specs.Proposals.{Current, gathered, highest_prior}
 use Rattle.proposer.specs.VolatileStates.{VolatileState, at_slot}
+use Rattle.proposer.specs.UnderWay.{nothing}
 use Rattle.site_tables.specs.Contents.{Represents}
 use Rattle.serving_law.specs.ExamplesAgreed.{three, a, ballot, vote}
-use Rattle.serving_law.proofs.Tables.{records_of, heard_of, tables, begun_bag, stands}
+use Rattle.serving_law.proofs.Tables.{records_of, heard_of, tables, stands}
 
 -- ---- what it has heard, and which ballot is current
 
@@ -43,15 +44,14 @@ abbrev pub no_ballot : own_row
 no_ballot = record { used = 0; floor = 0; begun = None; current = None }
 
 -- these have promised its ballot, and named no vote
-abbrev pub promised_row : BagId → List ℕ → own_row
-promised_row bag voters = record {
+abbrev pub promised_row : List ℕ → own_row
+promised_row voters = record {
   used = 1;
   floor = 0;
   begun = None;
   current = Some (record {
     ballot = ballot;
     promised_by = voters;
-    own = bag;
     best = None;
     waiting = None;
   });
@@ -90,36 +90,33 @@ module _ (n : ℕ) (es : List Entry) (bs : List Body) (heard : heard_row)
   -- where it has no ballot
   pub stands_idle : 0 ≡ used_of a (records_of a es)
       → Represents (tables a three n (record { own = no_ballot; heard = heard }))
-      (records_of a es) (volatile_of bs None) (begun_bag a None)
+      (records_of a es) (volatile_of bs None) nothing
   stands_idle used =
-      stands a three n es bs (volatile_of bs None) refl (elsewhere None) None
+      stands a three n es bs (volatile_of bs None) refl (elsewhere None)
       (record { own = no_ballot; heard = heard })
-      (record { used = used; floor = floor; begun = tt; current = tt; waiting = refl })
-      (λ bag e. absurd (cc e)) known votes
+      (record { used = used; floor = floor; begun = refl; current = tt; waiting = refl })
+      known votes
 
   -- where it has issued its first
-  pub stands_issued : (bag : BagId) (voters : List ℕ) → 1 ≡ used_of a (records_of a es)
-      → deposit_of a (records_of a es) ≡ Some bag
+  pub stands_issued : (voters : List ℕ) → 1 ≡ used_of a (records_of a es)
       → voters ≡ promisers (gathered a issued (heard_of a bs))
       → None ≡ highest_prior (gathered a issued (heard_of a bs))
-      → Represents (tables a three n (record { own = promised_row bag voters; heard = heard }))
-      (records_of a es) (volatile_of bs (Some issued)) (begun_bag a (Some bag))
+      → Represents (tables a three n (record { own = promised_row voters; heard = heard }))
+      (records_of a es) (volatile_of bs (Some issued)) nothing
   unfolding same_slot
-  stands_issued bag voters used deposit promised best =
+  stands_issued voters used promised best =
       stands a three n es bs (volatile_of bs (Some issued)) refl (elsewhere (Some issued))
-      (Some bag)
-      (record { own = promised_row bag voters; heard = heard })
+      (record { own = promised_row voters; heard = heard })
       (record {
         used = used;
         floor = floor;
-        begun = tt;
+        begun = refl;
         current = record {
           ballot = refl;
           promised_by = λ k. ap (λ (xs : List ℕ). is_in xs k) promised;
           best = best;
-          own = refl;
           within = omega arith;
         };
         waiting = refl;
       })
-      (λ other e. deposit ∙ e) known votes
+      known votes

@@ -26,8 +26,9 @@ use Rattle.learner.specs.LearnedBags.{learned_from, learned_of_known}
 use Rattle.site.specs.declared.fault.SiteFault.{SiteFault}
 use Rattle.site.specs.Arrivals.{answer_body, addressees, decided, proposing, learning, telling}
 use Rattle.site.specs.Arrivals.{on_body, on_arrival, is_member}
-use Rattle.site.specs.Calls.{Input, Deposits, Proposes, Asks, Arrives, effect_of, registering}
-use Rattle.site.specs.Calls.{on_deposit, begins_ballot_if, on_propose, on_ask}
+use Rattle.site.specs.Calls.{Input, Deposits, Proposes, Recovers, Asks, Arrives, effect_of}
+use Rattle.site.specs.Calls.{registering, on_deposit, begins_next, begins_ballot_if, on_propose}
+use Rattle.site.specs.Calls.{recovers_if, on_recover, on_ask}
 use Rattle.site.specs.declared.answer.Line.TheVariants as site_lines
 use Rattle.site.specs.Effects.{Send, to_each, only_says}
 
@@ -128,18 +129,33 @@ module _ (q : QuorumSystem) (n : ℕ) (records : List Record) where
     deposit_speaks slot (Err fault) = none_speak
     deposit_speaks slot (Ok bag) = registering_speaks slot (deposit_of slot records) bag _
 
+    begins_speaks : (slot : SlotName) (next : Option BallotNumber)
+        → Speak (begins_next q slot next volatile).sends
+    begins_speaks slot None = none_speak
+    begins_speaks slot (Some ballot) = each_speaks slot (Prepare ballot) tt q.members
+
     issuing_speaks : (slot : SlotName) (known own : Option BagId) (next : Option BallotNumber)
         → Speak (begins_ballot_if q slot known own next volatile).sends
     issuing_speaks slot (Some bag) own next = none_speak
     issuing_speaks slot None None next = none_speak
-    issuing_speaks slot None (Some bag) None = none_speak
-    issuing_speaks slot None (Some bag) (Some ballot) =
-        each_speaks slot (Prepare ballot) tt q.members
+    issuing_speaks slot None (Some bag) next = begins_speaks slot next
 
     propose_speaks : (slot : SlotName) → Speak (on_propose q n records volatile slot).sends
     unfolding on_propose
     propose_speaks slot =
         issuing_speaks slot (known_of slot records) (deposit_of slot records)
+        (next_ballot n slot records volatile.heard)
+
+    recovering_speaks : (slot : SlotName) (known : Option BagId) (has : Bool)
+        (next : Option BallotNumber) → Speak (recovers_if q slot known has next volatile).sends
+    recovering_speaks slot (Some bag) has next = none_speak
+    recovering_speaks slot None false next = none_speak
+    recovering_speaks slot None true next = begins_speaks slot next
+
+    recover_speaks : (slot : SlotName) → Speak (on_recover q n records volatile slot).sends
+    unfolding on_recover
+    recover_speaks slot =
+        recovering_speaks slot (known_of slot records) _
         (next_ballot n slot records volatile.heard)
 
     ask_speaks : (slot : SlotName) (member : ℕ) → Speak (on_ask n volatile slot member).sends
@@ -149,5 +165,6 @@ module _ (q : QuorumSystem) (n : ℕ) (records : List Record) where
     pub effect_speaks : (input : Input) → Speak (effect_of q n records volatile input).sends
     effect_speaks (Deposits slot checked) = deposit_speaks slot checked
     effect_speaks (Proposes slot) = propose_speaks slot
+    effect_speaks (Recovers slot) = recover_speaks slot
     effect_speaks (Asks slot member) = ask_speaks slot member
     effect_speaks (Arrives message) = arrival_speaks message

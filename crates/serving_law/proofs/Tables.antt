@@ -19,19 +19,10 @@ use Rattle.learner.specs.LearnerStates as ledgers
 use Rattle.learner.specs.declared.row.Row.{Row as heard_row}
 use Rattle.proposer.specs.declared.row.Row.{Row as own_row}
 use Rattle.proposer.specs.Rows.{Knows, row_of, empty_row}
-use Rattle.proposer.specs.VolatileStates.{VolatileState, at_slot}
-use Rattle.proposer.specs.UnderWay.{UnderWay}
+use Rattle.proposer.specs.VolatileStates.{VolatileState}
+use Rattle.proposer.specs.UnderWay.{nothing}
 use Rattle.slot_table.specs.Rows.{row_at, row_or}
 use Rattle.site_tables.specs.Contents.{Contents, Represents}
-
--- no ballot is begun, and no promise waits; the current one was begun with this bag
-abbrev pub begun_bag : SlotName → Option BagId → UnderWay
-begun_bag slot own = record {
-  begun = λ s. None;
-  begun_bag = λ s. None;
-  current_bag = λ s. at_slot slot own (λ t. None) s;
-  waiting = λ s. None;
-}
 
 -- what a site has for a slot: its own row, and what it has heard
 pub record Rows : Type 0 where
@@ -113,10 +104,8 @@ module _ (slot : SlotName) where
   module _ (members : Membership) (site : ℕ) (es : List Entry) (bs : List Body)
       (volatile : VolatileState) (heard : volatile.heard ≡ heard_of bs)
       (elsewhere : (s : SlotName) → same_slot slot s ≡ false → volatile.current s ≡ None)
-      (own : Option BagId) (rows : Rows)
-      (knows : Knows slot (records_of es) volatile.heard (volatile.current slot) None None own None
-      rows.own)
-      (is_own : (bag : BagId) → own ≡ Some bag → deposit_of slot (records_of es) ≡ Some bag)
+      (rows : Rows)
+      (knows : Knows slot (records_of es) volatile.heard (volatile.current slot) None None rows.own)
       (known : ledgers.known_in (Some rows.heard) ≡ known_of slot (records_of es))
       (votes : known_of slot (records_of es) ≡ None → (vote : Vote) (n : ℕ)
       → is_in (ledgers.counted_in (Some rows.heard) vote) n
@@ -124,31 +113,27 @@ module _ (slot : SlotName) where
     abbrev KnowsOf : SlotName → Type 0
     KnowsOf s =
         Knows s (records_of es) volatile.heard (volatile.current s) None None
-        (cond (same_slot slot s) own None) None (row_of ((slot, rows.own) ∷ []) s)
+        (row_of ((slot, rows.own) ∷ []) s)
 
     proposer_at : (s : SlotName) (t : Bool) → same_slot slot s ≡ t → KnowsOf s
     proposer_at s true e =
         subst KnowsOf ((same_slot_decides slot s).0 e)
         (subst (λ (r : own_row). Knows slot (records_of es) volatile.heard (volatile.current slot)
-        None None (cond (same_slot slot slot) own None) None r)
-        (ap (λ (r : Option own_row). row_or empty_row r) (sym (the_row rows.own)))
-        (subst (λ (t : Bool). Knows slot (records_of es) volatile.heard (volatile.current slot)
-        None None (cond t own None) None rows.own) (sym itself) knows))
+        None None r)
+        (ap (λ (r : Option own_row). row_or empty_row r) (sym (the_row rows.own))) knows)
     proposer_at s false e =
         subst (λ (r : own_row). Knows s (records_of es) volatile.heard (volatile.current s)
-        None None (cond (same_slot slot s) own None) None r)
+        None None r)
         (ap (λ (r : Option own_row). row_or empty_row r) (sym (no_row rows.own s e)))
-        (subst (λ (t : Bool). Knows s (records_of es) volatile.heard (volatile.current s)
-        None None (cond t own None) None empty_row) (sym e)
         (record {
           used = sym (none_used s e es);
           floor =
               sym (ap (λ (ms : List Message). floor_of (bodies_of s ms)) heard
               ∙ ap (λ (b : List Body). floor_of b) (none_heard s e bs) ∙ no_floor);
-          begun = tt;
+          begun = refl;
           current = rw (elsewhere s e) tt;
           waiting = refl;
-        }))
+        })
 
     known_at : (s : SlotName) (t : Bool) → same_slot slot s ≡ t
         → ledgers.known_in (row_at ((slot, rows.heard) ∷ []) s) ≡ known_of s (records_of es)
@@ -179,18 +164,9 @@ module _ (slot : SlotName) where
         (ap (λ (ms : List Message). voters_for vote (bodies_of s ms)) heard
         ∙ ap (λ (b : List Body). voters_for vote b) (none_heard s e bs) ∙ no_voters vote))
 
-    deposits_at : (s : SlotName) (bag : BagId) (t : Bool) → same_slot slot s ≡ t
-        → cond t own None ≡ Some bag → deposit_of s (records_of es) ≡ Some bag
-    deposits_at s bag true e is =
-        subst (λ (s : SlotName). deposit_of s (records_of es) ≡ Some bag)
-        ((same_slot_decides slot s).0 e) (is_own bag is)
-    deposits_at s bag false e is = absurd (cc is)
-
-    pub stands : Represents (tables members site rows) (records_of es) volatile (begun_bag slot own)
+    pub stands : Represents (tables members site rows) (records_of es) volatile nothing
     stands = record {
       proposer = λ s. proposer_at s (same_slot slot s) refl;
-      begun = λ s bag e. absurd (cc e);
-      current = λ s bag e. deposits_at s bag (same_slot slot s) refl e;
       learner = record {
         known = λ s. known_at s (same_slot slot s) refl;
         votes = λ s none vote n. votes_at s (same_slot slot s) refl none vote n;

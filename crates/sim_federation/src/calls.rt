@@ -3,7 +3,7 @@
 ghost use Rattle.std.specs.Prelude.{◌≡◌, ◌<◌, ◌+◌, length, false, OnOk};
 ghost use Rattle.sim_stations.specs.Calls.{input_of};
 ghost use Rattle.sim_stations.specs.Modes.{is_down, is_up};
-ghost use Rattle.world_law.specs.Networks.{takes, Propose, Ask};
+ghost use Rattle.world_law.specs.Networks.{takes, Propose, Recover, Ask};
 ghost use Rattle.world_law.specs.Worlds.{World, mode_of, quorums, unless_down, event_at};
 ghost use Rattle.sim_federation.specs.Federations.{Represents, IsSound};
 ghost use Rattle.sim_federation.specs.Inputs.{after_input, place_in};
@@ -114,6 +114,24 @@ impl Federation {
         // The checker of borrows has to know each type that a call may hold.
         let _facts: Option<&Facts> = None;
         self.call(number, place, &SiteCall::Propose(slot), fate)
+    }
+
+    /// A member is called to recover.
+    pub(crate) fn recover(
+        &mut self,
+        number: usize,
+        place: usize,
+        slot: &Slot,
+        fate: Fate,
+    ) -> Result<(), AllocError>
+        requires { place < length self.old.stations.items }
+        ensures { OnOk result ((w : World) → Represents self.old w
+            → Represents self.new
+            (event_at w number (place + 1) (Recover (place + 1) slot.now fate))) }
+    {
+        slots_are_well_formed(slot);
+        let _facts: Option<&Facts> = None;
+        self.call(number, place, &SiteCall::Recover(slot), fate)
     }
 
     /// A member is called to ask another.

@@ -73,6 +73,10 @@ impl Federation {
                 Some(place) => self.propose(number, place, slot, fate),
                 None => self.skip(number, Reason::Site),
             },
+            Call::Recover { site, slot } => match self.place_of(*site) {
+                Some(place) => self.recover(number, place, slot, fate),
+                None => self.skip(number, Reason::Site),
+            },
             Call::Deliver { datagram } => self.deliver(number, *datagram as usize, fate),
             Call::Ask { site, to, slot } => match self.place_of(*site) {
                 Some(place) => self.ask_site(number, place, *to, slot, fate),

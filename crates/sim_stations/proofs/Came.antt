@@ -150,6 +150,8 @@ module _ (old new : OpenSite MemoryCell) (input : Input) (told : Told)
       refused e _ only opened a.keeps tells a.gives
   came e (Err faults.AlreadyKnown) only opened a tells =
       refused e _ only opened a.keeps tells a.gives
+  came e (Err faults.NothingToRecover) only opened a tells =
+      refused e _ only opened a.keeps tells a.gives
 
 -- ---- a fuse that is set, and taken away
 

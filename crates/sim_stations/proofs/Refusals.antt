@@ -18,9 +18,10 @@ use Rattle.learner.specs.LearnedBags.{learned_from, learned_of_known}
 use Rattle.site.specs.declared.answer.Line.{Line}
 use Rattle.site.specs.declared.fault.SiteFault.{SiteFault}
 use Rattle.site.specs.Arrivals.{on_arrival, on_body, proposing, learning, telling, is_member}
-use Rattle.site.specs.Calls.{Input, Deposits, Proposes, Asks, Arrives, effect_of, on_deposit}
-use Rattle.site.specs.Calls.{on_propose, on_ask, registering, deposit_fault, other_than}
-use Rattle.site.specs.Calls.{begins_ballot_if}
+use Rattle.site.specs.Calls.{Input, Deposits, Proposes, Recovers, Asks, Arrives, effect_of}
+use Rattle.site.specs.Calls.{on_deposit, on_propose, on_recover, on_ask, registering}
+use Rattle.site.specs.Calls.{deposit_fault, other_than, begins_next, begins_ballot_if}
+use Rattle.site.specs.Calls.{recovers_if}
 use Rattle.site.specs.Effects.{Effect, refuses, only_says}
 use Rattle.site.specs.declared.answer.Line.TheVariants as site_lines
 
@@ -55,6 +56,11 @@ module _ (q : QuorumSystem) (site : ℕ) (records : List Record) (volatile : Vol
       go (Some fault) = refusal volatile fault
       go None = λ fault e. no_answer e
 
+  begins_next_refuses : (slot : SlotName) (next : Option BallotNumber)
+      → RefusesOnly volatile (begins_next q slot next volatile)
+  begins_next_refuses slot None = refusal volatile _
+  begins_next_refuses slot (Some ballot) = λ fault e. no_answer e
+
   on_propose_refuses : (slot : SlotName)
       → RefusesOnly volatile (on_propose q site records volatile slot)
   unfolding on_propose
@@ -65,8 +71,19 @@ module _ (q : QuorumSystem) (site : ℕ) (records : List Record) (volatile : Vol
           → RefusesOnly volatile (begins_ballot_if q slot known own next volatile)
       go (Some known) own next = refusal volatile _
       go None None next = refusal volatile _
-      go None (Some own) None = refusal volatile _
-      go None (Some own) (Some ballot) = λ fault e. no_answer e
+      go None (Some own) next = begins_next_refuses slot next
+
+  on_recover_refuses : (slot : SlotName)
+      → RefusesOnly volatile (on_recover q site records volatile slot)
+  unfolding on_recover
+  on_recover_refuses slot = go (known_of slot records) _
+      (next_ballot site slot records volatile.heard)
+    where
+      go : (known : Option BagId) (has : Bool) (next : Option BallotNumber)
+          → RefusesOnly volatile (recovers_if q slot known has next volatile)
+      go (Some known) has next = refusal volatile _
+      go None false next = refusal volatile _
+      go None true next = begins_next_refuses slot next
 
   on_ask_refuses : (slot : SlotName) (member : ℕ)
       → RefusesOnly volatile (on_ask site volatile slot member)
@@ -123,5 +140,6 @@ module _ (q : QuorumSystem) (site : ℕ) (records : List Record) (volatile : Vol
       → RefusesOnly volatile (effect_of q site records volatile input)
   refuses_only (Deposits slot checked) = on_deposit_refuses slot checked
   refuses_only (Proposes slot) = on_propose_refuses slot
+  refuses_only (Recovers slot) = on_recover_refuses slot
   refuses_only (Asks slot member) = on_ask_refuses slot member
   refuses_only (Arrives message) = on_arrival_refuses message

@@ -17,6 +17,8 @@ pub enum SiteCall<'a> {
     Deposit(&'a Slot, &'a Facts),
     /// To propose the slot's deposit.
     Propose(&'a Slot),
+    /// To recover what may be chosen for the slot.
+    Recover(&'a Slot),
     /// To ask a member for the bag that it knows.
     Ask(&'a Slot, SiteNo),
     /// To take in what arrived.
@@ -36,6 +38,7 @@ pub(crate) fn make(site: &mut Site<MemoryCell>, call: &SiteCall) -> Result<Answe
     match *call {
         SiteCall::Deposit(slot, facts) => site.deposit(slot, facts),
         SiteCall::Propose(slot) => site.propose(slot),
+        SiteCall::Recover(slot) => site.recover(slot),
         SiteCall::Ask(slot, to) => site.ask(slot, to),
         SiteCall::Arrive(bytes) => site.arrive(bytes),
     }

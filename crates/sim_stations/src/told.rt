@@ -58,6 +58,7 @@ fn deposited(alloc: Global, call: &SiteCall) -> Result<Option<Slot>, AllocError>
 {
     match *call {
         SiteCall::Deposit(slot, _) => Ok(Some(slot.copy(alloc)?)),
-        SiteCall::Propose(_) | SiteCall::Ask(..) | SiteCall::Arrive(_) => Ok(None),
+        SiteCall::Propose(_) | SiteCall::Recover(_) => Ok(None),
+        SiteCall::Ask(..) | SiteCall::Arrive(_) => Ok(None),
     }
 }

@@ -2,13 +2,11 @@
 use Rattle.std.proofs.Common.{◌≡◌, inl, inr, Option, Some, None, Result, Ok, Err, refl, sym}
 use Rattle.std.proofs.Common.{ap, subst, List}
 use Rattle.std.specs.Prelude.{IsErrAnd, IsSome}
-use Rattle.fed_types.specs.declared.bag_id.BagId.{BagId}
 use Rattle.fed_types.specs.Ballots.{BallotNumber}
 use Rattle.fed_types.specs.Faults.{IsOrFault}
 use Rattle.fed_types.specs.Slots.{SlotName}
 use Rattle.records.specs.declared.owner.Owner.{Owner}
 use Rattle.records.specs.declared.record.Record.{Record}
-use Rattle.records.specs.SlotStates.{deposit_of}
 use Rattle.proposer.specs.declared.fault.ProposeFault.{ProposeFault}
 use Rattle.proposer.specs.declared.fault.ProposeFault.TheVariants as proposals
 use Rattle.proposer.specs.Faults.{next_or_spent}
@@ -74,7 +72,7 @@ pub begun_err_of : (r : Result (Record × Answer) SiteFault) (fault : SiteFault)
 begun_err_of (Ok x) fault is = absurd is
 begun_err_of (Err e) fault is = ap (λ (f : SiteFault). Err f) is
 
-module _ (owner : Owner) (old new : Contents) (slot : SlotName) (own : BagId)
+module _ (owner : Owner) (old new : Contents) (slot : SlotName)
     (result : Result (Record × Answer) SiteFault) where
   -- no ballot was begun
   pub not_begun : (fault : ProposeFault) → result ≡ Err (propose_fault fault)
@@ -89,12 +87,12 @@ module _ (owner : Owner) (old new : Contents) (slot : SlotName) (own : BagId)
       → Represents old records volatile under
       → next_ballot owner.site slot records volatile.heard ≡ None
       → ◌≡◌ {A = Result BallotNumber ProposeFault} (Err fault) (Err proposals.RoundsSpent))
-      → BeginsBallot owner old new slot own result
+      → BeginsBallot owner old new slot result
   not_begun fault is same answer spent =
-      subst (λ (r : Result (Record × Answer) SiteFault). BeginsBallot owner old new slot own r)
+      subst (λ (r : Result (Record × Answer) SiteFault). BeginsBallot owner old new slot r)
       (sym is) (record {
         order = same.of owner;
-        begun = λ records volatile under of stands deposit. go fault records volatile under
+        begun = λ records volatile under of stands. go fault records volatile under
             (answer records volatile under of stands) (spent records volatile under of stands)
             (same.stands records volatile under stands);
       })
@@ -105,7 +103,7 @@ module _ (owner : Owner) (old new : Contents) (slot : SlotName) (own : BagId)
           → (next_ballot owner.site slot records volatile.heard ≡ None
           → ◌≡◌ {A = Result BallotNumber ProposeFault} (Err f) (Err proposals.RoundsSpent))
           → Represents new records volatile under
-          → Begins owner new slot own records volatile under (Err (propose_fault f))
+          → Begins owner new slot records volatile under (Err (propose_fault f))
       go proposals.RoundsSpent records volatile under is spent stands = (none_left _ is, stands)
       go proposals.Memory records volatile under is spent stands =
           (one_left _ spent, under, stands)
@@ -113,23 +111,23 @@ module _ (owner : Owner) (old new : Contents) (slot : SlotName) (own : BagId)
   module _ (ballot : BallotNumber)
       (order : (records : List Record) → IsOf old owner records → IsOf new owner records)
       (begun : (records : List Record) (volatile : VolatileState) (under : UnderWay)
-      → Represents old records volatile under → deposit_of slot records ≡ Some own
-      → Represents new records volatile (begins under slot ballot own)) where
+      → Represents old records volatile under
+      → Represents new records volatile (begins under slot ballot)) where
     -- memory ran out for the answer
     pub begun_in_vain : result ≡ Err faults.Memory
         → ((records : List Record) (volatile : VolatileState) (under : UnderWay)
         → IsOf old owner records → Represents old records volatile under
         → IsOrFault proposals.Memory (Ok ballot)
         (next_or_spent (next_ballot owner.site slot records volatile.heard)))
-        → BeginsBallot owner old new slot own result
+        → BeginsBallot owner old new slot result
     begun_in_vain is next =
-        subst (λ (r : Result (Record × Answer) SiteFault). BeginsBallot owner old new slot own r)
+        subst (λ (r : Result (Record × Answer) SiteFault). BeginsBallot owner old new slot r)
         (sym is) (record {
           order = order;
-          begun = λ records volatile under of stands deposit. (
+          begun = λ records volatile under of stands. (
             subst IsSome (sym (next_of _ ballot (next records volatile under of stands))) refl,
-            begins under slot ballot own,
-            begun records volatile under stands deposit,
+            begins under slot ballot,
+            begun records volatile under stands,
           );
         })
 
@@ -140,15 +138,15 @@ module _ (owner : Owner) (old new : Contents) (slot : SlotName) (own : BagId)
         → IsOf old owner records → Represents old records volatile under
         → IsOrFault proposals.Memory (Ok ballot)
         (next_or_spent (next_ballot owner.site slot records volatile.heard)))
-        → BeginsBallot owner old new slot own result
+        → BeginsBallot owner old new slot result
     ballot_begun new_record answer is of_ballot next =
-        subst (λ (r : Result (Record × Answer) SiteFault). BeginsBallot owner old new slot own r)
+        subst (λ (r : Result (Record × Answer) SiteFault). BeginsBallot owner old new slot r)
         (sym is) (record {
           order = order;
-          begun = λ records volatile under of stands deposit. (
+          begun = λ records volatile under of stands. (
             ballot,
             next_of _ ballot (next records volatile under of stands),
             of_ballot,
-            begun records volatile under stands deposit,
+            begun records volatile under stands,
           );
         })

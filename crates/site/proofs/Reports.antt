@@ -1,6 +1,6 @@
 -- What a site reports is the bag of the slot's first Known record, which stays.
 use Rattle.std.proofs.Common.{◌≡◌, ◌⊎◌, inl, inr, ℕ, Bool, true, false, cond, List, [], ◌∷◌, ◌++◌}
-use Rattle.std.proofs.Common.{Option, Some, None}
+use Rattle.std.proofs.Common.{Option, Some, None, is_some, ◌||◌}
 use Rattle.std.proofs.Common.{Result, Ok, Err, refl, sym, ap, subst, ◌∙◌}
 use Rattle.std.specs.Option.{option_to_list}
 use Rattle.std.specs.Prelude.{IfOk}
@@ -16,7 +16,7 @@ use Rattle.bag_check.specs.declared.fault.BagFault.{BagFault}
 use Rattle.records.specs.declared.record.Record.{Record}
 use Rattle.records.specs.declared.entry.Entry.TheVariants as entry
 use Rattle.records.specs.SlotStates.{known_of, deposit_of, known_in, said_in, if_some, with_one}
-use Rattle.records.specs.SlotStates.{earlier}
+use Rattle.records.specs.SlotStates.{earlier, vote_of}
 use Rattle.records.proofs.SlotStates.{known-push}
 use Rattle.dgram.specs.declared.body.Body.{Body}
 use Rattle.dgram.specs.declared.body.Body.TheVariants as bodies
@@ -35,8 +35,8 @@ use Rattle.site.specs.declared.fault.SiteFault.TheVariants as faults
 use Rattle.site.specs.Answered.{IsAnswered, Keeps, SaysWhatIsKnown}
 use Rattle.site.specs.Sites.{OpenSite, effect}
 use Rattle.site.specs.Arrivals.{on_arrival, on_body, learning, proposing, telling, is_member}
-use Rattle.site.specs.Calls.{Input, Deposits, Proposes, Asks, Arrives, effect_of, on_deposit}
-use Rattle.site.specs.Calls.{on_propose, on_ask}
+use Rattle.site.specs.Calls.{Input, Deposits, Proposes, Recovers, Asks, Arrives, effect_of}
+use Rattle.site.specs.Calls.{on_deposit, on_propose, on_recover, on_ask, begins_next, recovers_if}
 use Rattle.site.specs.Calls.{registering, deposit_fault, other_than, begins_ballot_if, reply_by}
 use Rattle.site.specs.Calls.{reply_of}
 use Rattle.site.specs.declared.answer.Line.TheVariants as site_lines
@@ -112,20 +112,36 @@ module _ (q : QuorumSystem) (site : ℕ) (records : List Record) (volatile : Vol
       (deposit_fault (other_than bag (deposit_of slot records))
       (other_than bag (known_of slot records)))
 
+  begun : (slot : SlotName) (next : Option BallotNumber)
+      → IsKnown records (begins_next q slot next volatile)
+  begun slot None = says_nothing records (begins_next q slot None volatile) refl
+  begun slot (Some ballot) = says_nothing records (begins_next q slot (Some ballot) volatile) refl
+
   started : (slot : SlotName) (known own : Option BagId) (next : Option BallotNumber)
       → IsKnown records (begins_ballot_if q slot known own next volatile)
   started slot (Some known) own next =
       says_nothing records (begins_ballot_if q slot (Some known) own next volatile) refl
   started slot None None next =
       says_nothing records (begins_ballot_if q slot None None next volatile) refl
-  started slot None (Some own) None =
-      says_nothing records (begins_ballot_if q slot None (Some own) None volatile) refl
-  started slot None (Some own) (Some ballot) =
-      says_nothing records (begins_ballot_if q slot None (Some own) (Some ballot) volatile) refl
+  started slot None (Some own) next = begun slot next
 
   proposed : (slot : SlotName) → IsKnown records (on_propose q site records volatile slot)
   unfolding on_propose
   proposed slot = started slot (known_of slot records) (deposit_of slot records)
+      (next_ballot site slot records volatile.heard)
+
+  restarted : (slot : SlotName) (known : Option BagId) (has : Bool) (next : Option BallotNumber)
+      → IsKnown records (recovers_if q slot known has next volatile)
+  restarted slot (Some known) has next =
+      says_nothing records (recovers_if q slot (Some known) has next volatile) refl
+  restarted slot None false next =
+      says_nothing records (recovers_if q slot None false next volatile) refl
+  restarted slot None true next = begun slot next
+
+  recovered : (slot : SlotName) → IsKnown records (on_recover q site records volatile slot)
+  unfolding on_recover
+  recovered slot = restarted slot (known_of slot records)
+      (is_some (vote_of slot records) || is_some (deposit_of slot records))
       (next_ballot site slot records volatile.heard)
 
   asked : (slot : SlotName) (member : ℕ) → IsKnown records (on_ask site volatile slot member)
@@ -191,6 +207,7 @@ module _ (q : QuorumSystem) (site : ℕ) where
       → IsKnown records (effect_of q site records volatile input)
   answered records volatile (Deposits slot checked) = deposited q site records volatile slot checked
   answered records volatile (Proposes slot) = proposed q site records volatile slot
+  answered records volatile (Recovers slot) = recovered q site records volatile slot
   answered records volatile (Asks slot member) = asked q site records volatile slot member
   answered records volatile (Arrives message) = arrived records volatile message
 

@@ -3,7 +3,6 @@ use Rattle.std.proofs.Common.{◌≡◌, inl, Bool, true, false, cond, map, Opti
 use Rattle.std.proofs.Common.{None, Result, Ok, Err, refl, sym, ap, subst, ◌∙◌}
 use Rattle.std.specs.Prelude.{IsSome}
 use Rattle.std.proofs.lemmas.Bool.Decides.{Decides-eqb}
-use Rattle.fed_types.specs.declared.bag_id.BagId.{BagId}
 use Rattle.fed_types.specs.Ballots.{BallotNumber}
 use Rattle.fed_types.specs.Quorums.{quorums_of}
 use Rattle.fed_types.specs.Slots.{SlotName}
@@ -11,7 +10,6 @@ use Rattle.cell_device.specs.Devices.{Device}
 use Rattle.records.specs.declared.entry.Entry.TheVariants as entry
 use Rattle.records.specs.declared.owner.Owner.{Owner}
 use Rattle.records.specs.declared.record.Record.{Record}
-use Rattle.records.specs.SlotStates.{known_of, deposit_of}
 use Rattle.proposer.specs.Proposals.{next_ballot}
 use Rattle.proposer.specs.VolatileStates.{VolatileState}
 use Rattle.proposer.specs.UnderWay.{UnderWay, begins, current_by, current_if, of_round}
@@ -21,19 +19,19 @@ use Rattle.site.specs.declared.fault.SiteFault.{SiteFault}
 use Rattle.site.specs.declared.fault.SiteFault.TheVariants as faults
 use Rattle.site.specs.declared.answer.Line.{Line}
 use Rattle.site.specs.Answered.{Keeps, IsAnswered, IsRefused}
-use Rattle.site.specs.Calls.{Proposes, on_propose, begins_ballot_if}
+use Rattle.site.specs.Calls.{begins_next}
 use Rattle.site.specs.Datagrams.{handed_out}
 use Rattle.site.specs.Effects.{Effect}
-use Rattle.site.specs.Sites.{OpenSite, Represents, IsInOrder, effect}
-use Rattle.site.specs.inner.Begun.{Begins, BeginsBallot}
+use Rattle.site.specs.Sites.{OpenSite, Represents, IsInOrder}
+use Rattle.site.specs.inner.Begun.{Begins, BeginsBallot, next_effect}
 use Rattle.site.specs.inner.Concluded.{Stands, noted_under, Concludes}
 use Rattle.site.proofs.Conclusions.{concluded}
 
 -- a ballot that was begun is started by the record of its round
-current_is : (slot : SlotName) (ballot : BallotNumber) (own : BagId) (under : UnderWay)
-    → current_by ((begins under slot ballot own).begun slot) (entry.Round ballot.round)
+current_is : (slot : SlotName) (ballot : BallotNumber) (under : UnderWay)
+    → current_by ((begins under slot ballot).begun slot) (entry.Round ballot.round)
     ≡ Some ballot
-current_is slot ballot own under =
+current_is slot ballot under =
     ap (λ (b : Option BallotNumber). of_round b ballot.round)
     (at_here slot (Some ballot) under.begun)
     ∙ ap (λ (t : Bool). cond t (Some ballot) None) ((Decides-eqb ballot.round ballot.round).1 refl)
@@ -55,18 +53,13 @@ not_refused begun result x fault e f = absurd (differ (sym e ∙ f))
     differ : ◌≡◌ {A = Result (Record × Answer) SiteFault} (Ok x) (Err fault) → ⊥
     differ e = cc
 
-module _ {C : Type 0} (device : C → Device) (old mid : OpenSite C) (slot : SlotName) (own : BagId)
+module _ {C : Type 0} (device : C → Device) (old mid : OpenSite C) (slot : SlotName)
     (book : mid.book ≡ old.book) (begun : Result (Record × Answer) SiteFault) (owner : Owner)
     (whose : owner ≡ old.book.owner)
-    (begins_so : BeginsBallot owner old.tables mid.tables slot own begun) (order : IsInOrder old)
-    (now : OpenSite C) (seen : old ≡ now) (deposited : deposit_of slot now.book.records ≡ Some own)
+    (begins_so : BeginsBallot owner old.tables mid.tables slot begun) (order : IsInOrder old)
   where
-    b : BeginsBallot old.book.owner old.tables mid.tables slot own begun
-    b = subst (λ (o : Owner). BeginsBallot o old.tables mid.tables slot own begun) whose begins_so
-
-    deposit : deposit_of slot old.book.records ≡ Some own
-    deposit = subst (λ (s : OpenSite C). deposit_of slot s.book.records ≡ Some own) (sym seen)
-        deposited
+    b : BeginsBallot old.book.owner old.tables mid.tables slot begun
+    b = subst (λ (o : Owner). BeginsBallot o old.tables mid.tables slot begun) whose begins_so
 
     -- the tables are in order with the old book's records, whatever comes
     pub mid_order : IsInOrder mid
@@ -75,16 +68,16 @@ module _ {C : Type 0} (device : C → Device) (old mid : OpenSite C) (slot : Slo
       volatile = (
         order.volatile.0,
         some begun (b.begun old.book.records order.volatile.0
-            order.volatile.1.0 order.of order.volatile.1.1 deposit),
+            order.volatile.1.0 order.of order.volatile.1.1),
       );
     })
       where
         some : (r : Result (Record × Answer) SiteFault)
-            → Begins old.book.owner mid.tables slot own old.book.records order.volatile.0
+            → Begins old.book.owner mid.tables slot old.book.records order.volatile.0
             order.volatile.1.0 r
             → Represents (record { book = old.book; tables = mid.tables }) order.volatile.0
         some (Ok x) (ballot, next, of_ballot, stands) =
-            (begins order.volatile.1.0 slot ballot own, stands)
+            (begins order.volatile.1.0 slot ballot, stands)
         some (Err faults.RoundsSpent) (none, stands) = (order.volatile.1.0, stands)
         some (Err faults.Memory) (left, after, stands) = (after, stands)
         some (Err (faults.InvalidBag f)) x = absurd x
@@ -94,37 +87,37 @@ module _ {C : Type 0} (device : C → Device) (old mid : OpenSite C) (slot : Slo
         some (Err faults.NeedsOpen) x = absurd x
         some (Err faults.NoDeposit) x = absurd x
         some (Err faults.AlreadyKnown) x = absurd x
+        some (Err faults.NothingToRecover) x = absurd x
 
-    module _ (volatile : VolatileState) (stands : Represents old volatile)
-        (known : known_of slot old.book.records ≡ None) where
-      propose_effect : (next : Option BallotNumber)
+    module _ (volatile : VolatileState) (stands : Represents old volatile) where
+      -- what it comes to, by the next ballot
+      begins_it : (next : Option BallotNumber)
           → next_ballot old.book.owner.site slot old.book.records volatile.heard ≡ next
-          → begins_ballot_if (quorums_of old.book.owner.members) slot None (Some own) next volatile
-          ≡ effect old volatile (Proposes slot)
-      unfolding on_propose
-      propose_effect next is = λ i. begins_ballot_if (quorums_of old.book.owner.members) slot
-          (sym known i) (sym deposit i) (sym is i) volatile
+          → begins_next (quorums_of old.book.owner.members) slot next volatile
+          ≡ next_effect old volatile slot
+      begins_it next is =
+          λ i. begins_next (quorums_of old.book.owner.members) slot (sym is i) volatile
 
       -- it wasn't begun, or memory ran out
       pub not_started : (fault : SiteFault) → begun ≡ Err fault
-          → IsAnswered device old mid volatile (effect old volatile (Proposes slot)) (Err fault)
+          → IsAnswered device old mid volatile (next_effect old volatile slot) (Err fault)
       not_started fault is = go fault (subst (λ (r : Result (Record × Answer) SiteFault).
-          Begins old.book.owner mid.tables slot own old.book.records volatile stands.0 r) is
-          (b.begun old.book.records volatile stands.0 order.of stands.1 deposit))
+          Begins old.book.owner mid.tables slot old.book.records volatile stands.0 r) is
+          (b.begun old.book.records volatile stands.0 order.of stands.1))
         where
           keeps : (r : Option Record) → Keeps device r (Err faults.Memory) old.book mid.book
           keeps None = book
           keeps (Some r) = inl (refl, book)
 
-          go : (f : SiteFault) → Begins old.book.owner mid.tables slot own old.book.records volatile
+          go : (f : SiteFault) → Begins old.book.owner mid.tables slot old.book.records volatile
               stands.0 (Err f)
-              → IsAnswered device old mid volatile (effect old volatile (Proposes slot)) (Err f)
+              → IsAnswered device old mid volatile (next_effect old volatile slot) (Err f)
           go faults.RoundsSpent (none, s) =
               subst (λ (e : Effect). IsAnswered device old mid volatile e (Err faults.RoundsSpent))
-              (propose_effect None none)
+              (begins_it None none)
               (record { keeps = book; gives = (refl, rw book (stands.0, s)) })
           go faults.Memory (left, after, s) = record {
-            keeps = keeps (effect old volatile (Proposes slot)).commits;
+            keeps = keeps (next_effect old volatile slot).commits;
             gives = rw book (after, s);
           }
           go (faults.InvalidBag f) x = absurd x
@@ -134,50 +127,50 @@ module _ {C : Type 0} (device : C → Device) (old mid : OpenSite C) (slot : Slo
           go faults.NeedsOpen x = absurd x
           go faults.NoDeposit x = absurd x
           go faults.AlreadyKnown x = absurd x
+          go faults.NothingToRecover x = absurd x
 
       -- it was begun, and its record is committed
       pub started : (new : OpenSite C) (x : Record × Answer) (result : Result Answer SiteFault)
           → begun ≡ Ok x
           → Concludes device mid new (Some x.0) x.1.line (map handed_out x.1.sends.items) result
-          → IsAnswered device old new volatile (effect old volatile (Proposes slot)) result
+          → IsAnswered device old new volatile (next_effect old volatile slot) result
       started new x result is c = go (subst (λ (r : Result (Record × Answer) SiteFault).
-          Begins old.book.owner mid.tables slot own old.book.records volatile stands.0 r) is
-          (b.begun old.book.records volatile stands.0 order.of stands.1 deposit))
+          Begins old.book.owner mid.tables slot old.book.records volatile stands.0 r) is
+          (b.begun old.book.records volatile stands.0 order.of stands.1))
         where
-          go : Begins old.book.owner mid.tables slot own old.book.records volatile stands.0 (Ok x)
-              → IsAnswered device old new volatile (effect old volatile (Proposes slot)) result
+          go : Begins old.book.owner mid.tables slot old.book.records volatile stands.0 (Ok x)
+              → IsAnswered device old new volatile (next_effect old volatile slot) result
           go (ballot, next, of_ballot, s) =
               subst (λ (e : Effect). IsAnswered device old new volatile e result)
-              (propose_effect (Some ballot) next)
-              (concluded device old mid new volatile (begins stands.0 slot ballot own)
-              (begins_ballot_if (quorums_of old.book.owner.members) slot None (Some own)
-              (Some ballot)
-              volatile) None (map handed_out x.1.sends.items) result
+              (begins_it (Some ballot) next)
+              (concluded device old mid new volatile (begins stands.0 slot ballot)
+              (begins_next (quorums_of old.book.owner.members) slot (Some ballot) volatile) None
+              (map handed_out x.1.sends.items) result
               (subst (λ (r : Record). Concludes device mid new (Some r) None
               (map handed_out x.1.sends.items) result) of_ballot.record_is
               (rw (← of_ballot.line) c))
               book (rw book s) refl of_ballot.sends
               (λ after. (
-                noted_under (begins stands.0 slot ballot own)
+                noted_under (begins stands.0 slot ballot)
                     (record { slot = slot; body = entry.Round ballot.round }),
                 subst (λ (o : Option BallotNumber). Stands new (current_if volatile slot o)
-                    (noted_under (begins stands.0 slot ballot own)
+                    (noted_under (begins stands.0 slot ballot)
                     (record { slot = slot; body = entry.Round ballot.round })))
-                    (current_is slot ballot own stands.0) after,
+                    (current_is slot ballot stands.0) after,
               )))
 
       -- that no round is left is answered
       pub refused_or_started : (result : Result Answer SiteFault)
           → ((fault : SiteFault) → begun ≡ Err fault → result ≡ Err fault)
-          → IsRefused (effect old volatile (Proposes slot)) result
+          → IsRefused (next_effect old volatile slot) result
       refused_or_started result err = go begun refl
-          (b.begun old.book.records volatile stands.0 order.of stands.1 deposit)
+          (b.begun old.book.records volatile stands.0 order.of stands.1)
         where
           with_current : (ballot : BallotNumber)
               → next_ballot old.book.owner.site slot old.book.records volatile.heard ≡ Some ballot
-              → IsRefused (effect old volatile (Proposes slot)) result
+              → IsRefused (next_effect old volatile slot) result
           with_current ballot next = subst (λ (e : Effect). IsRefused e result)
-              (propose_effect (Some ballot) next) (λ fault is. absurd (differ fault is))
+              (begins_it (Some ballot) next) (λ fault is. absurd (differ fault is))
             where
               differ : (fault : SiteFault)
                   → ◌≡◌ {A = Result (Option Line) SiteFault} (Ok None) (Err fault) → ⊥
@@ -185,7 +178,7 @@ module _ {C : Type 0} (device : C → Device) (old mid : OpenSite C) (slot : Slo
 
           left : (next : Option BallotNumber)
               → next_ballot old.book.owner.site slot old.book.records volatile.heard ≡ next
-              → IsSome next → IsRefused (effect old volatile (Proposes slot)) result
+              → IsSome next → IsRefused (next_effect old volatile slot) result
           left None is some = absurd (differ some)
             where
               differ : false ≡ true → ⊥
@@ -193,11 +186,11 @@ module _ {C : Type 0} (device : C → Device) (old mid : OpenSite C) (slot : Slo
           left (Some ballot) is some = with_current ballot is
 
           go : (r : Result (Record × Answer) SiteFault) → begun ≡ r
-              → Begins old.book.owner mid.tables slot own old.book.records volatile stands.0 r
-              → IsRefused (effect old volatile (Proposes slot)) result
+              → Begins old.book.owner mid.tables slot old.book.records volatile stands.0 r
+              → IsRefused (next_effect old volatile slot) result
           go (Ok x) is (ballot, next, of_ballot, s) = with_current ballot next
           go (Err faults.RoundsSpent) is (none, s) = subst (λ (e : Effect). IsRefused e result)
-              (propose_effect None none)
+              (begins_it None none)
               (λ fault says. err faults.RoundsSpent is
               ∙ ap (λ (f : SiteFault). Err f) (same fault says))
             where
@@ -213,3 +206,4 @@ module _ {C : Type 0} (device : C → Device) (old mid : OpenSite C) (slot : Slo
           go (Err faults.NeedsOpen) is x = absurd x
           go (Err faults.NoDeposit) is x = absurd x
           go (Err faults.AlreadyKnown) is x = absurd x
+          go (Err faults.NothingToRecover) is x = absurd x

@@ -1,7 +1,7 @@
--- What a site does when it is called: it takes a bag as its deposit, proposes its deposit, asks a
--- member, replies to a query.
-use Rattle.std.specs.Prelude.{ℕ, List, [], ◌∷◌, Option, Some, None, Result, Ok, Err}
-use Rattle.std.specs.Prelude.{if◌then◌else◌}
+-- What a site does when it is called: it takes a bag as its deposit, proposes its deposit, recovers
+-- what may be chosen, asks a member, replies to a query.
+use Rattle.std.specs.Prelude.{ℕ, Bool, true, false, ◌||◌, List, [], ◌∷◌}
+use Rattle.std.specs.Prelude.{Option, Some, None, is_some, Result, Ok, Err, if◌then◌else◌}
 use Rattle.fed_types.specs.declared.bag_id.BagId.{BagId}
 use Rattle.fed_types.specs.Bags.{same_bag}
 use Rattle.fed_types.specs.Ballots.{BallotNumber}
@@ -11,7 +11,7 @@ use Rattle.bag_check.specs.declared.fault.BagFault.{BagFault}
 use Rattle.records.specs.declared.entry.Entry.{Entry}
 use Rattle.records.specs.declared.entry.Entry.TheVariants as entry
 use Rattle.records.specs.declared.record.Record.{Record}
-use Rattle.records.specs.SlotStates.{deposit_of, known_of}
+use Rattle.records.specs.SlotStates.{deposit_of, known_of, vote_of}
 use Rattle.dgram.specs.declared.body.Body.TheVariants.{Prepare, Ask}
 use Rattle.dgram.specs.declared.message.Message.{Message}
 use Rattle.proposer.specs.Proposals.{next_ballot}
@@ -67,6 +67,11 @@ begins_ballot q slot ballot volatile =
     commits_and_sends slot (Some (entry.Round ballot.round)) (Prepare ballot) q.members
     (with_current volatile slot ballot)
 
+-- the next ballot is begun, unless none is left
+abbrev pub begins_next : QuorumSystem → SlotName → Option BallotNumber → VolatileState → Effect
+begins_next q slot None volatile = refuses faults.RoundsSpent volatile
+begins_next q slot (Some ballot) volatile = begins_ballot q slot ballot volatile
+
 -- a site proposes where no bag is known, it has a deposit, and a ballot is left; the first of these
 -- that isn't so is why it refuses
 abbrev pub begins_ballot_if :
@@ -74,14 +79,31 @@ abbrev pub begins_ballot_if :
     → Effect
 begins_ballot_if q slot (Some known) own next volatile = refuses faults.AlreadyKnown volatile
 begins_ballot_if q slot None None next volatile = refuses faults.NoDeposit volatile
-begins_ballot_if q slot None (Some own) None volatile = refuses faults.RoundsSpent volatile
-begins_ballot_if q slot None (Some own) (Some ballot) volatile =
-    begins_ballot q slot ballot volatile
+begins_ballot_if q slot None (Some own) next volatile = begins_next q slot next volatile
 
 unfoldable pub on_propose :
     QuorumSystem → (site : ℕ) → List Record → VolatileState → SlotName → Effect
 on_propose q site records volatile slot =
     begins_ballot_if q slot (known_of slot records) (deposit_of slot records)
+    (next_ballot site slot records volatile.heard) volatile
+
+-- ---- a recovery
+
+-- A site recovers where no bag is known, it has a vote or a deposit on record, and a ballot is
+-- left; the first of these that isn't so is why it refuses. What comes of the ballot is as after a
+-- proposal: a site without a deposit proposes only what promises name.
+abbrev pub recovers_if :
+    QuorumSystem → SlotName → (known : Option BagId) → (has : Bool) → Option BallotNumber
+    → VolatileState → Effect
+recovers_if q slot (Some known) has next volatile = refuses faults.AlreadyKnown volatile
+recovers_if q slot None false next volatile = refuses faults.NothingToRecover volatile
+recovers_if q slot None true next volatile = begins_next q slot next volatile
+
+unfoldable pub on_recover :
+    QuorumSystem → (site : ℕ) → List Record → VolatileState → SlotName → Effect
+on_recover q site records volatile slot =
+    recovers_if q slot (known_of slot records)
+    (is_some (vote_of slot records) || is_some (deposit_of slot records))
     (next_ballot site slot records volatile.heard) volatile
 
 -- ---- a question
@@ -103,11 +125,13 @@ reply_of slot records = reply_by (known_of slot records) (deposit_of slot record
 pub data Input : Type 0 where
   Deposits : SlotName → Result BagId BagFault → Input
   Proposes : SlotName → Input
+  Recovers : SlotName → Input
   Asks : SlotName → (member : ℕ) → Input
   Arrives : Option Message → Input
 
 abbrev pub effect_of : QuorumSystem → (site : ℕ) → List Record → VolatileState → Input → Effect
 effect_of q site records volatile (Deposits slot checked) = on_deposit records volatile slot checked
 effect_of q site records volatile (Proposes slot) = on_propose q site records volatile slot
+effect_of q site records volatile (Recovers slot) = on_recover q site records volatile slot
 effect_of q site records volatile (Asks slot member) = on_ask site volatile slot member
 effect_of q site records volatile (Arrives message) = on_arrival q site records volatile message

@@ -19,6 +19,7 @@ number_of faults.NeedsOpen = 15
 number_of faults.NoDeposit = 16
 number_of faults.RoundsSpent = 17
 number_of faults.AlreadyKnown = 18
+number_of faults.NothingToRecover = 19
 
 -- why a tree is not deposited, by what its check says; where memory ran out it says nothing of it
 abbrev pub check_fault : BagFault → SiteFault

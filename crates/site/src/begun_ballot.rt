@@ -4,23 +4,22 @@ use crate::answer::Answer;
 use crate::datagrams::to_all;
 use crate::fault::SiteFault;
 use dgram::{Body, Message};
-use fed_types::{BagId, Slot};
+use fed_types::Slot;
 use records::{Entry, Owner, Record, Round};
 use site_tables::Tables;
 use std::alloc::Global;
 
-/// Begins the slot's next ballot, to propose this bag: the record of its round, and the answer that
-/// asks all members to promise it.
+/// Begins the slot's next ballot: the record of its round, and the answer that asks all members to
+/// promise it.
 pub(crate) fn begin_ballot(
     alloc: Global,
     owner: &Owner,
     tables: &mut Tables,
     slot: &Slot,
-    own: BagId,
 ) -> Result<(Record, Answer), SiteFault>
-    ensures { BeginsBallot owner.now tables.old tables.new slot.now own result }
+    ensures { BeginsBallot owner.now tables.old tables.new slot.now result }
 {
-    let ballot = tables.begin(slot, own)?;
+    let ballot = tables.begin(slot)?;
     let body = Body::Prepare { ballot };
     let slot = slot.copy(alloc)?;
     let message = Message { slot, body };

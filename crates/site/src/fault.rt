@@ -39,10 +39,13 @@ pub enum SiteFault {
     /// A bag is known for the slot.
     #[error("a bag is known for the slot")]
     AlreadyKnown,
+    /// The site has neither a vote nor a deposit for the slot.
+    #[error("there is neither a vote nor a deposit for the slot")]
+    NothingToRecover,
 }
 
 impl SiteFault {
-    /// The number of the fault in what the program prints and sends, 10 to 18.
+    /// The number of the fault in what the program prints and sends, 10 to 19.
     pub fn number(self) -> u8
         ensures { result ≡ number_of self }
     {
@@ -56,6 +59,7 @@ impl SiteFault {
             SiteFault::NoDeposit => 16,
             SiteFault::RoundsSpent => 17,
             SiteFault::AlreadyKnown => 18,
+            SiteFault::NothingToRecover => 19,
         }
     }
 }

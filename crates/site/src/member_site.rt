@@ -1,5 +1,6 @@
-ghost use Rattle.std.specs.Prelude.{◌≡◌, ◌↔◌, true, false, [], None, Some, Ok, Err, map};
-ghost use Rattle.std.specs.Prelude.{Result, IfOk, IsErrOf};
+ghost use Rattle.std.specs.Prelude.{◌≡◌, ◌↔◌, ◌||◌, true, false, [], None, Some, Ok, Err, map};
+ghost use Rattle.std.specs.Prelude.{is_some, Result, IfOk, IsErrOf};
+ghost use Rattle.records.specs.SlotStates.{deposit_of, vote_of};
 ghost use Rattle.std.specs.Option.{option_copied};
 ghost use Rattle.site_tables.specs.Contents.{deposits_of, slot_at};
 ghost use Rattle.bag_check.specs.Check.{check_of};
@@ -7,13 +8,14 @@ ghost use Rattle.book.specs.OpenBooks.{HoldsText, RecoversTo};
 ghost use Rattle.cell_device.specs.Memory.{fuse_of, failures_of, fuse_after_set, IsSameMedium};
 ghost use Rattle.proposer.specs.VolatileStates.{VolatileState, new_volatile};
 ghost use Rattle.site.specs.Answered.{IsAnswered, IsRefused};
-ghost use Rattle.records.specs.SlotStates.{deposit_of, known_of};
-ghost use Rattle.site.specs.Calls.{Deposits, Proposes, Asks, reply_of, other_than, deposit_fault};
+ghost use Rattle.site.specs.Calls.{Deposits, Proposes, Recovers, Asks};
+ghost use Rattle.site.specs.Calls.{reply_of, other_than, deposit_fault};
 ghost use Rattle.site.specs.declared.answer.Line.TheVariants as site_lines;
 ghost use Rattle.site.specs.Datagrams.{handed_out};
 ghost use Rattle.book.specs.Opened.{Opens};
 ghost use Rattle.site.specs.Opened.{book_of};
 ghost use Rattle.site.specs.Sites.{Represents, effect};
+ghost use Rattle.site.specs.inner.Begun.{next_effect};
 ghost use Rattle.site.specs.inner.Concluded.{Concludes, one_datagram, all_datagrams};
 
 use crate::answer::{Answer, Line, Outgoing, Reply};
@@ -195,9 +197,44 @@ impl<C: Cell> Site<C> {
             return Err(SiteFault::AlreadyKnown);
         }
         match self.tables.deposit(slot) {
-            Some(own) => self.start_ballot(slot, own),
+            Some(_) => self.start_ballot(slot),
             None => Err(SiteFault::NoDeposit),
         }
+    }
+
+    /// Recovers what may be chosen for the slot: where the site has a vote or a deposit, begins the
+    /// next ballot, and asks all members to promise it. What comes of it is as after `propose`;
+    /// without a deposit it proposes only a bag that promises name. A refusal takes no memory.
+    pub fn recover(&mut self, slot: &Slot) -> Result<Answer, SiteFault>
+        ensures answer { self.old.book.needs_opening ≡ false → (volatile : VolatileState)
+            → Represents self.old volatile
+            → IsAnswered C.device self.old self.new volatile
+            (effect self.old volatile (Recovers slot.now)) result }
+        ensures refused { self.old.book.needs_opening ≡ false → (volatile : VolatileState)
+            → Represents self.old volatile
+            → IsRefused (effect self.old volatile (Recovers slot.now)) result }
+        ensures needs_open { IsErrOf result SiteFault.NeedsOpen
+            ↔ (self.old.book.needs_opening ≡ true) }
+        ensures untouched { self.old.book.needs_opening ≡ true → self.new ≡ self.old }
+    {
+        if self.book.needs_opening() {
+            return Err(SiteFault::NeedsOpen);
+        }
+        if self.tables.known(slot).is_some() {
+            Err(SiteFault::AlreadyKnown)
+        } else if self.has_vote_or_deposit(slot) {
+            self.start_ballot(slot)
+        } else {
+            Err(SiteFault::NothingToRecover)
+        }
+    }
+
+    // Whether the site has a vote or a deposit for the slot on record.
+    fn has_vote_or_deposit(&self, slot: &Slot) -> bool
+        ensures { result ≡ (is_some (vote_of slot.now self.now.book.records)
+            || is_some (deposit_of slot.now self.now.book.records)) }
+    {
+        self.tables.vote(slot).is_some() || self.tables.deposit(slot).is_some()
     }
 
     // Takes a valid bag as the slot's deposit.
@@ -223,20 +260,17 @@ impl<C: Cell> Site<C> {
         self.commit_and_answer(new, Answer { line, sends })
     }
 
-    // Begins the slot's next ballot, to propose this bag where no vote stands in the way.
-    fn start_ballot(&mut self, slot: &Slot, own: BagId) -> Result<Answer, SiteFault>
-        requires opened { self.old.book.needs_opening ≡ false }
-        requires deposit { deposit_of slot.now self.old.book.records ≡ Some own }
+    // Begins the slot's next ballot, unless none is left.
+    fn start_ballot(&mut self, slot: &Slot) -> Result<Answer, SiteFault>
+        requires { self.old.book.needs_opening ≡ false }
         ensures answer { (volatile : VolatileState) → Represents self.old volatile
-            → known_of slot.now self.old.book.records ≡ None
             → IsAnswered C.device self.old self.new volatile
-            (effect self.old volatile (Proposes slot.now)) result }
+            (next_effect self.old volatile slot.now) result }
         ensures refused { (volatile : VolatileState) → Represents self.old volatile
-            → known_of slot.now self.old.book.records ≡ None
-            → IsRefused (effect self.old volatile (Proposes slot.now)) result }
+            → IsRefused (next_effect self.old volatile slot.now) result }
     {
         let owner = self.book.owner();
-        let (new, answer) = begin_ballot(self.alloc, &owner, &mut self.tables, slot, own)?;
+        let (new, answer) = begin_ballot(self.alloc, &owner, &mut self.tables, slot)?;
         self.commit_and_answer(new, answer)
     }
 

@@ -109,8 +109,6 @@ module _ (t : Contents) (records : List Record) (volatile : VolatileState) (unde
   hears_other m no_promise no_refusal no_vote = record {
     proposer = heard_stands t.proposer.rows m records volatile under no_refusal no_promise
         stands.proposer;
-    begun = stands.begun;
-    current = stands.current;
     learner = learner_hears t.learner.rows records volatile.heard stands.learner m no_vote;
   }
 
@@ -122,8 +120,6 @@ module _ (t : Contents) (records : List Record) (volatile : VolatileState) (unde
   hears_known slot from vote bag known = record {
     proposer = heard_stands t.proposer.rows (record { slot = slot; body = Accepted from vote })
         records volatile under refl (λ b. refl) stands.proposer;
-    begun = stands.begun;
-    current = stands.current;
     learner = heard_known t.learner.rows records volatile.heard slot from vote stands.learner bag
         (stands.learner.known slot ∙ known);
   }

@@ -2,6 +2,5 @@ pub mod Outcomes
 pub mod Inside
 pub mod Deposited
 pub mod Heard
-pub mod Begun
 pub mod Noted
 pub mod Examples

@@ -17,7 +17,6 @@ use Rattle.proposer.specs.UnderWay.{UnderWay, nothing, current_by, current_if}
 use Rattle.proposer.specs.UnderWay.{under_way_if}
 use Rattle.learner.specs.LearnerStates as learners
 use Rattle.site_tables.specs.Contents.{Contents, HasRoom, IsOf, Represents, with_deposit}
-use Rattle.site_tables.proofs.Begun.{deposits_stay, begun_stays, current_stays}
 use Rattle.site_tables.proofs.Deposited.{deposits-push}
 use Rattle.site_tables.proofs.Outcomes.{always}
 
@@ -104,11 +103,6 @@ module _ (old new : Contents) (r : Record) (notes : Notes old new r) where
       (under_way_if under r.slot (current_by (under.begun r.slot) r.body))
   noted_stands records volatile under stands = record {
     proposer = notes.proposer records volatile under stands.proposer;
-    begun = begun_stays under r.slot (current_by (under.begun r.slot) r.body) (records ++ r ∷ [])
-        (deposits_stay under.begun_bag records r stands.begun);
-    current = current_stays under r.slot (current_by (under.begun r.slot) r.body)
-        (records ++ r ∷ []) (deposits_stay under.begun_bag records r stands.begun)
-        (deposits_stay under.current_bag records r stands.current);
     learner = subst (learners.Represents new.learner.rows (records ++ r ∷ []))
         (heard_same volatile r.slot (current_by (under.begun r.slot) r.body))
         (notes.learner records volatile.heard stands.learner);

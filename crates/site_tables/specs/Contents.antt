@@ -7,7 +7,7 @@ use Rattle.fed_types.specs.Sites.{Membership}
 use Rattle.fed_types.specs.Slots.{SlotName}
 use Rattle.records.specs.declared.owner.Owner.{Owner}
 use Rattle.records.specs.declared.record.Record.{Record}
-use Rattle.records.specs.SlotStates.{deposit_in, deposit_of}
+use Rattle.records.specs.SlotStates.{deposit_in}
 use Rattle.dgram.specs.declared.message.Message.{Message}
 use Rattle.slot_table.specs.Rows.{Rows, row_at}
 use Rattle.acceptor.specs.declared.row.Row.{Row as acceptor_row}
@@ -57,18 +57,11 @@ pub record IsOf (t : Contents) (owner : Owner) (records : List Record) : Type 0 
   pub proposer_site : t.proposer.site ≡ owner.site
   pub learner_members : t.learner.members ≡ owner.members
 
--- each of these bags, which ballots were begun with, is its slot's deposit
-abbrev pub AreDeposits : (SlotName → Option BagId) → List Record → Type 0
-AreDeposits bags records =
-    (slot : SlotName) (bag : BagId) → bags slot ≡ Some bag → deposit_of slot records ≡ Some bag
-
 -- they represent the records, and what was heard since the site was opened
 pub record Represents
     (t : Contents) (records : List Record) (volatile : VolatileState) (under : UnderWay)
     : Type 0 where
   pub proposer : proposers.Represents t.proposer.rows records volatile under
-  pub begun : AreDeposits under.begun_bag records
-  pub current : AreDeposits under.current_bag records
   pub learner : learners.Represents t.learner.rows records volatile.heard
 
 -- there is room for a record of this slot

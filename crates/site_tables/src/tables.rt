@@ -5,7 +5,7 @@ ghost use Rattle.fed_types.specs.Faults.{IsOrFault};
 ghost use Rattle.fed_types.specs.Quorums.{quorums_of};
 ghost use Rattle.records.specs.declared.owner.Owner.{Owner as declared_owner};
 ghost use Rattle.records.specs.Records.{Records};
-ghost use Rattle.records.specs.SlotStates.{deposit_of, known_of};
+ghost use Rattle.records.specs.SlotStates.{deposit_of, known_of, vote_of};
 ghost use Rattle.acceptor.specs.Decisions.{prepare_decision, accept_decision};
 ghost use Rattle.proposer.specs.Faults.{next_or_spent};
 ghost use Rattle.proposer.specs.Proposals.{next_ballot, ready};
@@ -104,6 +104,14 @@ impl Tables {
         self.learner.known(slot)
     }
 
+    /// The slot's vote, the one of the greatest ballot.
+    pub fn vote(&self, slot: &Slot) -> Option<Vote>
+        ensures { (owner : declared_owner) (records : Records)
+            → IsOf self.now owner records → result ≡ vote_of slot.now records }
+    {
+        self.acceptor.vote(slot)
+    }
+
     /// What the acceptor decides when it is asked to promise a ballot.
     pub fn prepare(&self, slot: &Slot, ballot: Ballot) -> Decision
         ensures { (owner : declared_owner) (records : Records)
@@ -121,8 +129,8 @@ impl Tables {
         self.acceptor.accept(slot, vote.ballot, vote.bag)
     }
 
-    /// Begins the slot's next ballot, to propose this bag, the site's deposit.
-    pub fn begin(&mut self, slot: &Slot, own: BagId) -> Result<Ballot, ProposeFault>
+    /// Begins the slot's next ballot.
+    pub fn begin(&mut self, slot: &Slot) -> Result<Ballot, ProposeFault>
         ensures answer { (owner : declared_owner) (records : Records)
             (volatile : VolatileState) (under : UnderWay) → IsOf self.old owner records
             → Represents self.old records volatile under
@@ -136,16 +144,16 @@ impl Tables {
         ensures begun { IfOk result (λ ballot. (records : Records)
             (volatile : VolatileState) (under : UnderWay)
             → Represents self.old records volatile under
-            → deposit_of slot.now records ≡ Some own
-            → Represents self.new records volatile (begins under slot.now ballot own)) }
+            → Represents self.new records volatile (begins under slot.now ballot)) }
         ensures of { IsOfSame self.old self.new }
         ensures same { OnErr result (RepresentsSame self.old self.new) }
     {
-        self.proposer.begin(slot, own)
+        self.proposer.begin(slot)
     }
 
-    /// Hears a promise, and gives the bag to propose exactly when it makes the proposal ready. Then
-    /// the promise waits, and is heard once `issued` is called.
+    /// Hears a promise, and gives the bag to propose exactly when it makes the proposal ready: that
+    /// of the highest vote named, or else the slot's deposit, if there is one. Then the promise
+    /// waits, and is heard once `issued` is called.
     pub fn promise(
         &mut self,
         from: SiteNo,
@@ -163,7 +171,8 @@ impl Tables {
             (promise_message slot.now from ballot prior) result }
         ensures of { IsOfSame self.old self.new }
     {
-        self.proposer.promise(from, slot, ballot, prior)
+        let own = self.deposits.of(slot);
+        self.proposer.promise(from, slot, ballot, prior, own)
     }
 
     /// The proposal that became ready is sent: the promise that waits is heard, if one waits.

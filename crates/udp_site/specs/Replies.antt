@@ -29,7 +29,7 @@ abbrev pub bag_answer : BagFault → Option DepositAnswer
 bag_answer bags.Memory = None
 bag_answer fault = Some (deposit.Bag (bag_faults.number_of fault))
 
--- why the site refuses a deposit, of which the last three aren't reasons
+-- why the site refuses a deposit, of which the last four aren't reasons
 abbrev pub fault_answer : SiteFault → Option DepositAnswer
 fault_answer (sites.InvalidBag fault) = bag_answer fault
 fault_answer (sites.OtherDeposit bag) = Some (deposit.OtherDeposit bag)
@@ -40,6 +40,7 @@ fault_answer sites.NeedsOpen = Some deposit.NeedsOpen
 fault_answer sites.NoDeposit = None
 fault_answer sites.RoundsSpent = None
 fault_answer sites.AlreadyKnown = None
+fault_answer sites.NothingToRecover = None
 
 abbrev pub deposit_answer : Result Answer SiteFault → Option DepositAnswer
 deposit_answer (Ok answer) = line_answer answer.line

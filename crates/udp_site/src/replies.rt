@@ -24,7 +24,8 @@ pub(crate) fn deposit_answer(answer: &Result<Answer, SiteFault>) -> Option<Depos
             SiteFault::Device => Some(DepositAnswer::Device),
             SiteFault::Memory => Some(DepositAnswer::Memory),
             SiteFault::NeedsOpen => Some(DepositAnswer::NeedsOpen),
-            SiteFault::NoDeposit | SiteFault::RoundsSpent | SiteFault::AlreadyKnown => None,
+            SiteFault::NoDeposit | SiteFault::RoundsSpent => None,
+            SiteFault::AlreadyKnown | SiteFault::NothingToRecover => None,
         },
     }
 }

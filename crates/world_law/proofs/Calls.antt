@@ -21,9 +21,9 @@ use Rattle.proposer.specs.VolatileStates.{VolatileState, with_current}
 use Rattle.site.specs.declared.answer.Line.TheVariants as site_lines
 use Rattle.site.specs.declared.fault.SiteFault.{SiteFault}
 use Rattle.site.specs.declared.fault.SiteFault.TheVariants as faults
-use Rattle.site.specs.Calls.{Input, Deposits, Proposes, Asks, registering, on_deposit}
-use Rattle.site.specs.Calls.{begins_ballot}
-use Rattle.site.specs.Calls.{begins_ballot_if, on_propose, on_ask}
+use Rattle.site.specs.Calls.{Input, Deposits, Proposes, Recovers, Asks, registering, on_deposit}
+use Rattle.site.specs.Calls.{begins_ballot, begins_next, begins_ballot_if, on_propose}
+use Rattle.site.specs.Calls.{recovers_if, on_recover, on_ask}
 use Rattle.site.specs.Effects.{to_each, record_of, refuses}
 use Rattle.world_law.specs.Laws.{WasSent}
 use Rattle.world_law.specs.Networks.{Network, volatile_in}
@@ -67,9 +67,9 @@ module _ (q : QuorumSystem) (laws : AreQuorums q) (w : Network) (inv : Kept q w)
     deposit_deed (Err fault) = refuses_deed (Deposits slot (Err fault)) _
     deposit_deed (Ok bag) = registering_deed (deposit_of slot records) bag _
 
-    -- ---- a proposal: a ballot above every round that was used
+    -- ---- a ballot is begun, above every round that was used
 
-    module _ (round : ℕ) (above : used_of slot records ≤ round) where
+    module _ (input : Input) (round : ℕ) (above : used_of slot records ≤ round) where
       abbrev b : BallotNumber
       b = record { round = 1 + round; site = n }
 
@@ -119,12 +119,12 @@ module _ (q : QuorumSystem) (laws : AreQuorums q) (w : Network) (inv : Kept q w)
                 ];
               }
 
-      issuing_deed : Deed q w n (Proposes slot) (begins_ballot q slot b before)
+      issuing_deed : Deed q w n input (begins_ballot q slot b before)
       issuing_deed = record {
         slot = slot;
         body = Prepare b;
         sound =
-            keeps_one q w n (MayDeposit (Proposes slot)) slot (entry.Round b.round) (Prepare b)
+            keeps_one q w n (MayDeposit input) slot (entry.Round b.round) (Prepare b)
             (to_each slot (Prepare b) q.members) (carries_each slot (Prepare b) q.members) refl
             (λ x g. tt) (λ x g. tt);
         recalls = record {
@@ -138,28 +138,47 @@ module _ (q : QuorumSystem) (laws : AreQuorums q) (w : Network) (inv : Kept q w)
       }
 
     -- the next ballot, where there is one, is such a ballot
-    issuing_if_deed : (known own : Option BagId)
-        → Deed q w n (Proposes slot)
-        (begins_ballot_if q slot known own (next_ballot n slot records before.heard) before)
+    next_deed : (input : Input)
+        → Deed q w n input
+        (begins_next q slot (next_ballot n slot records before.heard) before)
     unfolding next_ballot
-    issuing_if_deed (Some bag) own = refuses_deed (Proposes slot) faults.AlreadyKnown
-    issuing_if_deed None None = refuses_deed (Proposes slot) faults.NoDeposit
-    issuing_if_deed None (Some bag) =
-        go (nat_lt (last_round slot records before.heard) greatest_round)
+    next_deed input = go (nat_lt (last_round slot records before.heard) greatest_round)
       where
         round : ℕ
         round = last_round slot records before.heard
 
         go : (t : Bool)
-            → Deed q w n (Proposes slot)
-            (begins_ballot_if q slot None (Some bag)
-            (cond t (Some (record { round = 1 + round; site = n })) None) before)
-        go true = issuing_deed round (omega arith)
-        go false = refuses_deed (Proposes slot) faults.RoundsSpent
+            → Deed q w n input
+            (begins_next q slot (cond t (Some (record { round = 1 + round; site = n })) None)
+            before)
+        go true = issuing_deed input round (omega arith)
+        go false = refuses_deed input faults.RoundsSpent
+
+    -- ---- a proposal
+
+    proposing_deed : (known own : Option BagId)
+        → Deed q w n (Proposes slot)
+        (begins_ballot_if q slot known own (next_ballot n slot records before.heard) before)
+    proposing_deed (Some bag) own = refuses_deed (Proposes slot) faults.AlreadyKnown
+    proposing_deed None None = refuses_deed (Proposes slot) faults.NoDeposit
+    proposing_deed None (Some bag) = next_deed (Proposes slot)
 
     pub propose_deed : Deed q w n (Proposes slot) (on_propose q n records before slot)
     unfolding on_propose
-    propose_deed = issuing_if_deed (known_of slot records) (deposit_of slot records)
+    propose_deed = proposing_deed (known_of slot records) (deposit_of slot records)
+
+    -- ---- a recovery
+
+    recovering_deed : (known : Option BagId) (has : Bool)
+        → Deed q w n (Recovers slot)
+        (recovers_if q slot known has (next_ballot n slot records before.heard) before)
+    recovering_deed (Some bag) has = refuses_deed (Recovers slot) faults.AlreadyKnown
+    recovering_deed None false = refuses_deed (Recovers slot) faults.NothingToRecover
+    recovering_deed None true = next_deed (Recovers slot)
+
+    pub recover_deed : Deed q w n (Recovers slot) (on_recover q n records before slot)
+    unfolding on_recover
+    recover_deed = recovering_deed (known_of slot records) _
 
     -- ---- a question
     pub ask_deed : (member : ℕ) → Deed q w n (Asks slot member) (on_ask n before slot member)

@@ -22,8 +22,8 @@ use Rattle.lines.specs.declared.line.Line.TheVariants as lines
 use Rattle.lines.specs.declared.line.Reason.{Reason}
 use Rattle.lines.specs.declared.line.Reason.TheVariants as reasons
 use Rattle.world_law.specs.Headline.{IsValidDeposit}
-use Rattle.world_law.specs.Networks.{Mode, Up, Down, NeedsOpening, Event, Deposit, Propose, Ask}
-use Rattle.world_law.specs.Networks.{Query, Deliver, Raw, Stop, Start, datagram_at}
+use Rattle.world_law.specs.Networks.{Mode, Up, Down, NeedsOpening, Event, Deposit, Propose}
+use Rattle.world_law.specs.Networks.{Recover, Ask, Query, Deliver, Raw, Stop, Start, datagram_at}
 use Rattle.lines.specs.Named.{SeenBag}
 use Rattle.world_law.specs.Trees.{NumberedTree, tree_at}
 use Rattle.world_law.specs.Worlds.{World, skips, with_seen, after_event, is_member, mode_of}
@@ -193,6 +193,9 @@ module _ (w : World) (number : ℕ) (P : World → Type 0) where
     call_is (calls.Propose site slot) fate went =
         at_member_is site _
         (λ member. plain_is _ went site (Propose site slot fate) (λ k s bag f g. cc))
+    call_is (calls.Recover site slot) fate went =
+        at_member_is site _
+        (λ member. plain_is _ went site (Recover site slot fate) (λ k s bag f g. cc))
     call_is (calls.Deliver k) fate went = deliver_is (delivers _ went) k fate
     call_is (calls.Ask site member slot) fate went =
         at_member_is site _

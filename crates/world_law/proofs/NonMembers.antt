@@ -4,14 +4,14 @@ use Rattle.std.proofs.Common.{[], Option, None, Some}
 use Rattle.fed_types.specs.Lists.{is_in}
 use Rattle.fed_types.specs.Quorums.{QuorumSystem}
 use Rattle.fed_types.specs.Slots.{SlotName}
-use Rattle.site.specs.Calls.{Input, Deposits, Proposes, Asks, Arrives}
+use Rattle.site.specs.Calls.{Input, Deposits, Proposes, Recovers, Asks, Arrives}
 use Rattle.site.specs.Effects.{Send}
 use Rattle.schedule.specs.declared.fate.Fate.{Fate}
 use Rattle.schedule.specs.declared.fate.Fate.TheVariants.{Whole}
 use Rattle.world_law.specs.Networks.{Mode, Up, Down, NeedsOpening, Network}
-use Rattle.world_law.specs.Networks.{Event, Deposit, Propose, Query, Deliver, Raw, Stop, Start}
-use Rattle.world_law.specs.Networks.{SiteOutcome, Happening, happening, nothing, if_member, reaches}
-use Rattle.world_law.specs.Networks.{step, goes_down, opened}
+use Rattle.world_law.specs.Networks.{Event, Deposit, Propose, Recover, Query, Deliver, Raw, Stop}
+use Rattle.world_law.specs.Networks.{Start, SiteOutcome, Happening, happening, nothing, if_member}
+use Rattle.world_law.specs.Networks.{reaches, step, goes_down, opened}
 use Rattle.world_law.specs.Networks.{takes, replies, datagram_at, arrives, stops, starts, happens}
 use Rattle.world_law.specs.Networks as networks
 use Rattle.world_law.proofs.Step.{site_cases}
@@ -74,6 +74,7 @@ module _ (q : QuorumSystem) (w : Network) (n : ℕ) (stranger : is_in q.members 
   unfolding happens
   event_stays (Deposit m slot checked fate) = takes_stays m (Deposits slot checked) fate
   event_stays (Propose m slot fate) = takes_stays m (Proposes slot) fate
+  event_stays (Recover m slot fate) = takes_stays m (Recovers slot) fate
   event_stays (networks.Ask m member slot fate) = takes_stays m (Asks slot member) fate
   event_stays (Query m slot) =
       member_stays m _ (λ other. replies_stays m (w.sites m).mode slot)

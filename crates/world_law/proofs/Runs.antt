@@ -6,13 +6,14 @@ use Rattle.fed_types.specs.Lists.{Has}
 use Rattle.fed_types.specs.Quorums.{QuorumSystem, AreQuorums}
 use Rattle.fed_types.specs.Laws.Lists.{has_none}
 use Rattle.dgram.specs.declared.message.Message.{Message}
-use Rattle.site.specs.Calls.{Deposits, Proposes, Asks, Arrives}
+use Rattle.site.specs.Calls.{Deposits, Proposes, Recovers, Asks, Arrives}
 use Rattle.site.specs.Effects.{Send}
 use Rattle.schedule.specs.declared.fate.Fate.{Fate}
 use Rattle.schedule.specs.declared.fate.Fate.TheVariants.{Whole}
 use Rattle.world_law.specs.Laws.{WasSent, site_of}
-use Rattle.world_law.specs.Networks.{Network, new_site, new_network, Event, Deposit, Propose, Query}
-use Rattle.world_law.specs.Networks.{Deliver, Raw, Stop, Start, datagram_at, arrives, happens, run}
+use Rattle.world_law.specs.Networks.{Network, new_site, new_network, Event, Deposit, Propose}
+use Rattle.world_law.specs.Networks.{Recover, Query, Deliver, Raw, Stop, Start, datagram_at}
+use Rattle.world_law.specs.Networks.{arrives, happens, run}
 use Rattle.world_law.specs.Networks as networks
 use Rattle.world_law.proofs.Kept.{Kept}
 use Rattle.world_law.proofs.Step.{Deposits as Allowed}
@@ -22,7 +23,7 @@ use Rattle.world_law.proofs.Sends.{at_number}
 use Rattle.world_law.proofs.Arrivals.{arrival_deed}
 use Rattle.world_law.proofs.Outcomes.{stays, member_kept, takes_kept, replies_kept, stops_kept}
 use Rattle.world_law.proofs.Outcomes.{starts_kept}
-use Rattle.world_law.proofs.Calls.{deposit_deed, propose_deed, ask_deed}
+use Rattle.world_law.proofs.Calls.{deposit_deed, propose_deed, recover_deed, ask_deed}
 
 -- nothing may be deposited
 abbrev NoDeposit : Allowed
@@ -53,6 +54,8 @@ happens_kept q laws w inv (Deposit n slot checked fate) =
     takes_kept q w inv n (Deposits slot checked) (deposit_deed q laws w inv n slot checked) fate
 happens_kept q laws w inv (Propose n slot fate) =
     takes_kept q w inv n (Proposes slot) (propose_deed q laws w inv n slot) fate
+happens_kept q laws w inv (Recover n slot fate) =
+    takes_kept q w inv n (Recovers slot) (recover_deed q laws w inv n slot) fate
 happens_kept q laws w inv (networks.Ask n member slot fate) =
     takes_kept q w inv n (Asks slot member) (ask_deed q laws w inv n slot member) fate
 happens_kept q laws w inv (Query n slot) =

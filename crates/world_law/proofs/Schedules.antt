@@ -19,10 +19,10 @@ use Rattle.lines.specs.declared.line.Line.TheVariants as lines
 use Rattle.lines.specs.declared.line.Reason.{Reason}
 use Rattle.world_law.specs.Headline.{reported, IsValidDeposit, DepositedBy}
 use Rattle.world_law.specs.Laws.{OnRecord, IsChosen, Report, notice_report, site_of}
-use Rattle.world_law.specs.Networks.{Network, new_network, new_site, Event, Deposit, Propose, Ask}
+use Rattle.world_law.specs.Networks.{Network, new_network, new_site, Event, Deposit, Propose}
 use Rattle.lines.specs.declared.notice.Notice.{Notice}
 use Rattle.lines.specs.declared.notice.Notice.TheVariants.{Registered, Learned}
-use Rattle.world_law.specs.Networks.{Query, Deliver, Raw, Stop, Start}
+use Rattle.world_law.specs.Networks.{Recover, Ask, Query, Deliver, Raw, Stop, Start}
 use Rattle.lines.specs.declared.notice.Notice.TheVariants.{Replied, Refused, Dropped, GoesDown}
 use Rattle.lines.specs.declared.notice.Notice.TheVariants.{ComesUp}
 use Rattle.world_law.specs.Networks.{Happening}
@@ -95,6 +95,7 @@ made_by w (Deposit site s checked fate) k slot bag at may =
     let place : site ≡ k = some_same at in
     record { fate = fate; is = λ i. Deposit (place i) (may.0 i) (may.1 i) fate }
 made_by w (Propose site s fate) k slot bag at may = absurd may
+made_by w (Recover site s fate) k slot bag at may = absurd may
 made_by w (Ask site member s fate) k slot bag at may = absurd may
 made_by w (Query site s) k slot bag at may = absurd may
 made_by w (Deliver number fate) k slot bag at may = absurd may

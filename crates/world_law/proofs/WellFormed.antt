@@ -15,15 +15,15 @@ use Rattle.records.specs.Texts.{kept_record}
 use Rattle.records.specs.Records.{IsRecord, AreRecords}
 use Rattle.proposer.specs.VolatileStates.{new_volatile}
 use Rattle.site.specs.declared.fault.SiteFault.TheVariants as faults
-use Rattle.site.specs.Calls.{Input, Deposits, Proposes, Asks, Arrives}
+use Rattle.site.specs.Calls.{Input, Deposits, Proposes, Recovers, Asks, Arrives}
 use Rattle.site.specs.Effects.{Effect, Send}
 use Rattle.schedule.specs.declared.fate.Fate.{Fate}
 use Rattle.schedule.specs.declared.fate.Fate.TheVariants.{Whole, StopsIn, StopsAfter, FailsIn}
 use Rattle.lines.specs.declared.notice.Notice.{Notice}
 use Rattle.lines.specs.declared.notice.Notice.TheVariants.{GoesDown}
 use Rattle.world_law.specs.Networks.{Mode, Up, Down, NeedsOpening, volatile_in, SiteState, Network}
-use Rattle.world_law.specs.Networks.{new_site, new_network, Event, Deposit, Propose, Query, Deliver}
-use Rattle.world_law.specs.Networks.{Raw, Stop, Start, SiteOutcome, Happening, happening, outcome}
+use Rattle.world_law.specs.Networks.{new_site, new_network, Event, Deposit, Propose, Recover}
+use Rattle.world_law.specs.Networks.{Query, Deliver, Raw, Stop, Start, SiteOutcome, Happening, happening, outcome}
 use Rattle.world_law.specs.Networks.{nothing, if_member, reaches, takes, replies, datagram_at}
 use Rattle.world_law.specs.Networks.{arrives, stops, starts, opened, happens, run}
 use Rattle.world_law.specs.Networks as networks
@@ -182,6 +182,8 @@ happens_well_formed q w (Deposit n slot checked fate) members h inv =
     takes_is w inv n q members (Deposits slot checked) h fate
 happens_well_formed q w (Propose n slot fate) members h inv =
     takes_is w inv n q members (Proposes slot) h fate
+happens_well_formed q w (Recover n slot fate) members h inv =
+    takes_is w inv n q members (Recovers slot) h fate
 happens_well_formed q w (networks.Ask n member slot fate) members h inv =
     takes_is w inv n q members (Asks slot member) h fate
 happens_well_formed q w (Query n slot) members h inv =

@@ -22,8 +22,9 @@ use Rattle.dgram.specs.Messages.{IsMessage}
 use Rattle.proposer.specs.Proposals.{last_round, next_ballot}
 use Rattle.proposer.specs.VolatileStates.{VolatileState}
 use Rattle.site.specs.declared.fault.SiteFault.{SiteFault}
-use Rattle.site.specs.Calls.{Input, Deposits, Proposes, Asks, Arrives, effect_of, registering}
-use Rattle.site.specs.Calls.{on_deposit, begins_ballot_if, on_propose, on_ask}
+use Rattle.site.specs.Calls.{Input, Deposits, Proposes, Recovers, Asks, Arrives, effect_of}
+use Rattle.site.specs.Calls.{registering, on_deposit, begins_next, begins_ballot_if, on_propose}
+use Rattle.site.specs.Calls.{recovers_if, on_recover, on_ask}
 use Rattle.site.specs.Effects.{refuses}
 use Rattle.world_law.specs.WellFormed.{MembersAreSites, AreMessages}
 use Rattle.world_law.proofs.WellFormedEffects.{IsWellFormedEffect, one_site, sends_are, says_is}
@@ -33,6 +34,7 @@ use Rattle.world_law.proofs.WellFormedArrivals.{arrival_is}
 abbrev pub IsWellFormedInput : Input → Type 0
 IsWellFormedInput (Deposits slot checked) = IsSlot slot × IfOk checked IsBag
 IsWellFormedInput (Proposes slot) = IsSlot slot
+IsWellFormedInput (Recovers slot) = IsSlot slot
 IsWellFormedInput (Asks slot member) = IsSiteNumber member × IsSlot slot
 IsWellFormedInput (Arrives message) = IfSome message IsMessage
 
@@ -78,21 +80,38 @@ module _ (q : QuorumSystem) (members : MembersAreSites q) (n : ℕ) (is_site : I
           (omega arith, omega (arith, left), is_site)
       go false e = tt
 
+  begun_is : (slot : SlotName) → IsSlot slot → (next : Option BallotNumber) → IfSome next IsBallot
+      → IsWellFormedEffect (begins_next q slot next old)
+  begun_is slot is_slot None h = refuses_is old are_heard _
+  begun_is slot is_slot (Some b) h =
+      sends_are slot is_slot (Some (entry.Round b.round)) (h.0, h.1) (Prepare b) h q.members members
+      _ are_heard
+
   issuing_is : (slot : SlotName) → IsSlot slot → (known own : Option BagId)
       (next : Option BallotNumber) → IfSome next IsBallot
       → IsWellFormedEffect (begins_ballot_if q slot known own next old)
   issuing_is slot is_slot (Some bag) own next h = refuses_is old are_heard _
   issuing_is slot is_slot None None next h = refuses_is old are_heard _
-  issuing_is slot is_slot None (Some bag) None h = refuses_is old are_heard _
-  issuing_is slot is_slot None (Some bag) (Some b) h =
-      sends_are slot is_slot (Some (entry.Round b.round)) (h.0, h.1) (Prepare b) h q.members members
-      _ are_heard
+  issuing_is slot is_slot None (Some bag) next h = begun_is slot is_slot next h
 
   proposed_is : (slot : SlotName) → IsSlot slot
       → IsWellFormedEffect (on_propose q n records old slot)
   unfolding on_propose
   proposed_is slot is_slot =
       issuing_is slot is_slot (known_of slot records) (deposit_of slot records) _ (next_is slot)
+
+  recovering_is : (slot : SlotName) → IsSlot slot → (known : Option BagId) (has : Bool)
+      (next : Option BallotNumber) → IfSome next IsBallot
+      → IsWellFormedEffect (recovers_if q slot known has next old)
+  recovering_is slot is_slot (Some bag) has next h = refuses_is old are_heard _
+  recovering_is slot is_slot None false next h = refuses_is old are_heard _
+  recovering_is slot is_slot None true next h = begun_is slot is_slot next h
+
+  recovered_is : (slot : SlotName) → IsSlot slot
+      → IsWellFormedEffect (on_recover q n records old slot)
+  unfolding on_recover
+  recovered_is slot is_slot =
+      recovering_is slot is_slot (known_of slot records) _ _ (next_is slot)
 
   asked_is : (slot : SlotName) → IsSlot slot → (member : ℕ) → IsSiteNumber member
       → IsWellFormedEffect (on_ask n old slot member)
@@ -107,6 +126,7 @@ module _ (q : QuorumSystem) (members : MembersAreSites q) (n : ℕ) (is_site : I
       → IsWellFormedEffect (effect_of q n records old input)
   effect_is (Deposits slot checked) h = deposited_is slot h.0 checked h.1
   effect_is (Proposes slot) h = proposed_is slot h
+  effect_is (Recovers slot) h = recovered_is slot h
   effect_is (Asks slot member) h = asked_is slot h.1 member h.0
   effect_is (Arrives message) h =
       arrival_is q members n is_site records are_records old are_heard message h

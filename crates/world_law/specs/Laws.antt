@@ -18,10 +18,10 @@ use Rattle.dgram.specs.Heard.{PromiseFrom, promisers}
 use Rattle.site.specs.declared.answer.Reply.TheVariants as replies
 use Rattle.site.specs.Effects.{Send}
 pub use Rattle.site.specs.Reported.{Report}
-use Rattle.world_law.specs.Networks.{Network, Event, Deposit, Propose, Ask, Query, Deliver, Raw}
+use Rattle.world_law.specs.Networks.{Network, Event, Deposit, Propose, Recover, Ask, Query, Deliver}
 use Rattle.lines.specs.declared.notice.Notice.{Notice}
 use Rattle.lines.specs.declared.notice.Notice.TheVariants.{Learned, Replied}
-use Rattle.world_law.specs.Networks.{Stop, Start, datagram_at, happens}
+use Rattle.world_law.specs.Networks.{Raw, Stop, Start, datagram_at, happens}
 
 -- ---- what is on record, and what was sent
 
@@ -181,6 +181,7 @@ ReportWasChosen q w e =
 abbrev pub site_of : Network → Event → Option ℕ
 site_of w (Deposit site slot checked fate) = Some site
 site_of w (Propose site slot fate) = Some site
+site_of w (Recover site slot fate) = Some site
 site_of w (Ask site member slot fate) = Some site
 site_of w (Query site slot) = Some site
 site_of w (Deliver number fate) = option_map (λ d. d.to) (datagram_at number w.sent)

@@ -12,7 +12,8 @@ use Rattle.records.specs.declared.record.Record.{Record}
 use Rattle.records.specs.Texts.{kept_record}
 use Rattle.proposer.specs.VolatileStates.{VolatileState, new_volatile}
 use Rattle.site.specs.declared.fault.SiteFault.TheVariants as faults
-use Rattle.site.specs.Calls.{Input, Deposits, Proposes, Asks, Arrives, effect_of, reply_of}
+use Rattle.site.specs.Calls.{Input, Deposits, Proposes, Recovers, Asks, Arrives}
+use Rattle.site.specs.Calls.{effect_of, reply_of}
 use Rattle.site.specs.Effects.{Effect, Send, refuses}
 use Rattle.lines.specs.declared.notice.Notice.{Notice}
 use Rattle.lines.specs.declared.notice.Notice.TheVariants.{Replied, Refused, GoesDown, ComesUp}
@@ -59,12 +60,13 @@ new_network = record { sites = λ site. new_site; sent = [] }
 -- ---- events
 
 -- A site is called to take a tree as its deposit, of which the check gave this answer; to propose;
--- to ask a member; to reply to a query. The datagram of this number, of all that were ever sent,
--- counted from 1, arrives at its addressee; bytes arrive that are no message. A site stops between
--- calls; it is opened again.
+-- to recover; to ask a member; to reply to a query. The datagram of this number, of all that were
+-- ever sent, counted from 1, arrives at its addressee; bytes arrive that are no message. A site
+-- stops between calls; it is opened again.
 pub data Event : Type 0 where
   Deposit : (site : ℕ) → SlotName → Result BagId BagFault → Fate → Event
   Propose : (site : ℕ) → SlotName → Fate → Event
+  Recover : (site : ℕ) → SlotName → Fate → Event
   Ask : (site : ℕ) → (member : ℕ) → SlotName → Fate → Event
   Query : (site : ℕ) → SlotName → Event
   Deliver : (number : ℕ) → Fate → Event
@@ -214,6 +216,7 @@ starts w site mode = happening w site (opened site (w.sites site))
 unfoldable pub happens : QuorumSystem → Network → Event → Happening
 happens q w (Deposit site slot checked fate) = takes q w site (Deposits slot checked) fate
 happens q w (Propose site slot fate) = takes q w site (Proposes slot) fate
+happens q w (Recover site slot fate) = takes q w site (Recovers slot) fate
 happens q w (Ask site member slot fate) = takes q w site (Asks slot member) fate
 happens q w (Query site slot) = if_member q w site (replies w site (w.sites site).mode slot)
 happens q w (Deliver number fate) = arrives q w (datagram_at number w.sent) fate

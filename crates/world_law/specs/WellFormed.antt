@@ -10,8 +10,8 @@ use Rattle.records.specs.Records.{AreRecords}
 use Rattle.dgram.specs.declared.message.Message.{Message}
 use Rattle.dgram.specs.Messages.{IsMessage}
 use Rattle.site.specs.Effects.{Send}
-use Rattle.world_law.specs.Networks.{Network, Event, Deposit, Propose, Ask, Query, Deliver, Raw}
-use Rattle.world_law.specs.Networks.{Stop, Start, volatile_in, new_network, run}
+use Rattle.world_law.specs.Networks.{Network, Event, Deposit, Propose, Recover, Ask, Query, Deliver}
+use Rattle.world_law.specs.Networks.{Raw, Stop, Start, volatile_in, new_network, run}
 
 -- the members are numbers of sites
 abbrev pub MembersAreSites : QuorumSystem → Type 0
@@ -36,6 +36,7 @@ pub record IsWellFormed (w : Network) : Type 0 where
 abbrev pub IsWellFormedEvent : Event → Type 0
 IsWellFormedEvent (Deposit site slot checked fate) = IsSlot slot × IfOk checked IsBag
 IsWellFormedEvent (Propose site slot fate) = IsSlot slot
+IsWellFormedEvent (Recover site slot fate) = IsSlot slot
 IsWellFormedEvent (Ask site member slot fate) = IsSiteNumber member × IsSlot slot
 IsWellFormedEvent (Query site slot) = Unit {0}
 IsWellFormedEvent (Deliver number fate) = Unit {0}

@@ -28,9 +28,9 @@ use Rattle.lines.specs.declared.line.Line.TheVariants as lines
 use Rattle.lines.specs.declared.line.Reason.{Reason}
 use Rattle.lines.specs.declared.line.Reason.TheVariants as reasons
 use Rattle.world_law.specs.Networks.{Mode, Up, Down, NeedsOpening, Network, new_network}
-use Rattle.world_law.specs.Networks.{Event, Deposit, Propose, Ask, Query, Deliver, Raw, Stop, Start}
+use Rattle.world_law.specs.Networks.{Event, Deposit, Propose, Recover, Ask, Query, Deliver, Raw}
 use Rattle.lines.specs.declared.notice.Notice.{Notice}
-use Rattle.world_law.specs.Networks.{datagram_at, happens}
+use Rattle.world_law.specs.Networks.{Stop, Start, datagram_at, happens}
 use Rattle.lines.specs.Named.{SeenBag, line_of}
 use Rattle.world_law.specs.Trees.{NumberedTree, tree_at, put_tree}
 
@@ -190,6 +190,8 @@ on_call w number (calls.Deposit site tree slot) fate =
     (on_deposit w number site tree slot fate (tree_at tree w.trees))
 on_call w number (calls.Propose site slot) fate =
     at_member w number site (event_at w number site (Propose site slot fate))
+on_call w number (calls.Recover site slot) fate =
+    at_member w number site (event_at w number site (Recover site slot fate))
 on_call w number (calls.Deliver k) fate = on_deliver w number k fate
 on_call w number (calls.Ask site member slot) fate =
     at_member w number site (at_member w number member

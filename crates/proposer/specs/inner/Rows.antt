@@ -21,15 +21,16 @@ abbrev pub OnlyAt : (old new : tables.Rows Row) → SlotName → Type 0
 OnlyAt old new slot =
     (s : SlotName) → row_of new s ≡ (if same_slot slot s then row_of new slot else row_of old s)
 
--- a row hears a promise, and this is the bag to propose
+-- a row hears a promise, where the site has this own bag, or none; `given` is the bag to propose
 pub record HeardPromise
-    (q : QuorumSystem) (ballot : BallotNumber) (p : Promise) (old new : Row) (given : Option BagId)
+    (q : QuorumSystem) (own : Option BagId) (ballot : BallotNumber) (p : Promise) (old new : Row)
+    (given : Option BagId)
     : Type 0 where
   pub used : new.used ≡ old.used
   pub floor : new.floor ≡ old.floor
   pub begun : new.begun ≡ old.begun
-  pub current : current_in new ≡ after_promise q ballot p (current_in old)
-  pub bag : given ≡ given_bag q ballot p (current_in old)
+  pub current : current_in new ≡ after_promise q own ballot p (current_in old)
+  pub bag : given ≡ given_bag q own ballot p (current_in old)
 
 -- the promise that waits in a row is counted
 pub record IssuesWaiting (old new : Row) : Type 0 where
@@ -67,10 +68,10 @@ noted_row row entry = with_round row (if_some round_in entry)
 
 -- in the rows only this slot's row hears it, and gives the bag
 abbrev pub HeardAt :
-    QuorumSystem → BallotNumber → Promise → (old new : tables.Rows Row) → SlotName
-    → Option BagId → Type 0
-HeardAt q ballot p old new slot given =
-    OnlyAt old new slot × HeardPromise q ballot p (row_of old slot) (row_of new slot) given
+    QuorumSystem → (own : Option BagId) → BallotNumber → Promise → (old new : tables.Rows Row)
+    → SlotName → Option BagId → Type 0
+HeardAt q own ballot p old new slot given =
+    OnlyAt old new slot × HeardPromise q own ballot p (row_of old slot) (row_of new slot) given
 
 -- only this slot's row issues what waits
 abbrev pub IssuesAt : (old new : tables.Rows Row) → SlotName → Type 0

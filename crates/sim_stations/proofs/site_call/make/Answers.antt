@@ -8,6 +8,10 @@ pub returns-in-Propose-clause-answer : goal.returns-in-Propose-clause-answer
 returns-in-Propose-clause-answer c opened volatile stands =
     rw c.in-Propose.is (c.propose.ensures.answer opened volatile stands)
 
+pub returns-in-Recover-clause-answer : goal.returns-in-Recover-clause-answer
+returns-in-Recover-clause-answer c opened volatile stands =
+    rw c.in-Recover.is (c.recover.ensures.answer opened volatile stands)
+
 pub returns-in-Ask-clause-answer : goal.returns-in-Ask-clause-answer
 returns-in-Ask-clause-answer c opened volatile stands =
     rw c.in-Ask.is (c.ask.ensures.answer opened volatile stands)

@@ -12,7 +12,7 @@ use Rattle.site.proofs.begun_ballot.begin_ballot.Goals as goal
 
 pub returns-in_err-ballot : goal.returns-in_err-ballot
 returns-in_err-ballot c =
-    not_begun c.args.owner.now c.args.tables.now c.begin.new.self c.args.slot.now c.args.own
+    not_begun c.args.owner.now c.args.tables.now c.begin.new.self c.args.slot.now
     c.from_residual.result c.in_err-ballot.field-0.0
     (begun_err_of c.from_residual.result (propose_fault c.in_err-ballot.field-0.0)
     c.from_residual.ensures.1) c.in_err-ballot.ensures.same
@@ -23,7 +23,7 @@ returns-in_err-ballot c =
 
 pub returns-in_err-slot : goal.returns-in_err-slot
 returns-in_err-slot c =
-    begun_in_vain c.args.owner.now c.args.tables.now c.begin.new.self c.args.slot.now c.args.own
+    begun_in_vain c.args.owner.now c.args.tables.now c.begin.new.self c.args.slot.now
     c.from_residual-in_err-slot.result c.in_ok-ballot.ballot
     (c.in_ok-ballot.ensures.of c.args.owner.now) c.in_ok-ballot.ensures.begun
     (begun_err_of c.from_residual-in_err-slot.result faults.Memory
@@ -33,7 +33,7 @@ returns-in_err-slot c =
 
 pub returns-in_err-sends : goal.returns-in_err-sends
 returns-in_err-sends c =
-    begun_in_vain c.args.owner.now c.args.tables.now c.begin.new.self c.args.slot.now c.args.own
+    begun_in_vain c.args.owner.now c.args.tables.now c.begin.new.self c.args.slot.now
     c.from_residual-in_err-sends.result c.in_ok-ballot.ballot
     (c.in_ok-ballot.ensures.of c.args.owner.now) c.in_ok-ballot.ensures.begun
     (begun_err_of c.from_residual-in_err-sends.result faults.Memory
@@ -43,7 +43,7 @@ returns-in_err-sends c =
 
 pub returns : goal.returns
 returns c =
-    ballot_begun c.args.owner.now c.args.tables.now c.begin.new.self c.args.slot.now c.args.own
+    ballot_begun c.args.owner.now c.args.tables.now c.begin.new.self c.args.slot.now
     _ c.in_ok-ballot.ballot
     (c.in_ok-ballot.ensures.of c.args.owner.now) c.in_ok-ballot.ensures.begun _ _ refl
     (record {

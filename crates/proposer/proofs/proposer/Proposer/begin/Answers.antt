@@ -28,7 +28,6 @@ returns-in-Ok-clause-spent g c records volatile under stands none =
 pub returns-in-Ok-clause-begun : goal.returns-in-Ok-clause-begun
 returns-in-Ok-clause-begun g c records volatile under stands =
     begun_stands c.args.self.now.rows c.begin_ballot.new.self.rows c.args.slot.now c.in-Some.ballot
-    c.args.own
     records volatile under
     (subst (λ (r : BallotState). BeginsAt r c.args.self.now.rows c.begin_ballot.new.self.rows
     c.args.slot.now)

@@ -1,4 +1,4 @@
-use Rattle.world_law.specs.Networks.{Propose, Ask}
+use Rattle.world_law.specs.Networks.{Propose, Recover, Ask}
 use Rattle.world_law.specs.Trees.{tree_at}
 use Rattle.world_law.specs.Worlds.{on_call, on_deposit, event_at, at_member}
 use Rattle.sim_federation.proofs.Named.{to_member, to_nobody}
@@ -33,23 +33,38 @@ returns-in-None-place_of c =
     (λ w n. event_at w c.args.number n (Propose n c.in-Propose.slot c.args.fate))
     c.in-None-place_of.ensures c.skip-in-None-place_of.ensures)
 
-pub returns-in-Deliver : goal.returns-in-Deliver
-unfolding on_call
-returns-in-Deliver c = rw c.in-Deliver.is c.deliver.ensures
-
 pub returns-in-Some-place_of-2 : goal.returns-in-Some-place_of-2
 unfolding on_call
 returns-in-Some-place_of-2 c =
-    rw c.in-Ask.is (to_member c.ask_site.result c.args.self.now _ c.args.number c.in-Ask.site
-    (λ w n. at_member w c.args.number c.in-Ask.to (event_at w c.args.number n
-    (Ask n c.in-Ask.to c.in-Ask.slot c.args.fate))) c.in-Some-place_of-2.place
-    c.in-Some-place_of-2.ensures c.ask_site.ensures)
+    rw c.in-Recover.is (to_member c.recover.result c.args.self.now _ c.args.number c.in-Recover.site
+    (λ w n. event_at w c.args.number n (Recover n c.in-Recover.slot c.args.fate))
+    c.in-Some-place_of-2.place c.in-Some-place_of-2.ensures c.recover.ensures)
 
 pub returns-in-None-place_of-2 : goal.returns-in-None-place_of-2
 unfolding on_call
 returns-in-None-place_of-2 c =
-    rw c.in-Ask.is (to_nobody c.skip-in-None-place_of-2.result c.args.self.now _ c.args.number
+    rw c.in-Recover.is (to_nobody c.skip-in-None-place_of-2.result c.args.self.now _ c.args.number
+    c.in-Recover.site
+    (λ w n. event_at w c.args.number n (Recover n c.in-Recover.slot c.args.fate))
+    c.in-None-place_of-2.ensures c.skip-in-None-place_of-2.ensures)
+
+pub returns-in-Deliver : goal.returns-in-Deliver
+unfolding on_call
+returns-in-Deliver c = rw c.in-Deliver.is c.deliver.ensures
+
+pub returns-in-Some-place_of-3 : goal.returns-in-Some-place_of-3
+unfolding on_call
+returns-in-Some-place_of-3 c =
+    rw c.in-Ask.is (to_member c.ask_site.result c.args.self.now _ c.args.number c.in-Ask.site
+    (λ w n. at_member w c.args.number c.in-Ask.to (event_at w c.args.number n
+    (Ask n c.in-Ask.to c.in-Ask.slot c.args.fate))) c.in-Some-place_of-3.place
+    c.in-Some-place_of-3.ensures c.ask_site.ensures)
+
+pub returns-in-None-place_of-3 : goal.returns-in-None-place_of-3
+unfolding on_call
+returns-in-None-place_of-3 c =
+    rw c.in-Ask.is (to_nobody c.skip-in-None-place_of-3.result c.args.self.now _ c.args.number
     c.in-Ask.site
     (λ w n. at_member w c.args.number c.in-Ask.to (event_at w c.args.number n
-    (Ask n c.in-Ask.to c.in-Ask.slot c.args.fate))) c.in-None-place_of-2.ensures
-    c.skip-in-None-place_of-2.ensures)
+    (Ask n c.in-Ask.to c.in-Ask.slot c.args.fate))) c.in-None-place_of-3.ensures
+    c.skip-in-None-place_of-3.ensures)

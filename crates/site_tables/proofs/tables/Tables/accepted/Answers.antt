@@ -13,7 +13,5 @@ returns-clause-heard c = if_ok c.accepted.result c.accepted.ensures.heard
       proposer = heard_stands c.self.inside.proposer.rows
           (record { slot = c.args.slot.now; body = Accepted c.args.from c.args.vote })
           records volatile under refl (λ b. refl) was.proposer;
-      begun = was.begun;
-      current = was.current;
       learner = hears none records volatile.heard was.learner;
     })

@@ -1,9 +1,8 @@
-use Rattle.std.proofs.Common.{ℕ, Some, ap, subst, ◌∙◌}
+use Rattle.std.proofs.Common.{ℕ, ap, subst, ◌∙◌}
 use Rattle.fed_types.specs.Faults.{IsOrFault}
 use Rattle.proposer.specs.declared.fault.ProposeFault.TheVariants as proposals
 use Rattle.proposer.specs.Faults.{next_or_spent}
 use Rattle.proposer.specs.Proposals.{next_ballot}
-use Rattle.site_tables.proofs.Begun.{at_deposits}
 use Rattle.site_tables.proofs.Outcomes.{if_ok}
 use Rattle.site_tables.proofs.Inside.{is_inside, was_inside}
 use Rattle.site_tables.proofs.tables.Tables.begin.Goals as goal
@@ -26,12 +25,6 @@ returns-clause-spent c owner records volatile under of stands none =
 
 pub returns-clause-begun : goal.returns-clause-begun
 returns-clause-begun c = if_ok c.begin.result c.begin.ensures.begun
-    (λ ballot begins records volatile under stands own.
+    (λ ballot begins records volatile under stands.
     let was = was_inside c.self.view_is records volatile under stands in
-    record {
-      proposer = begins records volatile under was.proposer;
-      begun = at_deposits under.begun_bag c.args.slot.now (Some c.args.own) records was.begun
-          (λ bag e. own ∙ e);
-      current = was.current;
-      learner = was.learner;
-    })
+    record { proposer = begins records volatile under was.proposer; learner = was.learner })

@@ -7,8 +7,6 @@ returns-clause-heard c records volatile under stands =
     let was = was_inside c.self.view_is records volatile under stands in
     record {
       proposer = c.issued.ensures.heard records volatile under was.proposer;
-      begun = was.begun;
-      current = was.current;
       learner = learner_hears_waiting c.self.inside.learner.rows c.self.inside.proposer.rows
           records volatile under was.proposer was.learner c.args.slot.now;
     }

@@ -1,6 +1,5 @@
 use Rattle.std.proofs.Common.{[]}
 use Rattle.site_tables.specs.Contents.{deposits_of}
-use Rattle.site_tables.proofs.Begun.{no_deposits}
 use Rattle.site_tables.proofs.tables.Tables.new.Goals as goal
 
 pub returns-clause-of : goal.returns-clause-of
@@ -17,7 +16,5 @@ returns-clause-of c = record {
 pub returns-clause-stands : goal.returns-clause-stands
 returns-clause-stands c = record {
   proposer = c.new-3.ensures.stands;
-  begun = no_deposits [];
-  current = no_deposits [];
   learner = c.new-4.ensures.stands;
 }

@@ -11,8 +11,6 @@ returns-clause-heard c = on_ok c.refused.result c.refused.ensures.heard
     let was = was_inside c.self.view_is records volatile under stands in
     record {
       proposer = hears from asked records volatile under was.proposer;
-      begun = was.begun;
-      current = was.current;
       learner = learner_hears c.self.inside.learner.rows records volatile.heard was.learner
           (refusal_message c.args.slot.now from asked c.args.standing) (λ v. refl);
     })
