@@ -1,6 +1,6 @@
 -- How long a port waits. Waits are milliseconds, and moments are microseconds of its clock.
-use Rattle.std.specs.Prelude.{ℕ, ◌+◌, ◌-◌, ◌*◌, ◌==◌, ◌||◌, ◌&&◌, Bool, true, false, min, max}
-use Rattle.std.specs.Prelude.{if◌then◌else◌, List, Option, Some, None}
+use Rattle.std.specs.Prelude.{ℕ, ◌+◌, ◌-◌, ◌*◌, ◌/◌, ◌==◌, ◌||◌, ◌&&◌, Bool, true, false}
+use Rattle.std.specs.Prelude.{min, max, if◌then◌else◌, List, Option, Some, None}
 use Rattle.udp_site.specs.declared.contacts.Contacts.{Contacts}
 use Rattle.udp_site.specs.declared.waits.Waits.{Waits}
 use Rattle.udp_site.specs.declared.pace.Pace.{Pace}
@@ -8,7 +8,7 @@ use Rattle.udp_site.specs.declared.sign.Sign.{Sign}
 use Rattle.udp_site.specs.declared.sign.Sign.TheVariants as signs
 use Rattle.udp_site.specs.declared.sign.Signal.{Signal}
 use Rattle.udp_site.specs.Contacts.{is_connected, notes}
-use Rattle.udp_site.specs.Signs.{is_prepare, is_accept, is_pending}
+use Rattle.udp_site.specs.Signs.{is_prepare, is_accept, is_registered, is_pending}
 
 -- A port begins with its first wait, as after an idle turn and a proposal at the moment 0. That of
 -- a site has contacts, and that of a client has none.
@@ -41,22 +41,12 @@ idles pace now = record pace {
   asked = pace.asked - 1;
 }
 
--- the most turns that are prompt: nothing is taken in meanwhile
-abbrev pub most_prompt : ℕ
-most_prompt = 1000
-
--- Something comes. Where that moves something it waits for its first wait again; where a proposal
--- has got votes, or a bag is known, no proposal is under way any more; and where a bag is
--- deposited, the turns that a site needs to propose it are prompt, besides those that are still.
+-- Something comes. Where that moves something it waits for its first wait again; and where a
+-- proposal has got votes, or a bag is known, no proposal is under way any more.
 abbrev pub hears : Pace → Sign → Pace
 hears pace signs.Still = pace
 hears pace signs.Moves = record pace { wait = pace.waits.first }
 hears pace signs.Decides = record pace { wait = pace.waits.first; under_way = false }
-hears pace signs.Deposits = record pace {
-  wait = pace.waits.first;
-  prompt = min (pace.prompt + pace.waits.prompt) most_prompt;
-  due = pace.waits.prompt;
-}
 
 -- a site is heard
 abbrev pub meets : Option Contacts → (now site : ℕ) → Option Contacts
@@ -83,31 +73,51 @@ proposes pace = record pace {
   proposed_at = pace.idle_at;
 }
 
--- a client asks for a bag that is pending: the site should propose it
+-- the most turns that are prompt: nothing is taken in meanwhile
+abbrev pub most_prompt : ℕ
+most_prompt = 1000
+
+-- A deposit is registered. It waits for its first wait again, and the turns that a site needs to
+-- propose it are prompt, besides those that are still. A deposit that is there already is registered
+-- once more: it costs no more than one of a new version would.
+abbrev pub registers : Pace → Pace
+registers pace = record pace {
+  wait = pace.waits.first;
+  prompt = min (pace.prompt + pace.waits.prompt) most_prompt;
+  due = pace.waits.prompt;
+}
+
+-- a client asks for a bag that is pending: the site should propose
 abbrev pub is_asked : Pace → Pace
 is_asked pace = record pace { asked = pace.waits.prompt }
 
 -- A datagram is handed out. With the Prepare that it sends to itself the site proposes; with an
--- Accept its proposal has got the promises of a quorum, and something moves; with `pending` it
--- answers a question.
+-- Accept its proposal has got the promises of a quorum, and something moves; with `registered` it
+-- answers a deposit, and with `pending` a question.
 abbrev pub hands : Pace → (own to : ℕ) → List ℕ → Pace
 hands pace own to bytes =
     if is_prepare bytes && own == to
     then proposes pace
     else (if is_accept bytes
     then hears pace signs.Moves
-    else (if is_pending bytes then is_asked pace else pace))
+    else (if is_registered bytes
+    then registers pace
+    else (if is_pending bytes then is_asked pace else pace)))
 
 -- a quorum was heard lately: within ten seconds, or little longer
 abbrev pub hears_quorum : Option Contacts → (now : ℕ) → Bool
 hears_quorum None now = false
 hears_quorum (Some contacts) now = is_connected contacts now
 
--- while a quorum is heard it waits half a second at most, or its first wait
+-- The most that it waits while a quorum is heard: half a second, or its first wait. That is too
+-- short where disks are slow, and each proposal outbids the one before. So it grows with proposals
+-- that are in vain, as its wait does, of which it is a sixteenth.
+abbrev pub most_connected : Pace → ℕ
+most_connected pace = max (max pace.waits.first 500) (pace.wait / 16)
+
 abbrev pub wait_at : Pace → (now : ℕ) → ℕ
 wait_at pace now =
-    if hears_quorum pace.contacts now
-    then min pace.wait (max pace.waits.first 500) else pace.wait
+    if hears_quorum pace.contacts now then min pace.wait (most_connected pace) else pace.wait
 
 -- How long after an idle turn the next one comes, whatever else does: at once where it is prompt
 -- and no proposal is under way, which the site would outbid; else ten first waits, 250 ms at least,
@@ -118,16 +128,23 @@ between pace now =
     if pace.prompt == 0 || pace.under_way
     then max (wait_at pace now) (max (10 * pace.waits.first) 250) else 0
 
--- for how many microseconds no question makes a turn idle: one a second may bring a proposal
-abbrev pub second_left : Pace → (now : ℕ) → ℕ
-second_left pace now = 1000000 - (now - pace.proposed_at)
+-- How long after a proposal a question may bring the next: a second, or while a quorum is heard a
+-- sixteenth of its wait, where that is longer. Without a quorum it doesn't grow, so that one question
+-- is enough once the others are up again.
+abbrev pub question_pause : Pace → (now : ℕ) → ℕ
+question_pause pace now =
+    if hears_quorum pace.contacts now then max 1000 (pace.wait / 16) else 1000
+
+-- for how many microseconds no question makes a turn idle
+abbrev pub pause_left : Pace → (now : ℕ) → ℕ
+pause_left pace now = 1000 * question_pause pace now - (now - pace.proposed_at)
 
 -- for how many microseconds a turn waits still, whatever comes
 abbrev pub at_most : Pace → (now : ℕ) → ℕ
 at_most pace now =
     if pace.asked == 0
     then 1000 * between pace now - (now - pace.idle_at)
-    else min (1000 * between pace now - (now - pace.idle_at)) (second_left pace now)
+    else min (1000 * between pace now - (now - pace.idle_at)) (pause_left pace now)
 
 -- for how many microseconds a turn that began then waits still; with 0 it is idle
 abbrev pub left : Pace → (began now : ℕ) → ℕ

@@ -3,12 +3,12 @@ ghost use Rattle.std.specs.Prelude.{ℕ, false, Some};
 ghost use Rattle.dgram.specs.Decoded.{message_of};
 ghost use Rattle.udp_site.specs.declared.sign.Sign.{Sign};
 ghost use Rattle.udp_site.specs.Pace.{begins, longer, idles, hears, meets, listens, takes};
-ghost use Rattle.udp_site.specs.Pace.{proposes, hands, hears_quorum, wait_at, between, second_left};
-ghost use Rattle.udp_site.specs.Pace.{at_most, left};
+ghost use Rattle.udp_site.specs.Pace.{proposes, registers, hands, hears_quorum, most_connected};
+ghost use Rattle.udp_site.specs.Pace.{wait_at, between, question_pause, pause_left, at_most, left};
 ghost use Rattle.udp_site.specs.Signs.{signal_at};
 
 use crate::contacts::Contacts;
-use crate::sign::{Sign, Signal, is_accept, is_deposit, is_pending, is_prepare, is_vote};
+use crate::sign::{Sign, Signal, is_accept, is_pending, is_prepare, is_registered, is_vote};
 use crate::waits::Waits;
 use fed_types::SiteNo;
 
@@ -19,12 +19,15 @@ const FIRST_WAITS: u64 = 10;
 /// The least number of milliseconds between two such turns.
 const LEAST_BETWEEN: u64 = 250;
 
-/// The most milliseconds that a port waits while a quorum is heard, unless its first wait is
-/// longer.
+/// The most milliseconds that a port waits while a quorum is heard, unless its first wait or its
+/// share is longer.
 const MOST_CONNECTED: u32 = 500;
 
-/// The least number of microseconds between a proposal and one that a question brings.
-const SECOND: u64 = 1_000_000;
+/// The least number of milliseconds between a proposal and one that a question brings.
+const QUESTION_PAUSE: u32 = 1000;
+
+/// Which part of its wait counts while a quorum is heard, one of so many.
+const SHARES: u32 = 16;
 
 /// How many turns are prompt at most: nothing is taken in meanwhile.
 const MOST_PROMPT: u32 = 1000;
@@ -41,11 +44,12 @@ pub(crate) struct Pace {
     pub(crate) idle_at: u64,
     /// The site proposed, and neither votes nor a known bag have come since then.
     pub(crate) under_way: bool,
-    /// How many turns are idle at once where no proposal is under way, since Deposits came.
+    /// How many turns are idle at once where no proposal is under way, since deposits were
+    /// registered.
     pub(crate) prompt: u32,
     /// How many turns may be idle without a proposal before it is sure that there is none to make.
     pub(crate) due: u32,
-    /// How many turns are idle at once, a second after the last proposal, since a client asked for
+    /// How many turns are idle at once, some time after the last proposal, since a client asked for
     /// a bag that is pending.
     pub(crate) asked: u32,
     /// When the site proposed last.
@@ -95,7 +99,7 @@ impl Pace {
 
     /// Whether what came from this port may change anything. Of what a site says to itself a vote
     /// does. What others say does while a wait has grown, a proposal is under way, or too few sites
-    /// were heard; else only a Deposit does.
+    /// were heard.
     pub(crate) fn heeds(&self, now: u64, own: u16, from: u16, bytes: &[u8]) -> bool
         ensures { result ≡ false → (federation : ℕ)
             → takes self.now now (signal_at own from (message_of federation bytes.now))
@@ -107,10 +111,7 @@ impl Pace {
         if self.wait != self.waits.first || self.under_way {
             return true;
         }
-        if self.wants_contacts(now) {
-            return true;
-        }
-        is_deposit(bytes)
+        self.wants_contacts(now)
     }
 
     // Whether a site that is heard now is noted.
@@ -154,14 +155,6 @@ impl Pace {
                 self.wait = self.waits.first;
                 self.under_way = false;
             }
-            Sign::Deposits => {
-                self.wait = self.waits.first;
-                self.prompt = self
-                    .prompt
-                    .saturating_add(self.waits.prompt)
-                    .min(MOST_PROMPT);
-                self.due = self.waits.prompt;
-            }
         }
     }
 
@@ -173,9 +166,23 @@ impl Pace {
             self.proposes();
         } else if is_accept(bytes) {
             self.hears(Sign::Moves);
+        } else if is_registered(bytes) {
+            self.registers();
         } else if is_pending(bytes) {
             self.asked = self.waits.prompt;
         }
+    }
+
+    // A deposit is registered.
+    fn registers(&mut self)
+        ensures { self.new ≡ registers self.old }
+    {
+        self.wait = self.waits.first;
+        self.prompt = self
+            .prompt
+            .saturating_add(self.waits.prompt)
+            .min(MOST_PROMPT);
+        self.due = self.waits.prompt;
     }
 
     // The site proposes.
@@ -208,14 +215,25 @@ impl Pace {
         if self.asked == 0 {
             return fair;
         }
-        fair.min(self.second_left(now))
+        fair.min(self.pause_left(now))
     }
 
     // For how many microseconds no question makes a turn idle.
-    fn second_left(&self, now: u64) -> u64
-        ensures { result ≡ second_left self.now now }
+    fn pause_left(&self, now: u64) -> u64
+        ensures { result ≡ pause_left self.now now }
     {
-        SECOND.saturating_sub(now.saturating_sub(self.proposed_at))
+        let pause = MICROS * u64::from(self.question_pause(now));
+        pause.saturating_sub(now.saturating_sub(self.proposed_at))
+    }
+
+    // How many milliseconds after a proposal a question may bring the next.
+    fn question_pause(&self, now: u64) -> u32
+        ensures { result ≡ question_pause self.now now }
+    {
+        if self.hears_quorum(now) {
+            return QUESTION_PAUSE.max(self.wait / SHARES);
+        }
+        QUESTION_PAUSE
     }
 
     // The most milliseconds between two idle turns.
@@ -235,9 +253,17 @@ impl Pace {
         ensures { result ≡ wait_at self.now now }
     {
         if self.hears_quorum(now) {
-            return self.wait.min(self.waits.first.max(MOST_CONNECTED));
+            return self.wait.min(self.most_connected());
         }
         self.wait
+    }
+
+    // The most milliseconds that it waits while a quorum is heard.
+    fn most_connected(&self) -> u32
+        ensures { result ≡ most_connected self.now }
+    {
+        let longest = self.waits.first.max(MOST_CONNECTED);
+        longest.max(self.wait / SHARES)
     }
 
     // Whether a quorum was heard lately.

@@ -12,5 +12,4 @@ pub returns : goal.returns
 returns c = λ isnt federation.
     nothing_changes c.args.self.now c.args.now c.args.own c.args.from federation
     c.args.bytes.now (λ i. omega (arith, c.type_inv.bytes i)) c.if-self.false c.if-self-2.false
-    (c.wants_contacts.ensures c.if-wants_contacts.false) c.if-own-from.false
-    (sym c.is_deposit.ensures ∙ isnt)
+    (c.wants_contacts.ensures isnt) c.if-own-from.false
