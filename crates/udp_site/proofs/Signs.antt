@@ -1,5 +1,5 @@
--- What came changes no pace: what a site says to itself, where it can't be a vote; and what others
--- say, where the port has its first wait, no proposal is under way, and who says it is noted.
+-- What came while no proposal is under way changes no pace: what a site says to itself, where it
+-- can't be a vote; and what others say, where no wait has grown, and who says it is noted.
 use Rattle.std.proofs.Common.{◌≡◌, ℕ, ◌==◌, Bool, true, false, cond, List, refl, ap, sym, ◌∙◌}
 use Rattle.std.proofs.Common.{Option, Some, None, arith}
 use Rattle.std.proofs.lemmas.Bool.Decides.{nat_tests}
@@ -15,7 +15,7 @@ use Rattle.udp_site.specs.declared.contacts.Contacts.{Contacts}
 use Rattle.udp_site.specs.declared.pace.Pace.{Pace}
 use Rattle.udp_site.specs.declared.sign.Sign.TheVariants as signs
 use Rattle.udp_site.specs.declared.sign.Signal.{Signal}
-use Rattle.udp_site.specs.Pace.{hears, meets, listens, takes}
+use Rattle.udp_site.specs.Pace.{hears, meets, listens, answered, arrives, takes}
 use Rattle.udp_site.specs.Signs.{sign_by, own_signal_by, signal_by, signal_at, kind_byte, is_vote}
 
 -- a datagram has the byte of its message's kind
@@ -48,24 +48,30 @@ if_false : (pace : Pace) (now : ℕ) (t : Bool) (a b : Signal) → t ≡ false �
 if_false pace now false a b e same = same
 if_false pace now true a b e same = absurd (cc e)
 
-module _ (pace : Pace) (now own from federation : ℕ) (bytes : List ℕ) (are : IsBytes bytes) where
+module _ (pace : Pace) (now own from federation : ℕ) (bytes : List ℕ) (are : IsBytes bytes)
+    (rests : pace.under_way ≡ false) where
+  -- no answer is awaited
+  stays : (sender : Option ℕ) → arrives pace sender ≡ pace
+  stays sender =
+      ap (λ (b : Bool). cond b (record pace { contacts = answered pace.contacts sender }) pace) rests
+
   -- no body but that of a vote
   own_by_body : (b : Body) → (kind_of b == ACCEPTED) ≡ false → takes pace now (own_signal_by b) ≡ pace
-  own_by_body (bodies.Prepare ballot) isnt = refl
-  own_by_body (bodies.Promise from ballot prior) isnt = refl
-  own_by_body (bodies.Accept vote) isnt = refl
+  own_by_body (bodies.Prepare ballot) isnt = stays None
+  own_by_body (bodies.Promise from ballot prior) isnt = stays None
+  own_by_body (bodies.Accept vote) isnt = stays None
   own_by_body (bodies.Accepted from vote) isnt = absurd (cc isnt)
-  own_by_body (bodies.Refused from asked standing) isnt = refl
-  own_by_body (bodies.Ask from) isnt = refl
-  own_by_body (bodies.Known from bag) isnt = refl
-  own_by_body (bodies.Deposit path) isnt = refl
-  own_by_body bodies.Query isnt = refl
-  own_by_body (bodies.DepositReply from answer) isnt = refl
-  own_by_body (bodies.QueryReply from answer) isnt = refl
+  own_by_body (bodies.Refused from asked standing) isnt = stays None
+  own_by_body (bodies.Ask from) isnt = stays None
+  own_by_body (bodies.Known from bag) isnt = stays None
+  own_by_body (bodies.Deposit path) isnt = stays None
+  own_by_body bodies.Query isnt = stays None
+  own_by_body (bodies.DepositReply from answer) isnt = stays None
+  own_by_body (bodies.QueryReply from answer) isnt = stays None
 
   own_in_message : (own == from) ≡ true → is_vote bytes ≡ false → (o : Option Message)
       → message_of federation bytes ≡ o → takes pace now (signal_at own from o) ≡ pace
-  own_in_message is_own isnt None e = refl
+  own_in_message is_own isnt None e = stays None
   own_in_message is_own isnt (Some m) e =
       if_true pace now (own == from) (own_signal_by m.body) (signal_by m.body) is_own
       (own_by_body m.body (isnt_kind ACCEPTED federation bytes m are e isnt))
@@ -75,13 +81,14 @@ module _ (pace : Pace) (now own from federation : ℕ) (bytes : List ℕ) (are :
   own_changes_nothing is_own isnt =
       own_in_message (is_same own from is_own) isnt (message_of federation bytes) refl
 
-  module _ (first : pace.wait ≡ pace.waits.first) (rests : pace.under_way ≡ false)
+  module _ (first : pace.wait ≡ pace.waits.first) (early : pace.answer_wait ≡ pace.waits.first)
       (noted : (site : ℕ) → meets pace.contacts now site ≡ pace.contacts) where
     moves : hears pace signs.Moves ≡ pace
-    moves = ap (λ (n : ℕ). record pace { wait = n }) (sym first)
+    moves = ap (λ (n : ℕ). record pace { wait = n; answer_wait = pace.waits.first }) (sym first)
+        ∙ ap (λ (n : ℕ). record pace { answer_wait = n }) (sym early)
 
     decides : hears pace signs.Decides ≡ pace
-    decides = ap (λ (n : ℕ). record pace { wait = n; under_way = false }) (sym first)
+    decides = ap (λ (p : Pace). record p { under_way = false }) moves
         ∙ ap (λ (b : Bool). record pace { under_way = b }) (sym rests)
 
     -- no body does
@@ -105,11 +112,13 @@ module _ (pace : Pace) (now own from federation : ℕ) (bytes : List ℕ) (are :
         ap (λ (contacts : Option Contacts). record pace { contacts = contacts }) (noted site)
 
     by_signal : (b : Body) → takes pace now (signal_by b) ≡ pace
-    by_signal b = ap (λ (p : Pace). hears p (sign_by b)) (by_sender (body_from b)) ∙ by_body b
+    by_signal b =
+        ap (λ (p : Pace). hears (listens p now (body_from b)) (sign_by b)) (stays (body_from b))
+        ∙ ap (λ (p : Pace). hears p (sign_by b)) (by_sender (body_from b)) ∙ by_body b
 
     in_message : (own == from) ≡ false → (o : Option Message)
         → takes pace now (signal_at own from o) ≡ pace
-    in_message is_own None = refl
+    in_message is_own None = stays None
     in_message is_own (Some m) =
         if_false pace now (own == from) (own_signal_by m.body) (signal_by m.body) is_own
         (by_signal m.body)

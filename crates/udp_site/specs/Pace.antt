@@ -1,5 +1,5 @@
 -- How long a port waits. Waits are milliseconds, and moments are microseconds of its clock.
-use Rattle.std.specs.Prelude.{ℕ, ◌+◌, ◌-◌, ◌*◌, ◌/◌, ◌==◌, ◌||◌, ◌&&◌, Bool, true, false}
+use Rattle.std.specs.Prelude.{ℕ, ◌+◌, ◌-◌, ◌*◌, ◌==◌, ◌||◌, ◌&&◌, Bool, true, false}
 use Rattle.std.specs.Prelude.{min, max, if◌then◌else◌, List, Option, Some, None}
 use Rattle.udp_site.specs.declared.contacts.Contacts.{Contacts}
 use Rattle.udp_site.specs.declared.waits.Waits.{Waits}
@@ -7,7 +7,7 @@ use Rattle.udp_site.specs.declared.pace.Pace.{Pace}
 use Rattle.udp_site.specs.declared.sign.Sign.{Sign}
 use Rattle.udp_site.specs.declared.sign.Sign.TheVariants as signs
 use Rattle.udp_site.specs.declared.sign.Signal.{Signal}
-use Rattle.udp_site.specs.Contacts.{is_connected, notes}
+use Rattle.udp_site.specs.Contacts.{is_connected, notes, notes_answer, awaits, is_late}
 use Rattle.udp_site.specs.Signs.{is_prepare, is_accept, is_registered, is_pending}
 
 -- A port begins with its first wait, as after an idle turn and a proposal at the moment 0. That of
@@ -16,6 +16,7 @@ abbrev pub begins : Waits → Option Contacts → Pace
 begins waits contacts = record {
   waits = waits;
   wait = waits.first;
+  answer_wait = waits.first;
   idle_at = 0;
   under_way = false;
   prompt = 0;
@@ -26,15 +27,15 @@ begins waits contacts = record {
 }
 
 -- twice as long, up to the most that it may wait
-abbrev pub longer : Pace → ℕ
-longer pace = min (2 * pace.wait) (max pace.waits.first pace.waits.most)
+abbrev pub longer : Pace → (wait : ℕ) → ℕ
+longer pace wait = min (2 * wait) (max pace.waits.first pace.waits.most)
 
 -- Nothing came. The wait stays as it is, as long as the site may have something to propose, which
 -- it does once in as many idle turns as its number is. Where as many came without a proposal it has
 -- nothing, and rests: it waits twice as long after each.
 abbrev pub idles : Pace → (now : ℕ) → Pace
 idles pace now = record pace {
-  wait = if pace.due == 0 then longer pace else pace.wait;
+  wait = if pace.due == 0 then longer pace pace.wait else pace.wait;
   idle_at = now;
   prompt = pace.prompt - 1;
   due = pace.due - 1;
@@ -45,8 +46,15 @@ idles pace now = record pace {
 -- proposal has got votes, or a bag is known, no proposal is under way any more.
 abbrev pub hears : Pace → Sign → Pace
 hears pace signs.Still = pace
-hears pace signs.Moves = record pace { wait = pace.waits.first }
-hears pace signs.Decides = record pace { wait = pace.waits.first; under_way = false }
+hears pace signs.Moves = record pace {
+  wait = pace.waits.first;
+  answer_wait = pace.waits.first;
+}
+hears pace signs.Decides = record pace {
+  wait = pace.waits.first;
+  answer_wait = pace.waits.first;
+  under_way = false;
+}
 
 -- a site is heard
 abbrev pub meets : Option Contacts → (now site : ℕ) → Option Contacts
@@ -58,28 +66,54 @@ abbrev pub listens : Pace → (now : ℕ) → Option ℕ → Pace
 listens pace now None = pace
 listens pace now (Some site) = record pace { contacts = meets pace.contacts now site }
 
+-- something comes, which may answer a proposal that is under way
+abbrev pub answered : Option Contacts → (sender : Option ℕ) → Option Contacts
+answered None sender = None
+answered (Some contacts) sender = Some (notes_answer contacts sender)
+
+abbrev pub arrives : Pace → (sender : Option ℕ) → Pace
+arrives pace sender =
+    if pace.under_way then record pace { contacts = answered pace.contacts sender } else pace
+
 -- something comes, which a site may have said
 abbrev pub takes : Pace → (now : ℕ) → Signal → Pace
-takes pace now signal = hears (listens pace now signal.sender) signal.sign
+takes pace now signal =
+    hears (listens (arrives pace signal.sender) now signal.sender) signal.sign
 
--- The site proposes, in its last idle turn. After each proposal it waits twice as long; one is
--- under way now, and no question is open.
+-- Answers to a proposal that is under way are late: disks are slow, and a proposal that comes as
+-- soon as the last one outbids it.
+abbrev pub answers_late : Pace → Bool
+answers_late pace = pace.under_way && elim pace.contacts [
+  | None ↦ false
+  | Some contacts ↦ is_late contacts
+]
+
+-- a site that proposes awaits answers
+abbrev pub awaiting : Option Contacts → Option Contacts
+awaiting None = None
+awaiting (Some contacts) = Some (awaits contacts)
+
+-- The site proposes, in its last idle turn. After each proposal it waits twice as long, and so it
+-- does for answers where those to the last one were late; one is under way now, and no question is
+-- open.
 abbrev pub proposes : Pace → Pace
 proposes pace = record pace {
-  wait = longer pace;
+  wait = longer pace pace.wait;
+  answer_wait = if answers_late pace then longer pace pace.answer_wait else pace.answer_wait;
   under_way = true;
   due = pace.waits.prompt;
   asked = 0;
   proposed_at = pace.idle_at;
+  contacts = awaiting pace.contacts;
 }
 
 -- the most turns that are prompt: nothing is taken in meanwhile
 abbrev pub most_prompt : ℕ
 most_prompt = 1000
 
--- A deposit is registered. It waits for its first wait again, and the turns that a site needs to
--- propose it are prompt, besides those that are still. A deposit that is there already is registered
--- once more: it costs no more than one of a new version would.
+-- A deposit is registered. It waits for its first wait again, though answers may be late as before;
+-- and the turns that a site needs to propose it are prompt, besides those that are still. A deposit
+-- that is there already is registered once more: it costs no more than one of a new version would.
 abbrev pub registers : Pace → Pace
 registers pace = record pace {
   wait = pace.waits.first;
@@ -109,15 +143,12 @@ abbrev pub hears_quorum : Option Contacts → (now : ℕ) → Bool
 hears_quorum None now = false
 hears_quorum (Some contacts) now = is_connected contacts now
 
--- The most that it waits while a quorum is heard: half a second, or its first wait. That is too
--- short where disks are slow, and each proposal outbids the one before. So it grows with proposals
--- that are in vain, as its wait does, of which it is a sixteenth.
-abbrev pub most_connected : Pace → ℕ
-most_connected pace = max (max pace.waits.first 500) (pace.wait / 16)
-
+-- While a quorum is heard it waits for half a second at most, or its first wait; but as long as
+-- answers take that are late.
 abbrev pub wait_at : Pace → (now : ℕ) → ℕ
 wait_at pace now =
-    if hears_quorum pace.contacts now then min pace.wait (most_connected pace) else pace.wait
+    if hears_quorum pace.contacts now
+    then max pace.answer_wait (min pace.wait (max pace.waits.first 500)) else pace.wait
 
 -- How long after an idle turn the next one comes, whatever else does: at once where it is prompt
 -- and no proposal is under way, which the site would outbid; else ten first waits, 250 ms at least,
@@ -128,16 +159,10 @@ between pace now =
     if pace.prompt == 0 || pace.under_way
     then max (wait_at pace now) (max (10 * pace.waits.first) 250) else 0
 
--- How long after a proposal a question may bring the next: a second, or while a quorum is heard a
--- sixteenth of its wait, where that is longer. Without a quorum it doesn't grow, so that one question
--- is enough once the others are up again.
-abbrev pub question_pause : Pace → (now : ℕ) → ℕ
-question_pause pace now =
-    if hears_quorum pace.contacts now then max 1000 (pace.wait / 16) else 1000
-
--- for how many microseconds no question makes a turn idle
+-- for how many microseconds no question makes a turn idle: one a second may bring a proposal, or
+-- fewer where answers are late
 abbrev pub pause_left : Pace → (now : ℕ) → ℕ
-pause_left pace now = 1000 * question_pause pace now - (now - pace.proposed_at)
+pause_left pace now = 1000 * max 1000 pace.answer_wait - (now - pace.proposed_at)
 
 -- for how many microseconds a turn waits still, whatever comes
 abbrev pub at_most : Pace → (now : ℕ) → ℕ

@@ -2,9 +2,10 @@ ghost use Rattle.std.specs.Prelude.{◌≡◌, ◌≤◌, ◌*◌};
 ghost use Rattle.std.specs.Prelude.{ℕ, false, Some};
 ghost use Rattle.dgram.specs.Decoded.{message_of};
 ghost use Rattle.udp_site.specs.declared.sign.Sign.{Sign};
-ghost use Rattle.udp_site.specs.Pace.{begins, longer, idles, hears, meets, listens, takes};
-ghost use Rattle.udp_site.specs.Pace.{proposes, registers, hands, hears_quorum, most_connected};
-ghost use Rattle.udp_site.specs.Pace.{wait_at, between, question_pause, pause_left, at_most, left};
+ghost use Rattle.udp_site.specs.declared.sign.Sign.TheVariants.{Moves};
+ghost use Rattle.udp_site.specs.Pace.{begins, longer, idles, hears, meets, listens, arrives, takes};
+ghost use Rattle.udp_site.specs.Pace.{answers_late, proposes, registers, hands, hears_quorum};
+ghost use Rattle.udp_site.specs.Pace.{wait_at, between, pause_left, at_most, left};
 ghost use Rattle.udp_site.specs.Signs.{signal_at};
 
 use crate::contacts::Contacts;
@@ -19,15 +20,12 @@ const FIRST_WAITS: u64 = 10;
 /// The least number of milliseconds between two such turns.
 const LEAST_BETWEEN: u64 = 250;
 
-/// The most milliseconds that a port waits while a quorum is heard, unless its first wait or its
-/// share is longer.
+/// The most milliseconds that a port waits while a quorum is heard, unless its first wait is longer
+/// or answers are late.
 const MOST_CONNECTED: u32 = 500;
 
 /// The least number of milliseconds between a proposal and one that a question brings.
-const QUESTION_PAUSE: u32 = 1000;
-
-/// Which part of its wait counts while a quorum is heard, one of so many.
-const SHARES: u32 = 16;
+const SECOND: u32 = 1000;
 
 /// How many turns are prompt at most: nothing is taken in meanwhile.
 const MOST_PROMPT: u32 = 1000;
@@ -40,6 +38,8 @@ pub(crate) struct Pace {
     pub(crate) waits: Waits,
     /// How long it waits, unless a quorum is heard.
     pub(crate) wait: u32,
+    /// How long it waits for answers: twice as long after each proposal whose answers were late.
+    pub(crate) answer_wait: u32,
     /// When the wait of its last turn that was idle ended.
     pub(crate) idle_at: u64,
     /// The site proposed, and neither votes nor a known bag have come since then.
@@ -49,7 +49,7 @@ pub(crate) struct Pace {
     pub(crate) prompt: u32,
     /// How many turns may be idle without a proposal before it is sure that there is none to make.
     pub(crate) due: u32,
-    /// How many turns are idle at once, some time after the last proposal, since a client asked for
+    /// How many turns are idle at once, a second after the last proposal, since a client asked for
     /// a bag that is pending.
     pub(crate) asked: u32,
     /// When the site proposed last.
@@ -66,6 +66,7 @@ impl Pace {
         Pace {
             waits,
             wait: waits.first,
+            answer_wait: waits.first,
             idle_at: 0,
             under_way: false,
             prompt: 0,
@@ -81,7 +82,7 @@ impl Pace {
         ensures { self.new ≡ idles self.old now }
     {
         if self.due == 0 {
-            self.wait = self.longer();
+            self.wait = self.longer(self.wait);
         }
         self.idle_at = now;
         self.prompt = self.prompt.saturating_sub(1);
@@ -89,26 +90,29 @@ impl Pace {
         self.asked = self.asked.saturating_sub(1);
     }
 
-    // Twice its wait, up to the longest one.
-    fn longer(&self) -> u32
-        ensures { result ≡ longer self.now }
+    // Twice this wait, up to the longest one.
+    fn longer(&self, wait: u32) -> u32
+        ensures { result ≡ longer self.now wait }
     {
         let most = self.waits.most.max(self.waits.first);
-        self.wait.saturating_mul(2).min(most)
+        wait.saturating_mul(2).min(most)
     }
 
-    /// Whether what came from this port may change anything. Of what a site says to itself a vote
-    /// does. What others say does while a wait has grown, a proposal is under way, or too few sites
-    /// were heard.
+    /// Whether what came from this port may change anything. All does while a proposal is under way.
+    /// Of what a site says to itself a vote does. What others say does while a wait has grown, or too
+    /// few sites were heard.
     pub(crate) fn heeds(&self, now: u64, own: u16, from: u16, bytes: &[u8]) -> bool
         ensures { result ≡ false → (federation : ℕ)
             → takes self.now now (signal_at own from (message_of federation bytes.now))
             ≡ self.now }
     {
+        if self.under_way {
+            return true;
+        }
         if own == from {
             return is_vote(bytes);
         }
-        if self.wait != self.waits.first || self.under_way {
+        if self.wait != self.waits.first || self.answer_wait != self.waits.first {
             return true;
         }
         self.wants_contacts(now)
@@ -129,10 +133,23 @@ impl Pace {
     pub(crate) fn takes(&mut self, now: u64, signal: Signal)
         ensures { self.new ≡ takes self.old now signal }
     {
+        self.arrives(signal.sender);
         if let Some(site) = signal.sender {
             self.meets(now, site);
         }
         self.hears(signal.sign);
+    }
+
+    // Something comes, which may answer a proposal that is under way.
+    fn arrives(&mut self, sender: Option<SiteNo>)
+        ensures { self.new ≡ arrives self.old sender }
+    {
+        if !self.under_way {
+            return;
+        }
+        if let Some(contacts) = &mut self.contacts {
+            contacts.notes_answer(sender);
+        }
     }
 
     // A site is heard.
@@ -150,12 +167,20 @@ impl Pace {
     {
         match sign {
             Sign::Still => {}
-            Sign::Moves => self.wait = self.waits.first,
+            Sign::Moves => self.moves(),
             Sign::Decides => {
-                self.wait = self.waits.first;
+                self.moves();
                 self.under_way = false;
             }
         }
+    }
+
+    // Something moves.
+    fn moves(&mut self)
+        ensures { self.new ≡ hears self.old Moves }
+    {
+        self.wait = self.waits.first;
+        self.answer_wait = self.waits.first;
     }
 
     /// A datagram is handed out for a port.
@@ -165,7 +190,7 @@ impl Pace {
         if is_prepare(bytes) && own == to {
             self.proposes();
         } else if is_accept(bytes) {
-            self.hears(Sign::Moves);
+            self.moves();
         } else if is_registered(bytes) {
             self.registers();
         } else if is_pending(bytes) {
@@ -189,11 +214,27 @@ impl Pace {
     fn proposes(&mut self)
         ensures { self.new ≡ proposes self.old }
     {
-        self.wait = self.longer();
+        if self.answers_late() {
+            self.answer_wait = self.longer(self.answer_wait);
+        }
+        self.wait = self.longer(self.wait);
         self.under_way = true;
         self.due = self.waits.prompt;
         self.asked = 0;
         self.proposed_at = self.idle_at;
+        if let Some(contacts) = &mut self.contacts {
+            contacts.awaits();
+        }
+    }
+
+    // Whether answers to a proposal that is under way are late.
+    fn answers_late(&self) -> bool
+        ensures { result ≡ answers_late self.now }
+    {
+        match &self.contacts {
+            Some(contacts) => self.under_way && contacts.is_late(),
+            None => false,
+        }
     }
 
     /// For how many microseconds a turn that began then waits still. With 0 it is idle.
@@ -222,18 +263,8 @@ impl Pace {
     fn pause_left(&self, now: u64) -> u64
         ensures { result ≡ pause_left self.now now }
     {
-        let pause = MICROS * u64::from(self.question_pause(now));
+        let pause = MICROS * u64::from(SECOND.max(self.answer_wait));
         pause.saturating_sub(now.saturating_sub(self.proposed_at))
-    }
-
-    // How many milliseconds after a proposal a question may bring the next.
-    fn question_pause(&self, now: u64) -> u32
-        ensures { result ≡ question_pause self.now now }
-    {
-        if self.hears_quorum(now) {
-            return QUESTION_PAUSE.max(self.wait / SHARES);
-        }
-        QUESTION_PAUSE
     }
 
     // The most milliseconds between two idle turns.
@@ -253,17 +284,10 @@ impl Pace {
         ensures { result ≡ wait_at self.now now }
     {
         if self.hears_quorum(now) {
-            return self.wait.min(self.most_connected());
+            let most = self.waits.first.max(MOST_CONNECTED);
+            return self.wait.min(most).max(self.answer_wait);
         }
         self.wait
-    }
-
-    // The most milliseconds that it waits while a quorum is heard.
-    fn most_connected(&self) -> u32
-        ensures { result ≡ most_connected self.now }
-    {
-        let longest = self.waits.first.max(MOST_CONNECTED);
-        longest.max(self.wait / SHARES)
     }
 
     // Whether a quorum was heard lately.
