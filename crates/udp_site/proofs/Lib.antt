@@ -18,5 +18,7 @@ pub mod TurnEnds
 pub mod Questions
 pub mod Queried
 pub mod Examples
+pub mod ContactExamples
+pub mod RoundExamples
 pub mod SignExamples
 pub mod Signs
