@@ -4,9 +4,9 @@ use Rattle.fed_types.specs.Lists.{is_in}
 use Rattle.fed_types.specs.Sites.{membership_of, sites_to}
 use Rattle.fed_types.specs.Voters.{with_voter}
 use Rattle.udp_site.specs.declared.pace.Pace.{Pace}
-use Rattle.udp_site.specs.declared.sign.Sign.TheVariants.{Still, Moves, Decides, Deposits}
+use Rattle.udp_site.specs.declared.sign.Sign.TheVariants.{Still, Moves, Decides}
 use Rattle.udp_site.specs.Contacts.{nobody_heard}
-use Rattle.udp_site.specs.Pace.{begins, idles, hears, listens, hands, wait_at, left}
+use Rattle.udp_site.specs.Pace.{begins, idles, hears, registers, listens, hands, wait_at, left}
 
 abbrev fresh : Pace
 fresh = begins (record { first = 1; most = 8; prompt = 2 }) None
@@ -18,7 +18,7 @@ own = 7002
 abbrev other : ℕ
 other = 7001
 
--- the beginnings of datagrams, of a Prepare, of an Accept, and of replies to queries
+-- the beginnings of datagrams, of a Prepare, of an Accept, and of replies to clients
 abbrev start : (kind : ℕ) → List ℕ
 start kind = 0x42 ∷ 0x50 ∷ 2 ∷ kind ∷ []
 
@@ -28,10 +28,16 @@ prepare = start 1
 abbrev accept : List ℕ
 accept = start 3
 
--- of federation 7, from site 2, for version 1 of the object `a`
-abbrev reply : ℕ → List ℕ
-reply code = 0x42 ∷ 0x50 ∷ 2 ∷ 33 ∷ 0 ∷ 0 ∷ 0 ∷ 0 ∷ 0 ∷ 0 ∷ 0 ∷ 7 ∷ 2 ∷ 1 ∷ 0x61
+-- of federation 7, from site 2, for version 1 of the object `a`: to a deposit, and to a query
+abbrev says : (kind code : ℕ) → List ℕ
+says kind code = 0x42 ∷ 0x50 ∷ 2 ∷ kind ∷ 0 ∷ 0 ∷ 0 ∷ 0 ∷ 0 ∷ 0 ∷ 0 ∷ 7 ∷ 2 ∷ 1 ∷ 0x61
     ∷ 0 ∷ 0 ∷ 0 ∷ 1 ∷ code ∷ []
+
+abbrev deposit_reply : (code : ℕ) → List ℕ
+deposit_reply code = says 32 code
+
+abbrev reply : (code : ℕ) → List ℕ
+reply code = says 33 code
 
 -- the wait stays as it is in the two turns that site 2 needs to propose
 pub first_wait : left fresh 0 0 ≡ 1000
@@ -99,9 +105,19 @@ after_the_next_proposal = refl
 pub promised : left (hands proposed own other accept) 2000 2000 ≡ 1000
 promised = refl
 
--- a deposit brings back the first wait, and two turns are idle at once, as site 2 needs; no third
+-- a deposit that is registered brings back the first wait, and two turns are idle at once, as site
+-- 2 needs; no third
 abbrev deposited : Pace
-deposited = hears rested Deposits
+deposited = registers rested
+
+pub by_the_reply : hands rested own 40000 (deposit_reply 0) ≡ deposited
+by_the_reply = refl
+
+-- one that is refused changes nothing: another was deposited (11) or is known (12), the site can't
+-- take it (13 to 15), the folder can't be read (21 to 26), or has no valid bag (41 to 54)
+pub refused_is_nothing : map (λ code. hands rested own 40000 (deposit_reply code))
+    (11 ∷ 12 ∷ 13 ∷ 14 ∷ 15 ∷ 21 ∷ 26 ∷ 41 ∷ 54 ∷ []) ≡ replicate 9 rested
+refused_is_nothing = refl
 
 pub deposit_is_proposed : left deposited 9100 9100 ≡ 0
 deposit_is_proposed = refl
@@ -113,11 +129,11 @@ pub and_no_third : left (idles (idles deposited 9100) 9200) 9200 9200 ≡ 1000
 and_no_third = refl
 
 -- another deposit makes two more
-pub two_deposits : left (idles (idles (hears deposited Deposits) 9100) 9100) 9100 9100 ≡ 0
+pub two_deposits : left (idles (idles (registers deposited) 9100) 9100) 9100 9100 ≡ 0
 two_deposits = refl
 
 -- nor are there more than a thousand, in which nothing is taken in
-pub thousand_and_no_more : (hears (record deposited { prompt = 999 }) Deposits).prompt ≡ 1000
+pub thousand_and_no_more : (registers (record deposited { prompt = 999 })).prompt ≡ 1000
 thousand_and_no_more = refl
 
 -- after it the wait doesn't grow for two turns, and then it does
@@ -168,7 +184,7 @@ promises_end_no_proposal = refl
 pub an_accept_ends_no_proposal : left (hears proposed_at_once Moves) 9000 9000 ≡ 1000
 an_accept_ends_no_proposal = refl
 
-pub a_deposit_ends_no_proposal : left (hears proposed_at_once Deposits) 9000 9000 ≡ 1000
+pub a_deposit_ends_no_proposal : left (registers proposed_at_once) 9000 9000 ≡ 1000
 a_deposit_ends_no_proposal = refl
 
 -- votes: no proposal is under way any more, and the turns that are left are prompt
@@ -177,7 +193,7 @@ voted = refl
 
 -- what a site hands out beside these says nothing: promises, votes, refusals, questions, known bags
 pub handed_out_is_nothing : map (λ kind. hands proposed_at_once own other (start kind))
-    (2 ∷ 4 ∷ 5 ∷ 6 ∷ 7 ∷ 16 ∷ 17 ∷ 32 ∷ []) ≡ replicate 8 proposed_at_once
+    (2 ∷ 4 ∷ 5 ∷ 6 ∷ 7 ∷ 16 ∷ 17 ∷ []) ≡ replicate 7 proposed_at_once
 handed_out_is_nothing = refl
 
 -- A site that has proposed at the moment 0, and waits for a minute.

@@ -19,6 +19,7 @@ pub mod Questions
 pub mod Queried
 pub mod Examples
 pub mod ContactExamples
+pub mod LateExamples
 pub mod RoundExamples
 pub mod SignExamples
 pub mod Signs

@@ -13,13 +13,13 @@ use Rattle.dgram.specs.declared.body.Body.TheVariants.{Ask, Known, Deposit, Quer
 use Rattle.dgram.specs.declared.body.Body.TheVariants.{QueryReply}
 use Rattle.site.specs.declared.answer.Reply.TheVariants as replies
 use Rattle.site.specs.declared.fault.SiteFault.{SiteFault}
-use Rattle.udp_site.specs.declared.sign.Sign.TheVariants.{Still, Moves, Decides, Deposits}
+use Rattle.udp_site.specs.declared.sign.Sign.TheVariants.{Still, Moves, Decides}
 use Rattle.udp_site.specs.declared.sign.Signal.{Signal}
 use Rattle.udp_site.specs.Signs.{sign_by, own_sign_by, signal_at}
 use Rattle.udp_site.specs.Turns.{Serving, asked, others}
 
 module _ (site : ℕ) (ballot standing : Ballot) (vote : Vote) (bag : BagId) where
-  -- What moves something: a proposal has its promises, or votes; a bag is known, or deposited.
+  -- What moves something: a proposal has its promises, or votes, or a bag is known.
   pub accept_moves : sign_by (Accept vote) ≡ Moves
   accept_moves = refl
 
@@ -28,9 +28,6 @@ module _ (site : ℕ) (ballot standing : Ballot) (vote : Vote) (bag : BagId) whe
 
   pub known_decides : sign_by (Known site bag) ≡ Decides
   known_decides = refl
-
-  pub deposit_deposits : (path : List ℕ) → sign_by (Deposit path) ≡ Deposits
-  deposit_deposits path = refl
 
   -- What moves nothing: a site without a majority would else write records as fast as others ask.
   pub prepare_is_still : sign_by (Prepare ballot) ≡ Still
@@ -53,6 +50,10 @@ module _ (site : ℕ) (ballot standing : Ballot) (vote : Vote) (bag : BagId) whe
 
   pub query_reply_is_still : (answer : QueryAnswer) → sign_by (QueryReply site answer) ≡ Still
   query_reply_is_still answer = refl
+
+  -- Nor does a deposit, before it is registered: the site may refuse it.
+  pub deposit_is_still : (path : List ℕ) → sign_by (Deposit path) ≡ Still
+  deposit_is_still path = refl
 
   -- What is no message of the federation moves nothing, and nobody is heard.
   pub noise_is_still : (own from : ℕ) → (signal_at own from None).sign ≡ Still
@@ -110,7 +111,7 @@ module _ (site : ℕ) (ballot standing : Ballot) (vote : Vote) (bag : BagId) whe
     asking_client_is_nobody = refl
 
     pub depositing_client_is_nobody : (path : List ℕ) → at 40000 (Deposit path)
-        ≡ record { sign = Deposits; sender = None }
+        ≡ record { sign = Still; sender = None }
     depositing_client_is_nobody path = refl
 
     pub itself_is_nobody : at 7002 (Accepted 2 (own_vote 3)) ≡ record { sign = Still; sender = None }

@@ -98,8 +98,8 @@ impl Pace {
         wait.saturating_mul(2).min(most)
     }
 
-    /// Whether what came from this port may change anything. All does while a proposal is under way.
-    /// Of what a site says to itself a vote does. What others say does while a wait has grown, or too
+    /// Whether what came from this port may change anything. While a proposal is under way all may.
+    /// Of what a site says to itself a vote may; what others say may while a wait has grown, or too
     /// few sites were heard.
     pub(crate) fn heeds(&self, now: u64, own: u16, from: u16, bytes: &[u8]) -> bool
         ensures { result ≡ false → (federation : ℕ)
