@@ -117,11 +117,15 @@ pub nobody_is_heard : wait_at five 30000000 ≡ 3200
 unfolding with_voter sites_to is_in
 nobody_is_heard = refl
 
--- What moves something brings back the first wait for answers too, and a proposal after it isn't
--- one whose answers were late; but a deposit says nothing of how long they take.
-pub promised : (hands five 7002 7001 (0x42 ∷ 0x50 ∷ 2 ∷ 3 ∷ [])).answer_wait ≡ 100
+-- Promises of a quorum and a deposit bring back the first wait, but it waits for answers as before:
+-- for votes, too. These bring back the first wait for answers, and are none that were late.
+pub promised : wait_at (hands five 7002 7001 (0x42 ∷ 0x50 ∷ 2 ∷ 3 ∷ [])) 9000000 ≡ 1600
 unfolding with_voter sites_to is_in
 promised = refl
+
+pub voted : wait_at (hears five Decides) 9000000 ≡ 100
+unfolding with_voter sites_to is_in
+voted = refl
 
 pub voted_and_proposes : (proposes (hears five Decides)).answer_wait ≡ 100
 unfolding with_voter sites_to is_in

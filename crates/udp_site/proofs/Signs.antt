@@ -84,11 +84,11 @@ module _ (pace : Pace) (now own from federation : ℕ) (bytes : List ℕ) (are :
   module _ (first : pace.wait ≡ pace.waits.first) (early : pace.answer_wait ≡ pace.waits.first)
       (noted : (site : ℕ) → meets pace.contacts now site ≡ pace.contacts) where
     moves : hears pace signs.Moves ≡ pace
-    moves = ap (λ (n : ℕ). record pace { wait = n; answer_wait = pace.waits.first }) (sym first)
-        ∙ ap (λ (n : ℕ). record pace { answer_wait = n }) (sym early)
+    moves = ap (λ (n : ℕ). record pace { wait = n }) (sym first)
 
     decides : hears pace signs.Decides ≡ pace
-    decides = ap (λ (p : Pace). record p { under_way = false }) moves
+    decides = ap (λ (p : Pace). record p { answer_wait = pace.waits.first; under_way = false }) moves
+        ∙ ap (λ (n : ℕ). record pace { answer_wait = n; under_way = false }) (sym early)
         ∙ ap (λ (b : Bool). record pace { under_way = b }) (sym rests)
 
     -- no body does

@@ -43,13 +43,10 @@ idles pace now = record pace {
 }
 
 -- Something comes. Where that moves something it waits for its first wait again; and where a
--- proposal has got votes, or a bag is known, no proposal is under way any more.
+-- proposal has got votes, or a bag is known, no proposal is under way any more, and answers came.
 abbrev pub hears : Pace → Sign → Pace
 hears pace signs.Still = pace
-hears pace signs.Moves = record pace {
-  wait = pace.waits.first;
-  answer_wait = pace.waits.first;
-}
+hears pace signs.Moves = record pace { wait = pace.waits.first }
 hears pace signs.Decides = record pace {
   wait = pace.waits.first;
   answer_wait = pace.waits.first;

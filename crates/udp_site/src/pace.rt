@@ -2,7 +2,6 @@ ghost use Rattle.std.specs.Prelude.{◌≡◌, ◌≤◌, ◌*◌};
 ghost use Rattle.std.specs.Prelude.{ℕ, false, Some};
 ghost use Rattle.dgram.specs.Decoded.{message_of};
 ghost use Rattle.udp_site.specs.declared.sign.Sign.{Sign};
-ghost use Rattle.udp_site.specs.declared.sign.Sign.TheVariants.{Moves};
 ghost use Rattle.udp_site.specs.Pace.{begins, longer, idles, hears, meets, listens, arrives, takes};
 ghost use Rattle.udp_site.specs.Pace.{answers_late, proposes, registers, hands, hears_quorum};
 ghost use Rattle.udp_site.specs.Pace.{wait_at, between, pause_left, at_most, left};
@@ -167,20 +166,13 @@ impl Pace {
     {
         match sign {
             Sign::Still => {}
-            Sign::Moves => self.moves(),
+            Sign::Moves => self.wait = self.waits.first,
             Sign::Decides => {
-                self.moves();
+                self.wait = self.waits.first;
+                self.answer_wait = self.waits.first;
                 self.under_way = false;
             }
         }
-    }
-
-    // Something moves.
-    fn moves(&mut self)
-        ensures { self.new ≡ hears self.old Moves }
-    {
-        self.wait = self.waits.first;
-        self.answer_wait = self.waits.first;
     }
 
     /// A datagram is handed out for a port.
@@ -190,7 +182,7 @@ impl Pace {
         if is_prepare(bytes) && own == to {
             self.proposes();
         } else if is_accept(bytes) {
-            self.moves();
+            self.hears(Sign::Moves);
         } else if is_registered(bytes) {
             self.registers();
         } else if is_pending(bytes) {
