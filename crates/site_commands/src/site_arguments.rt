@@ -25,12 +25,13 @@ In each turn the site waits for one datagram, and prints a line for what it does
   refused N CODE                it refused a call
   dropped N                     what came was no message for it
 In a turn in which nothing comes it may propose one of its deposits to all. After each proposal such
-turns wait twice as long as before, up to --wait-most, but 500 ms at most while it hears sites that
-have more than half of all weight with it; a deposit, an Accept, a vote or a known bag bring the
-first wait back. However much comes, such a turn is taken once ten times --wait, 250 ms and its wait
-have passed since the last one. After a deposit such turns are taken at once, until the site may
-propose it; but not while a proposal of its own is under way. So they are where a client asks for a
-bag that is pending, a second after the last proposal.
+turns wait twice as long as before, up to --wait-most, but 500 ms, or --wait where that is longer,
+at most while it hears sites that have more than half of all weight with it, unless their answers
+are late. A deposit that it registers, an Accept, a vote or a known bag bring the first wait back.
+However much comes, such a turn is taken once ten times --wait, 250 ms and its wait have passed
+since the last one. After a deposit such turns are taken at once, until the site may propose it; but
+not while a proposal of its own is under way. So they are where a client asks for a bag that is
+pending, a second after the last proposal, or more where answers are late.
 
 With --bags a path that is absolute or has `..` in it is refused as a missing folder (21). With
 --most-bytes a larger bag is refused as one of too many files (24). A folder that was refused as no

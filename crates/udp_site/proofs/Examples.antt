@@ -1,12 +1,12 @@
 -- How long the port of site 2 waits, computed: first 1 ms, and 8 ms at most.
-use Rattle.std.proofs.Common.{◌≡◌, ℕ, List, [], ◌∷◌, refl, Some, None, true}
+use Rattle.std.proofs.Common.{◌≡◌, ℕ, List, [], ◌∷◌, refl, Some, None, true, map, replicate}
 use Rattle.fed_types.specs.Lists.{is_in}
 use Rattle.fed_types.specs.Sites.{membership_of, sites_to}
 use Rattle.fed_types.specs.Voters.{with_voter}
 use Rattle.udp_site.specs.declared.pace.Pace.{Pace}
-use Rattle.udp_site.specs.declared.sign.Sign.TheVariants.{Still, Moves, Decides, Deposits}
+use Rattle.udp_site.specs.declared.sign.Sign.TheVariants.{Still, Moves, Decides}
 use Rattle.udp_site.specs.Contacts.{nobody_heard}
-use Rattle.udp_site.specs.Pace.{begins, idles, hears, listens, hands, wait_at, left}
+use Rattle.udp_site.specs.Pace.{begins, idles, hears, registers, listens, hands, wait_at, left}
 
 abbrev fresh : Pace
 fresh = begins (record { first = 1; most = 8; prompt = 2 }) None
@@ -18,17 +18,26 @@ own = 7002
 abbrev other : ℕ
 other = 7001
 
--- the beginnings of a Prepare and of an Accept, and of replies to queries
+-- the beginnings of datagrams, of a Prepare, of an Accept, and of replies to clients
+abbrev start : (kind : ℕ) → List ℕ
+start kind = 0x42 ∷ 0x50 ∷ 2 ∷ kind ∷ []
+
 abbrev prepare : List ℕ
-prepare = 0x42 ∷ 0x50 ∷ 2 ∷ 1 ∷ []
+prepare = start 1
 
 abbrev accept : List ℕ
-accept = 0x42 ∷ 0x50 ∷ 2 ∷ 3 ∷ []
+accept = start 3
 
--- of federation 7, from site 2, for version 1 of the object `a`
-abbrev reply : ℕ → List ℕ
-reply code = 0x42 ∷ 0x50 ∷ 2 ∷ 33 ∷ 0 ∷ 0 ∷ 0 ∷ 0 ∷ 0 ∷ 0 ∷ 0 ∷ 7 ∷ 2 ∷ 1 ∷ 0x61
+-- of federation 7, from site 2, for version 1 of the object `a`: to a deposit, and to a query
+abbrev says : (kind code : ℕ) → List ℕ
+says kind code = 0x42 ∷ 0x50 ∷ 2 ∷ kind ∷ 0 ∷ 0 ∷ 0 ∷ 0 ∷ 0 ∷ 0 ∷ 0 ∷ 7 ∷ 2 ∷ 1 ∷ 0x61
     ∷ 0 ∷ 0 ∷ 0 ∷ 1 ∷ code ∷ []
+
+abbrev deposit_reply : (code : ℕ) → List ℕ
+deposit_reply code = says 32 code
+
+abbrev reply : (code : ℕ) → List ℕ
+reply code = says 33 code
 
 -- the wait stays as it is in the two turns that site 2 needs to propose
 pub first_wait : left fresh 0 0 ≡ 1000
@@ -42,6 +51,13 @@ second_wait = refl
 
 pub third_wait : left twice_idle 2000 2000 ≡ 1000
 third_wait = refl
+
+-- what is left of a wait, and after it
+pub half_way : left fresh 0 600 ≡ 400
+half_way = refl
+
+pub over : left fresh 0 1001 ≡ 0
+over = refl
 
 -- it has proposed nothing: it rests for 2, 4 and 8 ms, and no longer
 abbrev rests : Pace
@@ -58,6 +74,12 @@ longest_wait = refl
 
 pub no_longer : left (idles rested 17000) 17000 17000 ≡ 8000
 no_longer = refl
+
+-- where the first wait is longer than the longest one, it stays
+pub never_less_than_the_first :
+    left (idles (begins (record { first = 10; most = 8; prompt = 0 }) None) 10000) 10000 10000
+    ≡ 10000
+never_less_than_the_first = refl
 
 -- it proposes, by the Prepare to itself and by no other: from now on it waits for 2 ms, in each of
 -- the turns up to the next proposal, and then for 4 ms
@@ -83,9 +105,19 @@ after_the_next_proposal = refl
 pub promised : left (hands proposed own other accept) 2000 2000 ≡ 1000
 promised = refl
 
--- a deposit brings back the first wait, and two turns are idle at once, as site 2 needs; no third
+-- a deposit that is registered brings back the first wait, and two turns are idle at once, as site
+-- 2 needs; no third
 abbrev deposited : Pace
-deposited = hears rested Deposits
+deposited = registers rested
+
+pub by_the_reply : hands rested own 40000 (deposit_reply 0) ≡ deposited
+by_the_reply = refl
+
+-- one that is refused changes nothing: another was deposited (11) or is known (12), the site can't
+-- take it (13 to 15), the folder can't be read (21 to 26), or has no valid bag (41 to 54)
+pub refused_is_nothing : map (λ code. hands rested own 40000 (deposit_reply code))
+    (11 ∷ 12 ∷ 13 ∷ 14 ∷ 15 ∷ 21 ∷ 26 ∷ 41 ∷ 54 ∷ []) ≡ replicate 9 rested
+refused_is_nothing = refl
 
 pub deposit_is_proposed : left deposited 9100 9100 ≡ 0
 deposit_is_proposed = refl
@@ -97,12 +129,23 @@ pub and_no_third : left (idles (idles deposited 9100) 9200) 9200 9200 ≡ 1000
 and_no_third = refl
 
 -- another deposit makes two more
-pub two_deposits : left (idles (idles (hears deposited Deposits) 9100) 9100) 9100 9100 ≡ 0
+pub two_deposits : left (idles (idles (registers deposited) 9100) 9100) 9100 9100 ≡ 0
 two_deposits = refl
+
+-- nor are there more than a thousand, in which nothing is taken in
+pub thousand_and_no_more : (registers (record deposited { prompt = 999 })).prompt ≡ 1000
+thousand_and_no_more = refl
+
+-- after it the wait doesn't grow for two turns, and then it does
+pub rests_after_them : left (idles (idles (idles deposited 9100) 9200) 9300) 9300 9300 ≡ 2000
+rests_after_them = refl
 
 -- what else moves something brings back the first wait alone
 pub waits_again : left (hears rested Moves) 9000 9000 ≡ 1000
 waits_again = refl
+
+pub decided : left (hears rested Decides) 9000 9000 ≡ 1000
+decided = refl
 
 -- what moves nothing doesn't; but the turn is idle 250 ms after the last that was, whatever comes
 pub asked : left (hears rested Still) 9000 9000 ≡ 8000
@@ -110,6 +153,15 @@ asked = refl
 
 pub asked_all_the_time : left (hears rested Still) 259000 259000 ≡ 0
 asked_all_the_time = refl
+
+-- or after ten first waits, where these are longer, or its wait
+pub ten_first_waits :
+    left (begins (record { first = 100; most = 100; prompt = 2 }) None) 999999 999999 ≡ 1
+ten_first_waits = refl
+
+pub ten_and_no_more :
+    left (begins (record { first = 100; most = 100; prompt = 2 }) None) 1000000 1000000 ≡ 0
+ten_and_no_more = refl
 
 -- while a proposal is under way no turn is prompt: one is idle 2 ms after the last that came, or
 -- 250 ms after the last idle turn
@@ -125,9 +177,24 @@ proposes_and_is_asked = refl
 pub is_idle_at_last : left proposed_at_once 259000 259000 ≡ 0
 is_idle_at_last = refl
 
+-- promises, an Accept of another site and one more deposit end no proposal
+pub promises_end_no_proposal : left (hands proposed_at_once own other accept) 9000 9000 ≡ 1000
+promises_end_no_proposal = refl
+
+pub an_accept_ends_no_proposal : left (hears proposed_at_once Moves) 9000 9000 ≡ 1000
+an_accept_ends_no_proposal = refl
+
+pub a_deposit_ends_no_proposal : left (registers proposed_at_once) 9000 9000 ≡ 1000
+a_deposit_ends_no_proposal = refl
+
 -- votes: no proposal is under way any more, and the turns that are left are prompt
 pub voted : left (hears proposed_at_once Decides) 9000 9000 ≡ 0
 voted = refl
+
+-- what a site hands out beside these says nothing: promises, votes, refusals, questions, known bags
+pub handed_out_is_nothing : map (λ kind. hands proposed_at_once own other (start kind))
+    (2 ∷ 4 ∷ 5 ∷ 6 ∷ 7 ∷ 16 ∷ 17 ∷ []) ≡ replicate 7 proposed_at_once
+handed_out_is_nothing = refl
 
 -- A site that has proposed at the moment 0, and waits for a minute.
 abbrev alone : Pace
@@ -148,6 +215,19 @@ but_then = refl
 
 pub and_in_the_next : left (idles questioned 1000000) 1000000 1000000 ≡ 0
 and_in_the_next = refl
+
+-- there is no third, nor a second once it has proposed: it waits for its minute
+pub and_no_third_turn :
+    left (idles (idles questioned 1000000) 1000000) 1000000 1000000 ≡ 60000000
+and_no_third_turn = refl
+
+pub a_proposal_answers : left (hands (idles questioned 1000000) own own prepare) 2000000 2000000
+    ≡ 59000000
+a_proposal_answers = refl
+
+-- before any question, and whatever comes, it waits for its minute
+pub waits_for_a_minute : left alone 300000 400000 ≡ 59600000
+waits_for_a_minute = refl
 
 pub asked_again_it_takes_a_second :
     left (hands (hands (idles (idles questioned 1000000) 1000000) own own prepare) own 40000

@@ -18,5 +18,8 @@ pub mod TurnEnds
 pub mod Questions
 pub mod Queried
 pub mod Examples
+pub mod ContactExamples
+pub mod LateExamples
+pub mod RoundExamples
 pub mod SignExamples
 pub mod Signs

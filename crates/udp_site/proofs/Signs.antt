@@ -1,12 +1,12 @@
--- What came changes no pace: what a site says to itself, where it can't be a vote; and what others
--- say, where it can't be a Deposit and nothing else would change anything.
+-- What came while no proposal is under way changes no pace: what a site says to itself, where it
+-- can't be a vote; and what others say, where no wait has grown, and who says it is noted.
 use Rattle.std.proofs.Common.{◌≡◌, ℕ, ◌==◌, Bool, true, false, cond, List, refl, ap, sym, ◌∙◌}
 use Rattle.std.proofs.Common.{Option, Some, None, arith}
 use Rattle.std.proofs.lemmas.Bool.Decides.{nat_tests}
 use Rattle.fields.proofs.Bytes.{IsBytes}
 use Rattle.dgram.specs.Decoded.{message_of}
 use Rattle.dgram.specs.Encoding.{kind_of, body_from}
-use Rattle.dgram.specs.Numbers.{ACCEPTED, DEPOSIT}
+use Rattle.dgram.specs.Numbers.{ACCEPTED}
 use Rattle.dgram.specs.declared.body.Body.{Body}
 use Rattle.dgram.specs.declared.body.Body.TheVariants as bodies
 use Rattle.dgram.specs.declared.message.Message.{Message}
@@ -15,9 +15,8 @@ use Rattle.udp_site.specs.declared.contacts.Contacts.{Contacts}
 use Rattle.udp_site.specs.declared.pace.Pace.{Pace}
 use Rattle.udp_site.specs.declared.sign.Sign.TheVariants as signs
 use Rattle.udp_site.specs.declared.sign.Signal.{Signal}
-use Rattle.udp_site.specs.Pace.{hears, meets, listens, takes}
+use Rattle.udp_site.specs.Pace.{hears, meets, listens, answered, arrives, takes}
 use Rattle.udp_site.specs.Signs.{sign_by, own_signal_by, signal_by, signal_at, kind_byte, is_vote}
-use Rattle.udp_site.specs.Signs.{is_deposit}
 
 -- a datagram has the byte of its message's kind
 kind_is : (federation : ℕ) (bytes : List ℕ) (m : Message) → IsBytes bytes
@@ -49,24 +48,30 @@ if_false : (pace : Pace) (now : ℕ) (t : Bool) (a b : Signal) → t ≡ false �
 if_false pace now false a b e same = same
 if_false pace now true a b e same = absurd (cc e)
 
-module _ (pace : Pace) (now own from federation : ℕ) (bytes : List ℕ) (are : IsBytes bytes) where
+module _ (pace : Pace) (now own from federation : ℕ) (bytes : List ℕ) (are : IsBytes bytes)
+    (rests : pace.under_way ≡ false) where
+  -- no answer is awaited
+  stays : (sender : Option ℕ) → arrives pace sender ≡ pace
+  stays sender =
+      ap (λ (b : Bool). cond b (record pace { contacts = answered pace.contacts sender }) pace) rests
+
   -- no body but that of a vote
   own_by_body : (b : Body) → (kind_of b == ACCEPTED) ≡ false → takes pace now (own_signal_by b) ≡ pace
-  own_by_body (bodies.Prepare ballot) isnt = refl
-  own_by_body (bodies.Promise from ballot prior) isnt = refl
-  own_by_body (bodies.Accept vote) isnt = refl
+  own_by_body (bodies.Prepare ballot) isnt = stays None
+  own_by_body (bodies.Promise from ballot prior) isnt = stays None
+  own_by_body (bodies.Accept vote) isnt = stays None
   own_by_body (bodies.Accepted from vote) isnt = absurd (cc isnt)
-  own_by_body (bodies.Refused from asked standing) isnt = refl
-  own_by_body (bodies.Ask from) isnt = refl
-  own_by_body (bodies.Known from bag) isnt = refl
-  own_by_body (bodies.Deposit path) isnt = refl
-  own_by_body bodies.Query isnt = refl
-  own_by_body (bodies.DepositReply from answer) isnt = refl
-  own_by_body (bodies.QueryReply from answer) isnt = refl
+  own_by_body (bodies.Refused from asked standing) isnt = stays None
+  own_by_body (bodies.Ask from) isnt = stays None
+  own_by_body (bodies.Known from bag) isnt = stays None
+  own_by_body (bodies.Deposit path) isnt = stays None
+  own_by_body bodies.Query isnt = stays None
+  own_by_body (bodies.DepositReply from answer) isnt = stays None
+  own_by_body (bodies.QueryReply from answer) isnt = stays None
 
   own_in_message : (own == from) ≡ true → is_vote bytes ≡ false → (o : Option Message)
       → message_of federation bytes ≡ o → takes pace now (signal_at own from o) ≡ pace
-  own_in_message is_own isnt None e = refl
+  own_in_message is_own isnt None e = stays None
   own_in_message is_own isnt (Some m) e =
       if_true pace now (own == from) (own_signal_by m.body) (signal_by m.body) is_own
       (own_by_body m.body (isnt_kind ACCEPTED federation bytes m are e isnt))
@@ -76,28 +81,29 @@ module _ (pace : Pace) (now own from federation : ℕ) (bytes : List ℕ) (are :
   own_changes_nothing is_own isnt =
       own_in_message (is_same own from is_own) isnt (message_of federation bytes) refl
 
-  module _ (first : pace.wait ≡ pace.waits.first) (rests : pace.under_way ≡ false)
+  module _ (first : pace.wait ≡ pace.waits.first) (early : pace.answer_wait ≡ pace.waits.first)
       (noted : (site : ℕ) → meets pace.contacts now site ≡ pace.contacts) where
     moves : hears pace signs.Moves ≡ pace
     moves = ap (λ (n : ℕ). record pace { wait = n }) (sym first)
 
     decides : hears pace signs.Decides ≡ pace
-    decides = ap (λ (n : ℕ). record pace { wait = n; under_way = false }) (sym first)
+    decides = ap (λ (p : Pace). record p { answer_wait = pace.waits.first; under_way = false }) moves
+        ∙ ap (λ (n : ℕ). record pace { answer_wait = n; under_way = false }) (sym early)
         ∙ ap (λ (b : Bool). record pace { under_way = b }) (sym rests)
 
-    -- no body but that of a deposit
-    by_body : (b : Body) → (kind_of b == DEPOSIT) ≡ false → hears pace (sign_by b) ≡ pace
-    by_body (bodies.Prepare ballot) isnt = refl
-    by_body (bodies.Promise from ballot prior) isnt = refl
-    by_body (bodies.Accept vote) isnt = moves
-    by_body (bodies.Accepted from vote) isnt = decides
-    by_body (bodies.Refused from asked standing) isnt = refl
-    by_body (bodies.Ask from) isnt = refl
-    by_body (bodies.Known from bag) isnt = decides
-    by_body (bodies.Deposit path) isnt = absurd (cc isnt)
-    by_body bodies.Query isnt = refl
-    by_body (bodies.DepositReply from answer) isnt = refl
-    by_body (bodies.QueryReply from answer) isnt = refl
+    -- no body does
+    by_body : (b : Body) → hears pace (sign_by b) ≡ pace
+    by_body (bodies.Prepare ballot) = refl
+    by_body (bodies.Promise from ballot prior) = refl
+    by_body (bodies.Accept vote) = moves
+    by_body (bodies.Accepted from vote) = decides
+    by_body (bodies.Refused from asked standing) = refl
+    by_body (bodies.Ask from) = refl
+    by_body (bodies.Known from bag) = decides
+    by_body (bodies.Deposit path) = refl
+    by_body bodies.Query = refl
+    by_body (bodies.DepositReply from answer) = refl
+    by_body (bodies.QueryReply from answer) = refl
 
     -- nor who says it
     by_sender : (sender : Option ℕ) → listens pace now sender ≡ pace
@@ -105,18 +111,19 @@ module _ (pace : Pace) (now own from federation : ℕ) (bytes : List ℕ) (are :
     by_sender (Some site) =
         ap (λ (contacts : Option Contacts). record pace { contacts = contacts }) (noted site)
 
-    by_signal : (b : Body) → (kind_of b == DEPOSIT) ≡ false → takes pace now (signal_by b) ≡ pace
-    by_signal b isnt =
-        ap (λ (p : Pace). hears p (sign_by b)) (by_sender (body_from b)) ∙ by_body b isnt
+    by_signal : (b : Body) → takes pace now (signal_by b) ≡ pace
+    by_signal b =
+        ap (λ (p : Pace). hears (listens p now (body_from b)) (sign_by b)) (stays (body_from b))
+        ∙ ap (λ (p : Pace). hears p (sign_by b)) (by_sender (body_from b)) ∙ by_body b
 
-    in_message : (own == from) ≡ false → is_deposit bytes ≡ false → (o : Option Message)
-        → message_of federation bytes ≡ o → takes pace now (signal_at own from o) ≡ pace
-    in_message is_own isnt None e = refl
-    in_message is_own isnt (Some m) e =
+    in_message : (own == from) ≡ false → (o : Option Message)
+        → takes pace now (signal_at own from o) ≡ pace
+    in_message is_own None = stays None
+    in_message is_own (Some m) =
         if_false pace now (own == from) (own_signal_by m.body) (signal_by m.body) is_own
-        (by_signal m.body (isnt_kind DEPOSIT federation bytes m are e isnt))
+        (by_signal m.body)
 
-    pub nothing_changes : ¬ (own ≡ from) → is_deposit bytes ≡ false
+    pub nothing_changes : ¬ (own ≡ from)
         → takes pace now (signal_at own from (message_of federation bytes)) ≡ pace
-    nothing_changes is_own isnt =
-        in_message (isnt_same own from is_own) isnt (message_of federation bytes) refl
+    nothing_changes is_own =
+        in_message (isnt_same own from is_own) (message_of federation bytes)

@@ -1,7 +1,9 @@
--- Which sites a port has heard lately, itself among them. Time is cut into spans of ten seconds,
--- and lately is the span of a moment and the one before it: so what was heard within ten seconds was
--- heard lately, and nothing that is twenty seconds old. Moments are microseconds of the port's clock.
-use Rattle.std.specs.Prelude.{ℕ, ◌-◌, ◌/◌, ◌==◌, if◌then◌else◌, Bool, List, []}
+-- Which sites a port has heard lately, and since the last proposal, itself among them. Time is cut
+-- into spans of ten seconds, and lately is the span of a moment and the one before it: so what was
+-- heard within ten seconds was heard lately, and nothing that is twenty seconds old. Moments are
+-- microseconds of the port's clock.
+use Rattle.std.specs.Prelude.{ℕ, ◌-◌, ◌/◌, ◌==◌, if◌then◌else◌, Bool, true, List, []}
+use Rattle.std.specs.Prelude.{Option, Some, None}
 use Rattle.fed_types.specs.Quorums.{quorums_of}
 use Rattle.fed_types.specs.Sites.{Membership}
 use Rattle.fed_types.specs.Voters.{with_voter}
@@ -26,6 +28,7 @@ nobody_heard members own = record {
   span = 0;
   current = alone own;
   recent = alone own;
+  since = None;
 }
 
 -- how many spans ago a site was heard last
@@ -65,3 +68,28 @@ notes contacts now site =
       current = with_voter (heard_now contacts now) site;
       recent = with_voter (heard_lately contacts now) site;
     }
+
+-- the site proposes: nothing has come since then
+abbrev pub awaits : Contacts → Contacts
+awaits contacts = record contacts { since = None }
+
+-- those that were heard since the last proposal
+abbrev pub heard_since : Contacts → List ℕ
+heard_since contacts = elim contacts.since [
+  | None ↦ alone contacts.own
+  | Some sites ↦ sites
+]
+
+-- something comes, which a site may have said
+abbrev pub notes_answer : Contacts → (sender : Option ℕ) → Contacts
+notes_answer contacts None = record contacts { since = Some (heard_since contacts) }
+notes_answer contacts (Some site) =
+    record contacts { since = Some (with_voter (heard_since contacts) site) }
+
+-- A quorum was heard since the last proposal; or nothing has come, not even what the site sent to
+-- itself, since it was busy. Where it is cut off neither is so.
+abbrev pub is_late : Contacts → Bool
+is_late contacts = elim contacts.since [
+  | None ↦ true
+  | Some sites ↦ are_quorum contacts sites
+]

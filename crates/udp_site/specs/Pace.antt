@@ -1,14 +1,14 @@
 -- How long a port waits. Waits are milliseconds, and moments are microseconds of its clock.
-use Rattle.std.specs.Prelude.{ℕ, ◌+◌, ◌-◌, ◌*◌, ◌==◌, ◌||◌, ◌&&◌, Bool, true, false, min, max}
-use Rattle.std.specs.Prelude.{if◌then◌else◌, List, Option, Some, None}
+use Rattle.std.specs.Prelude.{ℕ, ◌+◌, ◌-◌, ◌*◌, ◌==◌, ◌||◌, ◌&&◌, Bool, true, false}
+use Rattle.std.specs.Prelude.{min, max, if◌then◌else◌, List, Option, Some, None}
 use Rattle.udp_site.specs.declared.contacts.Contacts.{Contacts}
 use Rattle.udp_site.specs.declared.waits.Waits.{Waits}
 use Rattle.udp_site.specs.declared.pace.Pace.{Pace}
 use Rattle.udp_site.specs.declared.sign.Sign.{Sign}
 use Rattle.udp_site.specs.declared.sign.Sign.TheVariants as signs
 use Rattle.udp_site.specs.declared.sign.Signal.{Signal}
-use Rattle.udp_site.specs.Contacts.{is_connected, notes}
-use Rattle.udp_site.specs.Signs.{is_prepare, is_accept, is_pending}
+use Rattle.udp_site.specs.Contacts.{is_connected, notes, notes_answer, awaits, is_late}
+use Rattle.udp_site.specs.Signs.{is_prepare, is_accept, is_registered, is_pending}
 
 -- A port begins with its first wait, as after an idle turn and a proposal at the moment 0. That of
 -- a site has contacts, and that of a client has none.
@@ -16,6 +16,7 @@ abbrev pub begins : Waits → Option Contacts → Pace
 begins waits contacts = record {
   waits = waits;
   wait = waits.first;
+  answer_wait = waits.first;
   idle_at = 0;
   under_way = false;
   prompt = 0;
@@ -26,36 +27,30 @@ begins waits contacts = record {
 }
 
 -- twice as long, up to the most that it may wait
-abbrev pub longer : Pace → ℕ
-longer pace = min (2 * pace.wait) (max pace.waits.first pace.waits.most)
+abbrev pub longer : Pace → (wait : ℕ) → ℕ
+longer pace wait = min (2 * wait) (max pace.waits.first pace.waits.most)
 
 -- Nothing came. The wait stays as it is, as long as the site may have something to propose, which
 -- it does once in as many idle turns as its number is. Where as many came without a proposal it has
 -- nothing, and rests: it waits twice as long after each.
 abbrev pub idles : Pace → (now : ℕ) → Pace
 idles pace now = record pace {
-  wait = if pace.due == 0 then longer pace else pace.wait;
+  wait = if pace.due == 0 then longer pace pace.wait else pace.wait;
   idle_at = now;
   prompt = pace.prompt - 1;
   due = pace.due - 1;
   asked = pace.asked - 1;
 }
 
--- the most turns that are prompt: nothing is taken in meanwhile
-abbrev pub most_prompt : ℕ
-most_prompt = 1000
-
--- Something comes. Where that moves something it waits for its first wait again; where a proposal
--- has got votes, or a bag is known, no proposal is under way any more; and where a bag is
--- deposited, the turns that a site needs to propose it are prompt, besides those that are still.
+-- Something comes. Where that moves something it waits for its first wait again; and where a
+-- proposal has got votes, or a bag is known, no proposal is under way any more, and answers came.
 abbrev pub hears : Pace → Sign → Pace
 hears pace signs.Still = pace
 hears pace signs.Moves = record pace { wait = pace.waits.first }
-hears pace signs.Decides = record pace { wait = pace.waits.first; under_way = false }
-hears pace signs.Deposits = record pace {
+hears pace signs.Decides = record pace {
   wait = pace.waits.first;
-  prompt = min (pace.prompt + pace.waits.prompt) most_prompt;
-  due = pace.waits.prompt;
+  answer_wait = pace.waits.first;
+  under_way = false;
 }
 
 -- a site is heard
@@ -68,46 +63,89 @@ abbrev pub listens : Pace → (now : ℕ) → Option ℕ → Pace
 listens pace now None = pace
 listens pace now (Some site) = record pace { contacts = meets pace.contacts now site }
 
+-- something comes, which may answer a proposal that is under way
+abbrev pub answered : Option Contacts → (sender : Option ℕ) → Option Contacts
+answered None sender = None
+answered (Some contacts) sender = Some (notes_answer contacts sender)
+
+abbrev pub arrives : Pace → (sender : Option ℕ) → Pace
+arrives pace sender =
+    if pace.under_way then record pace { contacts = answered pace.contacts sender } else pace
+
 -- something comes, which a site may have said
 abbrev pub takes : Pace → (now : ℕ) → Signal → Pace
-takes pace now signal = hears (listens pace now signal.sender) signal.sign
+takes pace now signal =
+    hears (listens (arrives pace signal.sender) now signal.sender) signal.sign
 
--- The site proposes, in its last idle turn. After each proposal it waits twice as long; one is
--- under way now, and no question is open.
+-- Answers to a proposal that is under way are late: disks are slow, and a proposal that comes as
+-- soon as the last one outbids it.
+abbrev pub answers_late : Pace → Bool
+answers_late pace = pace.under_way && elim pace.contacts [
+  | None ↦ false
+  | Some contacts ↦ is_late contacts
+]
+
+-- a site that proposes awaits answers
+abbrev pub awaiting : Option Contacts → Option Contacts
+awaiting None = None
+awaiting (Some contacts) = Some (awaits contacts)
+
+-- The site proposes, in its last idle turn. After each proposal it waits twice as long, and so it
+-- does for answers where those to the last one were late; one is under way now, and no question is
+-- open.
 abbrev pub proposes : Pace → Pace
 proposes pace = record pace {
-  wait = longer pace;
+  wait = longer pace pace.wait;
+  answer_wait = if answers_late pace then longer pace pace.answer_wait else pace.answer_wait;
   under_way = true;
   due = pace.waits.prompt;
   asked = 0;
   proposed_at = pace.idle_at;
+  contacts = awaiting pace.contacts;
 }
 
--- a client asks for a bag that is pending: the site should propose it
+-- the most turns that are prompt: nothing is taken in meanwhile
+abbrev pub most_prompt : ℕ
+most_prompt = 1000
+
+-- A deposit is registered. It waits for its first wait again, though answers may be late as before;
+-- and the turns that a site needs to propose it are prompt, besides those that are still. A deposit
+-- that is there already is registered once more: it costs no more than one of a new version would.
+abbrev pub registers : Pace → Pace
+registers pace = record pace {
+  wait = pace.waits.first;
+  prompt = min (pace.prompt + pace.waits.prompt) most_prompt;
+  due = pace.waits.prompt;
+}
+
+-- a client asks for a bag that is pending: the site should propose
 abbrev pub is_asked : Pace → Pace
 is_asked pace = record pace { asked = pace.waits.prompt }
 
 -- A datagram is handed out. With the Prepare that it sends to itself the site proposes; with an
--- Accept its proposal has got the promises of a quorum, and something moves; with `pending` it
--- answers a question.
+-- Accept its proposal has got the promises of a quorum, and something moves; with `registered` it
+-- answers a deposit, and with `pending` a question.
 abbrev pub hands : Pace → (own to : ℕ) → List ℕ → Pace
 hands pace own to bytes =
     if is_prepare bytes && own == to
     then proposes pace
     else (if is_accept bytes
     then hears pace signs.Moves
-    else (if is_pending bytes then is_asked pace else pace))
+    else (if is_registered bytes
+    then registers pace
+    else (if is_pending bytes then is_asked pace else pace)))
 
 -- a quorum was heard lately: within ten seconds, or little longer
 abbrev pub hears_quorum : Option Contacts → (now : ℕ) → Bool
 hears_quorum None now = false
 hears_quorum (Some contacts) now = is_connected contacts now
 
--- while a quorum is heard it waits half a second at most, or its first wait
+-- While a quorum is heard it waits for half a second at most, or its first wait; but as long as
+-- answers take that are late.
 abbrev pub wait_at : Pace → (now : ℕ) → ℕ
 wait_at pace now =
     if hears_quorum pace.contacts now
-    then min pace.wait (max pace.waits.first 500) else pace.wait
+    then max pace.answer_wait (min pace.wait (max pace.waits.first 500)) else pace.wait
 
 -- How long after an idle turn the next one comes, whatever else does: at once where it is prompt
 -- and no proposal is under way, which the site would outbid; else ten first waits, 250 ms at least,
@@ -118,16 +156,17 @@ between pace now =
     if pace.prompt == 0 || pace.under_way
     then max (wait_at pace now) (max (10 * pace.waits.first) 250) else 0
 
--- for how many microseconds no question makes a turn idle: one a second may bring a proposal
-abbrev pub second_left : Pace → (now : ℕ) → ℕ
-second_left pace now = 1000000 - (now - pace.proposed_at)
+-- for how many microseconds no question makes a turn idle: one a second may bring a proposal, or
+-- fewer where answers are late
+abbrev pub pause_left : Pace → (now : ℕ) → ℕ
+pause_left pace now = 1000 * max 1000 pace.answer_wait - (now - pace.proposed_at)
 
 -- for how many microseconds a turn waits still, whatever comes
 abbrev pub at_most : Pace → (now : ℕ) → ℕ
 at_most pace now =
     if pace.asked == 0
     then 1000 * between pace now - (now - pace.idle_at)
-    else min (1000 * between pace now - (now - pace.idle_at)) (second_left pace now)
+    else min (1000 * between pace now - (now - pace.idle_at)) (pause_left pace now)
 
 -- for how many microseconds a turn that began then waits still; with 0 it is idle
 abbrev pub left : Pace → (began now : ℕ) → ℕ

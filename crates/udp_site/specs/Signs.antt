@@ -2,15 +2,17 @@
 use Rattle.std.specs.Prelude.{ℕ, ◌+◌, ◌==◌, ◌&&◌, if◌then◌else◌, Bool, List, get_or}
 use Rattle.std.specs.Prelude.{Option, Some, None}
 use Rattle.dgram.specs.Encoding.{body_from}
-use Rattle.dgram.specs.Numbers.{PREPARE, ACCEPT, ACCEPTED, DEPOSIT, QUERY_REPLY, IS_PENDING}
+use Rattle.dgram.specs.Numbers.{PREPARE, ACCEPT, ACCEPTED, DEPOSIT_REPLY, REGISTERED}
+use Rattle.dgram.specs.Numbers.{QUERY_REPLY, IS_PENDING}
 use Rattle.dgram.specs.declared.body.Body.{Body}
 use Rattle.dgram.specs.declared.body.Body.TheVariants as bodies
 use Rattle.dgram.specs.declared.message.Message.{Message}
 use Rattle.udp_site.specs.declared.sign.Sign.{Sign}
-use Rattle.udp_site.specs.declared.sign.Sign.TheVariants.{Still, Moves, Decides, Deposits}
+use Rattle.udp_site.specs.declared.sign.Sign.TheVariants.{Still, Moves, Decides}
 use Rattle.udp_site.specs.declared.sign.Signal.{Signal}
 
--- A proposal got its promises; a vote, or a known bag; a bag was deposited; or nothing moves.
+-- A proposal got its promises; a vote, or a known bag; or nothing moves. What a client says moves
+-- nothing, since the site may refuse it: see the replies below, which say what it did.
 -- Promises are none: two of five sites that are up promise each other at each proposal, and would
 -- keep their first wait, and write records, as long as there is no majority. A vote of another site
 -- is taken for the end of a proposal, though it may be the first of several that are needed: the
@@ -19,7 +21,6 @@ abbrev pub sign_by : Body → Sign
 sign_by (bodies.Accept vote) = Moves
 sign_by (bodies.Accepted from vote) = Decides
 sign_by (bodies.Known from bag) = Decides
-sign_by (bodies.Deposit path) = Deposits
 sign_by body = Still
 
 -- what a site says to itself: only its vote for a proposal of its own is a sign
@@ -49,7 +50,7 @@ KIND_PLACE = 3
 abbrev pub kind_byte : List ℕ → ℕ
 kind_byte bytes = get_or bytes KIND_PLACE 0
 
--- a datagram is a Prepare, an Accept, a vote or a Deposit, by its kind
+-- a datagram is a Prepare, an Accept or a vote, by its kind
 abbrev pub is_prepare : List ℕ → Bool
 is_prepare bytes = kind_byte bytes == PREPARE
 
@@ -59,9 +60,6 @@ is_accept bytes = kind_byte bytes == ACCEPT
 abbrev pub is_vote : List ℕ → Bool
 is_vote bytes = kind_byte bytes == ACCEPTED
 
-abbrev pub is_deposit : List ℕ → Bool
-is_deposit bytes = kind_byte bytes == DEPOSIT
-
 -- the place of the byte that says how long the object's name is; before it is the sender's
 abbrev pub LENGTH_PLACE : ℕ
 LENGTH_PLACE = 13
@@ -69,6 +67,10 @@ LENGTH_PLACE = 13
 -- the first byte of the body: after the name and four bytes of the version
 abbrev pub body_byte : List ℕ → ℕ
 body_byte bytes = get_or bytes (LENGTH_PLACE + 5 + get_or bytes LENGTH_PLACE 0) 0
+
+-- it is the reply to a deposit, by its kind, and says that the bag is registered
+abbrev pub is_registered : List ℕ → Bool
+is_registered bytes = kind_byte bytes == DEPOSIT_REPLY && body_byte bytes == REGISTERED
 
 -- it is the reply to a query, by its kind, and says that the bag is pending
 abbrev pub is_pending : List ℕ → Bool

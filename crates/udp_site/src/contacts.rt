@@ -3,14 +3,15 @@
 ghost use Rattle.std.specs.Prelude.{◌≡◌};
 ghost use Rattle.udp_site.specs.Contacts.{nobody_heard, span_of, age, alone, heard_now};
 ghost use Rattle.udp_site.specs.Contacts.{heard_lately, is_connected, is_enough, notes};
+ghost use Rattle.udp_site.specs.Contacts.{awaits, heard_since, notes_answer, is_late};
 
 use fed_types::{Members, SiteNo, Voters};
 
 /// The microseconds of a span.
 const SPAN: u64 = 10_000_000;
 
-/// The sites that a port has heard in the last two spans of ten seconds, and its own site, which
-/// counts as heard. Moments are microseconds.
+/// The sites that a port has heard in the last two spans of ten seconds, and since the last
+/// proposal, and its own site, which counts as heard. Moments are microseconds.
 #[derive(Clone, Copy, Debug)]
 pub(crate) struct Contacts {
     /// By their weights some sites are a quorum.
@@ -22,6 +23,8 @@ pub(crate) struct Contacts {
     current: Voters,
     /// Those that were heard in that span and in the one before it.
     recent: Voters,
+    /// Those that were heard since the last proposal; none where nothing came.
+    since: Option<Voters>,
 }
 
 impl Contacts {
@@ -35,6 +38,7 @@ impl Contacts {
             span: 0,
             current: alone(own),
             recent: alone(own),
+            since: None,
         }
     }
 
@@ -52,6 +56,44 @@ impl Contacts {
         self.span = span_of(now);
         self.current = current;
         self.recent = recent;
+    }
+
+    /// The site proposes: nothing has come since then.
+    pub(crate) fn awaits(&mut self)
+        ensures { self.new ≡ awaits self.old }
+    {
+        self.since = None;
+    }
+
+    /// Something comes, which a site may have said.
+    pub(crate) fn notes_answer(&mut self, sender: Option<SiteNo>)
+        ensures { self.new ≡ notes_answer self.old sender }
+    {
+        let mut sites = self.heard_since();
+        if let Some(site) = sender {
+            sites.add(site);
+        }
+        self.since = Some(sites);
+    }
+
+    /// Whether a quorum was heard since the last proposal, or nothing has come.
+    pub(crate) fn is_late(&self) -> bool
+        ensures { result ≡ is_late self.now }
+    {
+        match &self.since {
+            Some(sites) => sites.is_quorum(&self.members),
+            None => true,
+        }
+    }
+
+    // Those that were heard since the last proposal.
+    fn heard_since(&self) -> Voters
+        ensures { result ≡ heard_since self.now }
+    {
+        match self.since {
+            Some(sites) => sites,
+            None => alone(self.own),
+        }
     }
 
     /// Whether a quorum was heard lately.

@@ -2,13 +2,13 @@ ghost use Rattle.std.specs.Prelude.{◌≡◌, ◌≤◌, ◌*◌};
 ghost use Rattle.std.specs.Prelude.{ℕ, false, Some};
 ghost use Rattle.dgram.specs.Decoded.{message_of};
 ghost use Rattle.udp_site.specs.declared.sign.Sign.{Sign};
-ghost use Rattle.udp_site.specs.Pace.{begins, longer, idles, hears, meets, listens, takes};
-ghost use Rattle.udp_site.specs.Pace.{proposes, hands, hears_quorum, wait_at, between, second_left};
-ghost use Rattle.udp_site.specs.Pace.{at_most, left};
+ghost use Rattle.udp_site.specs.Pace.{begins, longer, idles, hears, meets, listens, arrives, takes};
+ghost use Rattle.udp_site.specs.Pace.{answers_late, proposes, registers, hands, hears_quorum};
+ghost use Rattle.udp_site.specs.Pace.{wait_at, between, pause_left, at_most, left};
 ghost use Rattle.udp_site.specs.Signs.{signal_at};
 
 use crate::contacts::Contacts;
-use crate::sign::{Sign, Signal, is_accept, is_deposit, is_pending, is_prepare, is_vote};
+use crate::sign::{Sign, Signal, is_accept, is_pending, is_prepare, is_registered, is_vote};
 use crate::waits::Waits;
 use fed_types::SiteNo;
 
@@ -19,12 +19,12 @@ const FIRST_WAITS: u64 = 10;
 /// The least number of milliseconds between two such turns.
 const LEAST_BETWEEN: u64 = 250;
 
-/// The most milliseconds that a port waits while a quorum is heard, unless its first wait is
-/// longer.
+/// The most milliseconds that a port waits while a quorum is heard, unless its first wait is longer
+/// or answers are late.
 const MOST_CONNECTED: u32 = 500;
 
-/// The least number of microseconds between a proposal and one that a question brings.
-const SECOND: u64 = 1_000_000;
+/// The least number of milliseconds between a proposal and one that a question brings.
+const SECOND: u32 = 1000;
 
 /// How many turns are prompt at most: nothing is taken in meanwhile.
 const MOST_PROMPT: u32 = 1000;
@@ -37,11 +37,14 @@ pub(crate) struct Pace {
     pub(crate) waits: Waits,
     /// How long it waits, unless a quorum is heard.
     pub(crate) wait: u32,
+    /// How long it waits for answers: twice as long after each proposal whose answers were late.
+    pub(crate) answer_wait: u32,
     /// When the wait of its last turn that was idle ended.
     pub(crate) idle_at: u64,
     /// The site proposed, and neither votes nor a known bag have come since then.
     pub(crate) under_way: bool,
-    /// How many turns are idle at once where no proposal is under way, since Deposits came.
+    /// How many turns are idle at once where no proposal is under way, since deposits were
+    /// registered.
     pub(crate) prompt: u32,
     /// How many turns may be idle without a proposal before it is sure that there is none to make.
     pub(crate) due: u32,
@@ -62,6 +65,7 @@ impl Pace {
         Pace {
             waits,
             wait: waits.first,
+            answer_wait: waits.first,
             idle_at: 0,
             under_way: false,
             prompt: 0,
@@ -77,7 +81,7 @@ impl Pace {
         ensures { self.new ≡ idles self.old now }
     {
         if self.due == 0 {
-            self.wait = self.longer();
+            self.wait = self.longer(self.wait);
         }
         self.idle_at = now;
         self.prompt = self.prompt.saturating_sub(1);
@@ -85,32 +89,32 @@ impl Pace {
         self.asked = self.asked.saturating_sub(1);
     }
 
-    // Twice its wait, up to the longest one.
-    fn longer(&self) -> u32
-        ensures { result ≡ longer self.now }
+    // Twice this wait, up to the longest one.
+    fn longer(&self, wait: u32) -> u32
+        ensures { result ≡ longer self.now wait }
     {
         let most = self.waits.most.max(self.waits.first);
-        self.wait.saturating_mul(2).min(most)
+        wait.saturating_mul(2).min(most)
     }
 
-    /// Whether what came from this port may change anything. Of what a site says to itself a vote
-    /// does. What others say does while a wait has grown, a proposal is under way, or too few sites
-    /// were heard; else only a Deposit does.
+    /// Whether what came from this port may change anything. While a proposal is under way all may.
+    /// Of what a site says to itself a vote may; what others say may while a wait has grown, or too
+    /// few sites were heard.
     pub(crate) fn heeds(&self, now: u64, own: u16, from: u16, bytes: &[u8]) -> bool
         ensures { result ≡ false → (federation : ℕ)
             → takes self.now now (signal_at own from (message_of federation bytes.now))
             ≡ self.now }
     {
+        if self.under_way {
+            return true;
+        }
         if own == from {
             return is_vote(bytes);
         }
-        if self.wait != self.waits.first || self.under_way {
+        if self.wait != self.waits.first || self.answer_wait != self.waits.first {
             return true;
         }
-        if self.wants_contacts(now) {
-            return true;
-        }
-        is_deposit(bytes)
+        self.wants_contacts(now)
     }
 
     // Whether a site that is heard now is noted.
@@ -128,10 +132,23 @@ impl Pace {
     pub(crate) fn takes(&mut self, now: u64, signal: Signal)
         ensures { self.new ≡ takes self.old now signal }
     {
+        self.arrives(signal.sender);
         if let Some(site) = signal.sender {
             self.meets(now, site);
         }
         self.hears(signal.sign);
+    }
+
+    // Something comes, which may answer a proposal that is under way.
+    fn arrives(&mut self, sender: Option<SiteNo>)
+        ensures { self.new ≡ arrives self.old sender }
+    {
+        if !self.under_way {
+            return;
+        }
+        if let Some(contacts) = &mut self.contacts {
+            contacts.notes_answer(sender);
+        }
     }
 
     // A site is heard.
@@ -152,15 +169,8 @@ impl Pace {
             Sign::Moves => self.wait = self.waits.first,
             Sign::Decides => {
                 self.wait = self.waits.first;
+                self.answer_wait = self.waits.first;
                 self.under_way = false;
-            }
-            Sign::Deposits => {
-                self.wait = self.waits.first;
-                self.prompt = self
-                    .prompt
-                    .saturating_add(self.waits.prompt)
-                    .min(MOST_PROMPT);
-                self.due = self.waits.prompt;
             }
         }
     }
@@ -173,20 +183,50 @@ impl Pace {
             self.proposes();
         } else if is_accept(bytes) {
             self.hears(Sign::Moves);
+        } else if is_registered(bytes) {
+            self.registers();
         } else if is_pending(bytes) {
             self.asked = self.waits.prompt;
         }
+    }
+
+    // A deposit is registered.
+    fn registers(&mut self)
+        ensures { self.new ≡ registers self.old }
+    {
+        self.wait = self.waits.first;
+        self.prompt = self
+            .prompt
+            .saturating_add(self.waits.prompt)
+            .min(MOST_PROMPT);
+        self.due = self.waits.prompt;
     }
 
     // The site proposes.
     fn proposes(&mut self)
         ensures { self.new ≡ proposes self.old }
     {
-        self.wait = self.longer();
+        if self.answers_late() {
+            self.answer_wait = self.longer(self.answer_wait);
+        }
+        self.wait = self.longer(self.wait);
         self.under_way = true;
         self.due = self.waits.prompt;
         self.asked = 0;
         self.proposed_at = self.idle_at;
+        if let Some(contacts) = &mut self.contacts {
+            contacts.awaits();
+        }
+    }
+
+    // Whether answers to a proposal that is under way are late.
+    fn answers_late(&self) -> bool
+        ensures { result ≡ answers_late self.now }
+    {
+        match &self.contacts {
+            Some(contacts) => self.under_way && contacts.is_late(),
+            None => false,
+        }
     }
 
     /// For how many microseconds a turn that began then waits still. With 0 it is idle.
@@ -208,14 +248,15 @@ impl Pace {
         if self.asked == 0 {
             return fair;
         }
-        fair.min(self.second_left(now))
+        fair.min(self.pause_left(now))
     }
 
     // For how many microseconds no question makes a turn idle.
-    fn second_left(&self, now: u64) -> u64
-        ensures { result ≡ second_left self.now now }
+    fn pause_left(&self, now: u64) -> u64
+        ensures { result ≡ pause_left self.now now }
     {
-        SECOND.saturating_sub(now.saturating_sub(self.proposed_at))
+        let pause = MICROS * u64::from(SECOND.max(self.answer_wait));
+        pause.saturating_sub(now.saturating_sub(self.proposed_at))
     }
 
     // The most milliseconds between two idle turns.
@@ -235,7 +276,8 @@ impl Pace {
         ensures { result ≡ wait_at self.now now }
     {
         if self.hears_quorum(now) {
-            return self.wait.min(self.waits.first.max(MOST_CONNECTED));
+            let most = self.waits.first.max(MOST_CONNECTED);
+            return self.wait.min(most).max(self.answer_wait);
         }
         self.wait
     }

@@ -4,7 +4,7 @@ ghost use Rattle.std.specs.Prelude.{◌≡◌, IfOk};
 ghost use Rattle.dgram.specs.Decoded.{message_of};
 ghost use Rattle.udp_site.specs.Signs.{sign_by, own_sign_by, signal_by, own_signal_by, signal_at};
 ghost use Rattle.udp_site.specs.Signs.{kind_byte, body_byte, is_prepare, is_accept, is_vote};
-ghost use Rattle.udp_site.specs.Signs.{is_deposit, is_pending};
+ghost use Rattle.udp_site.specs.Signs.{is_registered, is_pending};
 
 use dgram::{Body, DgramFault, Message, decode};
 use fed_types::SiteNo;
@@ -25,11 +25,14 @@ const ACCEPT: u8 = 3;
 /// A vote's kind.
 const ACCEPTED: u8 = 4;
 
-/// A Deposit's kind.
-const DEPOSIT: u8 = 16;
+/// The kind of a reply to a deposit.
+const DEPOSIT_REPLY: u8 = 32;
 
 /// The kind of a reply to a query.
 const QUERY_REPLY: u8 = 33;
+
+/// The code of a reply to a deposit that says that the bag is registered.
+const REGISTERED: u8 = 0;
 
 /// The code of a reply to a query that says that the bag is pending.
 const PENDING: u8 = 1;
@@ -43,8 +46,6 @@ pub(crate) enum Sign {
     Moves,
     /// Something moves, and a proposal has got votes, or a bag is known.
     Decides,
-    /// Something moves, and there may be a bag to propose.
-    Deposits,
 }
 
 /// What a port learns from a datagram.
@@ -110,8 +111,8 @@ fn sign_by(body: &Body) -> Sign
     match body {
         Body::Accept { .. } => Sign::Moves,
         Body::Accepted { .. } | Body::Known { .. } => Sign::Decides,
-        Body::Deposit { .. } => Sign::Deposits,
-        Body::Prepare { .. }
+        Body::Deposit { .. }
+        | Body::Prepare { .. }
         | Body::Promise { .. }
         | Body::Refused { .. }
         | Body::Ask { .. }
@@ -166,11 +167,11 @@ pub(crate) fn is_vote(bytes: &[u8]) -> bool
     kind_byte(bytes) == ACCEPTED
 }
 
-/// Whether a datagram that came may be a Deposit, by its kind.
-pub(crate) fn is_deposit(bytes: &[u8]) -> bool
-    ensures { result ≡ is_deposit bytes.now }
+/// Whether a datagram that is handed out answers a deposit: the bag is registered.
+pub(crate) fn is_registered(bytes: &[u8]) -> bool
+    ensures { result ≡ is_registered bytes.now }
 {
-    kind_byte(bytes) == DEPOSIT
+    kind_byte(bytes) == DEPOSIT_REPLY && body_byte(bytes) == REGISTERED
 }
 
 /// Whether a datagram that is handed out answers a query: the bag is pending.

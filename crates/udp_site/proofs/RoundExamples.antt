@@ -1,0 +1,120 @@
+-- Which deposit a site proposes, in which idle turn, and whom it asks: site 2 of three, computed.
+use Rattle.std.proofs.Common.{◌≡◌, ℕ, List, [], ◌∷◌, ◌++◌, refl, Some, None}
+use Rattle.std.specs.Prelude.{Err}
+use Rattle.fed_types.specs.declared.bag_id.BagId.{BagId}
+use Rattle.fed_types.specs.Sites.{membership_of, sites_to}
+use Rattle.fed_types.specs.Slots.{SlotName, same_slot}
+use Rattle.records.specs.declared.entry.Entry.{Entry}
+use Rattle.records.specs.declared.entry.Entry.TheVariants as entry
+use Rattle.records.specs.declared.owner.Owner.{Owner}
+use Rattle.records.specs.declared.record.Record.{Record}
+use Rattle.records.specs.SlotStates.{known_of}
+use Rattle.cell_device.specs.Devices.{Device}
+use Rattle.site.specs.declared.fault.SiteFault.TheVariants as faults
+use Rattle.site.specs.Calls.{Input}
+use Rattle.site_tables.specs.Contents.{deposits_of}
+use Rattle.udp_site.specs.Rounds.{next_waiting}
+use Rattle.udp_site.specs.Turns.{Serving, Done, idles, proposes_next, tries, others}
+use Rattle.udp_site.specs.Turns.{proposal_notices}
+
+abbrev said : (object : ℕ) → Entry → Record
+said object body = record { slot = record { object = object ∷ []; version = 1 }; body = body }
+
+abbrev bag : BagId
+bag = record { 0 = 7 ∷ [] }
+
+-- three deposits, one of them voted for, and then a bag is known for the first
+abbrev deposits : List Record
+deposits =
+    said 98 (entry.Deposit bag) ∷ said 97 (entry.Deposit bag) ∷ said 98 (entry.Round 3)
+    ∷ said 99 (entry.Deposit bag) ∷ []
+
+abbrev first_known : List Record
+first_known = deposits ++ said 98 (entry.Known bag) ∷ []
+
+-- one after the other, and then the first again: none waits for another to be decided
+pub in_their_order : next_waiting deposits 0 ≡ Some 0
+unfolding next_waiting deposits_of same_slot known_of
+in_their_order = refl
+
+pub the_second : next_waiting deposits 1 ≡ Some 1
+unfolding next_waiting deposits_of same_slot known_of
+the_second = refl
+
+pub the_last : next_waiting deposits 2 ≡ Some 2
+unfolding next_waiting deposits_of same_slot known_of
+the_last = refl
+
+pub and_the_first_again : next_waiting deposits 3 ≡ Some 0
+unfolding next_waiting deposits_of same_slot known_of
+and_the_first_again = refl
+
+-- not one whose bag is known
+pub known_is_left_out : next_waiting first_known 0 ≡ Some 1
+unfolding next_waiting deposits_of same_slot known_of
+known_is_left_out = refl
+
+pub known_is_left_out_again : next_waiting first_known 3 ≡ Some 1
+unfolding next_waiting deposits_of same_slot known_of
+known_is_left_out_again = refl
+
+-- a deposit before the one that was tried last is found though those after it are known
+abbrev last_known : List Record
+last_known = first_known ++ said 99 (entry.Known bag) ∷ []
+
+pub the_one_before : next_waiting last_known 2 ≡ Some 1
+unfolding next_waiting deposits_of same_slot known_of
+the_one_before = refl
+
+-- and none where all are known, or nothing was deposited
+pub none_waits : next_waiting (last_known ++ said 97 (entry.Known bag) ∷ []) 2 ≡ None
+unfolding next_waiting deposits_of same_slot known_of
+none_waits = refl
+
+pub nothing_deposited : next_waiting (said 97 (entry.Round 3) ∷ []) 0 ≡ None
+unfolding next_waiting deposits_of same_slot known_of
+nothing_deposited = refl
+
+-- site 2 of a federation of three
+abbrev owner : Owner
+owner = record { members = membership_of 7 (1 ∷ 1 ∷ 1 ∷ []); site = 2 }
+
+module _ {C : Type 0} (device : C → Device) (ports : List ℕ) (s : Serving C) where
+  -- after so many idle turns
+  abbrev after : ℕ → Serving C
+  after idle = record s {
+    site = record s.site { book = record s.site.book { owner = owner } };
+    idle = idle;
+  }
+
+  -- in each second idle turn it proposes, and in no other
+  pub not_in_the_first : (done : Done) (new : Serving C) → idles device ports (after 0) done new
+      → done ≡ record { posts = []; notices = [] }
+  not_in_the_first done new idle = idle.0
+
+  pub in_the_second : (done : Done) (new : Serving C) → idles device ports (after 1) done new
+      → proposes_next device ports (after 2) done new
+  in_the_second done new idle = idle
+
+  pub not_in_the_third : (done : Done) (new : Serving C) → idles device ports (after 2) done new
+      → done ≡ record { posts = []; notices = [] }
+  not_in_the_third done new idle = idle.0
+
+  pub in_the_fourth : (done : Done) (new : Serving C) → idles device ports (after 3) done new
+      → proposes_next device ports (after 4) done new
+  in_the_fourth done new idle = idle
+
+  -- after the first deposit it tries the second
+  pub goes_on : next_waiting deposits (tries (after 1) 0).tried ≡ Some 1
+  unfolding next_waiting deposits_of same_slot known_of
+  goes_on = refl
+
+  -- it asks both others, and not itself
+  pub both_others : others (after 0) ≡ 1 ∷ 3 ∷ []
+  unfolding sites_to
+  both_others = refl
+
+-- that no round is left isn't said in each turn
+pub spent_rounds_are_not_said : (input : Input)
+    → proposal_notices 2 input (Err faults.RoundsSpent) ≡ []
+spent_rounds_are_not_said input = refl
