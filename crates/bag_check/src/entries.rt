@@ -24,7 +24,7 @@ use std::collections::BTreeSet;
 #[tactic(auto, unfolding(crate::specs::inner::Order::fault_of_listings))]
 pub(crate) fn fault_of_listings(
     alloc: Global,
-    listings: &[Listing],
+    listings: &[Listing<'_>],
     files: &FilesByPath<'_>,
 ) -> Result<Option<BagFault>, AllocError>
     ensures { IfOk result (λ fault. fault ≡ fault_of_listings files.now listings.now) }
@@ -50,13 +50,13 @@ pub(crate) fn fault_of_listings(
 
 // ---- paths that are unsafe, or on the wrong side of the payload's folder
 
-fn some_astray(listings: &[Listing]) -> bool
+fn some_astray(listings: &[Listing<'_>]) -> bool
     ensures { result ≡ list_any has_astray listings.now }
 {
     listings.iter().any(|listing| has_astray(listing))
 }
 
-fn has_astray(listing: &Listing) -> bool
+fn has_astray(listing: &Listing<'_>) -> bool
     ensures { result ≡ has_astray listing.now }
 {
     let kind = listing.kind();
@@ -65,7 +65,7 @@ fn has_astray(listing: &Listing) -> bool
 
 /// Whether an entry's path is unsafe, or on the wrong side of the payload's folder for this kind of
 /// manifest.
-pub fn is_astray(kind: Kind, entry: &Entry) -> bool
+pub fn is_astray(kind: Kind, entry: &Entry<'_>) -> bool
     ensures { result ≡ is_astray kind entry.now }
 {
     let path = entry.path().as_bytes();
@@ -79,7 +79,7 @@ pub fn is_astray(kind: Kind, entry: &Entry) -> bool
 // ---- paths that a payload manifest lists twice
 
 /// Whether a payload manifest lists a path twice.
-fn some_repeat(alloc: Global, listings: &[Listing]) -> Result<bool, AllocError>
+fn some_repeat(alloc: Global, listings: &[Listing<'_>]) -> Result<bool, AllocError>
     ensures { IfOk result (λ found. found ≡ list_any has_repeat listings.now) }
 {
     for listing in listings {
@@ -90,7 +90,7 @@ fn some_repeat(alloc: Global, listings: &[Listing]) -> Result<bool, AllocError>
     Ok(false)
 }
 
-fn has_repeat(alloc: Global, listing: &Listing) -> Result<bool, AllocError>
+fn has_repeat(alloc: Global, listing: &Listing<'_>) -> Result<bool, AllocError>
     ensures { IfOk result (λ found. found ≡ has_repeat listing.now) }
 {
     match listing.kind() {
@@ -99,7 +99,7 @@ fn has_repeat(alloc: Global, listing: &Listing) -> Result<bool, AllocError>
     }
 }
 
-fn repeats(alloc: Global, entries: &[Entry]) -> Result<bool, AllocError>
+fn repeats(alloc: Global, entries: &[Entry<'_>]) -> Result<bool, AllocError>
     ensures { IfOk result (λ found. found ≡ repeats entries.now) }
 {
     // Paths that ascend differ, which takes no set to see.
@@ -117,7 +117,7 @@ fn repeats(alloc: Global, entries: &[Entry]) -> Result<bool, AllocError>
 }
 
 /// Whether each path is greater than the one before it.
-fn is_ascending(entries: &[Entry]) -> bool
+fn is_ascending(entries: &[Entry<'_>]) -> bool
     ensures { IsTrue result → repeats entries.now ≡ false }
 {
     let mut last = "";
@@ -142,7 +142,7 @@ struct Compared {
 }
 
 /// Compares what all manifests list with the files.
-fn compare(files: &FilesByPath<'_>, listings: &[Listing]) -> Compared
+fn compare(files: &FilesByPath<'_>, listings: &[Listing<'_>]) -> Compared
     ensures missing { result.missing ≡ list_any (has_missing files.now) listings.now }
     ensures wrong { result.wrong ≡ list_any (has_wrong files.now) listings.now }
 {
@@ -157,7 +157,7 @@ fn compare(files: &FilesByPath<'_>, listings: &[Listing]) -> Compared
 }
 
 /// Compares what a manifest of this algorithm lists with the files.
-fn compare_entries(files: &FilesByPath<'_>, algorithm: Algorithm, entries: &[Entry]) -> Compared
+fn compare_entries(files: &FilesByPath<'_>, algorithm: Algorithm, entries: &[Entry<'_>]) -> Compared
     ensures missing { result.missing ≡ list_any (is_missing files.now) entries.now }
     ensures wrong { result.wrong ≡ list_any (is_wrong algorithm files.now) entries.now }
 {
@@ -174,7 +174,7 @@ fn compare_entries(files: &FilesByPath<'_>, algorithm: Algorithm, entries: &[Ent
 
 /// Whether an entry's file is there, and its digest by the manifest's algorithm isn't the entry's;
 /// a digest that wasn't computed is never wrong.
-pub fn is_wrong(algorithm: Algorithm, files: &FilesByPath<'_>, entry: &Entry) -> bool
+pub fn is_wrong(algorithm: Algorithm, files: &FilesByPath<'_>, entry: &Entry<'_>) -> bool
     ensures { result ≡ is_wrong algorithm files.now entry.now }
 {
     match files.file_at(entry.path()) {
@@ -184,7 +184,7 @@ pub fn is_wrong(algorithm: Algorithm, files: &FilesByPath<'_>, entry: &Entry) ->
 }
 
 /// Whether the file's digest by this algorithm isn't the entry's.
-fn has_other_digest(algorithm: Algorithm, entry: &Entry, file: &FileFacts) -> bool
+fn has_other_digest(algorithm: Algorithm, entry: &Entry<'_>, file: &FileFacts) -> bool
     ensures { result ≡ has_other_digest algorithm entry.now.digest (Some file.now) }
 {
     !file.has_digest(algorithm, entry.digest())
@@ -197,7 +197,7 @@ fn has_other_digest(algorithm: Algorithm, entry: &Entry, file: &FileFacts) -> bo
 fn some_unlisted(
     alloc: Global,
     files: &FilesByPath<'_>,
-    listings: &[Listing],
+    listings: &[Listing<'_>],
 ) -> Result<bool, AllocError>
     requires placed { list_any has_astray listings.now ≡ false }
     requires once { list_any has_repeat listings.now ≡ false }
@@ -212,7 +212,11 @@ fn some_unlisted(
     Ok(false)
 }
 
-fn has_unlisted(alloc: Global, files: &[FileFacts], listing: &Listing) -> Result<bool, AllocError>
+fn has_unlisted(
+    alloc: Global,
+    files: &[FileFacts],
+    listing: &Listing<'_>,
+) -> Result<bool, AllocError>
     requires placed { has_astray listing.now ≡ false }
     requires once { has_repeat listing.now ≡ false }
     requires there { has_missing files.now listing.now ≡ false }
@@ -225,7 +229,7 @@ fn has_unlisted(alloc: Global, files: &[FileFacts], listing: &Listing) -> Result
 }
 
 /// Whether the entries, each of another payload file, leave one out.
-fn leaves_out(alloc: Global, entries: &[Entry], files: &[FileFacts]) -> Result<bool, AllocError>
+fn leaves_out(alloc: Global, entries: &[Entry<'_>], files: &[FileFacts]) -> Result<bool, AllocError>
     requires placed { list_any (is_astray Kind.Payload) entries.now ≡ false }
     requires once { repeats entries.now ≡ false }
     requires there { list_any (is_missing files.now) entries.now ≡ false }
@@ -264,7 +268,10 @@ fn is_outside(listed: &BTreeSet<&str>, file: &FileFacts) -> bool
     is_payload(file.path().as_bytes()) && !listed.contains(file.path())
 }
 
-fn listed_paths(alloc: Global, entries: &[Entry]) -> Result<BTreeSet<&str>, AllocError>
+fn listed_paths<'a>(
+    alloc: Global,
+    entries: &'a [Entry<'_>],
+) -> Result<BTreeSet<&'a str>, AllocError>
     ensures { IfOk result (λ listed. (q : List ℕ) →
         contains_by (λ k. slice_cmp nat_cmp q k.now) listed ≡ is_listed q entries.now) }
 {

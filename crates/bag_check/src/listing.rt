@@ -6,13 +6,13 @@ use std::marker::Model;
 
 /// What a manifest lists, every line of which is well-formed.
 #[derive(Drop)]
-pub(crate) struct Listing {
+pub(crate) struct Listing<'a> {
     kind: Kind,
     algorithm: Algorithm,
-    entries: Vec<Entry>,
+    entries: Vec<Entry<'a>>,
 }
 
-impl Model for Listing {
+impl<'a> Model for Listing<'a> {
     ghost use Rattle.bag_check.specs.inner.Order.{Listed};
 
     ghost Value = { Listed };
@@ -24,13 +24,13 @@ impl Model for Listing {
     } };
 }
 
-impl Listing {
+impl<'a> Listing<'a> {
     /// A manifest of this kind and algorithm lists these files.
-    pub(crate) fn new(kind: Kind, algorithm: Algorithm, entries: Vec<Entry>) -> Listing
+    pub(crate) fn new(kind: Kind, algorithm: Algorithm, entries: Vec<Entry<'a>>) -> Listing<'a>
         ensures { result ≡ record {
           kind = kind;
           algorithm = algorithm;
-          files = entries.items;
+          files = entries.entry.items;
         } }
     {
         Listing {
@@ -52,7 +52,7 @@ impl Listing {
         self.algorithm
     }
 
-    pub(crate) fn entries(&self) -> &[Entry]
+    pub(crate) fn entries(&self) -> &[Entry<'a>]
         ensures { result.now ≡ self.now.files }
     {
         self.entries.as_slice()

@@ -11,7 +11,10 @@ use std::alloc::Global;
 
 /// What each manifest lists; `MalformedLine`, where a line of one of them is malformed, or
 /// `Memory`.
-pub(crate) fn listings(alloc: Global, files: &FilesByPath<'_>) -> Result<Vec<Listing>, BagFault>
+pub(crate) fn listings<'a>(
+    alloc: Global,
+    files: &FilesByPath<'a>,
+) -> Result<Vec<Listing<'a>>, BagFault>
     ensures ok { IfOk result (λ found. Reads (manifests_of files.now) [] found.items) }
     ensures err { IfErr result (FailsToRead (manifests_of files.now)) }
 {
@@ -22,11 +25,11 @@ pub(crate) fn listings(alloc: Global, files: &FilesByPath<'_>) -> Result<Vec<Lis
 }
 
 /// Reads the manifests of this kind.
-fn read_kind(
+fn read_kind<'a>(
     alloc: Global,
-    files: &FilesByPath<'_>,
+    files: &FilesByPath<'a>,
     kind: Kind,
-    found: &mut Vec<Listing>,
+    found: &mut Vec<Listing<'a>>,
 ) -> Result<(), BagFault>
     ensures ok { OnOk result
         (Reads (manifests_of_kind kind files.now) found.old.items found.new.items) }
@@ -39,12 +42,12 @@ fn read_kind(
 }
 
 /// Reads the manifest of this kind and algorithm, where there is one.
-fn read(
+fn read<'a>(
     alloc: Global,
-    files: &FilesByPath<'_>,
+    files: &FilesByPath<'a>,
     kind: Kind,
     algorithm: Algorithm,
-    found: &mut Vec<Listing>,
+    found: &mut Vec<Listing<'a>>,
 ) -> Result<(), BagFault>
     ensures ok { OnOk result
         (Reads (manifest_at kind algorithm files.now) found.old.items found.new.items) }

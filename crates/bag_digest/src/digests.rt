@@ -1,10 +1,11 @@
-ghost use Rattle.std.specs.Prelude.{◌≡◌};
+ghost use Rattle.std.specs.Prelude.{◌≡◌, ℕ, List};
 ghost use Rattle.std.specs.Option.{option_copied};
-ghost use Rattle.bag_digest.specs.Digests.{digests_of, digest_by, is_digest};
+ghost use Rattle.bag_digest.specs.Algorithms.{no_algorithms};
+ghost use Rattle.bag_digest.specs.Digests.{digests_by, digests_of, digest_by, is_digest};
 
 use crate::algorithms::Algorithms;
 use crate::digester::Digester;
-use bag_text::Algorithm;
+use bag_text::{Algorithm, HexDigest};
 use md5::{Digest as _, Md5};
 use sha1::Sha1;
 use sha2::{Digest, Sha256, Sha512};
@@ -20,6 +21,18 @@ pub struct Digests {
 }
 
 impl Digests {
+    /// Those of a file of which none is wanted.
+    pub fn none() -> Digests
+        ensures { (bytes : List ℕ) → result ≡ digests_by no_algorithms bytes }
+    {
+        Digests {
+            md5: None,
+            sha1: None,
+            sha256: None,
+            sha512: None,
+        }
+    }
+
     /// All digests of these bytes.
     pub fn of(bytes: &[u8]) -> Digests
         ensures { result ≡ digests_of bytes.now }
@@ -42,25 +55,25 @@ impl Digests {
     }
 
     /// Whether the digest by this algorithm was wanted, and is this one.
-    pub fn has(&self, algorithm: Algorithm, digest: &[u8]) -> bool
+    pub fn has(&self, algorithm: Algorithm, digest: &HexDigest<'_>) -> bool
         ensures { result ≡ is_digest digest.now (digest_by algorithm self.now) }
     {
         match self.by(algorithm) {
             None => false,
-            Some(known) => known == digest,
+            Some(known) => digest.equals(known),
         }
     }
 }
 
 /// Whether this is the digest of the bytes by this algorithm.
-pub fn is_digest_of(digest: &[u8], algorithm: Algorithm, bytes: &[u8]) -> bool
+pub fn is_digest_of(digest: &HexDigest<'_>, algorithm: Algorithm, bytes: &[u8]) -> bool
     ensures { result ≡ is_digest digest.now (digest_by algorithm (digests_of bytes.now)) }
 {
     match algorithm {
-        Algorithm::Md5 => digest == Md5::digest(bytes).as_slice(),
-        Algorithm::Sha1 => digest == Sha1::digest(bytes).as_slice(),
-        Algorithm::Sha256 => digest == Sha256::digest(bytes).as_slice(),
-        Algorithm::Sha512 => digest == Sha512::digest(bytes).as_slice(),
+        Algorithm::Md5 => digest.equals(&Md5::digest(bytes)),
+        Algorithm::Sha1 => digest.equals(&Sha1::digest(bytes)),
+        Algorithm::Sha256 => digest.equals(&Sha256::digest(bytes)),
+        Algorithm::Sha512 => digest.equals(&Sha512::digest(bytes)),
     }
 }
 

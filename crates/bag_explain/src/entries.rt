@@ -39,7 +39,7 @@ pub(crate) fn push_listings(
     alloc: Global,
     text: &mut String,
     files: &FilesByPath<'_>,
-    listings: &[NumberedListing],
+    listings: &[NumberedListing<'_>],
 ) -> Result<(), AllocError>
     ensures { Pushes result text.old text.new (printed_listings files.now listings.now) }
 {
@@ -75,7 +75,7 @@ fn push_fault(
     text: &mut String,
     fault: ListingFault,
     files: &FilesByPath<'_>,
-    listings: &[NumberedListing],
+    listings: &[NumberedListing<'_>],
 ) -> Result<(), AllocError>
     ensures { Pushes result text.old text.new (printed_in fault files.now listings.now) }
 {
@@ -91,7 +91,7 @@ fn push_places(
     text: &mut String,
     fault: ListingFault,
     files: &FilesByPath<'_>,
-    listing: &NumberedListing,
+    listing: &NumberedListing<'_>,
 ) -> Result<(), AllocError>
     ensures { Pushes result text.old text.new
         (printed_places (fault_of fault) (places_in fault files.now listing.now)) }
@@ -106,7 +106,7 @@ fn push_places(
 
 // ---- malformed lines
 
-fn push_malformed(text: &mut String, listing: &NumberedListing) -> Result<(), AllocError>
+fn push_malformed(text: &mut String, listing: &NumberedListing<'_>) -> Result<(), AllocError>
     ensures { Pushes result text.old text.new
         (printed_places BagFault.MalformedLine (malformed_places listing.now)) }
 {
@@ -123,7 +123,7 @@ fn push_entries(
     text: &mut String,
     fault: EntryFault,
     files: &FilesByPath<'_>,
-    listing: &NumberedListing,
+    listing: &NumberedListing<'_>,
 ) -> Result<(), AllocError>
     ensures { Pushes result text.old text.new (printed_places (fault_of (OfEntry fault))
         (places_in (OfEntry fault) files.now listing.now)) }
@@ -139,7 +139,7 @@ fn push_entries(
 fn push_repeated(
     alloc: Global,
     text: &mut String,
-    listing: &NumberedListing,
+    listing: &NumberedListing<'_>,
 ) -> Result<(), AllocError>
     ensures { Pushes result text.old text.new
         (printed_places BagFault.DuplicateEntry (repeated_places listing.now)) }
@@ -153,7 +153,7 @@ fn push_repeated(
 fn push_all_repeated(
     alloc: Global,
     text: &mut String,
-    listing: &NumberedListing,
+    listing: &NumberedListing<'_>,
 ) -> Result<(), AllocError>
     ensures { Pushes result text.old text.new (printed_places BagFault.DuplicateEntry
         (flat_map (repeated_at listing.now) (repeated_after [] listing.now.files))) }
@@ -172,7 +172,7 @@ fn push_all_unlisted(
     alloc: Global,
     text: &mut String,
     files: &[FileFacts],
-    listing: &NumberedListing,
+    listing: &NumberedListing<'_>,
 ) -> Result<(), AllocError>
     ensures { Pushes result text.old text.new
         (printed_places BagFault.UnlistedFile (unlisted_places files.now listing.now)) }
@@ -190,7 +190,7 @@ fn push_left_out(
     alloc: Global,
     text: &mut String,
     files: &[FileFacts],
-    listing: &NumberedListing,
+    listing: &NumberedListing<'_>,
 ) -> Result<(), AllocError>
     ensures { Pushes result text.old text.new (printed_places BagFault.UnlistedFile
         (flat_map (unlisted_at listing.now) files.now)) }
@@ -226,7 +226,10 @@ fn is_outside(listed: &BTreeSet<&str>, file: &FileFacts) -> bool
     is_payload(file.path().as_bytes()) && !listed.contains(file.path())
 }
 
-fn listed_paths(alloc: Global, entries: &[NumberedEntry]) -> Result<BTreeSet<&str>, AllocError>
+fn listed_paths<'a>(
+    alloc: Global,
+    entries: &'a [NumberedEntry<'_>],
+) -> Result<BTreeSet<&'a str>, AllocError>
     ensures { IfOk result (λ listed. (q : List ℕ) →
         contains_by (λ k. slice_cmp nat_cmp q k.now) listed ≡ is_listed q (files_in entries.now)) }
 {

@@ -25,8 +25,8 @@ pub(crate) fn push_if_faulty(
     text: &mut String,
     fault: EntryFault,
     files: &FilesByPath<'_>,
-    listing: &NumberedListing,
-    entry: &NumberedEntry,
+    listing: &NumberedListing<'_>,
+    entry: &NumberedEntry<'_>,
 ) -> Result<(), AllocError>
     ensures { Pushes result text.old text.new (printed_places (entry_fault_of fault)
         (faulty_at fault files.now listing.now entry.now)) }
@@ -52,8 +52,8 @@ pub(crate) fn push_path_if(
     text: &mut String,
     is_faulty: bool,
     fault: BagFault,
-    listing: &NumberedListing,
-    entry: &NumberedEntry,
+    listing: &NumberedListing<'_>,
+    entry: &NumberedEntry<'_>,
 ) -> Result<(), AllocError>
     ensures { Pushes result text.old text.new
         (printed_places fault (when is_faulty (entry_place listing.now entry.now ∷ []))) }
@@ -74,8 +74,8 @@ pub(crate) fn push_path_if(
 fn push_digest_if(
     text: &mut String,
     is_faulty: bool,
-    listing: &NumberedListing,
-    entry: &NumberedEntry,
+    listing: &NumberedListing<'_>,
+    entry: &NumberedEntry<'_>,
 ) -> Result<(), AllocError>
     ensures { Pushes result text.old text.new (printed_places BagFault.WrongDigest
         (when is_faulty (digest_place listing.now entry.now ∷ []))) }

@@ -6,12 +6,12 @@ use std::marker::Model;
 
 /// An entry of a manifest, and the number of its line, counted from 1.
 #[derive(Drop)]
-pub(crate) struct NumberedEntry {
+pub(crate) struct NumberedEntry<'a> {
     line: usize,
-    entry: Entry,
+    entry: Entry<'a>,
 }
 
-impl Model for NumberedEntry {
+impl<'a> Model for NumberedEntry<'a> {
     ghost use Rattle.bag_explain.specs.Lines.{NumberedFile};
 
     ghost Value = { NumberedFile };
@@ -19,9 +19,9 @@ impl Model for NumberedEntry {
     ghost view = { λ it. record { line = it.line; file = it.entry } };
 }
 
-impl NumberedEntry {
-    pub(crate) fn new(line: usize, entry: Entry) -> NumberedEntry
-        ensures { result ≡ record { line = line; file = entry } }
+impl<'a> NumberedEntry<'a> {
+    pub(crate) fn new(line: usize, entry: Entry<'a>) -> NumberedEntry<'a>
+        ensures { result ≡ record { line = line; file = entry.entry } }
     {
         NumberedEntry { line, entry }
     }
@@ -32,7 +32,7 @@ impl NumberedEntry {
         self.line
     }
 
-    pub(crate) fn entry(&self) -> &Entry
+    pub(crate) fn entry(&self) -> &Entry<'a>
         ensures { result.now ≡ self.now.file }
     {
         &self.entry
@@ -41,14 +41,14 @@ impl NumberedEntry {
 
 /// What a manifest lists, where no line of it is malformed, and else the numbers of those lines.
 #[derive(Drop)]
-pub(crate) struct NumberedListing {
+pub(crate) struct NumberedListing<'a> {
     kind: Kind,
     algorithm: Algorithm,
     malformed: Vec<usize>,
-    entries: Vec<NumberedEntry>,
+    entries: Vec<NumberedEntry<'a>>,
 }
 
-impl Model for NumberedListing {
+impl<'a> Model for NumberedListing<'a> {
     ghost use Rattle.bag_explain.specs.Listings.{NumberedListing};
 
     ghost Value = { NumberedListing };
@@ -61,7 +61,7 @@ impl Model for NumberedListing {
     } };
 }
 
-impl NumberedListing {
+impl<'a> NumberedListing<'a> {
     ghost use Rattle.bag_explain.specs.Listings.{unless_malformed};
     ghost use Rattle.bag_explain.specs.Places.{name_of};
 
@@ -70,13 +70,13 @@ impl NumberedListing {
         kind: Kind,
         algorithm: Algorithm,
         malformed: Vec<usize>,
-        entries: Vec<NumberedEntry>,
-    ) -> NumberedListing
+        entries: Vec<NumberedEntry<'a>>,
+    ) -> NumberedListing<'a>
         ensures { result ≡ record {
           kind = kind;
           algorithm = algorithm;
           malformed = malformed.items;
-          files = unless_malformed malformed.items entries.items;
+          files = unless_malformed malformed.items entries.entry.items;
         } }
     {
         let mut entries = entries;
@@ -116,7 +116,7 @@ impl NumberedListing {
         self.malformed.as_slice()
     }
 
-    pub(crate) fn entries(&self) -> &[NumberedEntry]
+    pub(crate) fn entries(&self) -> &[NumberedEntry<'a>]
         ensures { result.now ≡ self.now.files }
     {
         self.entries.as_slice()

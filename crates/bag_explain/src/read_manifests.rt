@@ -11,10 +11,10 @@ use bag_text::{Algorithm, Entry, TextFault, lines, manifest};
 use std::alloc::{AllocError, Global};
 
 /// What each manifest lists.
-pub(crate) fn listings(
+pub(crate) fn listings<'a>(
     alloc: Global,
-    files: &FilesByPath<'_>,
-) -> Result<Vec<NumberedListing>, AllocError>
+    files: &FilesByPath<'a>,
+) -> Result<Vec<NumberedListing<'a>>, AllocError>
     ensures { IfOk result (λ found. found.items ≡ listings_of files.now) }
 {
     let mut found = Vec::new(alloc);
@@ -24,11 +24,11 @@ pub(crate) fn listings(
 }
 
 // Reads the manifests of this kind.
-fn read_kind(
+fn read_kind<'a>(
     alloc: Global,
-    files: &FilesByPath<'_>,
+    files: &FilesByPath<'a>,
     kind: Kind,
-    found: &mut Vec<NumberedListing>,
+    found: &mut Vec<NumberedListing<'a>>,
 ) -> Result<(), AllocError>
     ensures { OnOk result (found.new.items
         ≡ found.old.items ++ map listing_of (manifests_of_kind kind files.now)) }
@@ -40,12 +40,12 @@ fn read_kind(
 }
 
 // Reads the manifest of this kind and algorithm, where there is one.
-fn read(
+fn read<'a>(
     alloc: Global,
-    files: &FilesByPath<'_>,
+    files: &FilesByPath<'a>,
     kind: Kind,
     algorithm: Algorithm,
-    found: &mut Vec<NumberedListing>,
+    found: &mut Vec<NumberedListing<'a>>,
 ) -> Result<(), AllocError>
     ensures { OnOk result (found.new.items
         ≡ found.old.items ++ map listing_of (manifest_at kind algorithm files.now)) }
@@ -64,7 +64,7 @@ fn read_text(
     kind: Kind,
     algorithm: Algorithm,
     text: &[u8],
-) -> Result<NumberedListing, AllocError>
+) -> Result<NumberedListing<'_>, AllocError>
     ensures { IfOk result (λ listing. listing ≡ listing_of record {
       kind = kind;
       algorithm = algorithm;
@@ -92,13 +92,13 @@ fn lines_in(alloc: Global, text: &[u8]) -> Result<Vec<&[u8]>, AllocError>
 }
 
 // Reads the line of this number: the entry that it is, or that it is malformed.
-fn read_line(
+fn read_line<'a>(
     alloc: Global,
     algorithm: Algorithm,
     number: usize,
-    line: &[u8],
+    line: &'a [u8],
     malformed: &mut Vec<usize>,
-    entries: &mut Vec<NumberedEntry>,
+    entries: &mut Vec<NumberedEntry<'a>>,
 ) -> Result<(), AllocError>
     ensures malformed { OnOk result (malformed.new.items
         ≡ malformed.old.items ++ if_malformed number (entries_of algorithm line.now)) }
@@ -116,13 +116,13 @@ fn read_line(
 }
 
 // Adds the one entry that a line lists, if it does.
-fn push_listed(
+fn push_listed<'a>(
     number: usize,
-    listed: Vec<Entry>,
-    entries: &mut Vec<NumberedEntry>,
+    listed: Vec<Entry<'a>>,
+    entries: &mut Vec<NumberedEntry<'a>>,
 ) -> Result<(), AllocError>
     ensures { OnOk result (entries.new.items
-        ≡ entries.old.items ++ numbered number (Ok listed.items)) }
+        ≡ entries.old.items ++ numbered number (Ok listed.entry.items)) }
 {
     let mut listed = listed;
     if listed.is_empty() {

@@ -11,7 +11,7 @@ use crate::hash_listed::hash_listed;
 use crate::open_bag::OpenBag;
 use crate::watcher::Silent;
 use bag_check::{BagFault, check, named_by};
-use bag_digest::{Algorithms, Digester};
+use bag_digest::{Algorithms, Digests};
 use bag_tree::{Facts, FileFacts, LONGEST_TEXT, TreeFault, is_read_text};
 use std::alloc::{AllocError, Global};
 use std::fs::Files;
@@ -119,6 +119,5 @@ fn unread_fact(alloc: Global, path: &str) -> Result<FileFacts, Failure>
     ensures faults { IfErr result (λ failure. IsWalkFault failure.fault) }
 {
     let path = String::from_str(alloc, path)?;
-    let no_digests = Digester::new(Algorithms::none()).finish();
-    Ok(FileFacts::hashed(path, no_digests))
+    Ok(FileFacts::hashed(path, Digests::none()))
 }

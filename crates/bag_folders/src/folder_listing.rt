@@ -4,7 +4,7 @@ ghost use Rattle.bag_folders.specs.Folders.{IsWalkFault};
 use crate::failure::Failure;
 use crate::look::{EntryKind, Look};
 use crate::open_bag::OpenBag;
-use bag_tree::{DEEPEST_PATH, MOST_FILES, PAYLOAD_FOLDER, TreeFault, is_read_text, part_count};
+use bag_tree::{DEEPEST_PATH, MOST_FILES, PAYLOAD_FOLDER, TreeFault, part_count};
 use std::alloc::{AllocError, Global};
 use std::fs::Files;
 use std::io;
@@ -12,12 +12,6 @@ use std::io::ErrorKind;
 
 /// How many bytes of names are asked for at a time.
 const NAMES: usize = 8192;
-
-/// Texts of so many bytes together are looked through before any other file is read.
-const SHORT_TEXTS: u64 = 1 << 20;
-
-/// So are longer ones, where the other files have so many bytes for each of theirs.
-const BYTES_BESIDE: u64 = 100;
 
 /// A file that was found in a folder.
 #[derive(Drop)]
@@ -59,19 +53,6 @@ impl FolderListing {
             bytes = bytes.saturating_add(file.look.length);
         }
         bytes
-    }
-
-    /// Whether a look at the texts that describe the bag takes little time beside all other
-    /// reading.
-    pub(crate) fn is_worth_a_look(&self) -> bool {
-        let mut of_texts = 0u64;
-        for file in self.files.as_slice() {
-            if is_read_text(file.path.as_bytes()) {
-                of_texts = of_texts.saturating_add(file.look.length);
-            }
-        }
-        let of_others = self.bytes().saturating_sub(of_texts);
-        of_texts <= SHORT_TEXTS || of_texts <= of_others / BYTES_BESIDE
     }
 
     /// Whether a later change of a file gives it another time, in this second since 1970: all were

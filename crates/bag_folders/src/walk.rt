@@ -102,7 +102,7 @@ pub(crate) fn read_listed<R: Files + AllocGlobal + Clone + Drop, W: Watcher>(
     ensures faults { IfErr result (λ failure. IsWalkFault failure.fault) }
 {
     watcher.listed(listing.files.len() as u64, listing.bytes());
-    if reading == Reading::Needed && listing.is_worth_a_look() {
+    if reading == Reading::Needed {
         if let Some(facts) = faulty_facts(alloc, bag, &listing)? {
             return Ok(facts);
         }

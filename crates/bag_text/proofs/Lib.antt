@@ -7,3 +7,4 @@ pub mod EntryLaws
 pub mod ManifestLaws
 pub mod DeclarationLaws
 pub mod FieldLaws
+pub mod HexLaws

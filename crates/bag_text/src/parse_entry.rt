@@ -1,14 +1,12 @@
 ghost use Rattle.std.specs.Prelude.{◌≡◌, IfOk};
-ghost use Rattle.std.specs.Option.{option_map, option_copied};
-ghost use Rattle.std.specs.Result.{result_ok};
-ghost use Rattle.hex.specs.Hex.{decode_of};
+ghost use Rattle.std.specs.Option.{option_copied};
 ghost use Rattle.bag_text.specs.Readers.{written_path, file_in};
 
 use crate::algorithm::Algorithm;
 use crate::blank::after_gap;
 use crate::entry::Entry;
+use crate::hex_digest::HexDigest;
 use crate::path::path_in;
-use hex::FromHexError;
 use std::alloc::{AllocError, Global};
 
 /// The entry that a line is, if it is one: a digest in hex, spaces or tabs, and a path.
@@ -17,13 +15,13 @@ pub(crate) fn entry_in(
     alloc: Global,
     algorithm: Algorithm,
     line: &[u8],
-) -> Result<Option<Entry>, AllocError>
+) -> Result<Option<Entry<'_>>, AllocError>
     ensures { IfOk result (λ found. found ≡ file_in algorithm line.now) }
 {
     let Some((digits, rest)) = line.split_at_checked(algorithm.hex_len()) else {
         return Ok(None);
     };
-    let Some(digest) = digest_in(alloc, digits)? else {
+    let Some(digest) = HexDigest::of(digits) else {
         return Ok(None);
     };
     let Some(written) = written_path(rest) else {
@@ -33,17 +31,6 @@ pub(crate) fn entry_in(
         return Ok(None);
     };
     Ok(Some(Entry::new(digest, path)))
-}
-
-fn digest_in(alloc: Global, digits: &[u8]) -> Result<Option<Vec<u8>>, AllocError>
-    ensures { IfOk result
-        (λ found. option_map (λ digest. digest.items) found ≡ result_ok (decode_of digits.now)) }
-{
-    match hex::decode(alloc, digits) {
-        Ok(digest) => Ok(Some(digest)),
-        Err(FromHexError::OutOfMemory) => Err(AllocError),
-        Err(_) => Ok(None),
-    }
 }
 
 fn written_path(rest: &[u8]) -> Option<&[u8]>

@@ -16,7 +16,11 @@ use std::alloc::Global;
 /// The entries of a payload or tag manifest of the algorithm, in order (RFC 8493, 2.1.3 and 2.2.1).
 /// It is `Malformed` at the first line that is neither blank nor an entry, and `Memory` only where
 /// there is no room for the entries.
-pub fn manifest(alloc: Global, algorithm: Algorithm, text: &[u8]) -> Result<Vec<Entry>, TextFault>
+pub fn manifest(
+    alloc: Global,
+    algorithm: Algorithm,
+    text: &[u8],
+) -> Result<Vec<Entry<'_>>, TextFault>
     // What is read is what the text lists.
     ensures found { IfOk result (λ entries. IsManifest algorithm text.now entries.items) }
     // What a text lists is read, unless memory runs out.
@@ -32,7 +36,7 @@ pub fn manifest(alloc: Global, algorithm: Algorithm, text: &[u8]) -> Result<Vec<
     entries_in(alloc, algorithm, text)
 }
 
-fn entries_in(alloc: Global, algorithm: Algorithm, text: &[u8]) -> Result<Vec<Entry>, TextFault>
+fn entries_in(alloc: Global, algorithm: Algorithm, text: &[u8]) -> Result<Vec<Entry<'_>>, TextFault>
     ensures { IsOrMemory (λ entries. entries.items) result (entries_of algorithm text.now) }
 {
     let mut entries = Vec::new(alloc);

@@ -8,7 +8,7 @@ use crate::kept_text::KeptText;
 use crate::path::is_read_text;
 use crate::tree::TreeFile;
 use bag_digest::{Algorithms, Digests};
-use bag_text::Algorithm;
+use bag_text::{Algorithm, HexDigest};
 use std::alloc::{AllocError, Global};
 use std::marker::Model;
 
@@ -109,7 +109,7 @@ impl FileFacts {
     }
 
     /// Whether the digest of the file's bytes by this algorithm was wanted, and is this one.
-    pub fn has_digest(&self, algorithm: Algorithm, digest: &[u8]) -> bool
+    pub fn has_digest(&self, algorithm: Algorithm, digest: &HexDigest<'_>) -> bool
         ensures { result ≡ is_digest digest.now (digest_by algorithm self.now.digests) }
     {
         match &self.contents {

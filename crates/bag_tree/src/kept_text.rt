@@ -3,7 +3,7 @@ ghost use Rattle.bag_digest.specs.Digests.{digests_by, digest_by, is_digest};
 ghost use Rattle.sha2.specs.Sha512.{sha512};
 
 use bag_digest::{Algorithms, Digester, Digests, is_digest_of};
-use bag_text::Algorithm;
+use bag_text::{Algorithm, HexDigest};
 use sha2::{Digest, Sha512};
 use std::marker::Model;
 
@@ -40,7 +40,7 @@ impl KeptText {
         KeptText {
             wanted,
             bytes,
-            computed: Digester::new(Algorithms::none()).finish(),
+            computed: Digests::none(),
         }
     }
 
@@ -61,7 +61,7 @@ impl KeptText {
 
     /// Whether the digest by this algorithm is wanted, and is this one.
     #[tactic(auto, using(crate::proofs::Known::of_computed, crate::proofs::Known::of_wanted))]
-    pub(crate) fn has_digest(&self, algorithm: Algorithm, digest: &[u8]) -> bool
+    pub(crate) fn has_digest(&self, algorithm: Algorithm, digest: &HexDigest<'_>) -> bool
         ensures { result ≡ is_digest digest.now
             (digest_by algorithm (digests_by self.now.wanted self.now.bytes)) }
     {
@@ -70,7 +70,7 @@ impl KeptText {
         }
         match self.computed.by(algorithm) {
             None => is_digest_of(digest, algorithm, self.bytes()),
-            Some(known) => known == digest,
+            Some(known) => digest.equals(known),
         }
     }
 
