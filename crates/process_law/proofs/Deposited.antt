@@ -1,5 +1,6 @@
 -- A process that takes a deposit, over a new disk.
-use Rattle.std.proofs.Common.{◌≡◌, ℕ, refl, ap, true, List, [], ◌∷◌, ◌++◌, append-nil, Some, arith}
+use Rattle.std.proofs.Common.{◌≡◌, ℕ, refl, sym, ◌∙◌, true, List, [], ◌∷◌, ◌++◌}
+use Rattle.std.proofs.Common.{append-nil, Some, arith}
 use Rattle.std.specs.Prelude.{Ok, IsSome}
 use Rattle.fed_types.specs.declared.bag_id.BagId.{BagId}
 use Rattle.fed_types.specs.Lists.{is_in}
@@ -43,15 +44,17 @@ module _ (members : Membership) (is_membership : IsMembership members) (slot : S
       (deaths.old members is_membership slot bag) step.turn.took step.turn.done step.next
   comes = deaths.comes members is_membership slot bag request
 
-  -- what is written
-  text_is : notice_text (Registered 1 slot bag) ≡ (notice_text (Registered 1 slot bag) ++ []) ++ []
+  abbrev line : List ℕ
+  line = notice_text (Registered 1 slot bag)
+
+  -- it alone is written
+  text_is : line ≡ ((line ++ []) ++ []) ++ []
   text_is =
-      let one = append-nil (notice_text (Registered 1 slot bag)) in
-      sym (append-nil (notice_text (Registered 1 slot bag) ++ []) ∙ one)
+      sym (append-nil ((line ++ []) ++ []) ∙ append-nil (line ++ []) ∙ append-nil line)
 
   shows : Shows nothing_yet (all_done members slot bag request) (step.turn ∷ []) [] []
   unfolding all_handed
-  shows = (refl, ap Some text_is)
+  shows = (refl, text_is)
 
   serves : ServedBy (turn_of device [] (Some step.folders)) (Count 1) nothing_yet
       (all_done members slot bag request) (deaths.old members is_membership slot bag) (Ok 0)

@@ -1,5 +1,5 @@
 -- What the definitions take in: replies, deposits, and what is dropped.
-use Rattle.std.proofs.Common.{ℕ, ◌≡◌, inl, inr, refl, sym, ap, subst, ◌∙◌, List, [], ◌∷◌, None}
+use Rattle.std.proofs.Common.{ℕ, ◌≡◌, inl, inr, refl, sym, ap, subst, ◌∙◌, List, [], None}
 use Rattle.std.proofs.Common.{Some, take, arith, false}
 use Rattle.std.proofs.lemmas.Bool.{false≢true}
 use Rattle.std.specs.Prelude.{Result, Ok}
@@ -7,7 +7,6 @@ use Rattle.fed_types.specs.declared.bag_id.BagId.{BagId}
 use Rattle.fed_types.specs.Lists.{Has, here, is_in}
 use Rattle.fed_types.specs.Sites.{IsSiteNumber, members_of, sites_to}
 use Rattle.fed_types.specs.Slots.{SlotName, same_slot}
-use Rattle.fed_types.specs.Values.{IsSlot, IsBag}
 use Rattle.fed_types.specs.Laws.Sites.{sites_to_has}
 use Rattle.fed_types.specs.Laws.Lists.{is_in_decides}
 use Rattle.bag_tree.specs.declared.fault.TreeFault.{TreeFault}
@@ -53,7 +52,7 @@ use Rattle.serving_law.proofs.DatagramBytes.{Bytes, of_message, of_bag, of_numbe
 use Rattle.serving_law.proofs.DiskCalls.{serving, called, hears, heard_step, no_folders}
 use Rattle.serving_law.proofs.NewSites.{starts_new, may_start}
 use Rattle.serving_law.proofs.Sites.{volatile_of, no_ballot, stands_idle}
-use Rattle.serving_law.proofs.Tables.{Rows, tables, begun_bag}
+use Rattle.serving_law.proofs.Tables.{tables, begun_bag}
 
 -- ---- replies
 
@@ -72,32 +71,34 @@ told federation step slot body is (port, rest, posts_are) = record {
   reads = message_of-again federation (record { slot = slot; body = body }) is;
 }
 
+abbrev shown : Step Disk → Showing
+shown step = record { turn = step.turn; handed = 1; written = 0 }
+
 pub replies_are_reports : RepliesAreReports
 replies_are_reports federation step slot bag is_slot is_bag = record {
   queried = λ replies.
       let it = told federation step slot (QueryReply 1 (query.Known bag)) (is_slot, (one, is_bag))
-      replies in
-      (
-        inr (QueryReply 1 (query.Known bag), (shown, refl, it), refl),
-        inr (inr (inl (shown, refl, it))),
+      replies in (
+        inr (QueryReply 1 (query.Known bag), (shown step, refl, it), refl),
+        inr (inr (inl (shown step, refl, it))),
       );
   refused = λ replies.
       let it = told federation step slot (DepositReply 1 (deposit.OtherKnown bag))
-      (is_slot, (one, is_bag)) replies in
-      (
-        inr (DepositReply 1 (deposit.OtherKnown bag), (shown, refl, it), refl),
-        inr (inr (inr (shown, refl, it))),
+      (is_slot, (one, is_bag)) replies in (
+        inr (DepositReply 1 (deposit.OtherKnown bag), (shown step, refl, it), refl),
+        inr (inr (inr (shown step, refl, it))),
       );
   registered = λ replies.
-      inr (shown, refl, told federation step slot (DepositReply 1 (deposit.Registered bag))
-      (is_slot, (one, is_bag)) replies);
+      inr (
+        shown step,
+        refl,
+        told federation step slot (DepositReply 1 (deposit.Registered bag))
+            (is_slot, (one, is_bag)) replies,
+      );
 }
   where
     one : IsSiteNumber 1
     one = (omega arith, omega arith)
-
-    shown : Showing
-    shown = record { turn = step.turn; handed = 1; written = 0 }
 
 -- ---- deposits
 
@@ -120,7 +121,7 @@ deposits_are_valid federation f n step handed written port path facts slot bag a
       (sym (ap (λ (it : ℕ × Step Disk). it.0) both)) d.on_record,
 )
   where
-    both : (n, step) ≡ (d.member, d.step)
+    both : ◌≡◌ {A = ℕ × Step Disk} (n, step) (d.member, d.step)
     both = some_same d.takes
 
     step_is : step ≡ d.step
@@ -238,7 +239,7 @@ module _ (bytes : List ℕ) (bag : BagId) (fits : AreBytes bytes)
           site,
           (one, refl),
           record {
-            may_come = (fits, λ message e of. absurd (is_noise message (sym noise ∙ e)));
+            may_come = (fits, λ message e its. absurd (is_noise message (sym noise ∙ e)));
             comes = noise_comes;
           },
           refl,
@@ -248,7 +249,7 @@ module _ (bytes : List ℕ) (bag : BagId) (fits : AreBytes bytes)
             site,
             (one, refl),
             record {
-              may_come = (m_fits, λ message e of. absurd (stranger message e of));
+              may_come = (m_fits, λ message e its. absurd (stranger message e its));
               comes = stranger_comes;
             },
             refl,
