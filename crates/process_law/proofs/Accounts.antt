@@ -38,8 +38,8 @@ use Rattle.serving_law.proofs.Happenings.{HasFolders, with_folders}
 use Rattle.serving_law.proofs.Scene.{OnlyNow}
 use Rattle.register_law.specs.Overlaps.{own_after, MayHappenTo, IsAccount}
 use Rattle.process_law.specs.Processes.{moves_of, lines_of, last_moves, IsSeen}
-use Rattle.process_law.specs.Processes.{turns_of, all_turns, MayFollow, IsWhole, EndsWithin, IsEnd}
-use Rattle.process_law.specs.Processes.{IsOfProcess}
+use Rattle.process_law.specs.Processes.{turns_of, all_turns, turns_then, turns_ended, IsWhole}
+use Rattle.process_law.specs.Processes.{EndsWithin, IsEnd, IsOfProcess}
 use Rattle.process_law.specs.Processes.{after_account, AccountsGoOn, ProcessesHaveAccounts}
 use Rattle.process_law.proofs.Parts.{needs, moment, follows}
 
@@ -313,11 +313,9 @@ module _ {C : Type 0} (device : C → Device) (members : Membership)
           (flat_map text_of those ++ []) (flat_map text_of turns ++ text) s.1 t.1),
     )
 
-    -- an account from here on, of these turns first, and what is seen of it
+    -- an account from here on, of these turns first and then of more, and what is seen of it
     record Account (m : Member C) (left : List Record) (result : Result (Unit {0}) ServeFault)
-        (first : List Turned) (before after : Outside) : Type 0 where
-      more : List Turned
-      may_follow : MayFollow result more
+        (first more : List Turned) (before after : Outside) : Type 0 where
       moves : List Move
       text : List ℕ
       rest : Rest result m left (first ++ more) moves text
@@ -325,57 +323,56 @@ module _ {C : Type 0} (device : C → Device) (members : Membership)
 
     -- whole turns of a call, after which others come
     call_then : (result : Result (Unit {0}) ServeFault) (before between after : Outside)
-        (start mid : Serving C) (those first : List Turned) (left : List Record)
+        (start mid : Serving C) (those first more : List Turned) (left : List Record)
         → needs device start ≡ false → Leads rule start those mid
         → Shows before between those [] []
-        → Account (Serves (begins mid.site mid.volatile)) left result first between after
-        → Account (Serves start) left result (those ++ first) before after
-    call_then result before between after start mid those first left opened leads shows a = record {
-      more = a.more;
-      may_follow = a.may_follow;
+        → Account (Serves (begins mid.site mid.volatile)) left result first more between after
+        → Account (Serves start) left result (those ++ first) more before after
+    call_then result before between after start mid those first more left opened leads shows a =
+        record {
       moves = a.moves;
       text = a.text;
       rest =
           subst (λ (ts : List Turned). Rest result (Serves start) left ts a.moves a.text)
-          (sym (append_assoc those first a.more))
-          (turns_more result those start mid left (first ++ a.more) a.moves a.text opened leads
-          (λ still. renews result mid left (first ++ a.more) a.moves a.text a.rest));
+          (sym (append_assoc those first more))
+          (turns_more result those start mid left (first ++ more) a.moves a.text opened leads
+          (λ still. renews result mid left (first ++ more) a.moves a.text a.rest));
       seen =
           subst (λ (ts : List Turned). Shows before after ts (a.moves ++ last_moves result) a.text)
-          (sym (append_assoc those first a.more))
-          (shows_more before between after those (first ++ a.more) (a.moves ++ last_moves result)
+          (sym (append_assoc those first more))
+          (shows_more before between after those (first ++ more) (a.moves ++ last_moves result)
           a.text shows a.seen);
     }
 
     call_more : (result : Result (Unit {0}) ServeFault) (wanted : ℕ)
-        (before between after : Outside) (start mid : Serving C) (those first : List Turned)
+        (before between after : Outside) (start mid : Serving C) (those first more : List Turned)
         (left : List Record) → needs device start ≡ false
         → served.Serves rule before between start mid wanted those (Ok tt)
         → (needs device mid ≡ false
-        → Account (Serves (begins mid.site mid.volatile)) left result first between after)
-        → Account (Serves start) left result (those ++ first) before after
-    call_more result wanted before between after start mid those first left opened
+        → Account (Serves (begins mid.site mid.volatile)) left result first more between after)
+        → Account (Serves start) left result (those ++ first) more before after
+    call_more result wanted before between after start mid those first more left opened
         (count, (leads, shows)) next =
-        call_then result before between after start mid those first left opened leads shows
+        call_then result before between after start mid those first more left opened leads shows
         (next (still_open those start mid opened leads))
 
     calls_more : (result : Result (Unit {0}) ServeFault) (wanted : ℕ)
         (before between after : Outside) (start now : Serving C) (calls : List (List Turned))
-        (left : List Record) → needs device start ≡ false
+        (more : List Turned) (left : List Record) → needs device start ≡ false
         → GoesOn rule wanted before between start now calls
-        → (needs device now ≡ false → Account (Serves now) left result [] between after)
-        → Account (Serves start) left result (all_turns calls) before after
-    calls_more result wanted before between after start now [] left opened (same, still) next =
-        subst (λ (o : Outside). Account (Serves start) left result [] o after) still
-        (subst (λ (s : Serving C). Account (Serves s) left result [] between after) same
+        → (needs device now ≡ false → Account (Serves now) left result [] more between after)
+        → Account (Serves start) left result (all_turns calls) more before after
+    calls_more result wanted before between after start now [] more left opened (same, still) next =
+        subst (λ (o : Outside). Account (Serves start) left result [] more o after) still
+        (subst (λ (s : Serving C). Account (Serves s) left result [] more between after) same
         (next (subst (λ (s : Serving C). needs device s ≡ false) (sym same) opened)))
-    calls_more result wanted before between after start now (those ∷ calls) left opened
+    calls_more result wanted before between after start now (those ∷ calls) more left opened
         (mid, inner, served_so, goes_on) next =
-        call_more result wanted before inner after start mid those (all_turns calls) left opened
-        served_so
+        call_more result wanted before inner after start mid those (all_turns calls) more left
+        opened served_so
         (λ still.
-        calls_more result wanted inner between after (begins mid.site mid.volatile) now calls left
-        still goes_on next)
+        calls_more result wanted inner between after (begins mid.site mid.volatile) now calls more
+        left still goes_on next)
 
     -- ---- how it ends
 
@@ -384,10 +381,8 @@ module _ {C : Type 0} (device : C → Device) (members : Membership)
         (those : List Turned) (moves : List Move) (text : List ℕ) (left : List Record)
         → Rest (Err fault) (Serves start) left (those ++ []) moves text
         → Shows before after those (moves ++ last_moves (Err fault)) text
-        → Account (Serves start) left (Err fault) [] before after
+        → Account (Serves start) left (Err fault) [] those before after
     of_rest fault before after start those moves text left rest shows = record {
-      more = those;
-      may_follow = tt;
       moves = moves;
       text = text;
       rest =
@@ -402,7 +397,7 @@ module _ {C : Type 0} (device : C → Device) (members : Membership)
         → (before after : Outside) (start end : Serving C) (those : List Turned)
         (left : List Record) → needs device start ≡ false → Recovers end end left
         → served.EndsBetween rule before after start end those (last_moves (Err fault))
-        → Account (Serves start) left (Err fault) [] before after
+        → Account (Serves start) left (Err fault) [] those before after
     ends_between fault between before after start end those left opened recovers (leads, shows) =
         of_rest fault before after start those [] [] left
         (turns_more (Err fault) those start end left [] [] [] opened leads
@@ -421,7 +416,7 @@ module _ {C : Type 0} (device : C → Device) (members : Membership)
         → Recovers end end left → Leads rule start those mid
         → turn_of device ports gives mid turn.took turn.done end
         → Shows before after those (first_of turn handed) (take written (text_of turn))
-        → Account (Serves start) left (Err fault) [] before after
+        → Account (Serves start) left (Err fault) [] those before after
     ends_within fault none before after start mid end those turn Shown handed written left so may
         opened recovers leads came shows =
         of_rest fault before after start those (first_of turn handed) (take written (text_of turn))
@@ -445,7 +440,7 @@ module _ {C : Type 0} (device : C → Device) (members : Membership)
         (left : List Record) → needs device start ≡ false
         → Recovers end end left
         → served.EndsInWriting rule before after shut start end those
-        → Account (Serves start) left (Err fault) [] before after
+        → Account (Serves start) left (Err fault) [] those before after
     ends_in_writing fault none may shut before after start end those left opened recovers
         (mid, leads, turn, came, last, count, shows) =
         ends_within fault none before after start mid end those turn whole_posts
@@ -457,7 +452,7 @@ module _ {C : Type 0} (device : C → Device) (members : Membership)
         (those : List Turned) (left : List Record) → needs device start ≡ false
         → Recovers end end left
         → served.Serves rule before after start end wanted those (Err fault)
-        → Account (Serves start) left (Err fault) [] before after
+        → Account (Serves start) left (Err fault) [] those before after
     ends_by faults.Port wanted before after start end those left opened recovers (fewer, between) =
         ends_between faults.Port (λ left. refl) before after start end those left opened recovers
         between
@@ -482,14 +477,13 @@ module _ {C : Type 0} (device : C → Device) (members : Membership)
     serves_on : (wanted most : ℕ) (before after : Outside) (start end : Serving C)
         (calls : List (List Turned)) (result : Result (Unit {0}) ServeFault) (left : List Record)
         → needs device start ≡ false → Recovers end end left
-        → ServesOn rule wanted most before after start end calls result
-        → Account (Serves start) left result (all_turns calls) before after
+        → (serves : ServesOn rule wanted most before after start end calls result)
+        → Account (Serves start) left result (all_turns calls)
+        (turns_then rule wanted most before after start end calls result serves) before after
     serves_on wanted most before after start end calls (Ok tt) left opened recovers
         (all, goes_on) =
-        calls_more (Ok tt) wanted before after after start end calls left opened goes_on
+        calls_more (Ok tt) wanted before after after start end calls [] left opened goes_on
         (λ still. record {
-          more = [];
-          may_follow = refl;
           moves = [];
           text = [];
           rest = ended (Ok tt) end left refl recovers;
@@ -497,7 +491,7 @@ module _ {C : Type 0} (device : C → Device) (members : Membership)
         })
     serves_on wanted most before after start end calls (Err fault) left opened recovers
         (fewer, (mid, between, goes_on, those, served_so)) =
-        calls_more (Err fault) wanted before between after start mid calls left opened goes_on
+        calls_more (Err fault) wanted before between after start mid calls those left opened goes_on
         (λ still. ends_by fault wanted between after mid end those left still recovers served_so)
 
     -- ---- a process
@@ -510,8 +504,8 @@ module _ {C : Type 0} (device : C → Device) (members : Membership)
       abbrev start : Serving C
       start = begins process.site new_volatile
 
-      a : Account (Serves start) left process.served.result (all_turns process.served.calls) before
-          process.served.ended
+      a : Account (Serves start) left process.served.result (all_turns process.served.calls)
+          (turns_ended process.served) before process.served.ended
       a =
           serves_on (turns_in how) (most_calls how) before process.served.ended start
           process.served.end process.served.calls process.served.result left
@@ -532,20 +526,18 @@ module _ {C : Type 0} (device : C → Device) (members : Membership)
       ends = a.rest.ends
 
       is_of : IsOfProcess n ports gives cell process.site process.served.calls
-          process.served.result left account
+          (turns_ended process.served) process.served.result left account
       is_of = record {
         whole = a.rest.whole;
         end = a.rest.end;
         split = refl;
         are_whole = a.rest.are_whole;
-        more = a.more;
-        may_follow = a.may_follow;
         turns_are = a.rest.turns_are;
         is_end = a.rest.is_end;
       }
 
       abbrev these : List Turned
-      these = all_turns process.served.calls ++ a.more
+      these = all_turns process.served.calls ++ turns_ended process.served
 
       moves_are : moves_of account ++ last_moves process.served.result
           ≡ flat_map served.moves_of these ++ (a.moves ++ last_moves process.served.result)
@@ -576,8 +568,8 @@ module _ {C : Type 0} (device : C → Device) (members : Membership)
       is_account : (account : List (Happening C))
           × IsAccount device members (Down records) account
           × (after_account (Down records) account ≡ Down left)
-          × IsOfProcess n ports gives cell process.site process.served.calls process.served.result
-          left account
+          × IsOfProcess n ports gives cell process.site process.served.calls
+          (turns_ended process.served) process.served.result left account
           × IsSeen before after process.served.result answer account
       is_account = (account, account_is, ends, is_of, is_seen)
 

@@ -1,2 +1,3 @@
 pub mod Parts
 pub mod Accounts
+pub mod Deposited

@@ -1,6 +1,6 @@
 -- What a process does that serves a site is an account of its member: from the contract of the call
 -- that the program makes, `site_commands::open_and_serve`, to the laws of every history.
-use Rattle.std.specs.Prelude.{◌≡◌, ◌⊎◌, ⊤, ℕ, List, [], ◌∷◌, ◌++◌, take, length, Option, Some, None}
+use Rattle.std.specs.Prelude.{◌≡◌, ◌⊎◌, ℕ, List, [], ◌∷◌, ◌++◌, take, length, Option, Some, None}
 use Rattle.std.specs.Prelude.{Result, Ok, Err, IfSome}
 use Rattle.std.specs.List.{flat_map}
 use Rattle.std.specs.Io.KnownBytes.{Appends}
@@ -15,10 +15,11 @@ use Rattle.site.specs.Sites.{OpenSite}
 use Rattle.udp_site.specs.declared.fault.ServeFault.{ServeFault}
 use Rattle.udp_site.specs.declared.fault.ServeFault.TheVariants as faults
 use Rattle.udp_site.specs.Traffic.{Move, Took, Failed, Grows, all_handed}
-use Rattle.udp_site.specs.Turns.{turn_of}
-use Rattle.udp_site.specs.Served.{Outside, Turned, text_of}
+use Rattle.udp_site.specs.Turns.{Serving, turn_of}
+use Rattle.udp_site.specs.Served.{Rule, Outside, Turned, text_of}
 use Rattle.site_commands.specs.declared.site_arguments.Turns.{Turns}
-use Rattle.site_commands.specs.Services.{HasServed, IsConcluded}
+use Rattle.site_commands.specs.Services.{HasServed, IsConcluded, ServesOn, ServedBy}
+use Rattle.site_commands.specs.Services.{turns_in, most_calls}
 use Rattle.serving_law.specs.Federations.{Member, Down, Step, Happening, Fails, Ends, Renews}
 use Rattle.serving_law.specs.Federations.{Starts}
 use Rattle.serving_law.specs.Federations as happenings
@@ -74,10 +75,21 @@ turns_of account = flat_map (λ h. turn_shown (showing_of h)) account
 abbrev pub all_turns : List (List Turned) → List Turned
 all_turns calls = flat_map (λ turns. turns) calls
 
--- after calls that were all Ok there are no other turns
-abbrev pub MayFollow : Result (Unit {0}) ServeFault → List Turned → Type 0
-MayFollow (Ok served) more = more ≡ []
-MayFollow (Err fault) more = ⊤
+module _ {C : Type 0} (rule : Rule C) (wanted most : ℕ) (before after : Outside)
+    (start end : Serving C) (calls : List (List Turned)) where
+  -- the whole turns of a call that a fault ended, after these calls
+  abbrev pub turns_then : (result : Result (Unit {0}) ServeFault)
+      → ServesOn rule wanted most before after start end calls result → List Turned
+  turns_then (Ok served) serves = []
+  turns_then (Err fault) serves = serves.1.3
+
+-- the whole turns of the call that a fault ended, if one did
+abbrev pub turns_ended : {C : Type 0} {rule : Rule C} {how : Turns} {before after : Outside}
+    {start : Serving C} {answer : Result ℕ ProgramFault}
+    → ServedBy rule how before after start answer → List Turned
+turns_ended {rule = rule} {how = how} {before = before} {start = start} s =
+    turns_then rule (turns_in how) (most_calls how) before s.ended start s.end s.calls s.result
+    s.serves
 
 module _ {C : Type 0} (n : ℕ) (ports : List ℕ)
     (gives : Option (List ℕ → Result TreeFacts TreeFault)) where
@@ -117,17 +129,15 @@ module _ {C : Type 0} (n : ℕ) (ports : List ℕ)
       EndsWithin (λ turn handed written. handed ≡ length turn.done.posts) left end
 
   -- The process opens this cell as this site. Then its turns are whole: those of its calls that
-  -- were Ok, and of one that a fault ended, if one did; and it ends.
+  -- were Ok, and of the one that a fault ended, if one did; and it ends.
   pub record IsOfProcess (cell : C) (site : OpenSite C) (calls : List (List Turned))
-      (result : Result (Unit {0}) ServeFault) (left : List Record)
+      (ended : List Turned) (result : Result (Unit {0}) ServeFault) (left : List Record)
       (account : List (Happening C)) : Type 0 where
     pub whole : List (Happening C)
     pub end : List (Happening C)
     pub split : account ≡ Starts n cell site ∷ whole ++ end
     pub are_whole : (h : Happening C) → Has h whole → IsWhole h
-    pub more : List Turned
-    pub may_follow : MayFollow result more
-    pub turns_are : turns_of whole ≡ all_turns calls ++ more
+    pub turns_are : turns_of whole ≡ all_turns calls ++ ended
     pub is_end : IsEnd result left end
 
 -- what the member is after an account
@@ -160,6 +170,6 @@ module _ {C : Type 0} (device : C → Device) (members : Membership) where
       (device_of device members process.served.end) left
       → (account : List (Happening C)) × IsAccount device members (Down records) account
       × (after_account (Down records) account ≡ Down left)
-      × IsOfProcess n ports gives cell process.site process.served.calls process.served.result left
-      account
+      × IsOfProcess n ports gives cell process.site process.served.calls
+      (turns_ended process.served) process.served.result left account
       × IsSeen before after process.served.result answer account

@@ -3,6 +3,8 @@
 //! its contract is a law.
 #![tactic(auto)]
 
+mod examples;
 mod law;
 
+pub use examples::a_process_takes_a_deposit;
 pub use law::{accounts_go_on, processes_have_accounts};

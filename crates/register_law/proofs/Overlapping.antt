@@ -24,12 +24,12 @@ abbrev AreAmong : List Post → List Post → Type 0
 AreAmong some all = (post : Post) → Has post some → Has post all
 
 -- what may come where these were handed out may come where more were
-more_may_come : (federation : ℕ) (some all : List Post) → AreAmong some all → (o : Option Taken)
-    → IfSome o (MayCome federation some) → IfSome o (MayCome federation all)
-more_may_come federation some all among None may = tt
-more_may_come federation some all among (Some Nothing) may = tt
-more_may_come federation some all among (Some (From port bytes)) (are_bytes, handed) =
-    (are_bytes, λ message e. let w = handed message e in (w.0, among (w.0, bytes) w.1))
+more_may_come : (members : Membership) (some all : List Post) → AreAmong some all → (o : Option Taken)
+    → IfSome o (MayCome members some) → IfSome o (MayCome members all)
+more_may_come members some all among None may = tt
+more_may_come members some all among (Some Nothing) may = tt
+more_may_come members some all among (Some (From port bytes)) (are_bytes, handed) =
+    (are_bytes, λ message e is. let w = handed message e is in (w.0, among (w.0, bytes) w.1))
 
 module _ {C : Type 0} (device : C → Device) (members : Membership) where
   -- ---- what a happening makes of a federation
@@ -82,7 +82,7 @@ module _ {C : Type 0} (device : C → Device) (members : Membership) where
       may_happen : (t : Bool) → t ≡ true
           → IsAccount device members (f.members (member_at h))
           (cond t (h ∷ at_member (member_at h) history) (at_member (member_at h) history))
-          → IfSome (taken_in h) (MayCome members.federation f.handed)
+          → IfSome (taken_in h) (MayCome members f.handed)
           → May device members f h
       unfolding IsAccount
       may_happen true is account come = account.0 f refl come
@@ -103,14 +103,14 @@ module _ {C : Type 0} (device : C → Device) (members : Membership) where
       (f : Federation C)
       → ((n : ℕ) → IsAccount device members (f.members n) (at_member n (begun moments)))
       → AreAmong handed f.handed → AreHanded earlier f.handed
-      → AreInTime members.federation handed earlier moments
+      → AreInTime members handed earlier moments
       → MayAll device members f (begun moments)
   unfolding MayAll AreInTime at_member begun
   all_may [] handed earlier f accounts among out in_time = tt
   all_may (Begins h ∷ moments) handed earlier f accounts among out in_time = (
     may_happen f h (begun moments) (member_at h == member_at h) (at_itself (member_at h))
         (accounts (member_at h))
-        (more_may_come members.federation handed f.handed among (taken_in h) in_time.0),
+        (more_may_come members handed f.handed among (taken_in h) in_time.0),
     all_may moments handed (h ∷ earlier) (after f h)
         (λ n.
         subst (λ (m : Member C). IsAccount device members m (at_member n (begun moments)))

@@ -61,7 +61,7 @@ module _ {C : Type 0} (device : C → Device) (members : Membership) where
   abbrev pub MayHappenTo : Member C → Happening C → Type 0
   MayHappenTo m h =
       (f : Federation C) → f.members (member_at h) ≡ m
-      → IfSome (taken_in h) (MayCome members.federation f.handed) → May device members f h
+      → IfSome (taken_in h) (MayCome members f.handed) → May device members f h
 
   -- all of these may happen to it, one after another
   unfoldable pub IsAccount : Member C → List (Happening C) → Type 0
@@ -83,15 +83,15 @@ begun (HandsOut post ∷ moments) = begun moments
 
 -- What is taken in may come, after what was handed out at earlier moments; and what is handed out
 -- is a datagram of a happening that began earlier, and perhaps goes on while others begin.
-unfoldable pub AreInTime : {C : Type 0} → (federation : ℕ) → (handed : List Post)
+unfoldable pub AreInTime : {C : Type 0} → Membership → (handed : List Post)
     → (earlier : List (Happening C)) → List (Moment C) → Type 0
-AreInTime federation handed earlier [] = ⊤
-AreInTime federation handed earlier (Begins h ∷ moments) =
-    IfSome (taken_in h) (MayCome federation handed)
-    × AreInTime federation handed (h ∷ earlier) moments
-AreInTime federation handed earlier (HandsOut post ∷ moments) =
+AreInTime members handed earlier [] = ⊤
+AreInTime members handed earlier (Begins h ∷ moments) =
+    IfSome (taken_in h) (MayCome members handed)
+    × AreInTime members handed (h ∷ earlier) moments
+AreInTime members handed earlier (HandsOut post ∷ moments) =
     ((h : Happening _) × Has h earlier × Has post (handed_out h))
-    × AreInTime federation (handed ++ post ∷ []) earlier moments
+    × AreInTime members (handed ++ post ∷ []) earlier moments
 
 module _ {C : Type 0} (device : C → Device) (members : Membership) where
   -- Where each member has an account of its own, the happenings make a history, in the order in
@@ -100,5 +100,5 @@ module _ {C : Type 0} (device : C → Device) (members : Membership) where
   OverlapsAreHistories =
       (f : Federation C) (moments : List (Moment C))
       → ((n : ℕ) → IsAccount device members (f.members n) (at_member n (begun moments)))
-      → AreInTime members.federation f.handed [] moments
+      → AreInTime members f.handed [] moments
       → MayAll device members f (begun moments)

@@ -220,7 +220,7 @@ module _ (bag : BagId) (request : Request 7 a bag) where
   abbrev started : (n : ℕ) → Happening Disk
   started n = starts_new three three_are n (tables a three n none_heard)
 
-  member : (n : ℕ) → 1 ≤ n → n ≤ 3 → Has n (members_of three)
+  pub member : (n : ℕ) → 1 ≤ n → n ≤ 3 → Has n (members_of three)
   member n from to = sites_to_has 3 n from to
 
   ends : (f : Federation Disk) → MayAll device three f []
@@ -243,7 +243,7 @@ module _ (bag : BagId) (request : Request 7 a bag) where
       asked,
       (member 1 (omega arith) (omega arith), serving),
       record {
-        may_come = (request.are_bytes, λ message e. absurd (other (sym request.asked ∙ e)));
+        may_come = (request.are_bytes, λ message e is. absurd (other (sym request.asked ∙ e)));
         comes = deposits;
       },
       refl,
@@ -270,15 +270,15 @@ module _ (bag : BagId) (request : Request 7 a bag) where
     rest,
   )
 
-  abbrev hears : Turn → Hearing
+  abbrev pub hears : Turn → Hearing
   hears turn = hearing bag request turn
 
   -- a turn in which so many datagrams are handed out, and bytes written
-  abbrev turns : Turn → (count written : ℕ) → Happening Disk
+  abbrev pub turns : Turn → (count written : ℕ) → Happening Disk
   turns turn count written = Turns (hears turn).n (step_of (hears turn)) count written
 
   -- a site may hear what was handed out at this place, counted from 0
-  may : (turn : Turn) (place count written : ℕ) (f : Federation Disk)
+  pub may : (turn : Turn) (place count written : ℕ) (f : Federation Disk)
       (later : List (Happening Disk)) → 1 ≤ (hears turn).n → (hears turn).n ≤ 3
       → slice_get f.handed place ≡ Some ((hears turn).n, datagram_of 7 (m (hears turn).body))
       → f.members (hears turn).n ≡ Serves (serves (hears turn).n (hears turn).old)
@@ -295,16 +295,16 @@ module _ (bag : BagId) (request : Request 7 a bag) where
   -- ---- the histories
 
   -- site 1 has voted, and site 2 is asked to
-  abbrev asked_to_vote : List (Happening Disk)
+  abbrev pub asked_to_vote : List (Happening Disk)
   asked_to_vote =
       started 1 ∷ started 2 ∷ started 3 ∷ Turns 1 deposit_step 1 0 ∷ Turns 1 propose_step 3 0
       ∷ turns Asked1 1 0 ∷ turns Asked2 1 0 ∷ turns Promised1 0 0 ∷ turns Promised2 3 0
       ∷ turns Votes1 3 0 ∷ []
 
-  abbrev then : Federation Disk
+  abbrev pub then : Federation Disk
   then = after_all new_federation asked_to_vote
 
-  may_before : (later : List (Happening Disk)) → MayAll device three then later
+  pub may_before : (later : List (Happening Disk)) → MayAll device three then later
       → MayAll device three new_federation (asked_to_vote ++ later)
   unfolding new_federation after_all
   may_before later goes_on =

@@ -43,8 +43,8 @@ module _ (bag : BagId) (request : Request 7 a bag) where
   abbrev v : Vote
   v = vote bag
 
-  pub come : MayCome 7 [] (From request.port request.bytes)
-  come = (request.are_bytes, λ message e. absurd (other (sym request.asked ∙ e)))
+  pub come : MayCome three [] (From request.port request.bytes)
+  come = (request.are_bytes, λ message e is. absurd (other (sym request.asked ∙ e)))
     where
       other : {message : Message}
           → requests.Deposits request.port a request.path ≡ requests.Says message → ⊥

@@ -128,7 +128,7 @@ module _ (h : Hearing) (fits : Fits h) (answers : Answers h) (stands : Stands h)
     (handed : Has (port, datagram_of 7 (m h.body)) f.handed) where
   pub takes : Takes device three f (serves h.n h.old) (step_of h)
   takes = record {
-    may_come = (fits.fits, λ message e. (port, handed));
+    may_come = (fits.fits, λ message e is. (port, handed));
     comes =
         hears three three_are h.n ports (records_of a h.old.es) (tables a three h.n h.old.rows)
         (volatile_of h.old.bs h.old.current) h.old.turns h.old.turns (next_of h) (m h.body) fits.is

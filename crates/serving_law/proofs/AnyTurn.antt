@@ -6,10 +6,10 @@ use Rattle.fed_types.specs.declared.bag_id.BagId.{BagId}
 use Rattle.fed_types.specs.Ballots.{BallotNumber}
 use Rattle.fed_types.specs.Lists.{Has}
 use Rattle.fed_types.specs.Quorums.{QuorumSystem}
-use Rattle.fed_types.specs.Sites.{Membership}
+use Rattle.fed_types.specs.Sites.{Membership, members_of}
 use Rattle.fed_types.specs.Slots.{SlotName}
 use Rattle.fed_types.specs.Values.{IsSlot}
-use Rattle.fed_types.specs.Laws.Lists.{has_none, has_one}
+use Rattle.fed_types.specs.Laws.Lists.{has_none, has_one, is_in_decides}
 use Rattle.cell_device.specs.Devices.{Device}
 use Rattle.bag_tree.specs.declared.fault.TreeFault.{TreeFault}
 use Rattle.bag_tree.specs.Facts.{TreeFacts}
@@ -18,19 +18,23 @@ use Rattle.records.specs.Records.{IsRecord}
 use Rattle.records.specs.SlotStates.{deposit_of, known_of}
 use Rattle.records.proofs.Bounds.{deposit_among}
 use Rattle.dgram.specs.declared.message.Message.{Message}
+use Rattle.dgram.specs.Encoding.{body_from}
 use Rattle.dgram.specs.Messages.{IsMessage}
 use Rattle.proposer.specs.Proposals.{next_ballot}
 use Rattle.proposer.specs.VolatileStates.{VolatileState}
+use Rattle.site.specs.Arrivals.{is_member, on_arrival}
 use Rattle.site.specs.declared.answer.Answer.{Answer}
+use Rattle.site.specs.declared.answer.Line.TheVariants as site_lines
 use Rattle.site.specs.declared.fault.SiteFault.{SiteFault}
 use Rattle.site.specs.declared.fault.SiteFault.TheVariants as faults
 use Rattle.site.specs.Calls.{Input, Proposes, Arrives, effect_of, on_propose, begins_ballot_if}
 use Rattle.lines.specs.declared.notice.Notice.{Notice}
 use Rattle.world_law.specs.Laws.{WasSent}
 use Rattle.world_law.specs.Networks.{volatile_in}
-use Rattle.world_law.proofs.Arrivals.{arrival_deed}
+use Rattle.world_law.proofs.Arrivals.{arrival_deed, says_deed}
 use Rattle.world_law.proofs.Calls.{propose_deed}
-use Rattle.world_law.proofs.Deeds.{some_same}
+use Rattle.world_law.proofs.Deeds.{Deed, some_same}
+use Rattle.world_law.proofs.Step.{reports_plain}
 use Rattle.world_law.proofs.WellFormedCalls.{effect_is, refuses_is}
 use Rattle.world_law.proofs.WellFormedEffects.{IsWellFormedEffect}
 use Rattle.world_law.proofs.WellFormedWords.{all_has}
@@ -41,8 +45,9 @@ use Rattle.udp_site.specs.Turns.{proposes, idles_if, comes_of}
 use Rattle.udp_site.specs.Turns.{slot_of}
 use Rattle.udp_site.specs.Rounds.{next_waiting}
 use Rattle.udp_site.specs.Served.{or_one}
-use Rattle.serving_law.specs.Rules.{MayCome}
+use Rattle.serving_law.specs.Rules.{MayCome, IsOfMember}
 use Rattle.serving_law.proofs.Requests.{IsAsked, deposit_is_slot, query_is_slot, says_was_sent}
+use Rattle.serving_law.proofs.Requests.{says_is_message}
 use Rattle.serving_law.proofs.Scene.{Scene}
 use Rattle.serving_law.proofs.Networks.{quorums, Means, May, IsNotice}
 use Rattle.serving_law.proofs.Deposits.{tree_ends}
@@ -83,16 +88,41 @@ module _ {C : Type 0} (device : C → Device) (members : Membership) (s : Scene 
 
   -- ---- a site's message
 
+  -- one of no member is dropped, and changes nothing
+  arrives_deed : (message : Message)
+      → (IsOfMember members message → WasSent w message.slot message.body)
+      → Deed q w n (Arrives (Some message))
+      (effect_of q n (w.sites n).records volatile (Arrives (Some message)))
+  unfolding on_arrival
+  arrives_deed message sent = go (is_member q (body_from message.body)) refl
+    where
+      of_member : (from : Option ℕ) → is_member q from ≡ true
+          → (k : ℕ) × (from ≡ Some k) × Has k (members_of members)
+      of_member None e = absurd (cc e)
+      of_member (Some k) e = (k, refl, (is_in_decides (members_of members) k).0 e)
+
+      go : (t : Bool) → is_member q (body_from message.body) ≡ t
+          → Deed q w n (Arrives (Some message))
+          (effect_of q n (w.sites n).records volatile (Arrives (Some message)))
+      go true e =
+          arrival_deed q
+          (turning.laws device members s)
+          w inv n (Some message)
+          (λ m same. subst (λ (m : Message). WasSent w m.slot m.body) (some_same same)
+          (sent (of_member (body_from message.body) e)))
+      go false e =
+          rw e (says_deed q
+          (turning.laws device members s)
+          w inv n (Arrives (Some message)) (Ok (Some site_lines.Dropped)) (reports_plain _ refl))
+
   hears_ends : (idle tried : ℕ) (ports : List ℕ) (message : Message)
-      → WasSent w message.slot message.body → IsMessage message → (D : May) (done : Done)
-      (new : Serving C) → hears device ports (at idle tried) message done new → Ends done new D
+      → (IsOfMember members message → WasSent w message.slot message.body) → IsMessage message
+      → (D : May) (done : Done) (new : Serving C)
+      → hears device ports (at idle tried) message done new → Ends done new D
   hears_ends idle tried ports message sent is D done new (result, called, done_is) =
       subst (λ (d : Done). Ends d new D) (sym done_is)
       (turning.speaks_ends device members s idle tried (Arrives (Some message))
-      (arrival_deed q
-      (turning.laws device members s)
-      w inv n (Some message)
-      (λ m e. subst (λ (m : Message). WasSent w m.slot m.body) (some_same e) sent))
+      (arrives_deed message sent)
       (effect_is q
       (turning.sites device members s)
       n
@@ -173,7 +203,7 @@ module _ {C : Type 0} (device : C → Device) (members : Membership) (s : Scene 
       (means : (port : ℕ) (bytes : List ℕ) → Has (port, bytes) handed
       → Means device members w bytes)
       (ports : List ℕ) (folders : List ℕ → Result TreeFacts TreeFault) (took : Taken)
-      (may : MayCome members.federation handed took) (idle tried : ℕ) (done : Done)
+      (may : MayCome members handed took) (idle tried : ℕ) (done : Done)
       (new : Serving C) where
     abbrev D : May
     D = IsAsked members.federation folders took
@@ -204,8 +234,9 @@ module _ {C : Type 0} (device : C → Device) (members : Membership) (s : Scene 
     by_request Waits e t =
         if_ends (idle + 1) tried ports D done new ((idle + 1) % n == 0) t
     by_request (Says message) e t =
-        let heard = says_was_sent members handed device w formed means took may message e in
-        hears_ends idle tried ports message heard.0 heard.1 D done new t
+        hears_ends idle tried ports message
+        (says_was_sent members handed device w formed means took may message e)
+        (says_is_message members handed took may message e) D done new t
     by_request (Deposits port slot path) e t = deposit_ends port slot path e t
     by_request (Queries port slot) e t =
         query_ends device members s

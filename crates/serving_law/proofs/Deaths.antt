@@ -125,10 +125,10 @@ module _ (members : Membership) (is_membership : IsMembership members) (slot : S
       next = new;
     }
 
-    come : MayCome members.federation [] (From request.port request.bytes)
+    pub come : MayCome members [] (From request.port request.bytes)
     come = (
       request.are_bytes,
-      λ message e. absurd (other (sym request.asked ∙ e)),
+      λ message e is. absurd (other (sym request.asked ∙ e)),
     )
       where
         other : {message : Message}
@@ -142,7 +142,7 @@ module _ (members : Membership) (is_membership : IsMembership members) (slot : S
       checked_is request.facts bag request.checked,
     )
 
-    comes : turn_of device [] (Some step.folders) old (From request.port request.bytes) done new
+    pub comes : turn_of device [] (Some step.folders) old (From request.port request.bytes) done new
     comes =
         subst (λ (q : requests.Request).
         comes_of device [] (Some step.folders) old q done new)
@@ -161,7 +161,7 @@ module _ (members : Membership) (is_membership : IsMembership members) (slot : S
 
     -- ---- the histories
 
-    one : Has 1 (members_of members)
+    pub one : Has 1 (members_of members)
     one = sites_to_has (count_of members) 1 (omega arith) is_membership.1.0.0
 
     abbrev pub before : List (Happening Disk)

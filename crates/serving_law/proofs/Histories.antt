@@ -230,7 +230,7 @@ module _ {C : Type 0} (device : C → Device) (members : Membership)
         (gives : Option (List ℕ → Result TreeFacts TreeFault)) (turn : Turned)
         → MayAll device members new_federation history
         → IsServing device members (after_all new_federation history) n old
-        → MayCome members.federation (after_all new_federation history).handed turn.took
+        → MayCome members (after_all new_federation history).handed turn.took
         → turn_of device ports gives old turn.took turn.done next
         → IsStep device members history old next ports gives turn
     taken history n old next ports gives turn may serving come comes = (

@@ -27,3 +27,4 @@ pub mod Agreed
 pub mod Deaths
 pub mod Kills
 pub mod Forgeries
+pub mod Shown

@@ -24,7 +24,7 @@ use Rattle.world_law.specs.WellFormed.{IsWellFormed}
 use Rattle.udp_site.specs.Traffic.{Post, Taken, Nothing, From}
 use Rattle.udp_site.specs.Requests.{Says, Deposits, Queries, request_by}
 use Rattle.udp_site.specs.Requests.{request_in, request_of}
-use Rattle.serving_law.specs.Rules.{MayCome}
+use Rattle.serving_law.specs.Rules.{MayCome, IsOfMember}
 use Rattle.serving_law.proofs.Networks.{IsReplyBody, Means}
 
 -- a deposit that is asked for: its folder, as it is read, is a valid bag
@@ -101,7 +101,7 @@ module _ (members : Membership) (handed : List Post) where
   abbrev federation : ℕ
   federation = members.federation
 
-  pub deposit_is_slot : (took : Taken) → MayCome federation handed took → (port : ℕ)
+  pub deposit_is_slot : (took : Taken) → MayCome members handed took → (port : ℕ)
       (slot : SlotName) (path : List ℕ) → request_of federation took ≡ Deposits port slot path
       → IsSlot slot
   deposit_is_slot Nothing may port slot path e = absurd (cc e)
@@ -115,7 +115,7 @@ module _ (members : Membership) (handed : List Post) where
           subst IsSlot (deposit_slot from m m.body port slot path g)
           (message_of-found federation bytes m may.0 f).0.0
 
-  pub query_is_slot : (took : Taken) → MayCome federation handed took → (port : ℕ)
+  pub query_is_slot : (took : Taken) → MayCome members handed took → (port : ℕ)
       (slot : SlotName) → request_of federation took ≡ Queries port slot → IsSlot slot
   query_is_slot Nothing may port slot e = absurd (cc e)
   query_is_slot (From from bytes) may port slot e = go (message_of federation bytes) refl e
@@ -127,13 +127,25 @@ module _ (members : Membership) (handed : List Post) where
           subst IsSlot (query_slot from m m.body port slot g)
           (message_of-found federation bytes m may.0 f).0.0
 
-  -- a site's message was sent
+  pub says_is_message : (took : Taken) → MayCome members handed took → (message : Message)
+      → request_of federation took ≡ Says message → IsMessage message
+  says_is_message Nothing may message e = absurd (cc e)
+  says_is_message (From from bytes) may message e = go (message_of federation bytes) refl e
+    where
+      go : (o : Option Message) → message_of federation bytes ≡ o
+          → request_in from o ≡ Says message → IsMessage message
+      go None f g = absurd (cc g)
+      go (Some m) f g =
+          subst IsMessage (says_message from m m.body message g)
+          (message_of-found federation bytes m may.0 f).0
+
+  -- a message in the name of a member was sent
 
   module _ {C : Type 0} (device : C → Device) (w : Network) (formed : IsWellFormed w)
       (means : (port : ℕ) (bytes : List ℕ) → Has (port, bytes) handed
       → Means device members w bytes) where
     abbrev pub IsHeard : Message → Type 0
-    IsHeard message = WasSent w message.slot message.body × IsMessage message
+    IsHeard message = WasSent w message.slot message.body
 
     by_meaning : (from : ℕ) (bytes : List ℕ) (message : Message) → Means device members w bytes
         → request_of federation (From from bytes) ≡ Says message → IsHeard message
@@ -141,7 +153,7 @@ module _ (members : Membership) (handed : List Post) where
         subst IsHeard
         (says_message from s.send.message s.send.message.body message
         (sym (ap (request_in from) read) ∙ e))
-        (record { to = s.send.to; is_sent = s.sent }, (formed.sent s.send s.sent).1)
+        (record { to = s.send.to; is_sent = s.sent })
       where
         read : message_of federation bytes ≡ Some s.send.message
         read =
@@ -154,9 +166,10 @@ module _ (members : Membership) (handed : List Post) where
         read : message_of federation bytes ≡ Some m
         read = ap (message_of federation) r.bytes_are ∙ message_of-again federation m r.is
 
-    pub says_was_sent : (took : Taken) → MayCome federation handed took → (message : Message)
-        → request_of federation took ≡ Says message → IsHeard message
-    says_was_sent Nothing may message e = absurd (cc e)
-    says_was_sent (From from bytes) may message e =
-        let found = may.1 message e in
+    pub says_was_sent : (took : Taken) → MayCome members handed took → (message : Message)
+        → request_of federation took ≡ Says message → IsOfMember members message
+        → IsHeard message
+    says_was_sent Nothing may message e is = absurd (cc e)
+    says_was_sent (From from bytes) may message e is =
+        let found = may.1 message e is in
         by_meaning from bytes message (means found.0 bytes found.1) e

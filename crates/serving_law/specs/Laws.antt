@@ -47,7 +47,7 @@ module _ {C : Type 0} (device : C → Device) (members : Membership) where
       (gives : Option (List ℕ → Result TreeFacts TreeFault)) (turn : Turned)
       → IsMembership members → IsHistory device members history
       → IsServing device members (after_all new_federation history) n old
-      → MayCome members.federation (after_all new_federation history).handed turn.took
+      → MayCome members (after_all new_federation history).handed turn.took
       → turn_of device ports gives old turn.took turn.done next
       → IsStep history old next ports gives turn
 

@@ -8,3 +8,4 @@ pub mod Laws
 pub mod Disks
 pub mod Examples
 pub mod ExamplesAgreed
+pub mod ExamplesShown

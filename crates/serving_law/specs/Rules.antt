@@ -9,6 +9,7 @@ use Rattle.records.specs.declared.owner.Owner.{Owner}
 use Rattle.records.specs.declared.record.Record.{Record}
 use Rattle.records.specs.Journals.{DecodesTo}
 use Rattle.dgram.specs.declared.message.Message.{Message}
+use Rattle.dgram.specs.Encoding.{body_from}
 use Rattle.book.specs.Opened.{Opens}
 use Rattle.udp_site.specs.Traffic.{Post, Taken, Nothing, From}
 use Rattle.udp_site.specs.Requests.{Says, request_of}
@@ -26,14 +27,20 @@ AreBytes bytes = (place : ℕ) → get_or bytes place 0 < 256
 abbrev pub WereHanded : List Post → List ℕ → Type 0
 WereHanded handed bytes = (port : ℕ) × Has (port, bytes) handed
 
--- What may come, to any member and from any port: nothing; or any bytes, but that a message from
--- one site to another was handed out before by a member. So no such message is forged or altered.
-abbrev pub MayCome : (federation : ℕ) → (handed : List Post) → Taken → Type 0
-MayCome federation handed Nothing = ⊤
-MayCome federation handed (From port bytes) =
+-- the message is in the name of a member
+abbrev pub IsOfMember : Membership → Message → Type 0
+IsOfMember members message =
+    (n : ℕ) × (body_from message.body ≡ Some n) × Has n (members_of members)
+
+-- What may come, to any member and from any port: nothing; or any bytes, but that what one site
+-- says to another, in the name of a member, was handed out before by a member. So no such message
+-- is forged or altered. One in the name of a site that is no member may come at any time.
+abbrev pub MayCome : Membership → (handed : List Post) → Taken → Type 0
+MayCome members handed Nothing = ⊤
+MayCome members handed (From port bytes) =
     AreBytes bytes
-    × ((message : Message) → request_of federation (From port bytes) ≡ Says message
-    → WereHanded handed bytes)
+    × ((message : Message) → request_of members.federation (From port bytes) ≡ Says message
+    → IsOfMember members message → WereHanded handed bytes)
 
 -- ---- cells
 
@@ -70,7 +77,7 @@ module _ {C : Type 0} (device : C → Device) (members : Membership) where
 
   -- it takes this turn, by the rules of a site that serves, of something that may come
   pub record Takes (f : Federation C) (old : Serving C) (step : Step C) : Type 0 where
-    pub may_come : MayCome members.federation f.handed step.turn.took
+    pub may_come : MayCome members f.handed step.turn.took
     pub comes :
         turn_of device step.ports (Some step.folders) old step.turn.took step.turn.done step.next
 

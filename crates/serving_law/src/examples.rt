@@ -1,6 +1,8 @@
 ghost use Rattle.serving_law.specs.Disks.{AreLikeCells};
 ghost use Rattle.serving_law.specs.Examples.{FooledByAForgedKnown, KilledInADeposit};
 ghost use Rattle.serving_law.specs.ExamplesAgreed.{ThreeSitesAgree, KilledInAVote, ARepeatedVote};
+ghost use Rattle.serving_law.specs.ExamplesShown.{RepliesAreReports, DepositsAreValid};
+ghost use Rattle.serving_law.specs.ExamplesShown.{NoiseIsDropped};
 
 // A function here does nothing: its contract is an example, computed. No example takes a site's
 // answer as given: its bytes are those of a `Vec`, which a proof can make.
@@ -36,4 +38,20 @@ pub fn killed_in_a_vote()
 /// A vote that is said again counts once, and comes to nothing once the bag is known.
 pub fn a_repeated_vote()
     ensures { ARepeatedVote }
+{}
+
+/// What a client is told is a report, or a registration, as a printed line is.
+pub fn replies_are_reports()
+    ensures { RepliesAreReports }
+{}
+
+/// What is deposited is a valid bag, as its folder is read then, and is on record.
+pub fn deposits_are_valid()
+    ensures { DepositsAreValid }
+{}
+
+/// What is no message may come at any time, and so may a message in the name of a site that is no
+/// member: a site drops both, and stays as it is.
+pub fn noise_is_dropped()
+    ensures { NoiseIsDropped }
 {}
