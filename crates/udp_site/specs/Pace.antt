@@ -43,7 +43,7 @@ idles pace now = record pace {
 }
 
 -- Something comes. Where that moves something it waits for its first wait again; and where a
--- proposal has got votes, or a bag is known, no proposal is under way any more, and answers came.
+-- proposal has got votes, or a bag is known, none is under way any more, nor are answers late.
 abbrev pub hears : Pace → Sign → Pace
 hears pace signs.Still = pace
 hears pace signs.Moves = record pace { wait = pace.waits.first }
@@ -77,8 +77,8 @@ abbrev pub takes : Pace → (now : ℕ) → Signal → Pace
 takes pace now signal =
     hears (listens (arrives pace signal.sender) now signal.sender) signal.sign
 
--- Answers to a proposal that is under way are late: disks are slow, and a proposal that comes as
--- soon as the last one outbids it.
+-- The answers to a proposal that is under way are late, as where disks are slow: the next proposal
+-- outbids it, and would be outbid in its turn if that came as soon.
 abbrev pub answers_late : Pace → Bool
 answers_late pace = pace.under_way && elim pace.contacts [
   | None ↦ false
@@ -90,8 +90,8 @@ abbrev pub awaiting : Option Contacts → Option Contacts
 awaiting None = None
 awaiting (Some contacts) = Some (awaits contacts)
 
--- The site proposes, in its last idle turn. After each proposal it waits twice as long, and so it
--- does for answers where those to the last one were late; one is under way now, and no question is
+-- The site proposes, in its last idle turn. After each proposal it waits twice as long; for answers
+-- it does so where those to the proposal before were late. One is under way now, and no question is
 -- open.
 abbrev pub proposes : Pace → Pace
 proposes pace = record pace {
@@ -140,8 +140,8 @@ abbrev pub hears_quorum : Option Contacts → (now : ℕ) → Bool
 hears_quorum None now = false
 hears_quorum (Some contacts) now = is_connected contacts now
 
--- While a quorum is heard it waits for half a second at most, or its first wait; but as long as
--- answers take that are late.
+-- While a quorum is heard it waits for half a second at most, or for its first wait where that is
+-- longer; but no less than it waits for answers.
 abbrev pub wait_at : Pace → (now : ℕ) → ℕ
 wait_at pace now =
     if hears_quorum pace.contacts now
@@ -156,8 +156,8 @@ between pace now =
     if pace.prompt == 0 || pace.under_way
     then max (wait_at pace now) (max (10 * pace.waits.first) 250) else 0
 
--- for how many microseconds no question makes a turn idle: one a second may bring a proposal, or
--- fewer where answers are late
+-- for how many microseconds no question makes a turn idle: one a second may bring a proposal, and
+-- none while it waits for answers
 abbrev pub pause_left : Pace → (now : ℕ) → ℕ
 pause_left pace now = 1000 * max 1000 pace.answer_wait - (now - pace.proposed_at)
 
