@@ -17,6 +17,7 @@ mod file_facts;
 mod kept_text;
 mod limits;
 mod path;
+mod places;
 mod tree;
 
 pub use facts::{Facts, facts_of};

@@ -1,11 +1,14 @@
-ghost use Rattle.std.specs.Prelude.{◌≡◌, OnOk, OnErr, IfOk};
+ghost use Rattle.std.specs.Prelude.{◌≡◌, false, length, nat_lt, OnOk, OnErr, IfOk};
+ghost use Rattle.std.specs.List.{list_any};
 ghost use Rattle.bag_tree.specs.Fault.{RefusesFor};
 
 use crate::fault::TreeFault;
 use crate::path::{
-    DEEPEST_PATH, PAYLOAD_FOLDER, has_unsafe_part, is_payload, is_read_text, lies_below, part_count,
+    DEEPEST_PATH, PAYLOAD_FOLDER, has_unsafe_part, is_payload, is_read_text, part_count,
 };
+use crate::places::{has_file, has_file_below, lead_folders, lead_path, lies_below_file};
 use std::alloc::{AllocError, Global};
+use std::collections::BTreeMap;
 use std::marker::Model;
 
 /// A tree has at most this many files.
@@ -62,19 +65,32 @@ pub struct Tree {
     alloc: Global,
     files: Vec<TreeFile>,
     folder: bool,
+    /// Where the file of a path is among the files.
+    by_path: BTreeMap<String, usize>,
+    /// Where a file that lies below a folder is.
+    by_folder: BTreeMap<String, usize>,
 }
 
 impl Model for Tree {
+    ghost use Rattle.std.specs.Prelude.{◌≡◌, false};
+    ghost use Rattle.std.specs.List.{list_any};
+    ghost use Rattle.bag_tree.specs.Path.{is_below};
     ghost use Rattle.bag_tree.specs.Tree.{Files};
+    ghost use Rattle.bag_tree.specs.inner.Places.{FindsEach, is_at, is_too_deep};
 
     ghost Value = { Files };
 
     ghost view = { λ t. record { files = t.files.items; folder = t.folder } };
+
+    ghost invariant = { λ t. FindsEach is_at t.files.items t.by_path
+        × FindsEach is_below t.files.items t.by_folder
+        × (list_any is_too_deep t.files.items ≡ false) };
 }
 
 impl Tree {
     ghost use Rattle.bag_tree.specs.Tree.{no_files, with_file, with_folder, payload_exists};
-    ghost use Rattle.bag_tree.specs.Tree.{is_bad_path, fault_of_added};
+    ghost use Rattle.bag_tree.specs.Path.{parts_of};
+    ghost use Rattle.bag_tree.specs.Tree.{clash, deepest_path, is_bad_path, fault_of_added};
 
     /// A tree of nothing.
     pub fn new(alloc: Global) -> Tree
@@ -84,6 +100,8 @@ impl Tree {
             alloc,
             files: Vec::new(alloc),
             folder: false,
+            by_path: BTreeMap::new(alloc),
+            by_folder: BTreeMap::new(alloc),
         }
     }
 
@@ -129,7 +147,21 @@ impl Tree {
         if is_read_text(path.as_bytes()) && bytes.len() > LONGEST_TEXT {
             return Err(TreeFault::TextTooLong);
         }
+        self.push(path, bytes)?;
+        Ok(())
+    }
+
+    /// Adds a file that the tree can have.
+    fn push(&mut self, path: &str, bytes: &[u8]) -> Result<(), AllocError>
+        requires placed { list_any (λ file. clash file.path path.now) self.old.files ≡ false }
+        requires deepest { nat_lt deepest_path (length (parts_of path.now)) ≡ false }
+        ensures ok { OnOk result (self.new ≡ with_file self.old path.now bytes.now) }
+        ensures err { OnErr result (self.new ≡ self.old) }
+    {
         let file = TreeFile::new(self.alloc, path, bytes)?;
+        let files = self.files.as_slice();
+        lead_folders(self.alloc, files, &mut self.by_folder, path)?;
+        lead_path(self.alloc, files, &mut self.by_path, path)?;
         self.files.push(file)?;
         Ok(())
     }
@@ -138,32 +170,25 @@ impl Tree {
     fn has_no_place(&self, path: &str) -> bool
         ensures { result ≡ is_bad_path self.now path.now }
     {
-        has_unsafe_part(path.as_bytes())
-            || path == PAYLOAD_FOLDER
-            || has_clash(self.files.as_slice(), path)
+        has_unsafe_part(path.as_bytes()) || path == PAYLOAD_FOLDER || self.has_clash(path)
+    }
+
+    /// Whether a file has this path, lies below it, or has it below itself.
+    fn has_clash(&self, path: &str) -> bool
+        ensures { result ≡ list_any (λ file. clash file.path path.now) self.now.files }
+    {
+        let files = self.files.as_slice();
+        has_file(files, &self.by_path, path)
+            | has_file_below(files, &self.by_folder, path)
+            | lies_below_file(files, &self.by_path, path)
     }
 }
 
 ghost use Rattle.bag_tree.specs.Path.{is_payload};
-ghost use Rattle.bag_tree.specs.Tree.{clash};
-ghost use Rattle.std.specs.List.{list_any};
 
 /// Whether a file lies in the payload's folder.
 fn has_payload(files: &[TreeFile]) -> bool
     ensures { result ≡ list_any (λ file. is_payload file.path) files.now }
 {
     files.iter().any(|file| is_payload(file.path().as_bytes()))
-}
-
-/// Whether a file has this path, lies below it, or has it below itself.
-fn has_clash(files: &[TreeFile], path: &str) -> bool
-    ensures { result ≡ list_any (λ file. clash file.path path.now) files.now }
-{
-    files.iter().any(|file| paths_clash(file.path(), path))
-}
-
-fn paths_clash(a: &str, b: &str) -> bool
-    ensures { result ≡ clash a.now b.now }
-{
-    a == b || lies_below(a.as_bytes(), b.as_bytes()) || lies_below(b.as_bytes(), a.as_bytes())
 }

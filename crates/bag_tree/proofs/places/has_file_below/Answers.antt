@@ -1,0 +1,30 @@
+use Rattle.std.proofs.Common.{◌∙◌, ℕ, List, length, ap, sym, refl}
+use Rattle.std.proofs.lemmas.Option.{slice_get_past, slice_get_read}
+use Rattle.bag_tree.specs.Path.{is_below}
+use Rattle.bag_tree.proofs.PlaceLaws.{found_nothing, found_no_file, found_file}
+use Rattle.bag_tree.proofs.places.has_file_below.Goals as goal
+
+pub returns-in-None : goal.returns-in-None
+returns-in-None c =
+    found_nothing is_below c.args.files.now c.args.by_folder.now c.requires c.args.folder.now
+    c.in-None.ensures.value
+
+pub returns-in-None-get : goal.returns-in-None-get
+returns-in-None-get c =
+    found_no_file is_below c.args.files.now c.args.by_folder.now c.requires c.args.folder.now
+    c.in-Some.place.now c.in-Some.ensures.value
+    (sym (slice_get_past c.args.files.now c.in-Some.place.now c.in-None-get.ensures.lookup.3))
+
+pub returns-in-Some-get : goal.returns-in-Some-get
+returns-in-Some-get c =
+    let files = c.args.files.now in
+    let found =
+    found_file is_below files c.args.by_folder.now c.requires c.args.folder.now c.in-Some.place.now
+    c.in-Some-get.file.now c.in-Some.ensures.value
+    (sym
+    (slice_get_read files (length files) c.in-Some.place.now c.in-Some-get.file.now refl
+    c.in-Some-get.ensures.lookup.3.0 c.in-Some-get.ensures.lookup.1)) in
+    c.lies_below.ensures
+    ∙ (ap (λ (p : List ℕ). is_below p c.as_bytes-in-Some-get.result.now) c.as_bytes.ensures.value
+    ∙ (ap (λ (p : List ℕ). is_below c.args.folder.now p)
+    (c.as_bytes-in-Some-get.ensures.value ∙ c.path.ensures) ∙ found))
