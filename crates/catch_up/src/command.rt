@@ -3,10 +3,9 @@
 use crate::arguments::CatchUpTask;
 use crate::rounds::{Target, catch_up_on};
 use counted_writes::CountedWriter;
-use known_bags::{KnownBag, SourceFault, push_source};
-use outcomes::{ProgramFault, write_output};
-use site_commands::{Stop, members_at, port_of, socket, write_numbered, write_stop};
-use std::alloc::{AllocError, Global};
+use known_bags::{KnownBag, push_source, write_fault};
+use outcomes::ProgramFault;
+use site_commands::{Stop, members_at, port_of, socket, write_stop};
 use std::io;
 use std::io::Write;
 use udp_site::Waits;
@@ -18,7 +17,7 @@ pub fn catch_up_site(rt: &HostRuntime, task: &CatchUpTask<'_>) -> Result<u8, Pro
     for path in &task.files {
         match push_source(rt, &mut versions, path) {
             Ok(()) => {}
-            Err(fault) => return write_source_fault(rt.alloc(), &mut output, fault),
+            Err(fault) => return write_fault(rt.alloc(), &mut CountedWriter::new(output), fault),
         }
     }
     match asked_by(rt, task) {
@@ -52,25 +51,4 @@ fn ask_all<W: Write + Drop>(
         }
         Err(stop) => write_stop(rt.alloc(), &mut output, stop),
     }
-}
-
-fn write_source_fault<W: Write>(
-    alloc: Global,
-    output: &mut W,
-    fault: SourceFault,
-) -> Result<u8, ProgramFault> {
-    match fault {
-        SourceFault::Unread => write_output(output, 1, "open 4\n"),
-        SourceFault::Damaged(offset) => write_numbered(output, damaged_line(alloc, offset)),
-        SourceFault::Line(line) => write_numbered(output, ledger_line(alloc, line)),
-        SourceFault::Memory => write_output(output, 1, "memory\n"),
-    }
-}
-
-fn damaged_line(alloc: Global, offset: usize) -> Result<String, AllocError> {
-    format!(in alloc; "damaged {offset}\n")
-}
-
-fn ledger_line(alloc: Global, line: usize) -> Result<String, AllocError> {
-    format!(in alloc; "ledger line {line}\n")
 }

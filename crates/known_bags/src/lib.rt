@@ -6,15 +6,17 @@
 //! for path in &task.files {
 //!     match push_source(rt, &mut versions, path) {
 //!         Ok(()) => {}
-//!         Err(fault) => return write_source_fault(rt.alloc(), &mut output, fault),
+//!         Err(fault) => return write_fault(rt.alloc(), &mut CountedWriter::new(output), fault),
 //!     }
 //! }
 //! ```
 #![tactic(auto)]
 
+mod fault_lines;
 mod known_bag;
 mod known_lines;
 mod sources;
 
+pub use fault_lines::write_fault;
 pub use known_bag::KnownBag;
 pub use sources::{SourceFault, push_known, push_source, source_bytes};

@@ -10,7 +10,8 @@ use Rattle.known_bags.specs.Sources.{Knows, IsNoSource, IsSourceOf}
 use Rattle.outcomes.specs.Outcomes.{Writes, WritesPrefix, no_memory}
 use Rattle.registered_checks.specs.Held.{Given}
 use Rattle.registered_checks.specs.Checks.{Ends, agree}
-use Rattle.registered_checks.specs.Lists.{AnswersTo, AnswersFirst, fault_outcome}
+use Rattle.known_bags.specs.Faults.{fault_outcome}
+use Rattle.registered_checks.specs.Lists.{AnswersTo, AnswersFirst}
 
 -- the bags that a source knows are the held ones where the status is 0
 pub agreed_to : {T E : Type 0} (checked : Result T E) (status : T → ℕ) (source : List ℕ)

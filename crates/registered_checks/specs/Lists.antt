@@ -1,24 +1,13 @@
 -- What a check against a list comes to, or against a cell.
-use Rattle.std.specs.Prelude.{◌⊎◌, ℕ, List, [], ◌∷◌, ◌++◌, codes, Option, IfSome}
-use Rattle.std.specs.Fmt.{decimal}
+use Rattle.std.specs.Prelude.{◌⊎◌, ℕ, List, [], Option, IfSome}
 use Rattle.folder_checks.specs.declared.report.Report.{Report}
 use Rattle.known_bags.specs.declared.known_bag.KnownBag.{KnownBag}
 use Rattle.known_bags.specs.declared.sources.SourceFault.{SourceFault}
-use Rattle.known_bags.specs.declared.sources.SourceFault.TheVariants.{Unread, Damaged, Line, Memory}
+use Rattle.known_bags.specs.Faults.{fault_outcome}
 use Rattle.known_bags.specs.Sources.{Knows, IsNoSource}
 use Rattle.outcomes.specs.Outcomes.{Outcome}
 use Rattle.registered_checks.specs.Held.{Given}
 use Rattle.registered_checks.specs.Checks.{ComparesOn, ComparesFirst}
-
--- why a source knows nothing
-abbrev pub fault_text : SourceFault → List ℕ
-fault_text Unread = codes "open 4"
-fault_text (Damaged place) = codes "damaged " ++ decimal place
-fault_text (Line number) = codes "ledger line " ++ decimal number
-fault_text Memory = codes "memory"
-
-abbrev pub fault_outcome : SourceFault → Outcome
-fault_outcome fault = record { status = 1; text = fault_text fault ++ 10 ∷ [] }
 
 -- what a check against a source of these bytes may end with, and what is written then, and said:
 -- where it knows bags, that of a check against these; where it doesn't, why

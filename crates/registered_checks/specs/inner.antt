@@ -1,4 +1,3 @@
 -- What only private contracts and proofs speak of.
 pub mod Answers
 pub mod Notes
-pub mod Lines

@@ -4,10 +4,10 @@ ghost use Rattle.std.specs.Prelude.{◌≡◌, ◌⊎◌, ℕ, take, string_byte
 ghost use Rattle.std.specs.Io.KnownBytes.{Appends};
 ghost use Rattle.cell_device.specs.Calls.{one_more};
 
-use crate::list_checks::{check_list_on, write_fault};
+use crate::list_checks::check_list_on;
 use counted_writes::{CountedWrite, CountedWriter, write_output};
 use folder_checks::{CheckTask, spoken_folders, watched_folders};
-use known_bags::source_bytes;
+use known_bags::{source_bytes, write_fault};
 use outcomes::{ProgramFault, ProgramOutput};
 use std::io;
 

@@ -1,22 +1,21 @@
 //! Checks of folders against the bags that a source knows: a cell, or a list.
 
-ghost use Rattle.std.specs.Prelude.{◌≡◌, ◌⊎◌, List, map, IfOk, IfErr, IfSome, OnErr, IsErrOf};
-ghost use Rattle.std.specs.Prelude.{IsTrue, string_bytes};
+ghost use Rattle.std.specs.Prelude.{◌≡◌, List, map, IfOk, IfErr, IfSome, IsErrOf, IsTrue};
+ghost use Rattle.std.specs.Prelude.{string_bytes};
 ghost use Rattle.known_bags.specs.declared.known_bag.KnownBag.{KnownBag};
 ghost use Rattle.known_bags.specs.Sources.{Knows};
 ghost use Rattle.cell_device.specs.Calls.{HasCause};
-ghost use Rattle.outcomes.specs.Outcomes.{Writes, WritesPrefix, no_memory};
+ghost use Rattle.outcomes.specs.Outcomes.{WritesPrefix};
 ghost use Rattle.registered_checks.specs.Checks.{Ends, agree};
-ghost use Rattle.registered_checks.specs.Lists.{AnswersTo, AnswersFirst, fault_outcome};
-ghost use Rattle.registered_checks.specs.inner.Lines.{IsWritten};
+ghost use Rattle.registered_checks.specs.Lists.{AnswersTo, AnswersFirst};
 
 use crate::known_checks::{Checked, check_known_on};
 use bag_folders::Folders;
-use counted_writes::{CountedWrite, write_output};
+use counted_writes::CountedWrite;
 use folder_checks::Report;
-use known_bags::{SourceFault, push_known};
+use known_bags::{push_known, write_fault};
 use outcomes::{ProgramFault, ProgramOutput};
-use std::alloc::{AllocError, Global};
+use std::alloc::Global;
 
 /// Checks the folders of these paths, as `check_known_on` does, against the bags that these bytes
 /// know, of a cell or of a list that `ledger` printed. Where they are neither, no folder is
@@ -59,50 +58,5 @@ pub fn check_list_on<F: Folders + Drop, W: CountedWrite>(
                 answer: ProgramOutput { status, text },
             })
         }
-    }
-}
-
-/// Writes why a source knows nothing, or that memory ran out; the status is 1.
-pub(crate) fn write_fault<W: CountedWrite>(
-    alloc: Global,
-    output: &mut W,
-    fault: SourceFault,
-) -> Result<u8, ProgramFault>
-    ensures ok { IfOk result (λ status.
-        Writes (W.contents output.old) (W.contents output.new) status (fault_outcome fault)
-        ⊎ Writes (W.contents output.old) (W.contents output.new) status no_memory) }
-    ensures output { OnErr result (
-        WritesPrefix (W.contents output.old) (W.contents output.new) (fault_outcome fault)
-        ⊎ WritesPrefix (W.contents output.old) (W.contents output.new) no_memory) }
-    ensures fault { IfErr result (λ fault. fault ≡ ProgramFault.Output) }
-    ensures cause { HasCause ProgramFault.Output (W.failures output.old) (W.failures output.new)
-        result }
-{
-    match fault {
-        SourceFault::Unread => write_output(output, 1, "open 4\n"),
-        SourceFault::Memory => write_output(output, 1, "memory\n"),
-        SourceFault::Damaged(offset) => {
-            write_line(output, format!(in alloc; "damaged {offset}\n"))
-        }
-        SourceFault::Line(line) => write_line(output, format!(in alloc; "ledger line {line}\n")),
-    }
-}
-
-// Writes a line, or that there was no memory for it; the status is 1.
-fn write_line<W: CountedWrite>(
-    output: &mut W,
-    line: Result<String, AllocError>,
-) -> Result<u8, ProgramFault>
-    ensures ok { IfOk result (λ status. IsWritten line (λ outcome.
-        Writes (W.contents output.old) (W.contents output.new) status outcome)) }
-    ensures output { OnErr result (IsWritten line (λ outcome.
-        WritesPrefix (W.contents output.old) (W.contents output.new) outcome)) }
-    ensures fault { IfErr result (λ fault. fault ≡ ProgramFault.Output) }
-    ensures cause { HasCause ProgramFault.Output (W.failures output.old) (W.failures output.new)
-        result }
-{
-    match line {
-        Ok(line) => write_output(output, 1, line.as_str()),
-        Err(AllocError) => write_output(output, 1, "memory\n"),
     }
 }

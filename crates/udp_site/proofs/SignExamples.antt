@@ -114,7 +114,8 @@ module _ (site : ℕ) (ballot standing : Ballot) (vote : Vote) (bag : BagId) whe
         ≡ record { sign = Still; sender = None }
     depositing_client_is_nobody path = refl
 
-    pub itself_is_nobody : at 7002 (Accepted 2 (own_vote 3)) ≡ record { sign = Still; sender = None }
+    pub itself_is_nobody : at 7002 (Accepted 2 (own_vote 3))
+        ≡ record { sign = Still; sender = None }
     itself_is_nobody = refl
 
     pub itself_decides : at 7002 (Accepted 2 (own_vote 2))
