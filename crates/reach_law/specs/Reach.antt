@@ -14,8 +14,8 @@ use Rattle.reach_law.specs.Running.{records_at}
 
 -- ---- events at those that run, in which nothing fails
 
--- One of those that run is opened, proposes for the slot, recovers it, or asks another of them; or a
--- datagram that wasn't among the first so many reaches one of them.
+-- One of those that run is opened, proposes for the slot, recovers it, or asks another of them; or
+-- a datagram that wasn't among the first so many reaches one of them.
 abbrev pub IsCalm : (running : List ℕ) → SlotName → (before : ℕ) → Network → Event → Type 0
 IsCalm running slot before w (Start n) = Has n running
 IsCalm running slot before w (Propose n s fate) = Has n running × (s ≡ slot) × (fate ≡ Whole)

@@ -9,8 +9,8 @@ pub enum Call {
     Deposit { site: u8, tree: TreeNo, slot: Slot },
     /// `propose S OBJ V` lets the site propose for the slot.
     Propose { site: u8, slot: Slot },
-    /// `recover S OBJ V` lets the site begin a ballot for the slot where it has a vote or a deposit,
-    /// so that a bag which may be chosen becomes known.
+    /// `recover S OBJ V` lets the site, which has a vote or a deposit, begin a ballot for the slot,
+    /// so that a bag that may be chosen becomes known.
     Recover { site: u8, slot: Slot },
     /// `deliver K`: the K-th datagram ever sent, counted from 1, arrives at its addressee. Whether
     /// so many were sent is asked when the schedule runs.

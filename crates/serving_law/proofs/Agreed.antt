@@ -171,8 +171,8 @@ module _ (bag : BagId) (request : Request 7 a bag) where
   unfolding known_of used_of deposit_of voters_for bodies_of floor_of is_in same_slot gathered
       promises_for promisers priors highest_prior
   prepared_stands =
-      stands_issued 1 (deposited bag ∷ proposed bag ∷ []) [] rows.Unheard refl (λ none u k. refl) refl
-      [] refl refl refl
+      stands_issued 1 (deposited bag ∷ proposed bag ∷ []) [] rows.Unheard refl (λ none u k. refl)
+      refl [] refl refl refl
 
   abbrev three_prepares : AreMessages (to_all (Prepare ballot))
   three_prepares = let is = is_prepare bag request in (is, (is, (is, tt)))

@@ -23,7 +23,8 @@ use Rattle.lines.specs.declared.notice.Notice.{Notice}
 use Rattle.lines.specs.declared.notice.Notice.TheVariants.{GoesDown}
 use Rattle.world_law.specs.Networks.{Mode, Up, Down, NeedsOpening, volatile_in, SiteState, Network}
 use Rattle.world_law.specs.Networks.{new_site, new_network, Event, Deposit, Propose, Recover}
-use Rattle.world_law.specs.Networks.{Query, Deliver, Raw, Stop, Start, SiteOutcome, Happening, happening, outcome}
+use Rattle.world_law.specs.Networks.{Query, Deliver, Raw, Stop, Start, SiteOutcome, Happening}
+use Rattle.world_law.specs.Networks.{happening, outcome}
 use Rattle.world_law.specs.Networks.{nothing, if_member, reaches, takes, replies, datagram_at}
 use Rattle.world_law.specs.Networks.{arrives, stops, starts, opened, happens, run}
 use Rattle.world_law.specs.Networks as networks
