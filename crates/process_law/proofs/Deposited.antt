@@ -56,7 +56,7 @@ module _ (members : Membership) (is_membership : IsMembership members) (slot : S
   unfolding all_handed
   shows = (refl, text_is)
 
-  serves : ServedBy (turn_of device [] (Some step.folders)) (Count 1) nothing_yet
+  abbrev serves : ServedBy (turn_of device [] (Some step.folders)) (Count 1) nothing_yet
       (all_done members slot bag request) (deaths.old members is_membership slot bag) (Ok 0)
   serves = record {
     end = step.next;
