@@ -33,6 +33,7 @@ use Rattle.site.specs.Effects.{Effect, only_says}
 use Rattle.site.specs.Sites.{effect}
 use Rattle.site_tables.specs.Contents.{Contents, Represents}
 use Rattle.world_law.proofs.Deeds.{some_same}
+use Rattle.proposer.specs.UnderWay.{nothing}
 use Rattle.udp_site.specs.Requests as requests
 use Rattle.udp_site.specs.Requests.{request_of}
 use Rattle.udp_site.specs.Traffic.{Post, From}
@@ -52,7 +53,7 @@ use Rattle.serving_law.proofs.DatagramBytes.{Bytes, of_message, of_bag, of_numbe
 use Rattle.serving_law.proofs.DiskCalls.{serving, called, hears, heard_step, no_folders}
 use Rattle.serving_law.proofs.NewSites.{starts_new, may_start}
 use Rattle.serving_law.proofs.Sites.{volatile_of, no_ballot, stands_idle}
-use Rattle.serving_law.proofs.Tables.{tables, begun_bag}
+use Rattle.serving_law.proofs.Tables.{tables}
 
 -- ---- replies
 
@@ -145,7 +146,7 @@ module _ (bytes : List ℕ) (bag : BagId) (fits : AreBytes bytes)
   abbrev its_tables : Contents
   its_tables = tables a three 1 (record { own = no_ballot; heard = rows.Unheard })
 
-  its_stand : Represents its_tables [] (volatile_of [] None) (begun_bag a None)
+  its_stand : Represents its_tables [] (volatile_of [] None) nothing
   unfolding known_of used_of voters_for bodies_of floor_of is_in same_slot
   its_stand = stands_idle 1 [] [] rows.Unheard refl (λ none u k. refl) refl refl
 
@@ -222,7 +223,7 @@ module _ (bytes : List ℕ) (bag : BagId) (fits : AreBytes bytes)
       answer
       (called three three_are 1 [] tt its_tables its_tables (volatile_of [] None) 0 0
       (calls.Arrives (Some m)) dropping (Some site_lines.Dropped) effect_is refl tt tt (omega arith)
-      (begun_bag a None) its_stand)
+      nothing its_stand)
 
   -- ---- the history
 
