@@ -330,19 +330,19 @@ module _ {C : Type 0} (device : C → Device) (members : Membership)
         → Account (Serves start) left result (those ++ first) more before after
     call_then result before between after start mid those first more left opened leads shows a =
         record {
-      moves = a.moves;
-      text = a.text;
-      rest =
-          subst (λ (ts : List Turned). Rest result (Serves start) left ts a.moves a.text)
-          (sym (append_assoc those first more))
-          (turns_more result those start mid left (first ++ more) a.moves a.text opened leads
-          (λ still. renews result mid left (first ++ more) a.moves a.text a.rest));
-      seen =
-          subst (λ (ts : List Turned). Shows before after ts (a.moves ++ last_moves result) a.text)
-          (sym (append_assoc those first more))
-          (shows_more before between after those (first ++ more) (a.moves ++ last_moves result)
-          a.text shows a.seen);
-    }
+          moves = a.moves;
+          text = a.text;
+          rest =
+              subst (λ (ts : List Turned). Rest result (Serves start) left ts a.moves a.text)
+              (sym (append_assoc those first more))
+              (turns_more result those start mid left (first ++ more) a.moves a.text opened leads
+              (λ still. renews result mid left (first ++ more) a.moves a.text a.rest));
+          seen =
+              subst (λ (ts : List Turned). Shows before after ts (a.moves ++ last_moves result) a.text)
+              (sym (append_assoc those first more))
+              (shows_more before between after those (first ++ more) (a.moves ++ last_moves result)
+              a.text shows a.seen);
+        }
 
     call_more : (result : Result (Unit {0}) ServeFault) (wanted : ℕ)
         (before between after : Outside) (start mid : Serving C) (those first more : List Turned)
