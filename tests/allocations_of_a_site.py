@@ -3,50 +3,38 @@ run: they are sent when it waits for the first, and sites 2 and 3 are sockets, o
 site 2 promises and votes as it is asked. The site has to go on, with all lines of the whole run but
 two at most, or of a call that found no memory; or it ends with status 1 and a word for it. Whatever
 it said, in a datagram or a line, is in its cell then, which opens again; and its log has lines of
-these alone. gdb runs this: see the script `allocations` beside it."""
-import os
-import pathlib
+these alone. Imported by `allocations`."""
+import collections
+import hashlib
 import subprocess
-import sys
 
-import gdb
-
-TESTS = pathlib.Path(os.path.dirname(os.path.abspath(__file__)))
-sys.dont_write_bytecode = True
-sys.path[:0] = [str(TESTS), str(TESTS / "served")]
-
-from failing_allocation import prepare, run
+from failing_allocation import run
 from messages import ACCEPT, ACCEPTED, ASK, DEPOSITED, DEPOSIT_REPLY, KNOWN, LEARNED, PREPARE
 from messages import PROMISE, PROMISED, QUERY, QUERY_REPLY, REFUSED, ROUND, VOTED
 from messages import Message, ballot, deposit, message, records
 from sites import PROGRAM, free_ports, make_bag, socket_at, write_members
 
-ROOM = pathlib.Path(os.environ["ROOM"])
 TURNS, TOO_MANY = 40, 5000
 STOPPED = ("memory", "open 5", "stopped 3")
-BAG = make_bag(ROOM / "served-bag", b"abc")
+PAYLOAD = b"abc"
+BAG = hashlib.sha512(f"{hashlib.sha512(PAYLOAD).hexdigest()}  data/a.txt\n".encode()).hexdigest()
 VALUE = bytes.fromhex(BAG)
-PORT = free_ports(1)[0]
-CLIENT, SITE_2, SITE_3 = sockets = [socket_at() for _ in range(3)]
-PORTS = [PORT, SITE_2.getsockname()[1], SITE_3.getsockname()[1]]
-MEMBERS = write_members(ROOM / "served-members", PORTS)
-CELL, SAID, LOG = ROOM / "served-cell", ROOM / "served-lines", ROOM / "served-log"
-WORDS = f"site --members {MEMBERS} --number 1 --cell {CELL} --log {LOG} --bags {ROOM} "
-WORDS += "--wait 1 --wait-most 1 --turns "
-# What comes to the site, and from whom. The last deposit is the one that it proposes when idle.
+CLIENT = 0
+# What comes to the site, and from whom: a client, or a site. The last deposit is the one that it
+# proposes when idle.
 OLD, NEW = ballot(1, 3), ballot(5, 2)
 COMING = [
     (CLIENT, deposit("a", 1, "served-bag")),
     (CLIENT, Message(QUERY, 0, "a", 1)),
-    (SITE_2, Message(PREPARE, 2, "a", 1, NEW)),
-    (SITE_3, Message(PREPARE, 3, "a", 1, OLD)),
-    (SITE_2, Message(ACCEPT, 2, "a", 1, NEW + VALUE)),
-    (SITE_2, Message(ACCEPTED, 2, "a", 1, NEW + VALUE)),
-    (SITE_3, Message(ACCEPTED, 3, "a", 1, NEW + VALUE)),
+    (2, Message(PREPARE, 2, "a", 1, NEW)),
+    (3, Message(PREPARE, 3, "a", 1, OLD)),
+    (2, Message(ACCEPT, 2, "a", 1, NEW + VALUE)),
+    (2, Message(ACCEPTED, 2, "a", 1, NEW + VALUE)),
+    (3, Message(ACCEPTED, 3, "a", 1, NEW + VALUE)),
     (CLIENT, Message(QUERY, 0, "a", 1)),
-    (SITE_3, Message(ASK, 3, "a", 1)),
-    (SITE_3, Message(KNOWN, 3, "c", 1, VALUE)),
-    (SITE_2, Message(REFUSED, 2, "c", 1, OLD + NEW)),
+    (3, Message(ASK, 3, "a", 1)),
+    (3, Message(KNOWN, 3, "c", 1, VALUE)),
+    (2, Message(REFUSED, 2, "c", 1, OLD + NEW)),
     (CLIENT, Message(KNOWN, 9, "c", 1, VALUE)),
     (CLIENT, deposit("b", 1, "served-bag")),
 ]
@@ -63,31 +51,6 @@ WHOLE = [
 REPORTS = [it for it in WHOLE if it.startswith(("registered", "known"))]
 # What a site says of a call without memory, and of a query that follows one.
 OTHERWISE = ["refused 1 14", "reply 1 a 1 nothing", f"reply 1 a 1 pending {BAG}"]
-
-
-class Waiting(gdb.Breakpoint):
-    """Where the site waits for a datagram: all is sent at once, and later what site 2 answers."""
-
-    is_first = True
-    heard = []
-
-    def stop(self):
-        if Waiting.is_first:
-            Waiting.is_first = False
-            for sender, it in COMING:
-                sender.sendto(it.bytes(), ("127.0.0.1", PORT))
-        Waiting.hear()
-        return False
-
-    @staticmethod
-    def hear():
-        """Takes in what the site has sent; site 2 promises and votes for its proposals."""
-        for socket in sockets:
-            for it in received(socket):
-                Waiting.heard.append(it)
-                answer = answer_of(it) if socket is SITE_2 else None
-                if answer:
-                    SITE_2.sendto(answer.bytes(), ("127.0.0.1", PORT))
 
 
 def received(socket):
@@ -125,12 +88,6 @@ def record_of(said):
     return None
 
 
-def kept():
-    """The records in the cell."""
-    journal = CELL.read_bytes() if CELL.exists() else b""
-    return records(journal) if len(journal) > 12 else []
-
-
 def why_wrong_lines(status, lines, has_failed):
     """What is wrong with the lines and the status."""
     if not has_failed:
@@ -146,86 +103,116 @@ def why_wrong_lines(status, lines, has_failed):
     return f"lines that are lost: {lost}" if len(lost) > 2 and not stopped else None
 
 
-def why_not_kept(lines):
-    """What the site said and isn't in its cell."""
-    said = [(it.object, it.version, *record_of(it)) for it in Waiting.heard if record_of(it)]
-    for word, _, name, version, *_ in (it.split() for it in lines if it in REPORTS):
-        said.append((name, int(version), DEPOSITED if word == "registered" else LEARNED, VALUE))
-    journal = {(it.object, it.version, it.kind, it.body) for it in kept()}
-    lost = [it for it in said if it not in journal]
-    codes = {it.body[0] for it in Waiting.heard if it.kind == DEPOSIT_REPLY}
-    return f"lost {lost}" if lost else None if codes <= {0, 14} else f"replies {codes}"
+class Site:
+    """The site, and those that send to it."""
+
+    def __init__(self, room):
+        make_bag(room / "served-bag", PAYLOAD)
+        self.sockets = {it: socket_at() for it in (CLIENT, 2, 3)}
+        for it in self.sockets.values():
+            it.setblocking(False)
+        self.port = free_ports(1)[0]
+        ports = [self.port, *(self.sockets[it].getsockname()[1] for it in (2, 3))]
+        members = write_members(room / "served-members", ports)
+        names = ("served-cell", "served-lines", "served-log")
+        self.cell, self.said, self.log = (room / it for it in names)
+        self.words = f"site --members {members} --number 1 --cell {self.cell} --log {self.log} "
+        self.words += f"--bags {room} --wait 1 --wait-most 1 --turns "
+        self.is_first, self.heard = True, []
+
+    def sends(self, sender, it):
+        self.sockets[sender].sendto(it.bytes(), ("127.0.0.1", self.port))
+
+    def waits(self):
+        """It waits for a datagram: all is sent at once, and later what site 2 answers."""
+        if self.is_first:
+            self.is_first = False
+            for sender, it in COMING:
+                self.sends(sender, it)
+        self.hear()
+
+    def hear(self):
+        """Takes in what the site has sent; site 2 promises and votes for its proposals."""
+        for sender, socket in self.sockets.items():
+            for it in received(socket):
+                self.heard.append(it)
+                answer = answer_of(it) if sender == 2 else None
+                if answer:
+                    self.sends(2, answer)
+
+    def kept(self):
+        """The records in the cell."""
+        journal = self.cell.read_bytes() if self.cell.exists() else b""
+        return records(journal) if len(journal) > 12 else []
+
+    def why_not_kept(self, lines):
+        """What the site said and isn't in its cell."""
+        said = [(it.object, it.version, *record_of(it)) for it in self.heard if record_of(it)]
+        for word, _, name, version, *_ in (it.split() for it in lines if it in REPORTS):
+            kind = DEPOSITED if word == "registered" else LEARNED
+            said.append((name, int(version), kind, VALUE))
+        journal = {(it.object, it.version, it.kind, it.body) for it in self.kept()}
+        lost = [it for it in said if it not in journal]
+        codes = {it.body[0] for it in self.heard if it.kind == DEPOSIT_REPLY}
+        return f"lost {lost}" if lost else None if codes <= {0, 14} else f"replies {codes}"
+
+    def why_wrong_log(self, lines):
+        """What is wrong with the log: lines may be left out of it."""
+        text = self.log.read_text() if self.log.exists() else ""
+        if text and not text.endswith("\n"):
+            return "the log ends within a line"
+        for line in text.splitlines():
+            said = line.split(" ", 2)[2]
+            # After a refusal comes the request. A folder may find no memory to be read.
+            known = " ".join(said.split()[:3]) if said.startswith("refused") else said
+            if known not in lines and not said.startswith(("serves ", "unread 1 27 ", "why: ")):
+                return f"a line of the log: {line}"
+        return None
+
+    def why_not_open(self):
+        """What is wrong with the cell, opened again for a turn."""
+        before = self.kept()
+        words = [PROGRAM, *f"{self.words} 1".split()]
+        ran = subprocess.run(words, capture_output=True, text=True, timeout=60)
+        if (ran.stdout, ran.returncode) != ("", 0):
+            return f"opened again: {ran.stdout!r}, status {ran.returncode}"
+        is_kept = self.kept()[: len(before)] == before
+        return None if is_kept else "other records after it was opened again"
+
+    def attempt(self, failing):
+        """Runs it with that allocation failing: whether one did, its lines, what is wrong."""
+        for it in (self.cell, self.log):
+            it.unlink(missing_ok=True)
+        for it in self.sockets.values():
+            list(received(it))
+        self.is_first, self.heard = True, []
+        ran = run(PROGRAM, f"{self.words} {TURNS}", self.said, failing, waiting=self.waits)
+        self.hear()
+        lines = ran.said.decode().splitlines()
+        why = why_wrong_lines(ran.status, lines, ran.has_failed) or self.why_not_kept(lines)
+        why = why or self.why_wrong_log(lines) or self.why_not_open()
+        return ran.has_failed, lines, why and f"{why}: status {ran.status}, {lines}"
+
+    def tried(self, failing):
+        """The same, twice more at most where lines are missing: a machine that stands still has
+        turns idle before their time, of which there are only so many."""
+        for _ in range(3):
+            has_failed, lines, why = self.attempt(failing)
+            if not why or not why.startswith(("not the whole run", "lines that are lost")):
+                break
+        return has_failed, lines, why
 
 
-def why_wrong_log(lines):
-    """What is wrong with the log: lines may be left out of it."""
-    text = LOG.read_text() if LOG.exists() else ""
-    if text and not text.endswith("\n"):
-        return "the log ends within a line"
-    for line in text.splitlines():
-        said = line.split(" ", 2)[2]
-        # After a refusal comes the request. A folder may find no memory to be read.
-        known = " ".join(said.split()[:3]) if said.startswith("refused") else said
-        if known not in lines and not said.startswith(("serves ", "unread 1 27 ", "why: ")):
-            return f"a line of the log: {line}"
-    return None
-
-
-def why_not_open():
-    """What is wrong with the cell, opened again for a turn."""
-    before = kept()
-    words = [PROGRAM, *f"{WORDS} 1".split()]
-    ran = subprocess.run(words, capture_output=True, text=True, timeout=60)
-    if (ran.stdout, ran.returncode) != ("", 0):
-        return f"opened again: {ran.stdout!r}, status {ran.returncode}"
-    return None if kept()[: len(before)] == before else "other records after it was opened again"
-
-
-def attempt(failing):
-    """Runs the site with that allocation failing: whether one did, its lines, what is wrong."""
-    CELL.unlink(missing_ok=True)
-    LOG.unlink(missing_ok=True)
-    for socket in sockets:
-        list(received(socket))
-    Waiting.is_first, Waiting.heard = True, []
-    has_failed, status, said = run(failing, f"{WORDS} {TURNS} < /dev/null", SAID)
-    Waiting.hear()
-    lines = said.decode().splitlines()
-    why = why_wrong_lines(status, lines, has_failed) or why_not_kept(lines)
-    why = why or why_wrong_log(lines) or why_not_open()
-    return has_failed, lines, why and f"{why}: status {status}, {lines}"
-
-
-def tried(failing):
-    """The same, twice more at most where lines are missing: a machine that stands still has turns
-    idle before their time, of which there are only so many."""
-    for _ in range(3):
-        has_failed, lines, why = attempt(failing)
-        if not why or not why.startswith(("not the whole run", "lines that are lost")):
+def each_fails(count, room):
+    """Tries each allocation in turn, up to the run in which none fails."""
+    site, ends = Site(room), collections.Counter()
+    for failing in range(1, TOO_MANY + 1):
+        has_failed, lines, why = site.tried(failing)
+        ends[lines[-1] if lines and lines[-1] in STOPPED else "went on"] += 1
+        count.expect(f"site where allocation {failing} fails", why, None)
+        if not has_failed:
             break
-    return has_failed, lines, why
-
-
-for socket in sockets:
-    socket.setblocking(False)
-prepare()
-Waiting("recvfrom")
-passed, failed, ends = 0, 0, {}
-failing, has_failed = 0, True
-while has_failed and failing < TOO_MANY:
-    failing += 1
-    has_failed, lines, why = tried(failing)
-    end = lines[-1] if lines and lines[-1] in STOPPED else "went on"
-    ends[end] = ends.get(end, 0) + 1
-    if why:
-        failed += 1
-        print(f"FAILED site where allocation {failing} fails: {why}")
-    else:
-        passed += 1
-counts = ", ".join(f"{word}: {count}" for word, count in ends.items())
-print(f"allocations of bagpaxos site that failed: {failing - 1}; {counts}")
-if has_failed or len(ends) != len(STOPPED) + 1:
-    failed += 1
-    print("FAILED site: no run in which none fails, or an end that was never reached")
-print(f"{passed} passed, {failed} failed")
-gdb.execute(f"quit {1 if failed else 0}")
+    counts = ", ".join(f"{word}: {number}" for word, number in ends.items())
+    print(f"allocations of bagpaxos site that failed: {failing - 1}; {counts}", flush=True)
+    count.expect("site: a run in which none fails", has_failed, False)
+    count.expect("site: each end is reached", sorted(ends), sorted([*STOPPED, "went on"]))

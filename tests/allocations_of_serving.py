@@ -5,23 +5,13 @@ An allocation of `serve` that fails is one of a call of the site, which is refus
 or a reply says so, and the turns after it go on, with all that doesn't follow from that call; or
 serving ends with `memory` or, where a line has no room, with `output`: then the turns before have
 all their datagrams and lines. There is no third: a site that falls silent after a refusal fails.
-Outside `serve`, whose two ends are marked by an allocation each, the answer is `memory`. gdb runs
-this: see the script `allocations` beside it."""
-import os
-import pathlib
-import sys
+Outside `serve`, whose two ends are marked by an allocation each, the answer is `memory`. Imported
+by `allocations`."""
+import collections
 
-import gdb
-
-TESTS = pathlib.Path(os.path.dirname(os.path.abspath(__file__)))
-sys.dont_write_bytecode = True
-sys.path[:0] = [str(TESTS), str(TESTS / "served")]
-
-from failing_allocation import Allocation, prepare, run
+from failing_allocation import run
 from messages import DEPOSIT_REPLY, QUERY_REPLY, Message
 
-INPUT, SAID = os.environ["INPUT"], os.environ["SAID"]
-WANTED = pathlib.Path(os.environ["WANTED"]).read_text().splitlines()
 MARK = 7777
 # The client's port, and the turns that have a line of the site.
 CLIENT, WITH_A_LINE = 9000, (1, 6, 7)
@@ -39,12 +29,7 @@ def turns_of(moves):
     return turns
 
 
-END = WANTED.index("ended")
-SENT, LINES = turns_of(WANTED[:END]), dict(zip(WITH_A_LINE, WANTED[END + 1 :]))
-BAG = LINES[1].split()[-1]
-
-
-def reply(kind, code, bag=128 * "0"):
+def reply(kind, code, bag):
     body = bytes([code]) + bytes.fromhex(bag)
     return f"{CLIENT} {Message(kind, 1, 'a', 1, body).bytes().hex()}"
 
@@ -52,19 +37,22 @@ def reply(kind, code, bag=128 * "0"):
 # What a call without memory changes: in some turns other datagrams, and another line or none. The
 # site's own datagrams come to it whatever it has sent, so it votes and learns all the same.
 NOTHING = ([], None)
-CHANGES = {
-    # The deposit of a folder that can't be read has a reply alone.
-    "the folder": {1: ([reply(DEPOSIT_REPLY, NO_MEMORY)], None), 2: NOTHING, 4: NOTHING},
-    "the deposit": {1: ([reply(DEPOSIT_REPLY, NO_MEMORY)], REFUSED), 2: NOTHING, 4: NOTHING},
-    "the proposal": {2: ([], REFUSED), 4: NOTHING},
-    "the Prepare": {3: ([], REFUSED)},
-    "the Promise": {4: ([], REFUSED)},
-    "the Accept": {5: ([], REFUSED)},
-    "the Accepted": {
-        6: ([], REFUSED),
-        7: ([reply(QUERY_REPLY, 1, BAG)], f"reply 1 a 1 pending {BAG}"),
-    },
-}
+
+
+def changes_of(bag):
+    """These changes, where the bag is this one, by what was refused."""
+    without = reply(DEPOSIT_REPLY, NO_MEMORY, 128 * "0")
+    pending = ([reply(QUERY_REPLY, 1, bag)], f"reply 1 a 1 pending {bag}")
+    return {
+        # The deposit of a folder that can't be read has a reply alone.
+        "the folder": {1: ([without], None), 2: NOTHING, 4: NOTHING},
+        "the deposit": {1: ([without], REFUSED), 2: NOTHING, 4: NOTHING},
+        "the proposal": {2: ([], REFUSED), 4: NOTHING},
+        "the Prepare": {3: ([], REFUSED)},
+        "the Promise": {4: ([], REFUSED)},
+        "the Accept": {5: ([], REFUSED)},
+        "the Accepted": {6: ([], REFUSED), 7: pending},
+    }
 
 
 def answer(turns, last, word):
@@ -73,45 +61,46 @@ def answer(turns, last, word):
     return "".join(f"{it}\n" for it in [*moves, word, *(line for _, line in turns if line)])
 
 
-def answers():
-    """Each answer that may be given where an allocation of `serve` fails, with its name."""
-    whole = {it: (SENT[it], LINES.get(it)) for it in SENT}
-    found = {answer(whole.values(), [], "ended"): "nothing"}
-    for name, changes in CHANGES.items():
-        found[answer((whole | changes).values(), [], "ended")] = name
-    for number in SENT:
-        before = [whole[it] for it in range(1, number)]
-        for last in ([], ["turn"], ["turn", *SENT[number]]):
-            found[answer(before, last, "memory")] = f"turn {number}"
-        found[answer(before, ["turn", *SENT[number]], "output")] = "a line"
-    return found
+class Answers:
+    """The whole answer's lines, and each answer that may be given where an allocation of `serve`
+    fails, with its name."""
+
+    def __init__(self, wanted):
+        end = wanted.index("ended")
+        self.sent, lines = turns_of(wanted[:end]), dict(zip(WITH_A_LINE, wanted[end + 1 :]))
+        self.changes = changes_of(lines[1].split()[-1])
+        whole = {it: (self.sent[it], lines.get(it)) for it in self.sent}
+        self.names = {answer(whole.values(), [], "ended"): "nothing"}
+        for name, changes in self.changes.items():
+            self.names[answer((whole | changes).values(), [], "ended")] = name
+        for number in self.sent:
+            before = [whole[it] for it in range(1, number)]
+            for last in ([], ["turn"], ["turn", *self.sent[number]]):
+                self.names[answer(before, last, "memory")] = f"turn {number}"
+            self.names[answer(before, ["turn", *self.sent[number]], "output")] = "a line"
+
+    def all(self):
+        """The names of all that have to come up."""
+        return {*self.changes, *(f"turn {it}" for it in self.sent), "a line"}
 
 
-prepare()
-Allocation.mark = MARK
-_, status, said = run(0, f"serving < {INPUT}", SAID)
-(first, last), count = Allocation.marks, Allocation.calls
-is_whole = (status, said.decode().splitlines()) == (0, WANTED)
-passed, failed, ends, allowed = int(is_whole), int(not is_whole), {}, answers()
-if not is_whole:
-    print(f"FAILED serving: status {status}, and it printed {said!r}")
-for failing in range(1, count + 1):
-    _, status, said = run(failing, f"serving < {INPUT}", SAID)
-    if first < failing < last:
-        end = allowed.get(said.decode()) if status == 0 else None
-    else:
-        end = "outside" if (status, said) == (1, b"memory\n") else None
-    if end:
-        passed += 1
-        ends[end] = ends.get(end, 0) + 1
-    else:
-        failed += 1
-        print(f"FAILED serving where allocation {failing} fails: status {status}, {said!r}")
-counts = ", ".join(f"{name}: {number}" for name, number in ends.items())
-print(f"allocations of probe serving that failed: {count}; {counts}")
-missing = {*CHANGES, *(f"turn {it}" for it in SENT), "a line"} - {*ends}
-if missing:
-    failed += 1
-    print(f"FAILED serving: no allocation that fails leads to {', '.join(sorted(missing))}")
-print(f"{passed} passed, {failed} failed")
-gdb.execute(f"quit {1 if failed else 0}")
+def each_fails(count, program, input, wanted, said):
+    """Tries each allocation in turn. `input` has the turns, and `wanted` the whole answer."""
+    answers, ends = Answers(wanted.splitlines()), collections.Counter()
+    whole = run(program, "serving", said, 0, input, MARK)
+    count.expect("serving", (whole.status, whole.said.decode()), (0, wanted))
+    first, last = whole.marks
+    for failing in range(1, whole.calls + 1):
+        ran = run(program, "serving", said, failing, input, MARK)
+        if first < failing < last:
+            end = answers.names.get(ran.said.decode()) if ran.status == 0 else None
+        else:
+            end = "outside" if (ran.status, ran.said) == (1, b"memory\n") else None
+        ends[end] += 1
+        if end:
+            count.passed += 1
+        else:
+            count.expect(f"serving where allocation {failing} fails", ran, "an answer that may be")
+    counts = ", ".join(f"{name}: {number}" for name, number in ends.items())
+    print(f"allocations of probe serving that failed: {whole.calls}; {counts}", flush=True)
+    count.expect("serving: answers that never came", answers.all() - {*ends}, set())
