@@ -1,10 +1,12 @@
 """What `bagpaxos journal` prints of a cell, by the rules of docs/FORMATS.md on journals."""
+import functools
 import re
 
 from reader import CHECKSUM, FRONT, LENGTH, LONGEST, MAGIC, MOST_SITES, NEW, OLD, OLD_MAGIC
 from reader import SHORTEST, NoRecord, Owner, header_at, number, whole_record
 
 
+@functools.lru_cache(1 << 16)
 def escaped(text):
     """A name as one word: bytes 00 to 20, 25, and 7F and above in hex."""
     plain = lambda byte: 0x20 < byte < 0x7F and byte != 0x25
