@@ -1,3 +1,4 @@
 pub mod Parts
 pub mod Accounts
+pub mod Endings
 pub mod Deposited

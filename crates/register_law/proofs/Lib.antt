@@ -4,6 +4,7 @@ pub mod Runs
 pub mod Counted
 pub mod Refined
 pub mod Cells
+pub mod Stays
 pub mod Overlapping
 pub mod NewFiles
 pub mod AskedDeposits

@@ -15,7 +15,8 @@ use Rattle.world_law.specs.Networks.{Event, new_network, run}
 use Rattle.audit.specs.Evidence.{SiteRecord}
 use Rattle.audit.specs.Laws.{ShowChosen, HaveNoConflict, ReportNoOther}
 use Rattle.serving_law.specs.Federations.{Happening}
-use Rattle.serving_law.specs.Reports.{Reports, records_of}
+use Rattle.serving_law.specs.Reports.{Reports, Registers, SaysKnown, OnRecord, KnownOnRecord}
+use Rattle.serving_law.specs.Reports.{records_of}
 use Rattle.register_law.specs.Carried.{IsHistoryAfter, said_in, now, WasDeposited}
 
 -- ---- cells
@@ -84,6 +85,24 @@ module _ {C : Type 0} (device : C → Device) (members : Membership) where
       → IsMembership members → IsHistoryAfter device members events (before ++ later)
       → Has r (records_of ((now members events before).members n))
       → Has r (records_of ((now members events (before ++ later)).members n))
+
+  -- so does what it says it has registered, from then on
+  abbrev pub CarriedRegisteredStays : Type 0
+  CarriedRegisteredStays =
+      (events : List Event) (before later : List (Happening C)) (h : Happening C) (n : ℕ)
+      (slot : SlotName) (bag : BagId)
+      → IsMembership members → IsHistoryAfter device members events (before ++ h ∷ later)
+      → Registers members.federation h n slot bag
+      → OnRecord (now members events (before ++ h ∷ later)) n slot bag
+
+  -- and what it says is known
+  abbrev pub CarriedKnownStays : Type 0
+  CarriedKnownStays =
+      (events : List Event) (before later : List (Happening C)) (h : Happening C) (n : ℕ)
+      (slot : SlotName) (bag : BagId)
+      → IsMembership members → IsHistoryAfter device members events (before ++ h ∷ later)
+      → SaysKnown members.federation h n slot bag
+      → KnownOnRecord (now members events (before ++ h ∷ later)) n slot bag
 
   -- ---- what cells show
 

@@ -2,6 +2,7 @@ ghost use Rattle.fed_types.specs.Sites.{Membership};
 ghost use Rattle.register_law.specs.Carried.{NewCellsAreLeftByNone};
 ghost use Rattle.register_law.specs.Laws.{CarriedReportsAgree, CarriedAgreeWithTheRun};
 ghost use Rattle.register_law.specs.Laws.{CarriedReportsWereDeposited, CellsHaveNoConflict};
+ghost use Rattle.register_law.specs.Laws.{CarriedRegisteredStays, CarriedKnownStays};
 ghost use Rattle.register_law.specs.Laws.{ChosenIsAllThatIsReported, ChosenRemains, RecordsStay};
 ghost use Rattle.register_law.specs.Overlaps.{OverlapsAreHistories};
 ghost use Rattle.register_law.specs.Refinement.{HistoriesRefine};
@@ -48,6 +49,16 @@ pub fn carried_reports_were_deposited<C: Cell>()
 /// What a site has on record stays there.
 pub fn records_stay<C: Cell>()
     ensures { (members : Membership) → RecordsStay C.device members }
+{}
+
+/// What such a site says it has registered is on its record from then on, whatever befalls it.
+pub fn carried_registered_stays<C: Cell>()
+    ensures { (members : Membership) → CarriedRegisteredStays C.device members }
+{}
+
+/// And what it says is known is on its record as known.
+pub fn carried_known_stays<C: Cell>()
+    ensures { (members : Membership) → CarriedKnownStays C.device members }
 {}
 
 /// The cells of sites that serve name at most one bag for a slot: as chosen, or as known.
