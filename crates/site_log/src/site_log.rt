@@ -4,7 +4,7 @@ use crate::log_file::LogFile;
 use crate::minute::Minute;
 use crate::moment::{end_of, minute_of, moment_text, now, text_of};
 use crate::request_text::{push_word, request_text};
-use crate::tally::{Kind, Sender, Tally};
+use crate::tally::{Kind, Role, Sender, Tally};
 use bag_tree::TreeFault;
 use fed_types::{Members, SiteNo};
 use records::{Entry, Record};
@@ -166,11 +166,13 @@ impl<'a> SiteLog<'a> {
         }
     }
 
-    // The line that the site has written is noted, unless there were too many of its kind.
+    // The line that the site has written is noted, unless there were too many of its kind. Before
+    // the one that ends the site comes what was left out.
     fn take_line(&self, state: &mut State) {
-        let is_written = match Kind::of(state.begun.as_str()) {
-            Some(kind) => self.admits(state, kind),
-            None => {
+        let is_written = match Role::of(state.begun.as_str()) {
+            Role::Counted(kind) => self.admits(state, kind),
+            Role::Known => true,
+            Role::Last => {
                 self.sum_up(state);
                 true
             }

@@ -5,8 +5,38 @@ ghost use Rattle.std.specs.Prelude.{◌≡◌, ◌↔◌, ◌<◌, ◌-◌, IsTr
 /// So many lines of one sender and kind are written in a minute.
 pub(crate) const MOST_LINES: u32 = 60;
 
-/// What a line says, by its first word. What else a site writes comes once a version, with a record
-/// that it keeps (`known`), or once a start or an ending.
+/// What a line is to the log.
+#[derive(Clone, Copy)]
+pub(crate) enum Role {
+    /// One of many: only so many of its kind are written in a minute.
+    Counted(Kind),
+    /// A bag has become known, which happens once a version.
+    Known,
+    /// It ends the site.
+    Last,
+}
+
+impl Role {
+    /// What this line is, by its first word.
+    pub(crate) fn of(line: &str) -> Role {
+        let word = match line.split_once(' ') {
+            Some((word, _)) => word,
+            None => line,
+        };
+        for kind in Kind::ALL {
+            if kind.word() == word {
+                return Role::Counted(kind);
+            }
+        }
+        if word == "known" {
+            Role::Known
+        } else {
+            Role::Last
+        }
+    }
+}
+
+/// What a line that is counted says.
 #[derive(Clone, Copy, Debug, PartialEq, Eq)]
 pub(crate) enum Kind {
     Registered,
@@ -25,20 +55,6 @@ impl Kind {
         Kind::Unread,
         Kind::Dropped,
     ];
-
-    /// The kind of this line; none where such lines are always written.
-    pub(crate) fn of(line: &str) -> Option<Kind> {
-        let word = match line.split_once(' ') {
-            Some((word, _)) => word,
-            None => line,
-        };
-        for kind in Kind::ALL {
-            if kind.word() == word {
-                return Some(kind);
-            }
-        }
-        None
-    }
 
     /// The first word of such lines.
     pub(crate) fn word(self) -> &'static str {
