@@ -9,3 +9,5 @@ pub mod Overlapping
 pub mod NewFiles
 pub mod AskedDeposits
 pub mod DecidedOnce
+pub mod CarriedOn
+pub mod Overlapped

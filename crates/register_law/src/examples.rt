@@ -2,6 +2,8 @@ ghost use Rattle.std.specs.Prelude.{◌≡◌, true, IfOk};
 ghost use Rattle.fed_types.specs.Lists.{is_in};
 ghost use Rattle.fed_types.specs.Sites.{members_of};
 ghost use Rattle.register_law.specs.Examples.{ABagIsDeposited, ARegisterIsDecided};
+ghost use Rattle.register_law.specs.ExamplesCarried.{CarriedSitesReport};
+ghost use Rattle.register_law.specs.ExamplesOverlapped.{TurnsOverlap};
 ghost use Rattle.register_law.specs.FileCells.{BeginsAHistory, TellTheirBytes};
 
 use book::OpenFault;
@@ -20,6 +22,17 @@ pub fn a_bag_is_deposited()
 /// A register is open at first, is decided for such a bag, and then it is reported.
 pub fn a_register_is_decided()
     ensures { ARegisterIsDecided }
+{}
+
+/// A run decides a register, and sites go on from its cells: one reports the bag, which the run has
+/// reported, and which its cells show as chosen.
+pub fn carried_sites_report()
+    ensures { CarriedSitesReport }
+{}
+
+/// Turns overlap: one begins while another still hands out its datagrams, and takes one of them.
+pub fn turns_overlap()
+    ensures { TurnsOverlap }
 {}
 
 /// A cell in a file of which all is known tells its bytes, so the laws are about it too.

@@ -7,7 +7,8 @@ mod examples;
 mod law;
 
 pub use examples::{
-    a_bag_is_deposited, a_register_is_decided, file_cells_tell_their_bytes, starts_over_a_file,
+    a_bag_is_deposited, a_register_is_decided, carried_sites_report, file_cells_tell_their_bytes,
+    starts_over_a_file, turns_overlap,
 };
 pub use law::{
     carried_agree_with_the_run, carried_known_stays, carried_registered_stays,

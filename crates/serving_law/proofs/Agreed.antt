@@ -69,21 +69,21 @@ use Rattle.serving_law.proofs.NewSites.{starts_new, may_start}
 use Rattle.serving_law.proofs.AgreedMessages.{deposited, proposed, promised, voted}
 
 -- by its place, counted from 0
-at_index : {X : Type 0} (k : ℕ) (xs : List X) (x : X) → slice_get xs k ≡ Some x → Has x xs
+pub at_index : {X : Type 0} (k : ℕ) (xs : List X) (x : X) → slice_get xs k ≡ Some x → Has x xs
 at_index k [] x e = absurd (cc e)
 at_index zero (y ∷ ys) x e = let f : y ≡ x = cc in here f
 at_index (suc k) (y ∷ ys) x e = there (at_index k ys x e)
 
 module _ (bag : BagId) (request : Request 7 a bag) where
-  abbrev none_heard : Rows
+  abbrev pub none_heard : Rows
   none_heard = unheard bag request
 
-  abbrev none_promised : Rows
+  abbrev pub none_promised : Rows
   none_promised = own_rows bag request [] rows.Unheard
 
   -- ---- the first turns of site 1: it is asked to deposit the bag, and proposes it
 
-  abbrev registering : Effect
+  abbrev pub registering : Effect
   registering = record {
     commits = Some (r (deposited bag));
     sends = [];
@@ -91,7 +91,7 @@ module _ (bag : BagId) (request : Request 7 a bag) where
     volatile = volatile_of [] None;
   }
 
-  on_deposit_is : on_deposit [] (volatile_of [] None) a (Ok bag) ≡ registering
+  pub on_deposit_is : on_deposit [] (volatile_of [] None) a (Ok bag) ≡ registering
   unfolding on_deposit deposit_of known_of
   on_deposit_is = refl
 
@@ -110,10 +110,10 @@ module _ (bag : BagId) (request : Request 7 a bag) where
   abbrev deposit_answer_is : Answer
   deposit_answer_is = answer_of (Some (site_lines.Registered bag)) [] (omega arith)
 
-  abbrev asked : Serving Disk
+  abbrev pub asked : Serving Disk
   asked = serving three three_are 1 [] (tables a three 1 none_heard) (volatile_of [] None) 0 0
 
-  abbrev has_deposit : Serving Disk
+  abbrev pub has_deposit : Serving Disk
   has_deposit =
       serving three three_are 1 (r (deposited bag) ∷ []) (tables a three 1 none_heard)
       (volatile_of [] None)
@@ -125,7 +125,7 @@ module _ (bag : BagId) (request : Request 7 a bag) where
     notices = notices_of 1 (calls.Deposits a (check_of request.facts)) (Ok deposit_answer_is);
   }
 
-  abbrev deposit_step : Step Disk
+  abbrev pub deposit_step : Step Disk
   deposit_step = record {
     ports = ports;
     folders = λ path. Ok request.facts;
@@ -133,7 +133,7 @@ module _ (bag : BagId) (request : Request 7 a bag) where
     next = has_deposit;
   }
 
-  deposits : turn_of device ports (Some deposit_step.folders) asked
+  pub deposits : turn_of device ports (Some deposit_step.folders) asked
       (From request.port request.bytes) deposit_done has_deposit
   deposits =
       subst (λ (q : requests.Request). comes_of device ports (Some deposit_step.folders) asked q
@@ -150,7 +150,7 @@ module _ (bag : BagId) (request : Request 7 a bag) where
         ),
       )
 
-  abbrev preparing : Effect
+  abbrev pub preparing : Effect
   preparing = record {
     commits = Some (r (proposed bag));
     sends = to_all (Prepare ballot);
@@ -158,7 +158,7 @@ module _ (bag : BagId) (request : Request 7 a bag) where
     volatile = volatile_of [] (Some issued);
   }
 
-  proposes_it : effect_of (quorums_of three) 1 (records_of a (deposited bag ∷ []))
+  pub proposes_it : effect_of (quorums_of three) 1 (records_of a (deposited bag ∷ []))
       (volatile_of [] None)
       (calls.Proposes a) ≡ preparing
   unfolding on_propose known_of deposit_of next_ballot used_of floor_of bodies_of to_each sites_to
@@ -191,7 +191,7 @@ module _ (bag : BagId) (request : Request 7 a bag) where
     notices = proposal_notices 1 (calls.Proposes a) (Ok prepare_answer);
   }
 
-  abbrev propose_step : Step Disk
+  abbrev pub propose_step : Step Disk
   propose_step = record {
     ports = ports;
     folders = no_folders;
@@ -202,7 +202,7 @@ module _ (bag : BagId) (request : Request 7 a bag) where
   not_refused : (fault : SiteFault) → preparing.says ≡ Err fault → ⊥
   not_refused fault e = absurd (cc e)
 
-  proposes : turn_of device ports (Some no_folders) has_deposit Nothing propose_done has_proposed
+  pub proposes : turn_of device ports (Some no_folders) has_deposit Nothing propose_done has_proposed
   unfolding next_waiting deposits_of known_of same_slot
   proposes = (
     Ok prepare_answer,
@@ -217,24 +217,24 @@ module _ (bag : BagId) (request : Request 7 a bag) where
 
   -- ---- what may happen
 
-  abbrev started : (n : ℕ) → Happening Disk
+  abbrev pub started : (n : ℕ) → Happening Disk
   started n = starts_new three three_are n (tables a three n none_heard)
 
   pub member : (n : ℕ) → 1 ≤ n → n ≤ 3 → Has n (members_of three)
   member n from to = sites_to_has 3 n from to
 
-  ends : (f : Federation Disk) → MayAll device three f []
+  pub ends : (f : Federation Disk) → MayAll device three f []
   unfolding MayAll
   ends f = tt
 
-  starts : (n : ℕ) → 1 ≤ n → n ≤ 3 → (f : Federation Disk) (later : List (Happening Disk))
+  pub starts : (n : ℕ) → 1 ≤ n → n ≤ 3 → (f : Federation Disk) (later : List (Happening Disk))
       → f.members n ≡ Down [] → MayAll device three (after f (started n)) later
       → MayAll device three f (started n ∷ later)
   unfolding MayAll
   starts n from to f later down rest =
       (may_start three three_are n (tables a three n none_heard) f (member n from to) down, rest)
 
-  is_asked : (f : Federation Disk) (later : List (Happening Disk)) → f.members 1 ≡ Serves asked
+  pub is_asked : (f : Federation Disk) (later : List (Happening Disk)) → f.members 1 ≡ Serves asked
       → MayAll device three (after f (Turns 1 deposit_step 1 0)) later
       → MayAll device three f (Turns 1 deposit_step 1 0 ∷ later)
   unfolding MayAll
@@ -255,7 +255,7 @@ module _ (bag : BagId) (request : Request 7 a bag) where
           → requests.Deposits request.port a request.path ≡ requests.Says message → ⊥
       other e = cc
 
-  is_idle : (f : Federation Disk) (later : List (Happening Disk))
+  pub is_idle : (f : Federation Disk) (later : List (Happening Disk))
       → f.members 1 ≡ Serves has_deposit
       → MayAll device three (after f (Turns 1 propose_step 3 0)) later
       → MayAll device three f (Turns 1 propose_step 3 0 ∷ later)
@@ -337,7 +337,7 @@ module _ (bag : BagId) (request : Request 7 a bag) where
       may Hears32 14 0 1 _ _ (omega arith) (omega arith) refl refl (ends _)))))))
 
   -- a turn in which this is all that is said, and a byte of it is written
-  prints : (n : ℕ) (step : Step Disk) → step.turn.done.notices ≡ Learned n a bag ∷ []
+  pub prints : (n : ℕ) (step : Step Disk) → step.turn.done.notices ≡ Learned n a bag ∷ []
       → Prints (Turns n step 0 1) (Learned n a bag)
   prints n step is = (
     record { turn = step.turn; handed = 0; written = 1 },

@@ -28,3 +28,4 @@ pub mod Deaths
 pub mod Kills
 pub mod Forgeries
 pub mod Shown
+pub mod Restarted

@@ -9,3 +9,4 @@ pub mod Disks
 pub mod Examples
 pub mod ExamplesAgreed
 pub mod ExamplesShown
+pub mod ExamplesRestarted

@@ -1,6 +1,7 @@
 ghost use Rattle.serving_law.specs.Disks.{AreLikeCells};
 ghost use Rattle.serving_law.specs.Examples.{FooledByAForgedKnown, KilledInADeposit};
 ghost use Rattle.serving_law.specs.ExamplesAgreed.{ThreeSitesAgree, KilledInAVote, ARepeatedVote};
+ghost use Rattle.serving_law.specs.ExamplesRestarted.{RestartedSitesReport};
 ghost use Rattle.serving_law.specs.ExamplesShown.{RepliesAreReports, DepositsAreValid};
 ghost use Rattle.serving_law.specs.ExamplesShown.{NoiseIsDropped};
 
@@ -54,4 +55,10 @@ pub fn deposits_are_valid()
 /// member: a site drops both, and stays as it is.
 pub fn noise_is_dropped()
     ensures { NoiseIsDropped }
+{}
+
+/// A site that has told a client that a bag is registered is killed in a call, started again, and
+/// reports the bag as known; then it ends, and is started once more.
+pub fn restarted_sites_report()
+    ensures { RestartedSitesReport }
 {}
