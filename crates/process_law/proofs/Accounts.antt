@@ -2,6 +2,7 @@
 use Rattle.std.proofs.Common.{ℕ, ◌≡◌, ◌≤◌, inl, inr, refl, sym, ap, subst, ◌∙◌, Bool, true}
 use Rattle.std.proofs.Common.{false}
 use Rattle.std.proofs.Common.{List, [], ◌∷◌, ◌++◌, append-nil, append_assoc, length, take, Option}
+use Rattle.std.proofs.Common.{Some, None}
 use Rattle.std.specs.Prelude.{Result, Ok, Err, IsSome}
 use Rattle.std.specs.List.{flat_map}
 use Rattle.std.specs.Io.KnownBytes.{Appends}
@@ -33,13 +34,15 @@ use Rattle.site_commands.specs.Services.{GoesOn, ServesOn, HasServed}
 use Rattle.site_commands.specs.Services.{turns_in, most_calls}
 use Rattle.serving_law.specs.Federations.{Member, Serves, Down, Step, Happening}
 use Rattle.serving_law.specs.Federations.{Turns, Fails, Ends, Renews, Starts}
+use Rattle.serving_law.specs.Reports.{Showing}
 use Rattle.serving_law.specs.Rules.{MayRecoverTo, ReadGives, owner_of, device_of}
 use Rattle.serving_law.proofs.Happenings.{HasFolders, with_folders}
 use Rattle.serving_law.proofs.Scene.{OnlyNow}
 use Rattle.register_law.specs.Overlaps.{own_after, MayHappenTo, IsAccount}
 use Rattle.process_law.specs.Processes.{moves_of, lines_of, last_moves, IsSeen}
 use Rattle.process_law.specs.Processes.{turns_of, all_turns, turns_then, turns_ended, IsWhole}
-use Rattle.process_law.specs.Processes.{EndsWithin, IsEnd, IsOfProcess}
+use Rattle.process_law.specs.Processes.{part_in_writing, part_of, part_then, part_ended}
+use Rattle.process_law.specs.Processes.{IsEnd, IsOfProcess}
 use Rattle.process_law.specs.Processes.{after_account, AccountsGoOn, ProcessesHaveAccounts}
 use Rattle.process_law.proofs.Parts.{needs, moment, follows}
 
@@ -65,12 +68,12 @@ module _ {C : Type 0} (device : C → Device) (members : Membership)
 
     -- An account from here on, until the member is down: these whole turns, and then perhaps one
     -- that may be shown in part, of which these moves were made and this text was written.
-    record Rest (result : Result (Unit {0}) ServeFault) (m : Member C) (left : List Record)
+    record Rest (part : Option Showing) (m : Member C) (left : List Record)
         (turns : List Turned) (moves : List Move) (text : List ℕ) : Type 0 where
       whole : List (Happening C)
       end : List (Happening C)
       are_whole : (h : Happening C) → Has h whole → IsWhole n ports gives h
-      is_end : IsEnd n ports gives result left end
+      is_end : IsEnd n ports gives part left end
       turns_are : turns_of whole ≡ turns
       is : IsAccount device members m (whole ++ end)
       ends : after_account m (whole ++ end) ≡ Down left
@@ -105,15 +108,14 @@ module _ {C : Type 0} (device : C → Device) (members : Membership)
       says = m.says;
     }
 
-    ended : (result : Result (Unit {0}) ServeFault) (s : Serving C) (left : List Record)
-        → IsEnd {C = C} n ports gives result left (Ends n left ∷ []) → Recovers s s left
-        → Rest result (Serves s) left [] [] []
+    ended : (s : Serving C) (left : List Record) → Recovers s s left
+        → Rest None (Serves s) left [] [] []
     unfolding IsAccount after_account moves_of lines_of turns_of
-    ended result s left between recovers = record {
+    ended s left recovers = record {
       whole = [];
       end = Ends n left ∷ [];
       are_whole = λ h among. absurd (has_none among);
-      is_end = between;
+      is_end = refl;
       turns_are = refl;
       is = (λ f is come. (s, (has, is), recovers), tt);
       ends = refl;
@@ -122,16 +124,6 @@ module _ {C : Type 0} (device : C → Device) (members : Membership)
     }
 
     -- ---- turns
-
-    -- how much of a last turn is shown
-    abbrev IsShown : Type 1
-    IsShown = Turned → (handed written : ℕ) → Type 0
-
-    -- so a process may end that has this result
-    abbrev MayEnd : Result (Unit {0}) ServeFault → IsShown → List Record → Type 0
-    MayEnd result Shown left =
-        (end : List (Happening C)) → EndsWithin n ports gives Shown left end
-        → IsEnd n ports gives result left end
 
     module _ (old next : Serving C) (turn : Turned)
         (came : turn_of device ports gives old turn.took turn.done next) where
@@ -157,12 +149,12 @@ module _ {C : Type 0} (device : C → Device) (members : Membership)
       whole_turn = Turns n step (length turn.done.posts) (length (text_of turn))
 
       -- a whole turn
-      turn_more : (result : Result (Unit {0}) ServeFault) (left : List Record)
+      turn_more : (part : Option Showing) (left : List Record)
           (turns : List Turned) (moves : List Move) (text : List ℕ)
-          → needs device next ≡ false → Rest result (Serves next) left turns moves text
-          → Rest result (Serves old) left (turn ∷ turns) moves text
+          → needs device next ≡ false → Rest part (Serves next) left turns moves text
+          → Rest part (Serves old) left (turn ∷ turns) moves text
       unfolding IsAccount after_account moves_of lines_of turns_of
-      turn_more result left turns moves text opened rest = record {
+      turn_more part left turns moves text opened rest = record {
         whole = whole_turn ∷ rest.whole;
         end = rest.end;
         are_whole =
@@ -184,14 +176,16 @@ module _ {C : Type 0} (device : C → Device) (members : Membership)
       }
 
       -- the last one, whole or not
-      module _ (result : Result (Unit {0}) ServeFault) (Shown : IsShown) (left : List Record)
-          (handed written : ℕ) (so : Shown turn handed written) (may : MayEnd result Shown left)
-          (recovers : Recovers next next left) where
+      module _ (left : List Record) (handed written : ℕ) (recovers : Recovers next next left) where
+        abbrev shown : Showing
+        shown = record { turn = turn; handed = handed; written = written }
+
         abbrev last_moved : List Move
         last_moved = Took turn.took ∷ take handed (all_handed turn.done.posts)
 
         abbrev LastTurn : Type 0
-        LastTurn = Rest result (Serves old) left [] last_moved (take written (text_of turn))
+        LastTurn =
+            Rest (Some shown) (Serves old) left [] last_moved (take written (text_of turn))
 
         turn_goes_on : needs device next ≡ false → LastTurn
         unfolding IsAccount after_account moves_of lines_of turns_of
@@ -199,9 +193,7 @@ module _ {C : Type 0} (device : C → Device) (members : Membership)
           whole = [];
           end = Turns n step handed written ∷ Ends n left ∷ [];
           are_whole = λ h among. absurd (has_none among);
-          is_end =
-              may (Turns n step handed written ∷ Ends n left ∷ [])
-              (step, (refl, folders.1), handed, written, so, inl refl);
+          is_end = (step, (refl, folders.1), refl, inl refl);
           turns_are = refl;
           is = (
             turn_may handed written opened,
@@ -218,9 +210,7 @@ module _ {C : Type 0} (device : C → Device) (members : Membership)
           whole = [];
           end = Fails n step handed written left ∷ [];
           are_whole = λ h among. absurd (has_none among);
-          is_end =
-              may (Fails n step handed written left ∷ [])
-              (step, (refl, folders.1), handed, written, so, inr refl);
+          is_end = (step, (refl, folders.1), refl, inr refl);
           turns_are = refl;
           is = (
             fails_may handed written left shut
@@ -243,20 +233,20 @@ module _ {C : Type 0} (device : C → Device) (members : Membership)
     -- ---- a call of `serve`
 
     -- whole turns, and then the rest
-    turns_more : (result : Result (Unit {0}) ServeFault) (those : List Turned)
+    turns_more : (part : Option Showing) (those : List Turned)
         (start mid : Serving C) (left : List Record)
         (turns : List Turned) (moves : List Move) (text : List ℕ) → needs device start ≡ false
         → Leads rule start those mid
-        → (needs device mid ≡ false → Rest result (Serves mid) left turns moves text)
-        → Rest result (Serves start) left (those ++ turns) moves text
-    turns_more result [] start mid left turns moves text opened leads rest =
-        subst (λ (s : Serving C). Rest result (Serves s) left turns moves text) (sym leads)
+        → (needs device mid ≡ false → Rest part (Serves mid) left turns moves text)
+        → Rest part (Serves start) left (those ++ turns) moves text
+    turns_more part [] start mid left turns moves text opened leads rest =
+        subst (λ (s : Serving C). Rest part (Serves s) left turns moves text) (sym leads)
         (rest (subst (λ (s : Serving C). needs device s ≡ false) leads opened))
-    turns_more result (turn ∷ those) start mid left turns moves text opened
+    turns_more part (turn ∷ those) start mid left turns moves text opened
         (next, came, not_last, leads) rest =
         let still = (follows device ports gives start next turn came).opened opened not_last in
-        turn_more start next turn came result left (those ++ turns) moves text still
-        (turns_more result those next mid left turns moves text still leads rest)
+        turn_more start next turn came part left (those ++ turns) moves text still
+        (turns_more part those next mid left turns moves text still leads rest)
 
     -- after these turns no other needs opening
     still_open : (those : List Turned) (start mid : Serving C) → needs device start ≡ false
@@ -268,12 +258,12 @@ module _ {C : Type 0} (device : C → Device) (members : Membership)
         ((follows device ports gives start next turn came).opened opened not_last) leads
 
     -- its idle turns are counted anew
-    renews : (result : Result (Unit {0}) ServeFault) (s : Serving C) (left : List Record)
+    renews : (part : Option Showing) (s : Serving C) (left : List Record)
         (turns : List Turned) (moves : List Move) (text : List ℕ)
-        → Rest result (Serves (begins s.site s.volatile)) left turns moves text
-        → Rest result (Serves s) left turns moves text
+        → Rest part (Serves (begins s.site s.volatile)) left turns moves text
+        → Rest part (Serves s) left turns moves text
     unfolding IsAccount after_account moves_of lines_of turns_of
-    renews result s left turns moves text rest = record {
+    renews part s left turns moves text rest = record {
       whole = Renews n ∷ rest.whole;
       end = rest.end;
       are_whole = both_whole (Renews n) rest.whole refl rest.are_whole;
@@ -315,28 +305,29 @@ module _ {C : Type 0} (device : C → Device) (members : Membership)
 
     -- an account from here on, of these turns first and then of more, and what is seen of it
     record Account (m : Member C) (left : List Record) (result : Result (Unit {0}) ServeFault)
-        (first more : List Turned) (before after : Outside) : Type 0 where
+        (part : Option Showing) (first more : List Turned) (before after : Outside) : Type 0 where
       moves : List Move
       text : List ℕ
-      rest : Rest result m left (first ++ more) moves text
+      rest : Rest part m left (first ++ more) moves text
       seen : Shows before after (first ++ more) (moves ++ last_moves result) text
 
     -- whole turns of a call, after which others come
-    call_then : (result : Result (Unit {0}) ServeFault) (before between after : Outside)
-        (start mid : Serving C) (those first more : List Turned) (left : List Record)
+    call_then : (result : Result (Unit {0}) ServeFault) (part : Option Showing)
+        (before between after : Outside) (start mid : Serving C)
+        (those first more : List Turned) (left : List Record)
         → needs device start ≡ false → Leads rule start those mid
         → Shows before between those [] []
-        → Account (Serves (begins mid.site mid.volatile)) left result first more between after
-        → Account (Serves start) left result (those ++ first) more before after
-    call_then result before between after start mid those first more left opened leads shows a =
-        record {
+        → Account (Serves (begins mid.site mid.volatile)) left result part first more between after
+        → Account (Serves start) left result part (those ++ first) more before after
+    call_then result part before between after start mid those first more left opened leads shows
+        a = record {
           moves = a.moves;
           text = a.text;
           rest =
-              subst (λ (ts : List Turned). Rest result (Serves start) left ts a.moves a.text)
+              subst (λ (ts : List Turned). Rest part (Serves start) left ts a.moves a.text)
               (sym (append_assoc those first more))
-              (turns_more result those start mid left (first ++ more) a.moves a.text opened leads
-              (λ still. renews result mid left (first ++ more) a.moves a.text a.rest));
+              (turns_more part those start mid left (first ++ more) a.moves a.text opened leads
+              (λ still. renews part mid left (first ++ more) a.moves a.text a.rest));
           seen =
               subst (λ (ts : List Turned). Shows before after ts (a.moves ++ last_moves result) a.text)
               (sym (append_assoc those first more))
@@ -344,64 +335,64 @@ module _ {C : Type 0} (device : C → Device) (members : Membership)
               a.text shows a.seen);
         }
 
-    call_more : (result : Result (Unit {0}) ServeFault) (wanted : ℕ)
+    call_more : (result : Result (Unit {0}) ServeFault) (part : Option Showing) (wanted : ℕ)
         (before between after : Outside) (start mid : Serving C) (those first more : List Turned)
         (left : List Record) → needs device start ≡ false
         → served.Serves rule before between start mid wanted those (Ok tt)
         → (needs device mid ≡ false
-        → Account (Serves (begins mid.site mid.volatile)) left result first more between after)
-        → Account (Serves start) left result (those ++ first) more before after
-    call_more result wanted before between after start mid those first more left opened
+        → Account (Serves (begins mid.site mid.volatile)) left result part first more between after)
+        → Account (Serves start) left result part (those ++ first) more before after
+    call_more result part wanted before between after start mid those first more left opened
         (count, (leads, shows)) next =
-        call_then result before between after start mid those first more left opened leads shows
-        (next (still_open those start mid opened leads))
+        call_then result part before between after start mid those first more left opened leads
+        shows (next (still_open those start mid opened leads))
 
-    calls_more : (result : Result (Unit {0}) ServeFault) (wanted : ℕ)
+    calls_more : (result : Result (Unit {0}) ServeFault) (part : Option Showing) (wanted : ℕ)
         (before between after : Outside) (start now : Serving C) (calls : List (List Turned))
         (more : List Turned) (left : List Record) → needs device start ≡ false
         → GoesOn rule wanted before between start now calls
-        → (needs device now ≡ false → Account (Serves now) left result [] more between after)
-        → Account (Serves start) left result (all_turns calls) more before after
-    calls_more result wanted before between after start now [] more left opened (same, still) next =
-        subst (λ (o : Outside). Account (Serves start) left result [] more o after) still
-        (subst (λ (s : Serving C). Account (Serves s) left result [] more between after) same
+        → (needs device now ≡ false → Account (Serves now) left result part [] more between after)
+        → Account (Serves start) left result part (all_turns calls) more before after
+    calls_more result part wanted before between after start now [] more left opened (same, still)
+        next =
+        subst (λ (o : Outside). Account (Serves start) left result part [] more o after) still
+        (subst (λ (s : Serving C). Account (Serves s) left result part [] more between after) same
         (next (subst (λ (s : Serving C). needs device s ≡ false) (sym same) opened)))
-    calls_more result wanted before between after start now (those ∷ calls) more left opened
+    calls_more result part wanted before between after start now (those ∷ calls) more left opened
         (mid, inner, served_so, goes_on) next =
-        call_more result wanted before inner after start mid those (all_turns calls) more left
+        call_more result part wanted before inner after start mid those (all_turns calls) more left
         opened served_so
         (λ still.
-        calls_more result wanted inner between after (begins mid.site mid.volatile) now calls more
-        left still goes_on next)
+        calls_more result part wanted inner between after (begins mid.site mid.volatile) now calls
+        more left still goes_on next)
 
     -- ---- how it ends
 
     -- of these whole turns, and then perhaps of one more
-    of_rest : (fault : ServeFault) (before after : Outside) (start : Serving C)
-        (those : List Turned) (moves : List Move) (text : List ℕ) (left : List Record)
-        → Rest (Err fault) (Serves start) left (those ++ []) moves text
+    of_rest : (fault : ServeFault) (part : Option Showing) (before after : Outside)
+        (start : Serving C) (those : List Turned) (moves : List Move) (text : List ℕ)
+        (left : List Record) → Rest part (Serves start) left (those ++ []) moves text
         → Shows before after those (moves ++ last_moves (Err fault)) text
-        → Account (Serves start) left (Err fault) [] those before after
-    of_rest fault before after start those moves text left rest shows = record {
+        → Account (Serves start) left (Err fault) part [] those before after
+    of_rest fault part before after start those moves text left rest shows = record {
       moves = moves;
       text = text;
       rest =
-          subst (λ (ts : List Turned). Rest (Err fault) (Serves start) left ts moves text)
+          subst (λ (ts : List Turned). Rest part (Serves start) left ts moves text)
           (append-nil those) rest;
       seen = shows;
     }
 
     -- whole turns, and then no turn
-    ends_between : (fault : ServeFault)
-        → ((left : List Record) → IsEnd {C = C} n ports gives (Err fault) left (Ends n left ∷ []))
-        → (before after : Outside) (start end : Serving C) (those : List Turned)
-        (left : List Record) → needs device start ≡ false → Recovers end end left
+    ends_between : (fault : ServeFault) (before after : Outside) (start end : Serving C)
+        (those : List Turned) (left : List Record) → needs device start ≡ false
+        → Recovers end end left
         → served.EndsBetween rule before after start end those (last_moves (Err fault))
-        → Account (Serves start) left (Err fault) [] those before after
-    ends_between fault between before after start end those left opened recovers (leads, shows) =
-        of_rest fault before after start those [] [] left
-        (turns_more (Err fault) those start end left [] [] [] opened leads
-        (λ still. ended (Err fault) end left (between left) recovers))
+        → Account (Serves start) left (Err fault) None [] those before after
+    ends_between fault before after start end those left opened recovers (leads, shows) =
+        of_rest fault None before after start those [] [] left
+        (turns_more None those start end left [] [] [] opened leads
+        (λ still. ended end left recovers))
         shows
 
     -- the moves that were made of a turn
@@ -411,87 +402,86 @@ module _ {C : Type 0} (device : C → Device) (members : Membership)
     -- whole turns, and then a part of one
     ends_within : (fault : ServeFault) → last_moves (Err fault) ≡ []
         → (before after : Outside) (start mid end : Serving C) (those : List Turned)
-        (turn : Turned) (Shown : IsShown) (handed written : ℕ) (left : List Record)
-        → Shown turn handed written → MayEnd (Err fault) Shown left → needs device start ≡ false
+        (turn : Turned) (handed written : ℕ) (left : List Record) → needs device start ≡ false
         → Recovers end end left → Leads rule start those mid
         → turn_of device ports gives mid turn.took turn.done end
         → Shows before after those (first_of turn handed) (take written (text_of turn))
-        → Account (Serves start) left (Err fault) [] those before after
-    ends_within fault none before after start mid end those turn Shown handed written left so may
-        opened recovers leads came shows =
-        of_rest fault before after start those (first_of turn handed) (take written (text_of turn))
-        left
-        (turns_more (Err fault) those start mid left [] (first_of turn handed)
+        → Account (Serves start) left (Err fault)
+        (Some (record { turn = turn; handed = handed; written = written })) [] those before after
+    ends_within fault none before after start mid end those turn handed written left opened recovers
+        leads came shows =
+        let part : Option Showing =
+        Some (record { turn = turn; handed = handed; written = written }) in
+        of_rest fault part before after start those (first_of turn handed)
+        (take written (text_of turn)) left
+        (turns_more part those start mid left [] (first_of turn handed)
         (take written (text_of turn)) opened leads
-        (λ still.
-        last_turn mid end turn came (Err fault) Shown left handed written so may recovers))
+        (λ still. last_turn mid end turn came left handed written recovers))
         (subst (λ (ms : List Move). Shows before after those ms (take written (text_of turn)))
         (sym (ap (λ (ms : List Move). first_of turn handed ++ ms) none
         ∙ append-nil (first_of turn handed)))
         shows)
 
-    abbrev whole_posts : IsShown
-    whole_posts turn handed written = handed ≡ length turn.done.posts
-
     -- whole turns, and then one that was handed out whole
     ends_in_writing : (fault : ServeFault) → last_moves (Err fault) ≡ []
-        → ((left : List Record) → MayEnd (Err fault) whole_posts left)
         → (shut : Bool) (before after : Outside) (start end : Serving C) (those : List Turned)
-        (left : List Record) → needs device start ≡ false
-        → Recovers end end left
-        → served.EndsInWriting rule before after shut start end those
-        → Account (Serves start) left (Err fault) [] those before after
-    ends_in_writing fault none may shut before after start end those left opened recovers
+        (left : List Record) → needs device start ≡ false → Recovers end end left
+        → (writing : served.EndsInWriting rule before after shut start end those)
+        → Account (Serves start) left (Err fault)
+        (Some (part_in_writing rule before after start end those shut writing)) [] those before
+        after
+    ends_in_writing fault none shut before after start end those left opened recovers
         (mid, leads, turn, came, last, count, shows) =
-        ends_within fault none before after start mid end those turn whole_posts
-        (length turn.done.posts) count left refl (may left) opened recovers leads came
+        ends_within fault none before after start mid end those turn (length turn.done.posts) count
+        left opened recovers leads came
         (subst (λ (ms : List Move). Shows before after those (Took turn.took ∷ ms)
         (take count (text_of turn))) (sym (all_posts turn.done.posts)) shows)
 
     ends_by : (fault : ServeFault) (wanted : ℕ) (before after : Outside) (start end : Serving C)
         (those : List Turned) (left : List Record) → needs device start ≡ false
         → Recovers end end left
-        → served.Serves rule before after start end wanted those (Err fault)
-        → Account (Serves start) left (Err fault) [] those before after
+        → (serves : served.Serves rule before after start end wanted those (Err fault))
+        → Account (Serves start) left (Err fault)
+        (part_of rule before after start end those wanted fault serves) [] those before after
     ends_by faults.Port wanted before after start end those left opened recovers (fewer, between) =
-        ends_between faults.Port (λ left. refl) before after start end those left opened recovers
-        between
+        ends_between faults.Port before after start end those left opened recovers between
     ends_by faults.Cell wanted before after start end those left opened recovers
         (fewer, writing, needs_opening) =
-        ends_in_writing faults.Cell refl (λ left end e. e) true before after start end those left
-        opened recovers writing
+        ends_in_writing faults.Cell refl true before after start end those left opened recovers
+        writing
     ends_by faults.Memory wanted before after start end those left opened recovers
         (fewer, inl between) =
-        ends_between faults.Memory (λ left. inl refl) before after start end those left opened
-        recovers between
+        ends_between faults.Memory before after start end those left opened recovers between
     ends_by faults.Memory wanted before after start end those left opened recovers
         (fewer, inr (count, (mid, leads, turn, came, shows))) =
-        ends_within faults.Memory refl before after start mid end those turn
-        (λ turn handed written. written ≡ 0) count 0 left refl (λ end e. inr e) opened recovers
-        leads came shows
+        ends_within faults.Memory refl before after start mid end those turn count 0 left opened
+        recovers leads came shows
     ends_by faults.Output wanted before after start end those left opened recovers
         (fewer, writing) =
-        ends_in_writing faults.Output refl (λ left end e. e) false before after start end those left
-        opened recovers writing
+        ends_in_writing faults.Output refl false before after start end those left opened recovers
+        writing
 
     serves_on : (wanted most : ℕ) (before after : Outside) (start end : Serving C)
         (calls : List (List Turned)) (result : Result (Unit {0}) ServeFault) (left : List Record)
         → needs device start ≡ false → Recovers end end left
         → (serves : ServesOn rule wanted most before after start end calls result)
-        → Account (Serves start) left result (all_turns calls)
+        → Account (Serves start) left result
+        (part_then rule wanted most before after start end calls result serves) (all_turns calls)
         (turns_then rule wanted most before after start end calls result serves) before after
     serves_on wanted most before after start end calls (Ok tt) left opened recovers
         (all, goes_on) =
-        calls_more (Ok tt) wanted before after after start end calls [] left opened goes_on
+        calls_more (Ok tt) None wanted before after after start end calls [] left opened goes_on
         (λ still. record {
           moves = [];
           text = [];
-          rest = ended (Ok tt) end left refl recovers;
+          rest = ended end left recovers;
           seen = shows_none after;
         })
     serves_on wanted most before after start end calls (Err fault) left opened recovers
         (fewer, (mid, between, goes_on, those, served_so)) =
-        calls_more (Err fault) wanted before between after start mid calls those left opened goes_on
+        calls_more (Err fault)
+        (part_of rule between after mid end those wanted fault served_so) wanted before between
+        after start mid calls those left opened goes_on
         (λ still. ends_by fault wanted between after mid end those left still recovers served_so)
 
     -- ---- a process
@@ -504,8 +494,8 @@ module _ {C : Type 0} (device : C → Device) (members : Membership)
       abbrev start : Serving C
       start = begins process.site new_volatile
 
-      a : Account (Serves start) left process.served.result (all_turns process.served.calls)
-          (turns_ended process.served) before process.served.ended
+      a : Account (Serves start) left process.served.result (part_ended process.served)
+          (all_turns process.served.calls) (turns_ended process.served) before process.served.ended
       a =
           serves_on (turns_in how) (most_calls how) before process.served.ended start
           process.served.end process.served.calls process.served.result left
@@ -526,7 +516,7 @@ module _ {C : Type 0} (device : C → Device) (members : Membership)
       ends = a.rest.ends
 
       is_of : IsOfProcess n ports gives cell process.site process.served.calls
-          (turns_ended process.served) process.served.result left account
+          (turns_ended process.served) (part_ended process.served) left account
       is_of = record {
         whole = a.rest.whole;
         end = a.rest.end;
@@ -569,7 +559,7 @@ module _ {C : Type 0} (device : C → Device) (members : Membership)
           × IsAccount device members (Down records) account
           × (after_account (Down records) account ≡ Down left)
           × IsOfProcess n ports gives cell process.site process.served.calls
-          (turns_ended process.served) process.served.result left account
+          (turns_ended process.served) (part_ended process.served) left account
           × IsSeen before after process.served.result answer account
       is_account = (account, account_is, ends, is_of, is_seen)
 

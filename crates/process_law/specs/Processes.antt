@@ -1,8 +1,9 @@
 -- What a process does that serves a site is an account of its member: from the contract of the call
 -- that the program makes, `site_commands::open_and_serve`, to the laws of every history.
-use Rattle.std.specs.Prelude.{◌≡◌, ◌⊎◌, ℕ, List, [], ◌∷◌, ◌++◌, take, length, Option, Some, None}
-use Rattle.std.specs.Prelude.{Result, Ok, Err, IfSome}
+use Rattle.std.specs.Prelude.{◌≡◌, ◌⊎◌, ℕ, Bool, true, false, List, [], ◌∷◌, ◌++◌, take, length}
+use Rattle.std.specs.Prelude.{Option, Some, None, Result, Ok, Err, IfSome}
 use Rattle.std.specs.List.{flat_map}
+use Rattle.std.proofs.Common.{inl, inr}
 use Rattle.std.specs.Io.KnownBytes.{Appends}
 use Rattle.bag_tree.specs.declared.fault.TreeFault.{TreeFault}
 use Rattle.bag_tree.specs.Facts.{TreeFacts}
@@ -17,6 +18,7 @@ use Rattle.udp_site.specs.declared.fault.ServeFault.TheVariants as faults
 use Rattle.udp_site.specs.Traffic.{Move, Took, Failed, Grows, all_handed}
 use Rattle.udp_site.specs.Turns.{Serving, turn_of}
 use Rattle.udp_site.specs.Served.{Rule, Outside, Turned, text_of}
+use Rattle.udp_site.specs.Served as served
 use Rattle.site_commands.specs.declared.site_arguments.Turns.{Turns}
 use Rattle.site_commands.specs.Services.{HasServed, IsConcluded, ServesOn, ServedBy}
 use Rattle.site_commands.specs.Services.{turns_in, most_calls}
@@ -75,6 +77,29 @@ turns_of account = flat_map (λ h. turn_shown (showing_of h)) account
 abbrev pub all_turns : List (List Turned) → List Turned
 all_turns calls = flat_map (λ turns. turns) calls
 
+module _ {C : Type 0} (rule : Rule C) (before after : Outside) (start end : Serving C)
+    (turns : List Turned) where
+  -- what is shown of a last turn that was handed out, and written in part
+  abbrev pub part_in_writing : (last : Bool)
+      → served.EndsInWriting rule before after last start end turns → Showing
+  part_in_writing last ends =
+      record { turn = ends.2; handed = length ends.2.done.posts; written = ends.5 }
+
+  -- what is shown of a last turn, if there is one, of which nothing was written
+  abbrev pub part_unwritten : served.EndsBetween rule before after start end turns []
+      ⊎ served.EndsUnwritten rule before after start end turns → Option Showing
+  part_unwritten (inl between) = None
+  part_unwritten (inr within) =
+      Some (record { turn = within.1.2; handed = within.0; written = 0 })
+
+  -- what is shown of the last turn of a call that this fault ended, unless all of its turns are whole
+  abbrev pub part_of : (wanted : ℕ) (fault : ServeFault)
+      → served.Serves rule before after start end wanted turns (Err fault) → Option Showing
+  part_of wanted faults.Port serves = None
+  part_of wanted faults.Cell serves = Some (part_in_writing true serves.1)
+  part_of wanted faults.Memory serves = part_unwritten serves.1
+  part_of wanted faults.Output serves = Some (part_in_writing false serves.1)
+
 module _ {C : Type 0} (rule : Rule C) (wanted most : ℕ) (before after : Outside)
     (start end : Serving C) (calls : List (List Turned)) where
   -- the whole turns of a call that a fault ended, after these calls
@@ -83,12 +108,27 @@ module _ {C : Type 0} (rule : Rule C) (wanted most : ℕ) (before after : Outsid
   turns_then (Ok served) serves = []
   turns_then (Err fault) serves = serves.1.3
 
+  -- what is shown of its last turn
+  abbrev pub part_then : (result : Result (Unit {0}) ServeFault)
+      → ServesOn rule wanted most before after start end calls result → Option Showing
+  part_then (Ok served) serves = None
+  part_then (Err fault) serves =
+      part_of rule serves.1.1 after serves.1.0 end serves.1.3 wanted fault serves.1.4
+
 -- the whole turns of the call that a fault ended, if one did
 abbrev pub turns_ended : {C : Type 0} {rule : Rule C} {how : Turns} {before after : Outside}
     {start : Serving C} {answer : Result ℕ ProgramFault}
     → ServedBy rule how before after start answer → List Turned
 turns_ended {rule = rule} {how = how} {before = before} {start = start} s =
     turns_then rule (turns_in how) (most_calls how) before s.ended start s.end s.calls s.result
+    s.serves
+
+-- what is shown of its last turn, if that isn't one of these
+abbrev pub part_ended : {C : Type 0} {rule : Rule C} {how : Turns} {before after : Outside}
+    {start : Serving C} {answer : Result ℕ ProgramFault}
+    → ServedBy rule how before after start answer → Option Showing
+part_ended {rule = rule} {how = how} {before = before} {start = start} s =
+    part_then rule (turns_in how) (most_calls how) before s.ended start s.end s.calls s.result
     s.serves
 
 module _ {C : Type 0} (n : ℕ) (ports : List ℕ)
@@ -111,34 +151,29 @@ module _ {C : Type 0} (n : ℕ) (ports : List ℕ)
   EndsBetween left end = end ≡ Ends n left ∷ []
 
   -- It ends after a last turn, or in one in which its cell fails it; of that so much is shown.
-  abbrev pub EndsWithin : (Turned → (handed written : ℕ) → Type 0) → List Record
-      → List (Happening C) → Type 0
-  EndsWithin Shown left end =
-      (step : Step C) × IsWith step × (handed : ℕ) × (written : ℕ) × Shown step.turn handed written
-      × ((end ≡ happenings.Turns n step handed written ∷ Ends n left ∷ [])
-      ⊎ (end ≡ Fails n step handed written left ∷ []))
+  abbrev pub EndsWithin : Showing → List Record → List (Happening C) → Type 0
+  EndsWithin shown left end =
+      (step : Step C) × IsWith step × (step.turn ≡ shown.turn)
+      × ((end ≡ happenings.Turns n step shown.handed shown.written ∷ Ends n left ∷ [])
+      ⊎ (end ≡ Fails n step shown.handed shown.written left ∷ []))
 
-  -- Where all is served, or a receive failed, it ends between turns. Where memory ran out it does
-  -- too, or nothing of a last turn is written; else a last turn is handed out whole.
-  abbrev pub IsEnd : Result (Unit {0}) ServeFault → List Record → List (Happening C) → Type 0
-  IsEnd (Ok served) left end = EndsBetween left end
-  IsEnd (Err faults.Port) left end = EndsBetween left end
-  IsEnd (Err faults.Memory) left end =
-      EndsBetween left end ⊎ EndsWithin (λ turn handed written. written ≡ 0) left end
-  IsEnd (Err fault) left end =
-      EndsWithin (λ turn handed written. handed ≡ length turn.done.posts) left end
+  -- It ends within the last turn of which a part is shown, and else between turns.
+  abbrev pub IsEnd : (part : Option Showing) → List Record → List (Happening C) → Type 0
+  IsEnd None left end = EndsBetween left end
+  IsEnd (Some shown) left end = EndsWithin shown left end
 
   -- The process opens this cell as this site. Then its turns are whole: those of its calls that
-  -- were Ok, and of the one that a fault ended, if one did; and it ends.
+  -- were Ok, and of the one that a fault ended, if one did; and it ends, of whose last turn perhaps
+  -- a part is shown.
   pub record IsOfProcess (cell : C) (site : OpenSite C) (calls : List (List Turned))
-      (ended : List Turned) (result : Result (Unit {0}) ServeFault) (left : List Record)
+      (ended : List Turned) (part : Option Showing) (left : List Record)
       (account : List (Happening C)) : Type 0 where
     pub whole : List (Happening C)
     pub end : List (Happening C)
     pub split : account ≡ Starts n cell site ∷ whole ++ end
     pub are_whole : (h : Happening C) → Has h whole → IsWhole h
     pub turns_are : turns_of whole ≡ all_turns calls ++ ended
-    pub is_end : IsEnd result left end
+    pub is_end : IsEnd part left end
 
 -- what the member is after an account
 unfoldable pub after_account : {C : Type 0} → Member C → List (Happening C) → Member C
@@ -171,5 +206,5 @@ module _ {C : Type 0} (device : C → Device) (members : Membership) where
       → (account : List (Happening C)) × IsAccount device members (Down records) account
       × (after_account (Down records) account ≡ Down left)
       × IsOfProcess n ports gives cell process.site process.served.calls
-      (turns_ended process.served) process.served.result left account
+      (turns_ended process.served) (part_ended process.served) left account
       × IsSeen before after process.served.result answer account
