@@ -1,11 +1,10 @@
 -- An account that is cut short is one, with an end.
-use Rattle.std.proofs.Common.{ℕ, ◌≡◌, refl, sym, subst, ◌∙◌, List, [], ◌∷◌, ◌++◌, Some}
+use Rattle.std.proofs.Common.{ℕ, ◌≡◌, refl, sym, subst, ◌∙◌, List, [], ◌∷◌, ◌++◌, Option, Some}
 use Rattle.fed_types.specs.Lists.{Has}
 use Rattle.fed_types.specs.Sites.{Membership, members_of}
 use Rattle.cell_device.specs.Devices.{Device}
 use Rattle.records.specs.declared.record.Record.{Record}
 use Rattle.udp_site.specs.Turns.{Serving}
-use Rattle.world_law.proofs.Deeds.{some_same}
 use Rattle.serving_law.specs.Federations.{Member, Serves, Step, Federation, Happening}
 use Rattle.serving_law.specs.Federations.{Turns, Fails, Dies, Ends, Renews, Starts}
 use Rattle.serving_law.specs.Reports.{step_of}
@@ -13,6 +12,9 @@ use Rattle.serving_law.specs.Rules.{MayCome, Takes}
 use Rattle.register_law.specs.Overlaps.{own_after, MayHappenTo, IsAccount}
 use Rattle.process_law.specs.Processes.{after_account}
 use Rattle.process_law.specs.Endings.{MayHaveLeft, LeavesDown, MayEnd, AccountsEndAnywhere}
+
+some_same : {X : Type 0} {x y : X} → ◌≡◌ {A = Option X} (Some x) (Some y) → x ≡ y
+some_same e = cc
 
 same_site : {C : Type 0} {one other : Serving C} → Serves one ≡ Serves other → one ≡ other
 same_site e = cc
