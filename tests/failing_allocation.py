@@ -87,15 +87,17 @@ class Traced:
         if known.is_fixed:
             return known.places[name]
         lines = pathlib.Path(f"/proc/{self.process}/maps").read_text().splitlines()
-        first = next(it for it in lines if it.endswith(str(file)))
+        first = next(it for it in lines if it.endswith(os.path.realpath(file)))
         return int(first.partition("-")[0], 16) + known.places[name]
 
     def stop_at(self, place):
+        """It is to stop at this function."""
         if os.pread(self.memory, 4, place) != BEGINNING:
             raise ValueError(f"at {place:#x} no function begins as this test has it")
         os.pwrite(self.memory, STOP, place)
 
     def stop_no_more_at(self, place):
+        """It isn't to stop there any more."""
         os.pwrite(self.memory, BEGINNING, place)
 
     def stops(self, waiting):
