@@ -82,7 +82,7 @@ module _ (members : Membership) (is_membership : IsMembership members) (slot : S
 
   -- ---- the call
 
-  abbrev registering : Effect
+  abbrev pub registering : Effect
   registering = record {
     commits = Some r;
     sends = [];
@@ -104,7 +104,7 @@ module _ (members : Membership) (is_membership : IsMembership members) (slot : S
   answer = answer_of (Some (site_lines.Registered bag)) [] (omega arith)
 
   module _ (request : Request members.federation slot bag) where
-    effect_is : effect old.site new_volatile (calls.Deposits slot (check_of request.facts))
+    pub effect_is : effect old.site new_volatile (calls.Deposits slot (check_of request.facts))
         ≡ registering
     effect_is =
         ap (λ (c : Result BagId BagFault). on_deposit [] new_volatile slot c) request.checked

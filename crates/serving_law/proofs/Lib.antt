@@ -29,3 +29,4 @@ pub mod Kills
 pub mod Forgeries
 pub mod Shown
 pub mod Restarted
+pub mod Failed

@@ -10,3 +10,4 @@ pub mod Examples
 pub mod ExamplesAgreed
 pub mod ExamplesShown
 pub mod ExamplesRestarted
+pub mod ExamplesFailed

@@ -1,6 +1,7 @@
 ghost use Rattle.serving_law.specs.Disks.{AreLikeCells};
 ghost use Rattle.serving_law.specs.Examples.{FooledByAForgedKnown, KilledInADeposit};
 ghost use Rattle.serving_law.specs.ExamplesAgreed.{ThreeSitesAgree, KilledInAVote, ARepeatedVote};
+ghost use Rattle.serving_law.specs.ExamplesFailed.{FailsInADeposit};
 ghost use Rattle.serving_law.specs.ExamplesRestarted.{RestartedSitesReport};
 ghost use Rattle.serving_law.specs.ExamplesShown.{RepliesAreReports, DepositsAreValid};
 ghost use Rattle.serving_law.specs.ExamplesShown.{NoiseIsDropped};
@@ -61,4 +62,10 @@ pub fn noise_is_dropped()
 /// reports the bag as known; then it ends, and is started once more.
 pub fn restarted_sites_report()
     ensures { RestartedSitesReport }
+{}
+
+/// A site whose device fails as it records a deposit says so, and ends; its record may be lost or
+/// kept, and it is started again with what is left.
+pub fn fails_in_a_deposit()
+    ensures { FailsInADeposit }
 {}

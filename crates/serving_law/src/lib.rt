@@ -7,9 +7,9 @@ mod examples;
 mod law;
 
 pub use examples::{
-    a_repeated_vote, deposits_are_valid, disks_are_like_cells, fooled_by_a_forged_known,
-    killed_in_a_deposit, killed_in_a_vote, noise_is_dropped, replies_are_reports,
-    restarted_sites_report, three_sites_agree,
+    a_repeated_vote, deposits_are_valid, disks_are_like_cells, fails_in_a_deposit,
+    fooled_by_a_forged_known, killed_in_a_deposit, killed_in_a_vote, noise_is_dropped,
+    replies_are_reports, restarted_sites_report, three_sites_agree,
 };
 pub use law::{
     known_stays, registered_stays, reports_agree, reports_were_deposited, turns_may_happen,
