@@ -61,8 +61,8 @@ now members events history = after_all (left_by members events) history
 
 -- ---- what was deposited
 
--- One of these events hands a site a tree that the check finds to be this bag, and after it the
--- site has the bag on record as its deposit.
+-- One of these events is a deposit whose check answered this bag, and after it its site has the bag
+-- on record as its deposit.
 pub record WasDepositedIn (q : QuorumSystem) (events : List Event) (slot : SlotName) (bag : BagId)
     : Type 0 where
   pub before : List Event

@@ -1,8 +1,6 @@
--- A history that goes on from the cells of a run in which a register was decided. In the run sites 1
--- and 2 vote for a bag that was deposited in it, and site 1 says that the bag is known. Then site 1
--- is started over the cell that it has left, and site 3 over one that has nothing; what was said in
--- the run comes to site 3, and it reports the bag. And an auditor who reads the votes in the cells of
--- sites 1 and 2 finds that it is chosen.
+-- A history that goes on from the cells of a run in which a register was decided: for a bag that was
+-- deposited in the run, and of which site 1 said there that it is known. In the history the bag is
+-- reported. And records of these cells show that it is chosen.
 use Rattle.std.specs.Prelude.{List}
 use Rattle.fed_types.specs.declared.bag_id.BagId.{BagId}
 use Rattle.fed_types.specs.Lists.{Has}

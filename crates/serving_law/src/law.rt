@@ -18,7 +18,7 @@ pub fn reports_agree<C: Cell>()
 {}
 
 /// What a site that serves reports was deposited for the slot before, from a folder that was a
-/// valid bag of this identity.
+/// valid bag of this identity as it was read.
 pub fn reports_were_deposited<C: Cell>()
     ensures { (members : Membership) → ReportsWereDeposited C.device members }
 {}
