@@ -9,7 +9,7 @@ pub record SiteRecord : Type 0 where
   pub site : ℕ
   pub kept : Record
 
--- those of one site; two cells of a site count as one
+-- the record, if it is this site's; two cells of a site count as one
 abbrev pub record_at : ℕ → SiteRecord → Option Record
 record_at site s = if s.site == site then Some s.kept else None
 

@@ -37,7 +37,7 @@ impl Model for Cells {
 }
 
 impl Cells {
-    /// No record was given. Versions and votes are found by this hashing, whose seed is random:
+    /// No record was given. This hashing finds versions and votes. Its seed is random, since
     /// whoever hands in a cell chooses their names.
     pub fn new(alloc: Global, members: Members, hashing: RandomState) -> Cells
         ensures members { result.members ≡ members }

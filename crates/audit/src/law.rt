@@ -42,9 +42,9 @@ pub fn members_are_counted()
         ↔ IsChosenBy q (network_of given) slot vote }
 {}
 
-/// What is found of a version of a run is no conflict; and it is a chosen bag exactly where the
-/// cells show one. Whatever the cells are, two bags that are named for a version are found as a
-/// conflict of two such, and where a bag is named, something is found.
+/// What is found of a version of a run is no conflict, and it is a chosen bag exactly when the
+/// cells show one. Whatever the cells are: if two bags are named for a version, a conflict of two
+/// such bags is found; and if a bag is named, something is found.
 pub fn findings_are_true()
     ensures no_conflict { (q : QuorumSystem) (events : List Event) (given : List SiteRecord)
         (slot : SlotName) (u v : BagId) → AreQuorums q

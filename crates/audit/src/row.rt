@@ -14,7 +14,7 @@ pub(crate) struct Row {
 }
 
 impl Row {
-    /// The row of a version of which nothing was given.
+    /// The row of a version for which nothing was given.
     pub(crate) const EMPTY: Row = Row {
         first: None,
         other: None,

@@ -68,8 +68,7 @@ fn after_vote(
     }
 }
 
-/// The row of a record's version after it, when it was this before. What is counted of votes
-/// changes too.
+/// The row of a record's version after it, when it was this before. The counted votes change too.
 pub(crate) fn row_after(
     alloc: Global,
     votes: &mut Votes,

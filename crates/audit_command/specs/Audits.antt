@@ -22,16 +22,16 @@ pub record AreReadings (members : Membership) (files : Files) (paths : List (Lis
   pub paths_are : map (λ r. r.path) readings ≡ paths
   pub read : All (IsRead members files) readings
 
--- nothing is amiss with any cell
+-- nothing is wrong with any cell
 abbrev pub all_used : List Reading → Bool
 all_used readings = list_all (λ r. is_none r.fault) readings
 
--- 0 where nothing is amiss, and there is no conflict
+-- 0 if nothing is wrong, and there is no conflict
 abbrev pub status_of : List Reading → List Version → ℕ
 status_of readings versions =
     if all_used readings && count_of is_conflict versions == 0 then 0 else 1
 
--- the status and the lines of what the cells of these paths are good for, and of what they show
+-- the status and the lines for what the cells of these paths are worth, and for what they show
 -- together of each version
 pub record IsAudit (members : Membership) (files : Files) (paths : List (List ℕ))
     (outcome : Outcome) : Type 0 where

@@ -1,4 +1,4 @@
--- What the cells that an auditor was given are good for: what is amiss with each, and which of its
+-- What the cells that an auditor was given are worth: what is wrong with each, and which of its
 -- records are counted.
 use Rattle.std.specs.Prelude.{◌≡◌, ◌⊎◌, ◌≤◌, ◌-◌, ◌||◌, ℕ, Bool, true, false, List, [], length, map, take}
 use Rattle.std.specs.Prelude.{Option, Some, None}
@@ -39,18 +39,18 @@ IsMembers members head records =
     × (head.owner.site ≤ count_of members)
     × HasWeights members head.names_weights head.owner.members.weights records
 
--- nothing is amiss with a torn tail: a crash leaves one, and so does a site that is writing
+-- a torn tail isn't wrong: a crash leaves one, and so does a site that is writing
 abbrev pub damage_of : Ending → Option CellDefect
 damage_of endings.Whole = None
 damage_of (endings.Torn count) = None
 damage_of (endings.Damaged place) = Some (Damaged place)
 
--- all records but so many of the last
+-- all records except this many of the last
 abbrev pub all_but : ℕ → List Record → List Record
 all_but unsure records = take (length records - unsure) records
 
--- Of a cell of the federation all records are counted but so many of the last; where it is damaged,
--- of those before the damage. Of another none is.
+-- In a cell of the federation all records are counted except this many of the last; if it is
+-- damaged, those before the damage. In any other cell none is.
 abbrev pub IsWorth : Membership → (unsure : ℕ) → Said → Option CellDefect → List SiteRecord
     → Type 0
 IsWorth members unsure said fault given =
@@ -62,14 +62,14 @@ IsWorth members unsure said fault given =
 abbrev pub SaysNothing : Option CellDefect → List SiteRecord → Type 0
 SaysNothing fault given = (fault ≡ Some Unread) × (given ≡ [])
 
--- what is amiss with a cell of these bytes, and what is counted of it
+-- what is wrong with a cell of these bytes, and which of its records are counted
 abbrev pub IsReadingOf : Membership → (unsure : ℕ) → List ℕ → Option CellDefect → List SiteRecord
     → Type 0
 IsReadingOf members unsure bytes fault given =
     (HasNoOwner bytes × SaysNothing fault given)
     ⊎ ((said : Said) × IsSaid bytes said × IsWorth members unsure said fault given)
 
--- where reading failed, that is amiss, if nothing else is
+-- if reading failed, that is the defect, if there is no other
 abbrev pub or_unread : (is_whole : Bool) → Option CellDefect → Option CellDefect
 or_unread true fault = fault
 or_unread false fault = option_or fault (Some Unread)
@@ -87,29 +87,29 @@ abbrev pub unsure_of : (in_use : Bool) → ℕ
 unsure_of true = most_unsynced
 unsure_of false = 0
 
--- what is counted of a file may be sure to outlive a crash; else nothing of it counts
+-- the counted records of a file may be sure to outlive a crash; else nothing in it counts
 abbrev pub IsReadingIf : (sure : Bool) → Membership → (in_use : Bool) → FileBytes
     → Option CellDefect → List SiteRecord → Type 0
 IsReadingIf true members in_use file fault given =
     IsReadingOfBytes members (unsure_of in_use) file fault given
 IsReadingIf false members in_use file fault given = SaysNothing fault given
 
--- of a file, none if it can't be opened: whether it is in use, what is amiss, and what is counted;
--- one that isn't in use counts only if it can be synced
+-- for a file, or for none if it can't be opened: whether it is in use, what is wrong with it, and
+-- what is counted; one that isn't in use counts only if it can be synced
 abbrev pub IsReadingOfFile : Membership → Option FileBytes → (in_use : Bool) → Option CellDefect
     → List SiteRecord → Type 0
 IsReadingOfFile members None in_use fault given = (in_use ≡ false) × SaysNothing fault given
 IsReadingOfFile members (Some file) in_use fault given =
     (in_use ≡ file.in_use) × IsReadingIf (in_use || file.can_sync) members in_use file fault given
 
--- a cell by the path of its file, whether it is in use, what is amiss with it, and what is counted
--- of it
+-- a cell by the path of its file, whether it is in use, what is wrong with it, and what is counted
+-- in it
 pub record Reading : Type 0 where
   pub path : List ℕ
   pub in_use : Bool
   pub fault : Option CellDefect
   pub given : List SiteRecord
 
--- what is counted of all
+-- what is counted in all cells
 abbrev pub all_given : List Reading → List SiteRecord
 all_given readings = flat_map (λ r. r.given) readings

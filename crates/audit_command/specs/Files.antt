@@ -15,12 +15,12 @@ pub record FileBytes : Type 0 where
 abbrev pub Files : Type 0
 Files = List ℕ → Option (Option FileBytes)
 
--- the same file, of which these bytes are left to read
+-- the same file, with these bytes left to read
 abbrev pub with_bytes : FileBytes → List ℕ → FileBytes
 with_bytes file rest = record file { bytes = rest }
 
--- Of a file that gives this, a read into a piece fails; or it gives none, at the end; or the next
--- bytes, and the others come after.
+-- From a file that gives this, a read into a piece fails; or it gives no bytes, at the end; or it
+-- gives the next bytes, and the others come after.
 abbrev pub Gives : FileBytes → (piece : List ℕ) → Option ℕ → Option FileBytes → Type 0
 Gives file piece None after = (file.bytes ≡ []) × (file.is_whole ≡ false)
 Gives file piece (Some zero) after =

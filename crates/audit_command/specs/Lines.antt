@@ -22,7 +22,7 @@ use Rattle.audit_command.specs.Versions.{is_chosen, is_known, is_open, is_confli
 unfoldable pub in_use_line : List ℕ → List ℕ
 in_use_line path = codes "in-use " ++ (escaped_text path ++ 10 ∷ [])
 
--- of one that isn't, that isn't said
+-- for a cell that isn't in use there is no line
 abbrev pub in_use_line_if : List ℕ → (in_use : Bool) → List ℕ
 in_use_line_if path false = []
 in_use_line_if path true = in_use_line path
@@ -41,11 +41,11 @@ place_text faults.Unread = []
 place_text faults.Foreign = []
 place_text (faults.Damaged place) = 32 ∷ decimal place
 
--- what is amiss with the cell of this path
+-- what is wrong with the cell of this path
 unfoldable pub fault_line : List ℕ → CellDefect → List ℕ
 fault_line path fault = fault_word fault ++ (escaped_text path ++ (place_text fault ++ 10 ∷ []))
 
--- of a cell that is used as it is nothing is said
+-- for a cell that is used as it is there is no line
 abbrev pub line_if : List ℕ → Option CellDefect → List ℕ
 line_if path None = []
 line_if path (Some fault) = fault_line path fault

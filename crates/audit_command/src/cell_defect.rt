@@ -1,4 +1,4 @@
-/// What is amiss with a cell.
+/// What is wrong with a cell.
 #[derive(Clone, Copy, Debug, PartialEq, Eq)]
 pub enum CellDefect {
     /// It can't be read, or begins with no header.

@@ -3,13 +3,13 @@ use std::hash::RandomState;
 
 /// Where cells are read from: a disk, or memory.
 ///
-/// What is counted of a cell has to outlive a crash. So an implementation owes this, of which no
-/// clause can speak:
+/// What is counted in a cell has to outlive a crash. So an implementation has these duties, which
+/// no clause can state:
 ///
-/// - A cell that isn't in use is on the disk as it is read, once `sync` has said so, and no site can
-///   open it until it is dropped here.
-/// - Of one that is in use no byte is read that was appended after `open` returned. So all records
-///   that are read were synced, but for as many of the last as a site may not have synced.
+/// - If a cell isn't in use, then once `sync` has said so, it is on the disk as it is read, and no
+///   site can open it until it is dropped here.
+/// - If a cell is in use, no byte is read that was appended after `open` returned. So all records
+///   that are read were synced, except as many of the last as a site may not have synced.
 pub trait CellFiles {
     ghost use Rattle.std.specs.Prelude.{◌≡◌, ◌≤◌, ℕ, List, Option, Some, None, IfOk, IfSome};
     ghost use Rattle.std.specs.Prelude.{length, option_map};
@@ -24,7 +24,7 @@ pub trait CellFiles {
     // What reading a cell gives from here on, where that is known.
     ghost left: { Self.Cell → Option FileBytes } = { λ _. None };
 
-    /// How what cells say is found: by a seed that nobody knows who writes a cell.
+    /// How what cells say is found: by a seed that the writer of a cell doesn't know.
     fn hashing(&self) -> RandomState;
 
     /// Opens the file of this path; none where that can't be done. It fails only where memory runs

@@ -35,7 +35,7 @@ pub(crate) struct CellReading {
 #[derive(Clone, Copy, Debug)]
 pub(crate) enum Progress {
     More,
-    /// This is amiss with it, whatever follows.
+    /// This is wrong with it, whatever follows.
     Ended(Option<CellDefect>),
 }
 
@@ -55,7 +55,8 @@ fn add_counted(
 }
 
 impl CellReading {
-    /// That of a cell of which nothing was read, and so many of the last records aren't counted.
+    /// The reading of a cell of which nothing was read; `unsure` of the last records aren't
+    /// counted.
     fn new(alloc: Global, unsure: usize) -> CellReading
         ensures { (members : Membership) (evidence : Evidence) (given : List SiteRecord)
             → IsEvidence members evidence given
@@ -68,7 +69,7 @@ impl CellReading {
         }
     }
 
-    // Counts the records of a part, and those before it that aren't among the last any more.
+    // Counts the records of a part, and earlier ones that are no longer among the last.
     fn count_part(
         &mut self,
         alloc: Global,
@@ -85,7 +86,7 @@ impl CellReading {
         add_counted(alloc, evidence, &self.standing, &sure)
     }
 
-    // Counts those of the last part, and gives what is amiss with the cell.
+    // Counts those of the last part, and gives what is wrong with the cell.
     fn count_last(
         &mut self,
         alloc: Global,
@@ -126,7 +127,7 @@ impl CellReading {
         }
     }
 
-    // Counts what is left, where the cell ends, and gives what is amiss with it.
+    // Counts what is left where the cell ends, and gives what is wrong with it.
     fn end(
         &mut self,
         alloc: Global,
@@ -142,8 +143,8 @@ impl CellReading {
     }
 }
 
-/// Reads a cell to its end, or to where reading fails, counts what it says but for so many of the
-/// last records, and gives what is amiss with it.
+/// Reads a cell to its end, or to where reading fails. Counts what it says except for `unsure` of
+/// the last records, and gives what is wrong with the cell.
 pub(crate) fn read_cell<F: CellFiles>(
     alloc: Global,
     members: &Members,
@@ -170,11 +171,11 @@ pub(crate) fn read_cell<F: CellFiles>(
             None => return unread_end(alloc, members, &mut reading, evidence),
         }
     }
-    // No cell has so many bytes.
+    // No cell has as many bytes as this.
     Err(AllocError)
 }
 
-// The same, where reading fails: that is amiss, if nothing else is.
+// The same, if reading fails: that is the defect, if there is no other.
 fn unread_end(
     alloc: Global,
     members: &Members,

@@ -16,10 +16,10 @@ use fed_types::Members;
 use outcomes::{ProgramFault, ProgramOutput};
 use std::alloc::{AllocError, Global};
 
-/// Reads the cells of these paths, and writes which are in use, what is amiss with each, what they
-/// show together of each version, and how many there are of each kind. The exit status is 0 where nothing is amiss
-/// and there is no conflict, and else 1. Where memory runs out, the line `memory` is written alone,
-/// and the status is 1.
+/// Reads the cells of these paths, and writes which are in use, what is wrong with each, what they
+/// show together of each version, and how many versions there are of each kind. The exit status is
+/// 0 if nothing is wrong and there is no conflict, and else 1. If memory runs out, the line
+/// `memory` is written alone, and the status is 1.
 pub fn audit_on<F: CellFiles, W: CountedWrite>(
     alloc: Global,
     members: &Members,
@@ -64,7 +64,7 @@ fn answer_to<F: CellFiles>(
     Ok(ProgramOutput { status, text })
 }
 
-// The status where so many conflicts were found.
+// The status if this many conflicts were found.
 fn status_of(all_used: bool, conflicts: usize) -> u8
     ensures { result ≡ (if all_used && conflicts == 0 then 0 else 1) }
 {

@@ -34,7 +34,7 @@ fn push_place(text: &mut String, fault: CellDefect) -> Result<(), AllocError>
     }
 }
 
-/// Appends the line of what is amiss with the cell of this path.
+/// Appends the line for what is wrong with the cell of this path.
 #[tactic(auto, unfolding(crate::specs::Lines::fault_line), using(std::proofs::Common::append_assoc))]
 pub(crate) fn push_fault(text: &mut String, path: &str, fault: CellDefect) -> Result<(), AllocError>
     ensures { Pushes result text.old text.new (fault_line path.now fault) }

@@ -46,7 +46,7 @@ fn nothing_gathered(alloc: Global, members: Members, hashing: RandomState) -> Ga
     }
 }
 
-// Reads a cell that was opened, counts what it says, and gives what else is said of it.
+// Reads a cell that was opened, counts what it says, and gives what else is known of it.
 fn add_records_in<F: CellFiles>(
     alloc: Global,
     members: &Members,
@@ -69,14 +69,15 @@ fn add_records_in<F: CellFiles>(
     Ok(CellState { in_use, fault })
 }
 
-// Whether what is counted of a cell is sure to outlive a crash: one that isn't in use is synced.
+// Whether the counted records of a cell are sure to outlive a crash: one that isn't in use is
+// synced.
 fn is_sure<F: CellFiles>(files: &F, cell: &F::Cell, path: &str, in_use: bool) -> bool
     ensures { IfSome (F.left cell.now) (λ file. result ≡ (in_use || file.can_sync)) }
 {
     in_use || files.sync(cell, path)
 }
 
-// Of a cell of which nothing is counted.
+// The state of a cell of which nothing is counted.
 fn unread() -> CellState
     ensures in_use { result.in_use ≡ false }
     ensures fault { result.fault ≡ Some CellDefect.Unread }
@@ -107,7 +108,7 @@ fn add_records_of<F: CellFiles>(
     }
 }
 
-// That a cell is in use, if it is.
+// Adds that a cell is in use, if it is.
 fn add_use(text: &mut String, path: &str, in_use: bool) -> Result<(), AllocError>
     ensures { Pushes result text.old text.new (in_use_line_if path.now in_use) }
 {
@@ -118,7 +119,7 @@ fn add_use(text: &mut String, path: &str, in_use: bool) -> Result<(), AllocError
     }
 }
 
-// What is amiss with a cell, if anything is.
+// Adds what is wrong with a cell, if anything is.
 fn add_fault(text: &mut String, path: &str, fault: Option<CellDefect>) -> Result<(), AllocError>
     ensures { Pushes result text.old text.new (line_if path.now fault) }
 {
@@ -128,7 +129,7 @@ fn add_fault(text: &mut String, path: &str, fault: Option<CellDefect>) -> Result
     }
 }
 
-// Whether nothing was amiss before, and nothing is now.
+// Whether nothing was wrong before, and nothing is now.
 fn still_used(all_used: bool, fault: Option<CellDefect>) -> bool
     ensures { result ≡ (all_used && is_none fault) }
 {

@@ -8,10 +8,10 @@ use records::Record;
 use std::alloc::{AllocError, Global};
 use std::mem;
 
-/// A site appends at most so many records before it syncs.
+/// A site appends at most this many records before it syncs.
 const MOST_UNSYNCED: usize = 1;
 
-/// Of so many of the last records of a cell it isn't sure that a crash leaves them.
+/// For this many of the last records of a cell it isn't sure that a crash leaves them.
 pub(crate) fn unsure_of(in_use: bool) -> usize
     ensures { result ≡ unsure_of in_use }
 {
@@ -26,7 +26,7 @@ pub(crate) struct LastRecords {
 }
 
 impl LastRecords {
-    /// Those of a cell of which nothing was read.
+    /// The last records of a cell of which nothing was read.
     pub(crate) fn new(alloc: Global, unsure: usize) -> LastRecords
         ensures unsure { result.unsure ≡ unsure }
         ensures records { result.records.items ≡ [] }
@@ -37,7 +37,7 @@ impl LastRecords {
         }
     }
 
-    /// The next records are read: it gives those of all that aren't among the last any more.
+    /// The next records are read: it gives those that are no longer among the last.
     pub(crate) fn pass(
         &mut self,
         alloc: Global,

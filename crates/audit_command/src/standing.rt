@@ -1,4 +1,4 @@
-//! Whose a cell is, and what is amiss with it.
+//! Whose a cell is, and what is wrong with it.
 
 ghost use Rattle.std.specs.Prelude.{◌≡◌, ◌↔◌, IsTrue, option_map};
 ghost use Rattle.std.specs.List.{All};
@@ -85,7 +85,7 @@ fn damage_of(ending: Ending) -> Option<CellDefect>
     }
 }
 
-/// What is amiss with a cell that ends so.
+/// What is wrong with a cell that ends so.
 pub(crate) fn fault_of(standing: &Standing, ending: Ending) -> Option<CellDefect>
     ensures { result ≡ fault_of standing.now ending }
 {

@@ -2,8 +2,8 @@
 -- checking it answers. RFC 8493 knows bags that have the faults UnsupportedVersion,
 -- UnsupportedEncoding, HasFetch, NoSha512Manifest and UnknownAlgorithm; bags of version 0.97 whose
 -- payload manifests each list a part (UnlistedFile); and tag files whose names begin with a star
--- (MissingFile). Of a tag manifest is asked that what it lists exists and has its digests, and not
--- that it lists every manifest.
+-- (MissingFile). A tag manifest has to list only what exists and has the listed digests; it needn't
+-- list every manifest.
 use Rattle.std.specs.Prelude.{ℕ, Bool, false, not, ◌&&◌, ◌||◌, List, [], ◌∷◌, codes}
 use Rattle.std.specs.Prelude.{Option, Some, None, unwrap_or, Result, Ok, Err, is_err}
 use Rattle.std.specs.List.{list_any, find}
@@ -76,7 +76,7 @@ repeats (entry ∷ entries) = is_listed entry.path entries || repeats entries
 abbrev pub is_unlisted : List ListedFile → FileFact → Bool
 is_unlisted entries file = is_payload file.path && not (is_listed file.path entries)
 
--- the file is there, and its digest isn't this one; a digest that isn't known isn't
+-- the file is there, and its digest isn't this one; an unknown digest doesn't count
 abbrev pub has_other_digest : Algorithm → List ℕ → Option FileFact → Bool
 has_other_digest algorithm digest None = false
 has_other_digest algorithm digest (Some file) =

@@ -23,7 +23,7 @@ file_at path files = find (λ file. bytes_eq file.path path) files
 abbrev pub has_file : List ℕ → List FileFact → Bool
 has_file path files = is_some (file_at path files)
 
--- The bytes of the text of this path, where there is one. The facts of a file of such a name always
+-- The bytes of the text of this path, if there is one. The facts of a file of such a name always
 -- have its bytes: `FileFacts` keeps that.
 abbrev pub text_at : List ℕ → List FileFact → Option (List ℕ)
 text_at path files = option_map (λ file. unwrap_or file.text []) (file_at path files)

@@ -1,5 +1,5 @@
--- The algorithms of the manifests of a tree, as their names say them. The answer about a bag needs
--- no digest by another: `named_law` says so.
+-- The algorithms of the manifests of a tree, by their names. The answer about a bag needs no digest
+-- by another algorithm: `named_law` says so.
 use Rattle.std.specs.Prelude.{ℕ, Bool, if◌then◌else◌, List, map, None}
 use Rattle.std.specs.List.{list_any}
 use Rattle.std.specs.Str.{bytes_eq}
@@ -17,7 +17,7 @@ use Rattle.bag_check.specs.Manifests.{kinds, manifest_name}
 unfoldable pub asks : Algorithm → List ℕ → Bool
 asks algorithm path = list_any (λ kind. bytes_eq path (manifest_name kind algorithm)) kinds
 
--- the algorithms of which it is the name of a manifest: one, or none
+-- the algorithm for which it is the name of a manifest, or none
 abbrev pub asked_by : List ℕ → Algorithms
 asked_by path = record {
   md5 = asks Md5 path;
@@ -26,7 +26,7 @@ asked_by path = record {
   sha512 = asks Sha512 path;
 }
 
--- the algorithms of which one of these paths is the name of a manifest
+-- the algorithms for which one of these paths is the name of a manifest
 abbrev pub named_of : List (List ℕ) → Algorithms
 named_of paths = record {
   md5 = list_any (asks Md5) paths;
@@ -37,7 +37,7 @@ named_of paths = record {
 
 -- ---- facts without what isn't asked for
 
--- those of the digests that are wanted; one that wasn't known stays unknown
+-- the digests that are wanted; an unknown one stays unknown
 abbrev pub only : Algorithms → Digests → Digests
 only wanted digests = record {
   md5 = if wanted.md5 then digests.md5 else None;
@@ -60,7 +60,7 @@ only_named facts = record {
   payload = facts.payload;
 }
 
--- what is known of a tree of which only those digests were computed that its manifests ask for
+-- what is known of a tree if only those digests were computed that its manifests ask for
 abbrev pub named_facts_of : Files → TreeFacts
 named_facts_of tree = record {
   files = map (fact_by (named_of (map (λ file. file.path) tree.files))) tree.files;

@@ -1,8 +1,8 @@
--- When a tree of files is a valid bag (RFC 8493, 2 and 3), in this project's profile of it, in
--- sets and relations; no fault is named here. `valid_law` says that the trees which are valid so
--- are those in which no fault holds. The profile refuses some bags that RFC 8493 allows (Check.antt
--- names them), and asks less of a tag manifest: that what it lists exists, outside the payload's
--- folder, and has its digests.
+-- When a tree of files is a valid bag (RFC 8493, 2 and 3), in this project's profile of it, in sets
+-- and relations; no fault is named here. `valid_law` says that the valid trees are exactly those in
+-- which no fault holds. The profile refuses some bags that RFC 8493 allows (Check.antt names them),
+-- and asks less of a tag manifest: that what it lists exists, outside the payload's folder, and has
+-- its digests.
 use Rattle.std.specs.Prelude.{◌≡◌, ◌≢◌, ◌⊎◌, ◌↔◌, ℕ, List, ◌++◌, map, codes, Some}
 use Rattle.std.specs.Prelude.{IsTrue, Contains, All, AllPairs}
 use Rattle.std.specs.Str.{str_to_ascii_lowercase}

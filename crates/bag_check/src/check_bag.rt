@@ -45,7 +45,7 @@ fn identity_or_fault(alloc: Global, facts: &Facts) -> Result<BagId, BagFault>
     Ok(identity(&files))
 }
 
-/// The SHA-512 of the bytes of `manifest-sha512.txt`, as they are; of none, where there is no such
+/// The SHA-512 of the bytes of `manifest-sha512.txt`, as they are; of no bytes if there is no such
 /// file.
 fn identity(files: &FilesByPath<'_>) -> BagId
     ensures { result ≡ record { 0 = sha512 (unwrap_or (text_at sha512_manifest files.now) []) } }

@@ -20,7 +20,8 @@ use bag_tree::{FileFacts, has_unsafe_part, is_payload};
 use std::alloc::{AllocError, Global};
 use std::collections::BTreeSet;
 
-/// The first fault of what the manifests list. Each is asked of all manifests before the next one.
+/// The first fault in what the manifests list. Each fault is looked for in all manifests before the
+/// next one.
 #[tactic(auto, unfolding(crate::specs::inner::Order::fault_of_listings))]
 pub(crate) fn fault_of_listings(
     alloc: Global,
@@ -235,7 +236,7 @@ fn leaves_out(alloc: Global, entries: &[Entry<'_>], files: &[FileFacts]) -> Resu
     requires there { list_any (is_missing files.now) entries.now ≡ false }
     ensures { IfOk result (λ found. found ≡ list_any (is_unlisted entries.now) files.now) }
 {
-    // Where there are no more files than entries, each has one.
+    // If there are no more files than entries, each has one.
     if payload_count(files) <= entries.len() {
         return Ok(false);
     }

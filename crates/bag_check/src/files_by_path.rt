@@ -10,8 +10,8 @@ use std::alloc::{AllocError, Global};
 use std::collections::BTreeMap;
 use std::marker::Model;
 
-/// The files of a tree, to be looked up by their paths. A map in order and not a hashed one, since
-/// paths may be chosen by an adversary.
+/// The files of a tree, to be looked up by their paths. The map is ordered and not hashed, since an
+/// adversary may choose the paths.
 #[derive(Drop)]
 pub struct FilesByPath<'a> {
     files: &'a [FileFacts],
@@ -40,7 +40,7 @@ impl<'a> Model for FilesByPath<'a> {
 impl<'a> FilesByPath<'a> {
     ghost use Rattle.bag_check.specs.Manifests.{file_at, has_file, text_at};
 
-    /// Of these files. The one refusal is that memory ran out.
+    /// An index of these files. The only refusal is that memory ran out.
     pub fn new(alloc: Global, files: &'a [FileFacts]) -> Result<FilesByPath<'a>, AllocError>
         ensures { IfOk result (λ found. found ≡ files.now) }
     {

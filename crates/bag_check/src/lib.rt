@@ -1,4 +1,4 @@
-//! Whether a tree of files is a valid bag, of which identity, and if it isn't, why (RFC 8493,
+//! Whether a tree of files is a valid bag and with which identity, or why it isn't (RFC 8493,
 //! within the limits that `BagFault` names).
 //!
 //! ```

@@ -4,7 +4,7 @@ use crate::manifests::Kind;
 use bag_text::{Algorithm, Entry};
 use std::marker::Model;
 
-/// What a manifest lists, every line of which is well-formed.
+/// What a manifest lists, if every line of it is well-formed.
 #[derive(Drop)]
 pub(crate) struct Listing<'a> {
     kind: Kind,

@@ -12,7 +12,7 @@ pub enum Kind {
     Tag,
 }
 
-/// The algorithms of which manifests are read.
+/// The algorithms whose manifests are read.
 pub(crate) const ALGORITHMS: [Algorithm; 4] = [
     Algorithm::Md5,
     Algorithm::Sha1,

@@ -12,7 +12,8 @@ use crate::manifests::{Kind, is_known_manifest, is_manifest};
 use bag_text::{Algorithm, declaration};
 use bag_tree::FileFacts;
 
-/// The first fault for which no manifest is read: of the declaration, and of which files there are.
+/// The first fault that shows without reading a manifest: in the declaration, or in which files
+/// there are.
 #[tactic(auto, unfolding(crate::specs::inner::Order::fault_of_tag_files))]
 pub(crate) fn fault_of_tag_files(files: &FilesByPath<'_>, payload: bool) -> Option<BagFault>
     ensures { result ≡ fault_of_tag_files files.now payload }

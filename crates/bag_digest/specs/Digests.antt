@@ -37,7 +37,7 @@ abbrev pub is_digest : List ℕ → Option (List ℕ) → Bool
 is_digest digest None = false
 is_digest digest (Some known) = bytes_eq known digest
 
--- what a digester was fed: the bytes so far, of which these digests are wanted
+-- what a digester was fed: the bytes so far, and which of their digests are wanted
 pub record Feed : Type 0 where
   pub wanted : Algorithms
   pub bytes : List ℕ

@@ -11,7 +11,7 @@ use std::marker::Model;
 #[derive(Drop)]
 pub struct Digester {
     wanted: Algorithms,
-    // Those that aren't wanted are never fed.
+    // The hash functions that aren't wanted are never fed.
     md5: Md5,
     sha1: Sha1,
     sha256: Sha256,

@@ -21,7 +21,7 @@ pub struct Digests {
 }
 
 impl Digests {
-    /// Those of a file of which none is wanted.
+    /// The digests of a file if none is wanted.
     pub fn none() -> Digests
         ensures { (bytes : List ℕ) → result ≡ digests_by no_algorithms bytes }
     {

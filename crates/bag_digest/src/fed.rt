@@ -3,7 +3,7 @@ ghost use Rattle.std.specs.Borrow.{ftrue};
 
 use std::marker::Model;
 
-/// The bytes that were fed so far. Proofs alone read them: it takes no memory, and its calls do
+/// The bytes that were fed so far. Only proofs read them: it takes no memory, and its calls do
 /// nothing when they run.
 #[derive(Drop)]
 pub(crate) struct Fed {

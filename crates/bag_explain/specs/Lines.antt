@@ -21,7 +21,7 @@ abbrev pub if_malformed : ℕ → Result (List ListedFile) ℕ → List ℕ
 if_malformed number (Ok files) = []
 if_malformed number (Err line) = number ∷ []
 
--- what the lines list, the first of which has this number
+-- what the lines list, if the first of them has this number
 unfoldable pub numbered_from : Algorithm → ℕ → List (List ℕ) → List NumberedFile
 numbered_from algorithm number [] = []
 numbered_from algorithm number (line ∷ lines) =

@@ -14,7 +14,7 @@ pub record NumberedListing : Type 0 where
   pub malformed : List ℕ
   pub files : List NumberedFile
 
--- the list, unless there are malformed lines: what a manifest with one lists isn't asked about
+-- the list, unless there are malformed lines: what a manifest with such a line lists doesn't matter
 abbrev pub unless_malformed : {X : Type 0} → List ℕ → List X → List X
 unless_malformed [] xs = xs
 unless_malformed (line ∷ lines) xs = []

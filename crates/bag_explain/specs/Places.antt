@@ -54,7 +54,7 @@ abbrev pub digest_place : NumberedListing → NumberedFile → Place
 digest_place listing entry =
     at_digest entry.file.path listing.algorithm (name_of listing) entry.line
 
--- the entries whose path one of those before them has, where these came first
+-- the entries whose path an earlier entry has, if these come first
 unfoldable pub repeated_after : List ListedFile → List NumberedFile → List NumberedFile
 repeated_after before [] = []
 repeated_after before (entry ∷ entries) =
@@ -138,8 +138,8 @@ abbrev pub faulty_lines : Option (List ℕ) → List Place
 faulty_lines None = []
 faulty_lines (Some text) = faulty_line (declaration_of text)
 
--- The places in the tree where the fault holds. Where a file is missing that has to be there, its
--- own path is the place.
+-- The places in the tree where the fault holds. If a required file is missing, its own path is the
+-- place.
 unfoldable pub places_of : BagFault → TreeFacts → List Place
 places_of NoDeclaration facts =
     when (holds NoDeclaration facts) (at_file (codes "bagit.txt") ∷ [])

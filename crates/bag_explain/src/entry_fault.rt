@@ -70,7 +70,7 @@ pub(crate) fn push_path_if(
     )
 }
 
-// Appends the line of a fault of the digest that an entry lists, if that is at fault.
+// Appends the line for a wrong digest that an entry lists, if that is the fault.
 fn push_digest_if(
     text: &mut String,
     is_faulty: bool,

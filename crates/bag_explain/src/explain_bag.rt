@@ -9,7 +9,7 @@ use bag_tree::Facts;
 use std::alloc::{AllocError, Global};
 
 /// All that is wrong with a tree of files that is to be a bag: a line for each fault at each place
-/// where it holds, in the order of the faults' numbers; no line where it is a valid bag. The one
+/// where it holds, in the order of the faults' numbers; no line if it is a valid bag. The only
 /// refusal is that memory ran out.
 pub fn explain(alloc: Global, facts: &Facts) -> Result<String, AllocError>
     ensures { IfOk result (λ text. string_bytes text ≡ explanation_of facts.now) }

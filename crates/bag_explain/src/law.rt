@@ -21,9 +21,9 @@ ghost use Rattle.bag_explain.specs.Wrong.{IsWrongAt};
 ghost use Rattle.bag_explain.specs.Findings.{Finding, findings_of, explanation_of};
 ghost use Rattle.bag_explain.specs.Findings.{has_some, first_of};
 
-/// A fault holds exactly where it has a place, so all that hold are among the findings, and no
-/// other; the first finding has the fault that a check answers; and there is no finding exactly
-/// where the tree is a valid bag. What is listed line by line is what the manifest lists.
+/// A fault holds exactly when it has a place, so the findings are all the faults that hold, and no
+/// other. The first finding has the fault that a check answers. There is no finding exactly when
+/// the tree is a valid bag. What is listed line by line is what the manifest lists.
 pub fn findings_law()
     ensures placed { (facts : TreeFacts) (fault : BagFault)
         → holds fault facts ≡ has_some (places_of fault facts) }
@@ -36,8 +36,8 @@ pub fn findings_law()
         → files_in (numbered_from algorithm 1 (lines_of text)) ≡ files }
 {}
 
-/// The number of a line is its own: counted from 1 over all lines of the text, the line of this
-/// number lists the file that it is said to list, or is malformed where it is said to be.
+/// Each line has its right number: counted from 1 over all lines of the text, the line of this
+/// number lists the file that it is said to list, or is malformed if it is said to be.
 pub fn numbers_law()
     ensures listed { (algorithm : Algorithm) (text : List ℕ)
         → AllByRecursion (ListsAt algorithm (lines_of text))
@@ -47,9 +47,9 @@ pub fn numbers_law()
         (malformed_from algorithm 1 (lines_of text)) }
 {}
 
-/// The places that a fault has are those where it holds, by what a manifest lists on which line and
-/// what the tree has: no other is named, and none is left out. None is named twice, where each file
-/// of the tree has a path of its own.
+/// The places of a fault are those where it holds, by what a manifest lists on which line and what
+/// the tree has: no other is named, and none is left out. None is named twice, if each file of the
+/// tree has a path of its own.
 pub fn places_law()
     ensures placed { (fault : BagFault) (facts : TreeFacts) (place : Place)
         → Contains (places_of fault facts) place ↔ IsWrongAt fault facts place }
@@ -59,7 +59,7 @@ pub fn places_law()
 {}
 
 /// Everything that is wrong is found at each of its places, and nothing else; the least fault comes
-/// first. Nothing is found twice, where each file of the tree has a path of its own.
+/// first. Nothing is found twice, if each file of the tree has a path of its own.
 pub fn all_found_law()
     ensures found { (facts : TreeFacts) (finding : Finding)
         → Contains (findings_of facts) finding ↔ IsWrongAt finding.fault facts finding.place }
@@ -70,8 +70,8 @@ pub fn all_found_law()
         → AllPairs (λ a b. a ≢ b) (findings_of facts) }
 {}
 
-/// Where only the digests are known which a tree's manifests ask for, as their names say it, what
-/// is found wrong is what all digests show: of a tree's files, and of any facts.
+/// If only the digests are known that a tree's manifests ask for, by their names, the same faults
+/// are found as with all digests. This holds for a tree's files, and for any facts.
 pub fn named_findings_law()
     ensures findings { (tree : Files)
         → findings_of (named_facts_of tree) ≡ findings_of (facts_of_tree tree) }

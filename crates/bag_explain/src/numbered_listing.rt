@@ -39,7 +39,8 @@ impl<'a> NumberedEntry<'a> {
     }
 }
 
-/// What a manifest lists, where no line of it is malformed, and else the numbers of those lines.
+/// What a manifest lists, if no line of it is malformed, and else the numbers of the malformed
+/// lines.
 #[derive(Drop)]
 pub(crate) struct NumberedListing<'a> {
     kind: Kind,

@@ -16,8 +16,8 @@ abbrev pub IsFactBy : Algorithms → List ℕ → FileFact → Type 0
 IsFactBy wanted path fact =
     (bytes : List ℕ) × (fact ≡ fact_by wanted (record { path = path; bytes = bytes }))
 
--- they are the facts of some files: of each they have the digests by the algorithms that the
--- manifests among these files name, and no other
+-- they are the facts of some files: each has the digests by the algorithms that the manifests among
+-- these files name, and no other
 abbrev pub HasNamedDigests : TreeFacts → Type 0
 HasNamedDigests facts = (files : List File)
     × (facts.files ≡ map (fact_by (named_of (map (λ file. file.path) files))) files)
@@ -53,8 +53,8 @@ HasNeededDigests facts = HasNamedDigests facts ⊎ NeedsNoDigest facts
 abbrev pub IsRefused : TreeFacts → Type 0
 IsRefused facts = IsTrue (is_err (check_of facts))
 
--- They have the digests that the answer needs; or they stand for a bag that was refused, and is
--- refused again.
+-- They have the digests that the answer needs; or they take the place of a bag that was refused,
+-- and is refused again.
 abbrev pub IsKnownOrRefused : TreeFacts → Type 0
 IsKnownOrRefused facts = HasNeededDigests facts ⊎ IsRefused facts
 

@@ -17,7 +17,7 @@ abbrev pub read_of_found : Option NamedTree → Result TreeFacts TreeFault
 read_of_found None = Err Listing
 read_of_found (Some found) = Ok (facts_of_tree found.files)
 
--- what a read of the folder of this path gives: of two trees with one path it is the first
+-- what a read of the folder of this path gives: if two trees have one path, the first of them
 abbrev pub read_of : List NamedTree → List ℕ → Result TreeFacts TreeFault
 read_of trees path = read_of_found (find (λ tree. bytes_eq tree.path path) trees)
 

@@ -9,7 +9,7 @@ use Rattle.bag_digest.specs.declared.algorithms.Algorithms.{Algorithms}
 abbrev pub with_piece : File → List ℕ → File
 with_piece file piece = record { path = file.path; bytes = file.bytes ++ piece }
 
--- a file of which these bytes came so far, and whose digests are wanted
+-- a file, its bytes that came so far, and the digests that are wanted
 pub record Hashed : Type 0 where
   pub wanted : Algorithms
   pub file : File
@@ -19,9 +19,9 @@ abbrev pub hashed_with : Hashed → List ℕ → Hashed
 hashed_with hashed piece =
     record { wanted = hashed.wanted; file = with_piece hashed.file piece }
 
--- A reader that hasn't ended after so many reads counts as one that failed: a call has to end
--- whatever the reader does. It is as many as a word of 32 bits counts, so files of 32 terabytes fit
--- in pieces of 8,192 bytes, and those of 4 gigabytes byte by byte.
+-- A reader that hasn't ended after this many reads counts as one that failed: a call has to end
+-- whatever the reader does. This is the greatest number of 32 bits, so files of 32 terabytes fit in
+-- pieces of 8,192 bytes, and files of 4 gigabytes byte by byte.
 abbrev pub most_reads : ℕ
 most_reads = 4294967295
 

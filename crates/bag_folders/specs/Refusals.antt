@@ -10,8 +10,7 @@ abbrev pub is_fresh_of : ListSum → (now : ℕ) → Refusal → Bool
 is_fresh_of files now refusal =
     bytes_eq refusal.files.sum files.sum && nat_lt (now - refusal.moment) 60000000
 
--- One more is remembered. They are 1,024 at most: where there are as many, the earliest is
--- forgotten.
+-- One more is remembered. There are at most 1,024: beyond that the earliest is forgotten.
 abbrev pub with_refusal : List Refusal → Refusal → List Refusal
 with_refusal refusals refusal =
     if nat_lt (length refusals) 1024

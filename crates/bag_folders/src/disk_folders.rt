@@ -5,9 +5,9 @@ use bag_check::BagFault;
 use bag_tree::{Facts, TreeFault};
 use std::fs::Files;
 
-/// Folders of the file system. What their files hold no contract knows; whatever it is, the digests
-/// of each are those that are needed: those that the manifests among them name, or none where a
-/// fault shows without reading more than the texts that describe the bag.
+/// Folders of the file system. No contract knows what their files hold. Whatever it is, the digests
+/// of each file are those that are needed: those that the manifests among the files name, or none
+/// if a fault shows without reading more than the texts that describe the bag.
 #[derive(Drop)]
 pub struct DiskFolders<R: Files + AllocGlobal + Clone + Drop, W: Watcher + Drop = Silent> {
     rt: R,
@@ -34,7 +34,7 @@ impl<R: Files + AllocGlobal + Clone + Drop, W: Watcher + Drop> DiskFolders<R, W>
         }
     }
 
-    /// The same, with the digests that manifests name also where a fault shows without.
+    /// The same, with the digests that manifests name even if a fault shows without them.
     pub fn with_all_digests(self) -> DiskFolders<R, W> {
         DiskFolders {
             rt: self.rt,
@@ -44,7 +44,7 @@ impl<R: Files + AllocGlobal + Clone + Drop, W: Watcher + Drop> DiskFolders<R, W>
         }
     }
 
-    /// Who sees how far each read is.
+    /// The watcher, which sees how far each read is.
     pub fn watcher(&self) -> &W {
         &self.watcher
     }

@@ -4,9 +4,9 @@ ghost use Rattle.std.specs.Prelude.{◌≡◌};
 use bag_tree::TreeFault;
 use std::alloc::{AllocError, AllocFailed};
 
-/// Why a folder can't be read, and where: a path below it, or `.` for the folder itself. Where
-/// memory ran out, the place is the file that was read then, or the path of which the system said
-/// so; else there is none.
+/// Why a folder can't be read, and where: a path below it, or `.` for the folder itself. If memory
+/// ran out, the place is the file that was being read, or the path for which the system said so;
+/// else there is none.
 #[derive(Drop)]
 pub(crate) struct Failure {
     pub(crate) fault: TreeFault,

@@ -16,8 +16,8 @@ use bag_tree::{Facts, FileFacts, LONGEST_TEXT, TreeFault, is_read_text};
 use std::alloc::{AllocError, Global};
 use std::fs::Files;
 
-/// The facts of a bag's folder without any digest, where the texts that describe the bag and the
-/// list of its files show a fault. Of the files these texts alone are read.
+/// The facts of a bag's folder without any digest, if the texts that describe the bag and the list
+/// of its files show a fault. Only these texts are read.
 pub(crate) fn faulty_facts<R: Files + AllocGlobal + Clone + Drop>(
     alloc: Global,
     bag: &mut OpenBag<'_, R>,
@@ -72,8 +72,8 @@ fn bare_facts<R: Files + AllocGlobal + Clone + Drop>(
     Ok(Facts::new(files, listing.payload))
 }
 
-/// What is known of a file that was listed: a text that describes the bag is read, unless no manifest
-/// of its algorithm may be there at all, which the list shows.
+/// What is known of a file that was listed. A text that describes the bag is read, unless the list
+/// shows that there may be no manifest of its algorithm.
 fn bare_fact<R: Files + AllocGlobal + Clone + Drop>(
     alloc: Global,
     bag: &mut OpenBag<'_, R>,
@@ -97,8 +97,8 @@ fn is_of_no_algorithm(path: &str) -> bool {
     path != "bagit.txt" && named_by(path) == Algorithms::none()
 }
 
-/// What is known of such a manifest: nothing of its bytes is asked for, since the bag has that fault
-/// or one before it. So there may be many of them, and all together take no memory.
+/// What is known of such a manifest. None of its bytes are asked for, since the bag has that fault
+/// or one before it. So there may be many of them, and together they take no memory.
 fn unread_text(alloc: Global, listed: &ListedFile) -> Result<FileFacts, Failure>
     requires { is_read_text (string_bytes listed.now.path) ≡ true }
     ensures digests { IfOk result (λ facts.

@@ -56,7 +56,8 @@ impl FolderListing {
     }
 
     /// Whether a later change of a file gives it another time, in this second since 1970: all were
-    /// changed before the last second. A system stamps several changes within milliseconds alike.
+    /// changed before the last second. A system may give several changes within milliseconds the
+    /// same time.
     pub(crate) fn is_settled(&self, second: i64) -> bool {
         let files = self.files.as_slice();
         files.iter().all(|file| file.look.changed_second() < second.saturating_sub(1))
@@ -75,7 +76,7 @@ impl FolderListing {
             Err(error) => return Err(unlisted(self.alloc, below, &error)?),
         };
         let mut buffer = [0u8; NAMES];
-        // Each turn but the last takes one entry at least; `.` and `..` aren't counted.
+        // Each turn except the last takes at least one entry; `.` and `..` aren't counted.
         'turns: for _ in 0..MOST_FILES + 3 {
             match folder.next_names(&mut buffer) {
                 Ok(names) if names.is_empty() => return Ok(()),
@@ -86,7 +87,7 @@ impl FolderListing {
         Err(too_many(self.alloc)?)
     }
 
-    /// Takes the entries of these names, each of which has a NUL behind it.
+    /// Takes the entries of these names, each of which is followed by a NUL.
     fn take_names<R: Files + AllocGlobal + Clone + Drop>(
         &mut self,
         bag: &OpenBag<'_, R>,
@@ -154,7 +155,7 @@ pub(crate) fn list_bag<R: Files + AllocGlobal + Clone + Drop>(
 {
     let mut listing = FolderListing::new(alloc);
     listing.list(bag, "")?;
-    // Each turn lists one of the folders that were found, of which there are at most `MOST_FILES`.
+    // Each turn lists one of the folders that were found, at most `MOST_FILES` of them.
     'folders: for _ in 0..MOST_FILES {
         let Some(below) = listing.waiting.pop() else {
             break;

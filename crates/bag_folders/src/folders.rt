@@ -13,7 +13,7 @@ pub trait Folders {
     // What a read of each path gives, where it is known.
     ghost gives: { Self → Option (List ℕ → Result TreeFacts TreeFault) } = { λ _. None };
 
-    // Where each read that fails does so, where that is known.
+    // Where each read that fails does so, if that is known.
     ghost fails_at: { Self → Option (List ℕ) } = { λ _. None };
 
     /// The facts of the tree in the folder of this path, or the first reason found why it can't be
@@ -30,8 +30,8 @@ pub trait Folders {
         ensures kept { gives self.new ≡ gives self.old }
         ensures place { fails_at self.new ≡ fails_at self.old };
 
-    /// Where the last read failed, where that is known: a path below the folder, or `.` for the
-    /// folder itself.
+    /// Where the last read failed, if that is known: a path below the folder, or `.` for the folder
+    /// itself.
     fn failed_at(&self) -> Option<&str>
         ensures { IfSome (fails_at self.now) (λ place. option_copied result ≡ Some place) };
 }

@@ -36,8 +36,8 @@ pub(crate) fn hash_listed<R: Files + AllocGlobal + Clone + Drop, W: Watcher>(
     }
 }
 
-/// The same. A file that was put in its place since it was listed is not read, and of one that grows
-/// no more than it had then.
+/// The same. A file that took its place after it was listed isn't read, and a file that grows is
+/// read no further than its listed length.
 fn hash_file<R: Files + AllocGlobal + Clone + Drop, W: Watcher>(
     alloc: Global,
     bag: &mut OpenBag<'_, R>,

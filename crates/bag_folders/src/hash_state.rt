@@ -11,8 +11,8 @@ use std::alloc::{AllocError, Global};
 use std::marker::Model;
 
 /// A file whose bytes come in pieces: `new`, a `feed` for each piece, and `finish`. A clause sees
-/// the file, with the bytes that came so far, and what is wanted of it. Bytes are kept only of the
-/// texts that describe a bag.
+/// the file, with the bytes that came so far, and what is wanted of it. Only the bytes of texts
+/// that describe a bag are kept.
 #[derive(Drop)]
 pub struct Hashing {
     path: String,
@@ -43,7 +43,7 @@ impl Model for Hashing {
 }
 
 impl Hashing {
-    /// A file of this path, of which no byte has come yet, and whose digests by these algorithms
+    /// A file of this path. None of its bytes have come yet, and its digests by these algorithms
     /// are wanted.
     pub fn new(alloc: Global, path: &str, wanted: Algorithms) -> Result<Hashing, AllocError>
         ensures { IfOk result (λ hashing. hashing ≡ record {
@@ -63,8 +63,8 @@ impl Hashing {
         })
     }
 
-    /// Takes the file's next bytes. It is refused, and nothing changes, with `TextTooLong` where a
-    /// text that describes the bag would be over `LONGEST_TEXT`, and with `Memory`.
+    /// Takes the file's next bytes. The refusals, after which nothing has changed, are
+    /// `TextTooLong`, if a text that describes the bag would be over `LONGEST_TEXT`, and `Memory`.
     pub fn feed(&mut self, piece: &[u8]) -> Result<(), TreeFault>
         ensures refused { RefusesFor
             (fault_of_text self.old.file.path (self.old.file.bytes ++ piece.now)) result }

@@ -7,8 +7,8 @@ ghost use Rattle.bag_check.specs.Check.{check_of, first_fault};
 ghost use Rattle.bag_check.specs.Named.{named_of};
 ghost use Rattle.bag_folders.specs.Disk.{facts_by, is_shown};
 
-/// A check that knows only the digests which the manifests among the files name answers what it
-/// does with all of them; and so does one that knows none, where the first fault shows without.
+/// A check that knows only the digests that the manifests among the files name answers what it does
+/// with all of them; and so does one that knows none, if the first fault shows without them.
 pub fn needed_law()
     ensures named { (files : List File) (payload : Bool)
         → check_of (facts_by (named_of (map (λ file. file.path) files)) files payload)

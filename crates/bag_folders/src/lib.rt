@@ -1,5 +1,5 @@
-//! What a checker knows of a tree, read from where it is: from a disk, whose files are read and
-//! hashed in pieces and never held whole but for the texts that describe a bag, or from memory.
+//! What a checker knows of a tree, read from a disk or from memory. On a disk, files are read and
+//! hashed in pieces; only the texts that describe a bag are held whole.
 //!
 //! ```
 //! match self.folders.read(path.as_str()) {

@@ -1,8 +1,8 @@
 use std::io;
 use std::io::{ErrorKind, Read};
 
-/// A file that is read as far as it went when it was listed. Where more bytes come the read fails:
-/// whoever can write to a file could else have it read for ever.
+/// A file that is read up to the length that was listed. If more bytes come, the read fails:
+/// otherwise anyone who can write to a file could have it read for ever.
 #[derive(Drop)]
 pub(crate) struct ListedBytes<'a, F: Read> {
     file: &'a mut F,

@@ -49,8 +49,8 @@ impl MemoryFolders {
         }
     }
 
-    /// Adds a folder of this path that holds the tree. Of two folders with one path the first is
-    /// the one that is read.
+    /// Adds a folder of this path that holds the tree. If two folders have one path, the first is
+    /// read.
     pub fn add(&mut self, path: &str, tree: Tree) -> Result<(), AllocError>
         ensures ok { OnOk result
             (self.new ≡ self.old ++ record { path = path.now; files = tree } ∷ []) }

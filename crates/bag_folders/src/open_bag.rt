@@ -47,15 +47,15 @@ impl<'a, R: Files + AllocGlobal + Clone + Drop> OpenBag<'a, R> {
         self.folder.below(path)
     }
 
-    /// What the entry at this path below it is; of a link, the link itself. A folder on the way may
-    /// have been exchanged for one: what is opened is looked at again.
+    /// What the entry at this path below it is; a link is taken as the link itself. A folder on the
+    /// way may have been exchanged for one: what is opened is looked at again.
     pub(crate) fn look(&self, path: &str) -> io::Result<Look> {
         let path = joined(self.rt.alloc(), self.path, path)?;
         Ok(Look::of(&fs::symlink_metadata(self.rt, path.as_str())?))
     }
 
-    /// Opens a file that was listed. It is refused with `Device`, where it can't be opened or isn't
-    /// the one that was listed; or with `Memory`.
+    /// Opens a file that was listed. The refusals are `Device`, if it can't be opened or isn't the
+    /// one that was listed, and `Memory`.
     pub(crate) fn open(&mut self, listed: &ListedFile) -> Result<R::File, TreeFault>
         ensures { IfErr result IsWalkFault }
     {

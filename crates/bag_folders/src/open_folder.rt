@@ -30,8 +30,8 @@ impl OpenFolder {
         Ok(folder)
     }
 
-    /// Puts the names of its next entries into the buffer, each with a NUL behind it, and says how
-    /// many bytes they take: at the end none.
+    /// Puts the names of its next entries into the buffer, each followed by a NUL, and says how
+    /// many bytes they take; at the end it takes none.
     pub(crate) fn next_names<'a>(&self, buffer: &'a mut [u8]) -> io::Result<&'a [u8]> {
         let count = os::read_dir(self.number(), buffer);
         match os::errno() {

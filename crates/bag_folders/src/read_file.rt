@@ -13,7 +13,7 @@ use bag_tree::{FileFacts, TreeFault};
 use std::alloc::Global;
 use std::io::{ErrorKind, Read};
 
-/// A reader that hasn't ended after so many reads counts as one that failed.
+/// A reader that hasn't ended after this many reads counts as one that failed.
 pub const MOST_READS: u32 = u32::MAX;
 
 /// How many bytes are asked for at a time.
@@ -22,8 +22,8 @@ const PIECE: usize = 8192;
 /// The facts of the file of this path whose bytes the reader has left, with the digests that are
 /// wanted. The bytes are never held whole unless they are a text that describes a bag. Reads that
 /// were interrupted are tried again. Whatever the reader gives, the facts are those of some bytes.
-/// It is refused with `TextTooLong`, where such a text has over `LONGEST_TEXT` bytes; with
-/// `Device`, where a read failed or the reader didn't end within `MOST_READS`; or with `Memory`.
+/// The refusals are `TextTooLong`, if such a text has over `LONGEST_TEXT` bytes; `Device`, if a
+/// read failed or the reader didn't end within `MOST_READS`; and `Memory`.
 pub fn hash_reader<R: Read>(
     alloc: Global,
     path: &str,

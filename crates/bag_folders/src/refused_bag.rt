@@ -1,4 +1,4 @@
-//! Bags that stand for one that was refused.
+//! Bags that take the place of a bag that was refused.
 
 ghost use Rattle.std.specs.Prelude.{◌≡◌, Err, IfOk, IfSome};
 ghost use Rattle.bag_check.specs.Check.{check_of};

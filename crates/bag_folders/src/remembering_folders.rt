@@ -18,9 +18,10 @@ use std::alloc::{AllocError, Global};
 use std::fs::Files;
 use std::time::{Clock, Instant};
 
-/// Folders of the file system, of which one that was refused isn't read again within a minute, as
-/// long as the list of its files is the same: their paths, lengths and times of change. It is listed
-/// alone, and refused for the fault that it had. At most 1,024 refusals are remembered, the latest.
+/// Folders of the file system. A folder that was refused isn't read again within a minute, as long
+/// as the list of its files is the same: their paths, lengths and times of change. It is only
+/// listed, and refused for the fault that it had. The latest refusals are remembered, at most
+/// 1,024.
 #[derive(Drop)]
 pub struct RememberingFolders<R: Files + Clock + AllocGlobal + Clone + Drop> {
     rt: R,
@@ -35,8 +36,8 @@ pub struct RememberingFolders<R: Files + Clock + AllocGlobal + Clone + Drop> {
 }
 
 impl<R: Files + Clock + AllocGlobal + Clone + Drop> RememberingFolders<R> {
-    /// The folders that this runtime reaches. One whose files have more bytes together is `TooMany`,
-    /// before any of its files is read.
+    /// The folders that this runtime reaches. If the files of a folder have more bytes together, it
+    /// is `TooMany`, before any of its files is read.
     pub fn new(rt: R, most_bytes: u64) -> RememberingFolders<R> {
         let made = Instant::now(&rt).ok();
         let refusals = Refusals::new(rt.alloc());
@@ -116,8 +117,8 @@ impl<R: Files + Clock + AllocGlobal + Clone + Drop> Folders for RememberingFolde
     }
 }
 
-// The facts of a folder, whose files are read unless a refusal of their list is remembered. Of those
-// that are read the list is noted, if it can be told from that of later files.
+// The facts of a folder, whose files are read unless a refusal of their list is remembered. If they
+// are read, their list is noted, provided that it can be told from that of later files.
 fn read_or_recall<R: Files + Clock + AllocGlobal + Clone + Drop>(
     rt: &R,
     path: &str,

@@ -15,25 +15,28 @@ use bag_tree::{Facts, TreeFault, is_text_named};
 use std::alloc::Global;
 use std::fs::Files;
 
-/// Of which files the bytes are read.
+/// Which files have their bytes read.
 #[derive(Clone, Copy, Debug, PartialEq, Eq)]
 pub(crate) enum Reading {
-    /// Those of the texts that describe the bag, and of the others where nothing else is wrong.
+    /// The texts that describe the bag, and the others if nothing else is wrong.
     Needed,
-    /// Those of all.
+    /// All files.
     All,
 }
 
 /// The facts of the tree in this folder. Its files are read in pieces once all are listed: first
-/// the texts that describe the bag, and where these and the list show no fault, all. No contract
-/// knows a disk's bytes; whatever they are, each file's facts are those of some bytes, with the
-/// digests that are needed: none where a fault shows without, else those by the algorithms that the
-/// manifests among the files name, and no other. No link is followed but the folder's own path, but
-/// for one that takes a file's place in the moment between the last look at it and its opening. It
-/// is refused with `Listing`, where a folder is missing or can't be listed or a name in it isn't
-/// UTF-8; `NotAFile`, where an entry is neither a file nor a folder; `TooDeep`; `TooMany`, where
-/// there are more than `MOST_FILES` files and folders; `TextTooLong`; `Device`, where a file can't
-/// be read or is exchanged meanwhile; or `Memory`.
+/// the texts that describe the bag, and then all files, if the texts and the list show no fault. No
+/// contract knows a disk's bytes; whatever they are, each file's facts are those of some bytes,
+/// with the digests that are needed: none if a fault shows without them, else those by the
+/// algorithms that the manifests among the files name, and no other.
+///
+/// Links are followed in two cases only: the folder's own path, and a link that takes a file's
+/// place in the moment between the last look at it and its opening.
+///
+/// The refusals are `Listing`, if a folder is missing or can't be listed or a name in it isn't
+/// UTF-8; `NotAFile`, if an entry is neither a file nor a folder; `TooDeep`; `TooMany`, if there
+/// are more than `MOST_FILES` files and folders; `TextTooLong`; `Device`, if a file can't be read
+/// or is exchanged meanwhile; or `Memory`.
 pub fn read_folder<R: Files + AllocGlobal + Clone + Drop>(
     rt: &R,
     folder: &str,
@@ -75,7 +78,7 @@ pub(crate) fn open_bag<'a, R: Files + AllocGlobal + Clone + Drop>(
     }
 }
 
-/// All files in the folder. Where they have more bytes together it is `TooMany`.
+/// All files in the folder. If they have more bytes together it is `TooMany`.
 pub(crate) fn list_within<R: Files + AllocGlobal + Clone + Drop>(
     alloc: Global,
     bag: &OpenBag<'_, R>,

@@ -1,9 +1,9 @@
-/// Who sees how far the reading of a folder is.
+/// Sees how far the reading of a folder is.
 pub trait Watcher {
-    /// All files of a folder are listed: so many, which have so many bytes together.
+    /// All files of a folder are listed: how many, and how many bytes they have together.
     fn listed(&mut self, files: u64, bytes: u64);
 
-    /// So many bytes more are hashed.
+    /// `bytes` more bytes are hashed.
     fn hashed(&mut self, bytes: u64);
 
     /// A file is hashed to its end.

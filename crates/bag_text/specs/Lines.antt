@@ -16,9 +16,8 @@ starts_with_line_feed [] = false
 starts_with_line_feed (byte ∷ rest) = byte == line_feed
 
 -- The lines in order, without their ends. A CR before LF is a part of that one end; any other CR,
--- and
--- any LF, ends a line. Any other byte is the first of the first line of what comes after it, and a
--- line by itself where nothing does.
+-- and any LF, ends a line. Any other byte is the first byte of the first line of what comes after
+-- it; if nothing does, it is a line by itself.
 unfoldable pub lines_of : List ℕ → List (List ℕ)
 lines_of [] = []
 lines_of (byte ∷ rest) =

@@ -51,7 +51,7 @@ without_dot_slash [] = []
 without_dot_slash (byte ∷ []) = byte ∷ []
 without_dot_slash (a ∷ b ∷ rest) = if a == 46 && b == 47 then rest else a ∷ b ∷ rest
 
--- The path that a manifest writes so: one `*` at the start is dropped, then one `./`, and then the
--- escapes are undone.
+-- The path that a manifest writes in this way: one `*` at the start is dropped, then one `./`, and
+-- then the escapes are undone.
 abbrev pub path_of : List ℕ → List ℕ
 path_of written = unescaped (without_dot_slash (without_star written))

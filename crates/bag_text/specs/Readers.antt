@@ -28,7 +28,7 @@ trim_blanks [] = []
 trim_blanks (byte ∷ rest) =
     if is_blank byte && list_all is_blank rest then [] else byte ∷ trim_blanks rest
 
--- what comes after the spaces and tabs at the start, of which there has to be one
+-- what comes after the spaces and tabs at the start; at least one is required
 abbrev pub after_gap : List ℕ → Option (List ℕ)
 after_gap [] = None
 after_gap (byte ∷ rest) = if is_blank byte then Some (skip_blanks rest) else None
@@ -119,7 +119,7 @@ abbrev pub onto_or : Option ListedFile → ℕ → Result (List ListedFile) ℕ 
 onto_or None number others = Err number
 onto_or (Some file) number others = onto file others
 
--- the files that the lines list, the first of which has this number, or the number of the first
+-- the files that the lines list, if the first line has this number, or the number of the first
 -- malformed line
 unfoldable pub files_from : Algorithm → ℕ → List (List ℕ) → Result (List ListedFile) ℕ
 files_from algorithm number [] = Ok []

@@ -8,7 +8,7 @@ use std::marker::Model;
 /// How many hex digits the longest digest has, a SHA-512.
 const MOST_DIGITS: usize = 128;
 
-/// A digest as a manifest has it: its hex digits, of either case. They are decoded nowhere, since
+/// A digest as a manifest has it: its hex digits, of either case. They are never decoded, since
 /// most digests are never asked for, and one that is asked for is compared in hex.
 #[derive(Debug, Drop)]
 pub struct HexDigest<'a> {
@@ -75,8 +75,8 @@ fn are_hex(digits: &[u8]) -> bool
     digits.len() % 2 == 0 && are_hex_digits(digits)
 }
 
-// All are asked, also after one that isn't: a loop that may end early has jumps at each digit that
-// no processor foresees, and takes ten times as long.
+// All digits are tested, even after a wrong one: a loop that may end early has jumps at each digit
+// that no processor predicts, and takes ten times as long.
 fn are_hex_digits(digits: &[u8]) -> bool
     ensures { result ≡ list_all is_ascii_hexdigit digits.now }
 {

@@ -11,7 +11,7 @@ ghost use Rattle.bag_text.specs.Manifests.{IsManifest, IsFirstMalformed};
 ghost use Rattle.bag_text.specs.Paths.{escaped, unescaped};
 ghost use Rattle.bag_text.specs.Readers.{declaration_of, entries_of};
 
-/// `entries_of` says what a text lists, so a text lists one list of files at most. Where it lists
+/// `entries_of` says what a text lists, so a text lists at most one list of files. If it lists
 /// none, `entries_of` says which line is the first malformed one.
 pub fn manifest_law()
     ensures listed { (algorithm : Algorithm) (text : List ℕ) (files : List ListedFile)

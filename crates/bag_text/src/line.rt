@@ -8,8 +8,8 @@ use crate::fault::TextFault;
 use std::alloc::Global;
 
 /// The lines of a text, in order and without their ends, which are LF, CR or CR LF (RFC 8493, 2.3).
-/// Bytes after the last end are a line too. It is never `Malformed`, and `Memory` only where there
-/// is no room for the lines.
+/// Bytes after the last end are a line too. The answer is never `Malformed`, and `Memory` only if
+/// there is no room for the lines.
 pub fn lines(alloc: Global, text: &[u8]) -> Result<Vec<&[u8]>, TextFault>
     ensures lines { IfOk result (λ found. map (λ line. line.now) found.items ≡ lines_of text.now) }
     ensures err { IsOkUnless result TextFault.Memory }

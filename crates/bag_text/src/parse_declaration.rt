@@ -16,7 +16,7 @@ use crate::line::first_line;
 
 /// The version and the encoding that the text of a `bagit.txt` declares (RFC 8493, 2.1.1). It is
 /// `Malformed` at the first of lines 1 and 2 that is missing or isn't well-formed, else at line 3
-/// where there is one. It takes no memory.
+/// if there is one. It takes no memory.
 pub fn declaration(text: &[u8]) -> Result<Declaration<'_>, TextFault>
     // What is read is what the text declares.
     ensures found { IfOk result

@@ -7,7 +7,7 @@ use Rattle.bag_digest.specs.Digests.{digests_by}
 use Rattle.bag_tree.specs.Path.{is_read_text}
 use Rattle.bag_tree.specs.Tree.{File, Files, payload_exists}
 
--- a file's path, the digests of it that are known, and its bytes where it is a text that is read
+-- a file's path, those of its digests that are known, and its bytes if it is a text that is read
 pub record FileFact : Type 0 where
   pub path : List ℕ
   pub digests : Digests
@@ -18,11 +18,11 @@ pub record TreeFacts : Type 0 where
   pub files : List FileFact
   pub payload : Bool
 
--- a file's bytes, where it is a text that is read
+-- a file's bytes, if it is a text that is read
 abbrev pub text_of : File → Option (List ℕ)
 text_of file = if is_read_text file.path then Some file.bytes else None
 
--- the fact of a file of which these digests are wanted
+-- the fact of a file, with these digests wanted
 abbrev pub fact_by : Algorithms → File → FileFact
 fact_by wanted file = record {
   path = file.path;

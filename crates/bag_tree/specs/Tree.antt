@@ -46,12 +46,12 @@ no_files = record { files = []; folder = false }
 abbrev pub payload_exists : Files → Bool
 payload_exists tree = tree.folder || list_any (λ file. is_payload file.path) tree.files
 
--- one of the two paths is the other, or a folder that the other lies in
+-- one of the two paths is the other, or a folder above it
 abbrev pub clash : List ℕ → List ℕ → Bool
 clash a b = bytes_eq a b || is_below a b || is_below b a
 
--- no further file of this tree can have the path: it is unsafe, it is that of the payload's folder,
--- or a file is in its way
+-- no further file of this tree can have the path: it is unsafe, it is the path of the payload's
+-- folder, or a file is in its way
 abbrev pub is_bad_path : Files → List ℕ → Bool
 is_bad_path tree path =
     is_unsafe path || bytes_eq path payload_folder

@@ -12,8 +12,8 @@ use bag_text::{Algorithm, HexDigest};
 use std::alloc::{AllocError, Global};
 use std::marker::Model;
 
-/// What a checker knows of one file: its path, its digests by the algorithms that were wanted, and
-/// its bytes where it is one of the texts that describe a bag.
+/// What a checker knows of one file: its path, its digests by the algorithms that were wanted, and,
+/// if it is one of the texts that describe a bag, its bytes.
 #[derive(Drop)]
 pub struct FileFacts {
     path: String,
@@ -118,7 +118,7 @@ impl FileFacts {
         }
     }
 
-    /// The file's bytes, where it is one of the texts that describe a bag.
+    /// The file's bytes, if it is one of the texts that describe a bag.
     pub fn text(&self) -> Option<&[u8]>
         ensures value { option_copied result ≡ self.now.text }
         ensures read { is_some self.now.text ≡ is_read_text self.now.path }
@@ -129,7 +129,7 @@ impl FileFacts {
         }
     }
 
-    /// The SHA-512 of the file's bytes, where it is one of the texts that describe a bag.
+    /// The SHA-512 of the file's bytes, if it is one of the texts that describe a bag.
     pub fn sha512_of_text(&self) -> Option<[u8; 64]>
         ensures { result ≡ option_map sha512 self.now.text }
     {

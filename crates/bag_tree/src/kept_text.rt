@@ -8,13 +8,13 @@ use sha2::{Digest, Sha512};
 use std::marker::Model;
 
 /// The bytes of a text that describes a bag, and the algorithms by which its digests are wanted. A
-/// digest is computed when it is asked for, since of most texts none is, and kept for the next time
-/// where that was said before.
+/// digest is computed when it is asked for, since for most texts none is; it is kept for the next
+/// time if that was requested before.
 #[derive(Drop)]
 pub(crate) struct KeptText {
     wanted: Algorithms,
     bytes: Vec<u8>,
-    /// Those of the digests that were computed.
+    /// The digests that were computed.
     computed: Digests,
 }
 

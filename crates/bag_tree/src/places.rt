@@ -66,7 +66,7 @@ pub(crate) fn lies_below_file(
     false
 }
 
-/// Has each folder of the path lead to the place after these files, where it leads to none of them.
+/// Makes each folder of the path lead to the place after these files, if it leads to none of them.
 pub(crate) fn lead_folders(
     alloc: Global,
     files: &[TreeFile],
@@ -88,7 +88,7 @@ pub(crate) fn lead_folders(
     Ok(())
 }
 
-/// Has a folder lead to the place after these files, where it leads to none of them.
+/// Makes a folder lead to the place after these files, if it leads to none of them.
 fn lead_folder(
     alloc: Global,
     files: &[TreeFile],
@@ -110,7 +110,7 @@ fn lead_folder(
     Ok(())
 }
 
-/// Has the path lead to the place after these files, none of which has it.
+/// Makes the path lead to the place after these files, none of which has it.
 pub(crate) fn lead_path(
     alloc: Global,
     files: &[TreeFile],

@@ -67,7 +67,7 @@ pub struct Tree {
     folder: bool,
     /// Where the file of a path is among the files.
     by_path: BTreeMap<String, usize>,
-    /// Where a file that lies below a folder is.
+    /// The place of a file below each folder.
     by_folder: BTreeMap<String, usize>,
 }
 
@@ -119,16 +119,17 @@ impl Tree {
         self.folder = true;
     }
 
-    /// Whether the payload's folder `data` exists: it was added, or a file lies in it.
+    /// Whether the payload's folder `data` exists: it was added, or it has a file in it.
     pub fn payload_exists(&self) -> bool
         ensures { result ≡ payload_exists self.now }
     {
         self.folder || has_payload(self.files.as_slice())
     }
 
-    /// Adds a file. It is refused, and nothing changes, for the first of these that holds:
-    /// `BadPath`, where the path is unsafe, is `data`, exists, lies in a file or has a file in it;
-    /// `TooDeep`; `TooMany`; `TextTooLong`, for a text that describes a bag; and `Memory`.
+    /// Adds a file. If it is refused, nothing changes. The refusal is the first of these that
+    /// holds: `BadPath`, if the path is unsafe, is `data`, exists, is below a file or has a file
+    /// below it; `TooDeep`; `TooMany`; `TextTooLong`, for a text that describes a bag; and
+    /// `Memory`.
     #[tactic(auto, unfolding(crate::specs::Tree::fault_of_added))]
     pub fn add(&mut self, path: &str, bytes: &[u8]) -> Result<(), TreeFault>
         ensures refused { RefusesFor (fault_of_added self.old path.now bytes.now) result }

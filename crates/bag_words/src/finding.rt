@@ -19,7 +19,7 @@ pub(crate) struct Finding<'a> {
     pub(crate) algorithm: &'a str,
 }
 
-/// The places that these lines name, but for those that can't be read: nothing is known of them.
+/// The places that these lines name, except those that can't be read: nothing is known of them.
 pub(crate) fn findings_in<'a>(
     alloc: Global,
     lines: &'a str,

@@ -31,8 +31,8 @@ pub(crate) fn push_read_words(
     push_facts_words(rt, text, folder, facts, &unread, Counts::default())
 }
 
-/// Appends the words on a folder that can't be read, for this reason: each place where it can't,
-/// and the words on what can be read of it.
+/// Appends the words on a folder that can't be read, for this reason: each place that can't be
+/// read, and the words on what can.
 pub(crate) fn push_unread_words(
     rt: &HostRuntime,
     text: &mut String,

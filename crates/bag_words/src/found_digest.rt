@@ -9,7 +9,7 @@ use std::alloc::AllocError;
 use std::fs::File;
 use std::io::Read;
 
-/// A file is read anew for its digest, up to so many pieces: a GiB.
+/// A file is read anew for its digest, up to this many pieces: a GiB.
 const MOST_PIECES: u32 = 16384;
 
 const PIECE: usize = 65536;

@@ -30,7 +30,8 @@ struct Walk<'a> {
     found: usize,
 }
 
-/// What can be read in this folder and below it. No link is followed but the folder's own path.
+/// What can be read in this folder and below it. The folder's own path is the only link that is
+/// followed.
 pub(crate) fn gather<'a>(rt: &'a HostRuntime, folder: &'a str) -> Result<Gathered, AllocError> {
     let alloc = rt.alloc();
     let mut walk = Walk {

@@ -13,7 +13,7 @@ pub(crate) struct TextLines<'a> {
 }
 
 impl<'a> TextLines<'a> {
-    /// Of no text yet.
+    /// The lines of no text yet.
     pub(crate) fn new(bag: &Bag<'a, '_>) -> TextLines<'a> {
         TextLines {
             name: String::new(bag.rt.alloc()),

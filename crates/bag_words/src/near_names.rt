@@ -17,7 +17,7 @@ const MISSING: u8 = 12;
 const UNLISTED: u8 = 13;
 
 /// Listed files that aren't there, and files that aren't listed, each by what is left of its name
-/// once all that may be mistaken is alike.
+/// without everything that may be mistaken.
 #[derive(Drop)]
 pub(crate) struct NearNames {
     missing: BTreeMap<String, String>,
@@ -25,7 +25,7 @@ pub(crate) struct NearNames {
 }
 
 impl NearNames {
-    /// Those among these findings; none, where it isn't both.
+    /// The near names among these findings; none if there aren't files of both kinds.
     pub(crate) fn of(bag: &Bag<'_, '_>, findings: &[Finding<'_>]) -> Result<NearNames, AllocError> {
         let alloc = bag.rt.alloc();
         let mut near = NearNames {
@@ -199,7 +199,7 @@ fn is_blank(character: char) -> bool {
         )
 }
 
-// With each backslash a slash, and no slash after another.
+// The name with each backslash as a slash, and no slash after another.
 fn with_slashes(alloc: Global, name: &str) -> Result<String, AllocError> {
     let mut rest = String::with_capacity(alloc, name.len())?;
     let mut is_after = false;
@@ -215,7 +215,7 @@ fn with_slashes(alloc: Global, name: &str) -> Result<String, AllocError> {
     Ok(rest)
 }
 
-// With the escapes of manifests read once more.
+// The name with the escapes of manifests read once more.
 fn unescaped(alloc: Global, name: &str) -> Result<String, AllocError> {
     let mut rest = String::with_capacity(alloc, name.len())?;
     let mut left = name;
@@ -234,7 +234,7 @@ fn unescaped(alloc: Global, name: &str) -> Result<String, AllocError> {
     Ok(rest)
 }
 
-// What a percent sign before this text stands for, and what is behind it.
+// What a percent sign before this text stands for, and the text after it.
 fn escape_at(after: &str) -> (char, &str) {
     for (digits, character) in [
         ("0A", '\n'),

@@ -11,13 +11,12 @@ use std::io::Read;
 
 const LABEL: &str = "payload-oxum:";
 
-/// So many pieces of bag-info.txt are read at most: a MiB.
+/// At most this many pieces of bag-info.txt are read: a MiB.
 const MOST_PIECES: u32 = 256;
 
 const PIECE: usize = 4096;
 
-/// Appends a warning where bag-info.txt says another Payload-Oxum than the files of the payload
-/// have.
+/// Appends a warning if bag-info.txt says another Payload-Oxum than the files of the payload have.
 pub(crate) fn push_oxum(
     text: &mut String,
     bag: &Bag<'_, '_>,
@@ -79,7 +78,8 @@ fn oxum_in(bag: &Bag<'_, '_>, info: &[u8]) -> Result<Option<String>, AllocError>
     Ok(None)
 }
 
-// How many bytes the payload's files have, and how many they are; none where a file isn't there.
+// How many bytes the payload's files have, and how many files there are; none if a file isn't
+// there.
 fn payload_of(bag: &Bag<'_, '_>) -> Result<Option<(u64, usize)>, AllocError> {
     let mut path = String::new(bag.rt.alloc());
     let mut bytes = 0u64;

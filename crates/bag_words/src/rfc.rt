@@ -5,8 +5,8 @@ use crate::finding::Finding;
 use bag_check::Kind;
 use std::alloc::AllocError;
 
-/// Appends that the bag is valid by RFC 8493, where that is so and it is refused here all the same,
-/// since it has a fetch.txt, no manifest-sha512.txt, or manifests that aren't read.
+/// Appends that the bag is valid by RFC 8493, if it is, and is still refused here, since it has a
+/// fetch.txt, no manifest-sha512.txt, or manifests that aren't read.
 pub(crate) fn push_rfc(
     text: &mut String,
     bag: &Bag<'_, '_>,

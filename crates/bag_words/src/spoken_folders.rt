@@ -1,4 +1,4 @@
-//! Folders of which it is said in words what a check finds.
+//! Folders for which a check says in words what it finds.
 
 use crate::folder_words::{push_read_words, push_unread_words};
 use bag_check::BagFault;
@@ -8,9 +8,9 @@ use code_words::push_name;
 use std::alloc::AllocError;
 use std::io::IsTerminal;
 
-/// Folders that say on standard error what a check of each finds, where that is asked for: of a
-/// folder that was read when the next one is, or at the end, so that its words come after its line.
-/// Otherwise it delegates to the folders.
+/// Folders that say on standard error what a check of each finds, if that is asked for. They do so
+/// for a folder that was read when the next one is read, or at the end, so that its words come
+/// after its line. Otherwise it delegates to the folders.
 #[derive(Drop)]
 pub struct SpokenFolders<'a, F> {
     folders: F,
@@ -89,7 +89,7 @@ impl<F: Folders> Folders for SpokenFolders<'_, F> {
 }
 
 impl Words<'_> {
-    // Notes what is to be said of a folder that was read. Without memory that is less.
+    // Notes what is to be said of a folder that was read. Without memory it notes less.
     fn note_read(&mut self, path: &str, facts: &Facts) {
         if self.are_wanted && self.folder.push_str(path).is_ok() {
             let _ = push_read_words(self.rt, &mut self.text, path, facts);
@@ -103,14 +103,14 @@ impl Words<'_> {
         }
     }
 
-    // Takes away a line of a terminal that said how far the read was, which is over.
+    // Clears a line of a terminal that said how far the read was, which is over.
     fn clear_line(&self) {
         if self.rt.stderr().is_terminal() {
             let _ = self.rt.eprint("\r\x1b[K");
         }
     }
 
-    // Says what was noted. Where standard error can't be written nobody is told.
+    // Says what was noted. If standard error can't be written, it says nothing.
     fn say(&mut self) {
         if self.are_named {
             let _ = self.say_named();

@@ -9,8 +9,8 @@ use code_words::push_name;
 use std::alloc::AllocError;
 use std::collections::BTreeSet;
 
-/// Appends a warning for each file beside the payload that no tag manifest lists, where there is a
-/// tag manifest; and for what RFC 8493 wants of tag manifests and isn't asked for here.
+/// Appends a warning for each file beside the payload that no tag manifest lists, if there is a tag
+/// manifest; and for what RFC 8493 requires of tag manifests and isn't required here.
 pub(crate) fn push_tag_files(
     text: &mut String,
     bag: &Bag<'_, '_>,

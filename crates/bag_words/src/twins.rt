@@ -7,7 +7,7 @@ use std::alloc::AllocError;
 use std::collections::BTreeMap;
 use unicode_normalization::to_nfc;
 
-/// Appends a warning for each file whose name is another's in another Unicode form.
+/// Appends a warning for each file whose name is the name of another in another Unicode form.
 pub(crate) fn push_twins(
     text: &mut String,
     bag: &Bag<'_, '_>,

@@ -22,7 +22,6 @@ outcome_for options (Err line) = record {
 unfoldable pub outcome_of : Options → List ℕ → Outcome
 outcome_of options bytes = outcome_for options (plan_of bytes)
 
--- what a run may end with, and what is written of it then: the outcome for these bytes, or that
--- memory ran out
+-- how a run may end, and what is then written: the outcome for these bytes, or that memory ran out
 abbrev pub AnswersTo : Options → List ℕ → (Outcome → Type 0) → Type 0
 AnswersTo options bytes P = P (outcome_of options bytes) ⊎ P no_memory

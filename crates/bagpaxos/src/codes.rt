@@ -5,7 +5,7 @@ use outcomes::{ProgramFault, write_output};
 use std::alloc::AllocError;
 use std::io;
 
-/// Whether these words, the program's own name being the first of them, are `help codes`.
+/// Whether these words, of which the first is the program's own name, are `help codes`.
 pub fn ask_for_codes(words: &[String]) -> bool {
     match words {
         [_, help, codes] => help.as_str() == "help" && codes.as_str() == "codes",

@@ -6,9 +6,9 @@ use clap::error::ErrorKind;
 use code_words::push_name;
 use std::alloc::{AllocError, Global};
 
-/// Says on standard error what is wrong with these words, the program's own name being the first of
-/// them. What can't be seen in them is written by numbers, as in all other words: else a word could
-/// move the cursor of a terminal, or end a line.
+/// Says on standard error what is wrong with these words; the first is the program's own name.
+/// Invisible characters in them are written by numbers, as in all other words: otherwise a word
+/// could move the cursor of a terminal, or end a line.
 pub fn say_mistake(rt: &HostRuntime, words: &[String]) -> Result<(), AllocError> {
     let words = visible(rt.alloc(), words)?;
     let task = task_of(rt.alloc(), words.as_slice());

@@ -12,9 +12,9 @@ use simulator::{RunFault, run, text};
 use std::alloc::{AllocError, Global};
 use std::io::{Read, Write};
 
-/// Reads a schedule, runs it, and writes what the run says. The exit status is 0, or 1 where the
-/// text is no schedule: then its line `schedule line N` is written alone. Where
-/// memory runs out, the line `memory` is written alone, and the status is 1.
+/// Reads a schedule, runs it, and writes what the run says. The exit status is 0, or 1 if the text
+/// is no schedule: then its line `schedule line N` is written alone. If memory runs out, the line
+/// `memory` is written alone, and the status is 1.
 pub fn run_on<R: Read, W: Write>(
     alloc: Global,
     input: &mut R,

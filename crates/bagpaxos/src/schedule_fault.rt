@@ -4,8 +4,8 @@ use line_words::push_schedule_words;
 use schedule::{ParseFault, parse};
 use std::alloc::AllocError;
 
-/// Says on standard error what is wrong with the first line at fault, where these bytes are no
-/// schedule. Where memory or standard error fails, nobody is told.
+/// Says on standard error what is wrong with the first line at fault, if these bytes are no
+/// schedule. If memory or standard error fails, it says nothing.
 pub(crate) fn say_schedule_fault(rt: &HostRuntime, bytes: &[u8]) {
     if let Err(ParseFault::Line(line)) = parse(rt.alloc(), bytes) {
         let _ = say_line(rt, bytes, line);

@@ -1,4 +1,4 @@
--- What of a journal may not be synced yet, and what of it is sure to outlive a crash.
+-- Which part of a journal may not be synced yet, and which part is sure to outlive a crash.
 use Rattle.std.specs.Prelude.{◌≡◌, ◌⊎◌, ◌-◌, ℕ, List, length, take}
 use Rattle.cell_device.specs.Images.{Image, at_rest, with_bytes}
 use Rattle.records.specs.declared.owner.Owner.{Owner}

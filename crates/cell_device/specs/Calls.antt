@@ -1,6 +1,6 @@
--- What a call answers, and what it does. What it tries, and where it fails may have done in part,
--- is one thing, and what it has done where it answers Ok another: an append tries to append, and
--- has appended; a sync tries no change of the bytes, and has kept what a read gives.
+-- What a call answers, and what it does. Two things are distinct: what it tries, and may have done
+-- in part if it fails; and what it has done if it answers Ok. An append tries to append, and has
+-- appended; a sync tries no change of the bytes, and has kept what a read gives.
 use Rattle.std.specs.Prelude.{◌≡◌, ◌≢◌, ◌⊎◌, ◌≤◌, ◌+◌, ◌-◌, ◌^◌, min, ℕ, List, true, false}
 use Rattle.std.specs.Prelude.{Option, Some, None, Result, Ok, Err, IsErrOf}
 use Rattle.cell_device.specs.declared.fault.CellFault.{CellFault}
@@ -21,7 +21,7 @@ CallOutcome (Err Memory) tried done i new = new ≡ Some i
 CallOutcome (Err Device) tried done i new =
     (new ≡ Some i) ⊎ ((k : ℕ) × (new ≡ Some (after_failure k (tried i))))
 
--- the same, where the bytes are known; where they aren't they don't become so
+-- the same, if the bytes are known; if they aren't, they remain unknown
 abbrev pub Turns : {T : Type 0} → Result T CellFault
     → (tried done : Image → Image) → (old new : Option Image) → Type 0
 Turns result tried done None new = new ≡ None
@@ -33,7 +33,7 @@ abbrev pub FollowsFuse : FuseState
 FollowsFuse f tried done None new = Unit {0}
 FollowsFuse f tried done (Some i) new = new ≡ Some (next_image f tried done i)
 
--- a call that isn't refused for memory answers Device exactly where the fuse fires, and burns it; a
+-- a call that isn't refused for memory answers Device exactly if the fuse fires, and burns it; a
 -- stopped cell refuses none for memory
 abbrev pub Burns : {T : Type 0} → Result T CellFault → (tried done : Image → Image)
     → FuseState → Option FuseState → (old new : Option Image) → Type 0
@@ -57,8 +57,8 @@ most_failures = 2 ^ 64 - 1
 abbrev pub one_more : ℕ → ℕ
 one_more before = min (before + 1) most_failures
 
--- The fault for a failure of the device is answered exactly where the device failed, by the count
--- of its failures, and then it failed once; no failure is answered as anything else.
+-- The fault for a failure of the device is answered exactly if the device failed, by the count of
+-- its failures, and then it failed once; no failure is answered as anything else.
 pub record HasCause {T E : Type 0} (device : E) (before now : ℕ) (result : Result T E) : Type 0
   where
     pub later : before ≤ now
@@ -69,8 +69,8 @@ pub record HasCause {T E : Type 0} (device : E) (before now : ℕ) (result : Res
 abbrev pub IsRead : Option Image → List ℕ → Type 0
 IsRead image bytes = IfKnown image (λ i. bytes ≡ i.seen)
 
--- What a call does that tries one thing and does another: to the bytes, to the fuse, to what
--- crashes may have left, and to the count of failures.
+-- The effect of a call that tries one thing and does another: on the bytes, on the fuse, on what
+-- crashes may have left, and on the count of failures.
 pub record Calls {T : Type 0} (tried done : Image → Image) (old new : devices.Device)
     (result : Result T CellFault) : Type 0 where
   pub bytes : Turns result tried done old.image new.image

@@ -1,6 +1,6 @@
--- What a file of the system is, and what the calls make of it. Each call may fail. After an append,
--- a cut or a sync that failed neither a read nor a sync says anything, until the file was cut to what
--- every crash keeps, and that is synced: the system says only once that it couldn't write.
+-- What a file of the system is, and what the calls make of it. Each call may fail. After a failed
+-- append, cut or sync neither a read nor a sync says anything, until the file was cut to what every
+-- crash keeps, and that is synced: the system says only once that it couldn't write.
 use Rattle.std.specs.Prelude.{◌≡◌, ℕ, List, length, Option, None, Result, Ok, Err, option_map}
 use Rattle.std.specs.Option.{ForSome}
 use Rattle.cell_device.specs.Images.{Image, MayLeave, keeps}
@@ -14,8 +14,8 @@ use Rattle.cell_device.specs.declared.fault.FileFault.TheVariants as file_faults
 use Rattle.cell_device.specs.declared.trust.Trust.{Trust}
 use Rattle.cell_device.specs.declared.trust.Trust.TheVariants.{Sound, Spoilt, Mending}
 
--- its bytes, where they are known; whether its calls can be believed; the moment; and what a crash
--- at some moment from that one on may have left
+-- its bytes, if they are known; whether its calls can be believed; the moment; and what a crash at
+-- some moment from that one on may have left
 pub record FileState : Type 1 where
   pub image : Option Image
   pub trust : Trust
@@ -26,7 +26,7 @@ pub record FileState : Type 1 where
 abbrev pub HasLength : ℕ → Option Image → Type 0
 HasLength n image = ForSome image (λ i. n ≡ length i.seen)
 
--- every crash keeps at least so many of the first bytes, whatever fails
+-- every crash keeps at least this many of the first bytes, whatever fails
 abbrev pub sure_of : Image → ℕ
 sure_of i = length (keeps 0 i.synced i.newest)
 

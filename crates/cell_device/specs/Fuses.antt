@@ -1,6 +1,7 @@
--- What a fuse makes of the calls. A fuse, of a cell in memory, is set to make the call that it
--- counts down to fail, and to keep so many bytes that no sync has kept; the cell then goes on, or
--- it is stopped: every call fails until it is restarted, and then reads what the failure has left.
+-- What a fuse makes of the calls. A fuse of a cell in memory makes the call to which it counts down
+-- fail, and keeps as many as it says of the bytes that no sync has kept. The cell then goes on, or
+-- it is stopped: every call fails until it is restarted, and then it reads what the failure has
+-- left.
 use Rattle.std.specs.Prelude.{◌-◌, Bool, true, false, ◌==◌, if◌then◌else◌}
 use Rattle.cell_device.specs.declared.fuse.How.{How}
 use Rattle.cell_device.specs.declared.fuse.How.TheVariants as how
@@ -28,8 +29,7 @@ next_fuse (Burning f) =
     else Burning (record f { call = f.call - 1 })
 next_fuse Stopped = Stopped
 
--- the image after the next call, where it is tried and where it is done; a stopped cell does
--- nothing more
+-- the image after the next call, if it is tried and if it is done; a stopped cell does nothing more
 abbrev pub next_image : FuseState → (tried done : Image → Image) → Image → Image
 next_image Clear tried done i = done i
 next_image (Burning f) tried done i =

@@ -9,7 +9,7 @@ pub record Image : Type 0 where
   pub newest : List ℕ
   pub seen : List ℕ
 
--- what is said of a thing, where it is known
+-- a statement about a thing, if it is known
 abbrev pub IfKnown : {X : Type 0} → Option X → (X → Type 0) → Type 0
 IfKnown None P = Unit {0}
 IfKnown (Some x) P = P x
@@ -35,7 +35,7 @@ MayLeave (Some i) bytes = Leaves i bytes
 abbrev pub at_rest : List ℕ → Image
 at_rest bytes = record { synced = bytes; newest = bytes; seen = bytes }
 
--- with these bytes more, no sync since
+-- with these bytes appended, and no sync since
 abbrev pub with_bytes : List ℕ → Image → Image
 with_bytes bytes i =
     record { synced = i.synced; newest = i.seen ++ bytes; seen = i.seen ++ bytes }

@@ -1,4 +1,4 @@
--- What is known of a cell in memory, and of a file in memory: all.
+-- What is known of a cell in memory, and of a file in memory: everything.
 use Rattle.std.specs.Prelude.{◌≡◌, ℕ, List, Option, Some, None}
 use Rattle.cell_device.specs.declared.fuse.Fuse.{Fuse}
 use Rattle.cell_device.specs.declared.fuse.FuseState.{FuseState}
@@ -30,7 +30,7 @@ moment_of cell = moment cell.medium
 abbrev pub left_since_of : MemoryCell → ℕ → List ℕ → Type 0
 left_since_of cell = left_since cell.medium
 
--- all of it but the fuse and the count of the failures
+-- everything except the fuse and the count of the failures
 abbrev pub IsSameMedium : MemoryCell → MemoryCell → Type 0
 IsSameMedium old new = new.medium ≡ old.medium
 
@@ -40,7 +40,7 @@ fuse_after_set fuse Stopped = Stopped
 fuse_after_set None f = Clear
 fuse_after_set (Some fuse) f = Burning fuse
 
--- all that is known of its device
+-- everything that is known of its device
 abbrev pub device_of : MemoryCell → Device
 device_of cell = record {
   image = Some (image_of cell);
@@ -50,7 +50,7 @@ device_of cell = record {
   failures = failures_of cell;
 }
 
--- all that is known of a file
+-- everything that is known of a file
 abbrev pub file_state : MemoryFile → FileState
 file_state file = record {
   image = Some (medium_image file.medium);

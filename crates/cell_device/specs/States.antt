@@ -6,7 +6,7 @@ use Rattle.cell_device.specs.Devices.{Device}
 use Rattle.cell_device.specs.Fuses.{fires, next_fuse, next_image}
 use Rattle.cell_device.specs.Calls.{one_more}
 
--- its bytes, where they are known, what becomes of the calls to come, and how often it has failed
+-- its bytes, if they are known, how the calls to come will end, and how often it has failed
 pub record CellState : Type 0 where
   pub image : Option Image
   pub fuse : FuseState

@@ -18,8 +18,7 @@ pub trait Cell {
         ensures read { IfOk result (λ bytes. IsRead (device self.old).image bytes.items) }
         ensures does { Calls same_image same_image (device self.old) (device self.new) result };
 
-    /// Puts the bytes after those that are there. Until a sync succeeds, a crash may leave any
-    /// number of them.
+    /// Appends the bytes. Until a sync succeeds, a crash may leave any number of them.
     fn append(&mut self, bytes: &[u8]) -> Result<(), CellFault>
         requires { AllowsAppend (device self.old).image }
         ensures does { Calls (with_bytes bytes.now) (with_bytes bytes.now)

@@ -11,16 +11,16 @@ use std::alloc::Global;
 
 /// A file, as the system's calls show it. Each of them may fail. The cell does all else itself.
 pub trait CellFile {
-    // Its bytes, where they are known, whether it can be believed, and what crashes may have left.
+    // Its bytes, if they are known, whether it can be believed, and what crashes may have left.
     ghost about: { Self → FileState };
 
-    /// All the bytes. Of a file that can't be believed it may give any.
+    /// All the bytes. If the file can't be believed, it may give any.
     fn read(&mut self, alloc: Global) -> Result<Vec<u8>, CellFault>
         ensures bytes { (about self.old).trust ≡ Sound
             → IfOk result (λ bytes. IsRead (about self.old).image bytes.items) }
         ensures still { IsStill (about self.old).trust (about self.old) (about self.new) };
 
-    /// How many bytes there are. Of a file that can't be believed it may give any number.
+    /// How many bytes there are. If the file can't be believed, it may give any number.
     fn length(&mut self) -> Result<u64, CellFault>
         ensures length { (about self.old).trust ≡ Sound
             → IfOk result (λ n. HasLength n (about self.old).image) }
@@ -38,16 +38,16 @@ pub trait CellFile {
         requires allowed { AllowsCut len (about self.old).image }
         ensures does { Changes (cut_to len) (about self.old) (about self.new) result };
 
-    /// After it, a crash leaves what a read gives. It looks, once that is done, whether the file is
-    /// still at its path and as long as it was left. `Elsewhere` comes before `Device`: of a file
-    /// that was moved away nothing is cut.
+    /// After it, a crash leaves what a read gives. Once that is done, it looks whether the file is
+    /// still at its path and as long as it was left. `Elsewhere` comes before `Device`: a file that
+    /// was moved away isn't cut.
     fn sync(&mut self, len: u64) -> Result<(), FileFault>
         requires sound { (about self.old).trust ≡ Sound }
         requires length { HasLength len (about self.old).image }
         ensures does { Syncs (about self.old) (about self.new) result };
 
-    /// After a failure, cuts the file to the length that every crash keeps. The cut is made even
-    /// where the file seems to have that length. It makes nothing longer.
+    /// After a failure, cuts the file to the length that every crash keeps. The cut is made even if
+    /// the file seems to have that length. It makes nothing longer.
     fn cut_back(&mut self, len: u64) -> Result<(), FileFault>
         requires spoilt { (about self.old).trust ≢ Sound }
         requires length { HasLength len (about self.old).image }
@@ -59,7 +59,7 @@ pub trait CellFile {
         ensures synced { OnOk result (IsStill Sound (about self.old) (about self.new)) }
         ensures failed { OnErr result (IsStill Spoilt (about self.old) (about self.new)) };
 
-    /// Somebody else has cut the file, which happens to none whose bytes are known: it is changed so
+    /// Somebody else has cut the file, which never happens if its bytes are known. It is changed so
     /// that whoever opens it from now on finds it damaged.
     fn condemn(&mut self)
         ensures still { (about self.old).image ≡ None

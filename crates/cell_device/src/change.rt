@@ -1,7 +1,7 @@
 /// How a medium was before one change of it.
 #[derive(Drop)]
 pub(crate) struct Change {
-    /// So many of the first bytes of the buffer were there already.
+    /// How many of the first bytes of the buffer were there before.
     pub at: usize,
     /// The bytes after these.
     pub lost: Vec<u8>,

@@ -23,19 +23,19 @@ enum Standing {
 
 /// A cell in a file.
 ///
-/// A call that failed may have left bytes that nobody wrote: the system says once that it couldn't
-/// write some, and may then give zeros or old bytes in their place. So where an append, a cut or a
-/// sync has failed, the file is cut back to the bytes that an earlier sync has made sure of, and
-/// that is synced, before anything else is believed.
+/// A call that failed may have left bytes that nobody wrote: the system says only once that it
+/// couldn't write some, and may then give zeros or old bytes in their place. So after an append, a
+/// cut or a sync has failed, the file is cut back to the bytes that an earlier sync has made sure
+/// of, and that is synced, before anything else is believed.
 ///
 /// A file that was renamed, deleted or replaced while it is open isn't the one that its path leads
-/// to, which another cell may have by now: the next sync fails, and every call after it. So does
-/// the next append or sync to a file whose length isn't the one that the calls gave it.
+/// to, and another cell may have that one by now. So the next sync fails, and every call after it.
+/// So does the next append or sync to a file whose length isn't the one that the calls gave it.
 #[derive(Drop)]
 pub struct FileCell<F: CellFile> {
     file: F,
-    /// So many of the first bytes every crash keeps: the length at the last sync that succeeded, or
-    /// the least one to which the file was cut since.
+    /// Every crash keeps this many of the first bytes: the length at the last sync that succeeded,
+    /// or the least length to which the file was cut since.
     sure: u64,
     /// The length that the calls gave the file.
     given: u64,
@@ -55,8 +55,8 @@ impl<F: CellFile> FileCell<F> {
     ghost use Rattle.cell_device.specs.Images.{at_rest};
     ghost use Rattle.cell_device.specs.Calls.{one_more, HasCause};
 
-    /// The cell in this file, all of whose bytes are synced. Where its length can't be had the file
-    /// is handed back.
+    /// The cell in this file, all of whose bytes are synced. If its length isn't available, the
+    /// file is handed back.
     pub fn over(file: F) -> Result<FileCell<F>, (F, CellFault)>
         requires sound { (F.about file).trust ≡ t.Sound }
         requires rest { ForSome (F.about file).image (λ i. i ≡ at_rest i.seen) }
@@ -76,7 +76,7 @@ impl<F: CellFile> FileCell<F> {
         }
     }
 
-    /// The file can be used: it is cut back, where that is still to be done.
+    /// The file can be used: it is cut back, if that is still to be done.
     fn begin(&mut self) -> Result<(), CellFault>
         ensures sound { OnOk result (self.new.standing ≡ s.Sound) }
         ensures same { IsSame (F.about self.old.file) (F.about self.new.file) }
@@ -99,8 +99,8 @@ impl<F: CellFile> FileCell<F> {
         }
     }
 
-    /// The file has the length that the calls gave it. One that somebody else has cut is condemned:
-    /// what it lost can't be had back, and no later opening shall take it for whole.
+    /// The file has the length that the calls gave it. If somebody else has cut it, it is
+    /// condemned: what it lost can't be restored, and no later opening may take it for whole.
     #[tactic(auto, using(crate::proofs::Files::unknown))]
     fn expect_length(&mut self) -> Result<(), CellFault>
         requires { self.old.standing ≡ s.Sound }
@@ -246,7 +246,7 @@ impl<F: CellFile> Cell for FileCell<F> {
 #[derive(Clone, Copy, Debug, PartialEq, Eq)]
 enum Mended {
     Done,
-    /// That failed, and may be tried again.
+    /// It failed, and may be tried again.
     Owed,
     /// It can't be: somebody else has cut it further.
     Never,

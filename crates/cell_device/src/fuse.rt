@@ -10,8 +10,8 @@ pub enum How {
     Stop,
 }
 
-/// A failure that is to come. Calls are counted from 1 since the fuse was set, but for calls
-/// that are refused for memory; a fuse at call 0 never fires.
+/// A failure that is to come. Calls are counted from 1 since the fuse was set, except calls that
+/// are refused for memory; a fuse at call 0 never fires.
 #[derive(Clone, Copy, Debug, PartialEq, Eq)]
 pub struct Fuse {
     /// The call that fails.

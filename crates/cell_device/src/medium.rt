@@ -117,7 +117,7 @@ impl Medium {
         }
     }
 
-    /// Of the bytes that no sync has kept, a read gives so many.
+    /// A read gives this many of the bytes that no sync has kept.
     pub fn fail(&mut self, kept: usize)
         ensures bytes { medium_image self.new ≡ after_failure kept (medium_image self.old) }
         ensures time { IsSameTime self.old self.new }

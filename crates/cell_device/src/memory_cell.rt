@@ -4,7 +4,7 @@ use crate::fuse::{Fuse, FuseState};
 use crate::medium::Medium;
 use std::alloc::Global;
 
-/// A cell in memory, with a fuse: what it holds is known, and what becomes of the calls to come. It
+/// A cell in memory, with a fuse: what it holds is known, and how the calls to come will end. It
 /// keeps how to undo each change, so what crashes may have left is known for each moment.
 #[derive(Drop)]
 pub struct MemoryCell {
@@ -60,7 +60,7 @@ impl MemoryCell {
         self.failures
     }
 
-    /// Sets a fuse, or takes it away. Calls are counted from 1 since then. A stopped cell stays
+    /// Sets a fuse, or removes it. Calls are counted from 1 since then. A stopped cell stays
     /// stopped.
     pub fn set_fuse(&mut self, fuse: Option<Fuse>)
         ensures fuse { fuse_of self.new ≡ fuse_after_set fuse (fuse_of self.old) }
@@ -99,7 +99,7 @@ impl MemoryCell {
         Ok(())
     }
 
-    /// Of a call that was tried, what the fuse makes of it.
+    /// What the fuse makes of a call that was tried.
     fn turn(&mut self) -> Result<(), CellFault>
         requires { fuse_of self.old ≢ Stopped }
         ensures outcome { Fires (fuse_of self.old) result }

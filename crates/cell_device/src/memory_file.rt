@@ -4,8 +4,8 @@ use crate::medium::Medium;
 use crate::trust::Trust;
 use std::alloc::Global;
 
-/// A file in memory, each of whose calls can be made to fail. After a failure a read gives no bytes,
-/// until the file was cut back and that is synced.
+/// A file in memory, with calls that can each be made to fail. After a failure a read gives no
+/// bytes, until the file was cut back and that is synced.
 #[derive(Drop)]
 pub struct MemoryFile {
     medium: Medium,
@@ -20,8 +20,8 @@ impl MemoryFile {
     ghost use Rattle.cell_device.specs.Images.{at_rest};
     ghost use Rattle.cell_device.specs.Memory.{file_state};
 
-    /// A file with these bytes, all of them synced. Of its next 64 calls those fail whose bit in
-    /// `failing` is 1, and no later one.
+    /// A file with these bytes, all of them synced. Among its next 64 calls those fail whose bit in
+    /// `failing` is 1; no later call fails.
     pub fn new(alloc: Global, bytes: Vec<u8>, failing: u64) -> MemoryFile
         ensures image { (file_state result).image ≡ Some (at_rest bytes.items) }
         ensures trust { (file_state result).trust ≡ Sound }

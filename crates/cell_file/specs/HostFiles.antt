@@ -1,6 +1,6 @@
--- What is known of a file of the system: whether its calls can be believed, and nothing of its
--- bytes. The code of a cell over it is that of `cell_device::FileCell`, whose contract says for each
--- file that does what `CellFile` says, and whose bytes are known, what becomes of these.
+-- What is known of a file of the system: whether its calls can be believed, and nothing about its
+-- bytes. The code of a cell over it is that of `cell_device::FileCell`. Its contract says what
+-- becomes of the bytes of each file that does what `CellFile` says and whose bytes are known.
 use Rattle.std.specs.Prelude.{None}
 use Rattle.cell_device.specs.Files.{FileState}
 use Rattle.cell_file.specs.declared.host_file.HostFile.{HostFile}

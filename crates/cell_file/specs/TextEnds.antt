@@ -1,4 +1,4 @@
--- Where the last whole record or header ends in so many bytes of a cell that end so.
+-- Where the last whole record or header ends in a cell of this many bytes with this ending.
 use Rattle.std.specs.Prelude.{◌-◌, ℕ}
 use Rattle.ledger.specs.declared.ending.Ending.{Ending}
 use Rattle.ledger.specs.declared.ending.Ending.TheVariants.{Whole, Torn, Damaged}

@@ -117,7 +117,7 @@ impl CellFile for HostFile {
         }
     }
 
-    // Where it fails the file stays as it was cut: nobody can do more.
+    // If this fails, the file stays as it was cut: nothing more can be done.
     fn condemn(&mut self) {
         let _ = mark_damaged(&mut self.file, self.alloc);
     }
@@ -152,9 +152,9 @@ fn shorten(file: &File, len: u64) -> io::Result<()> {
     Ok(())
 }
 
-/// The same after a failure. Where the file seems to have the length already it may have another on
-/// the disk, and a cut that changes nothing might not be written: so it gets a byte more first. That
-/// needs no room on the disk.
+/// The same after a failure. If the file seems to have the length already, it may have another on
+/// the disk, and a cut that changes nothing might not be written. So it is made one byte longer
+/// first, which needs no room on the disk.
 fn shorten_anew(file: &File, len: u64) -> Result<(), FileFault> {
     let Ok(about) = file.metadata() else {
         return Err(FileFault::Device);
@@ -171,8 +171,8 @@ fn shorten_anew(file: &File, len: u64) -> Result<(), FileFault> {
     }
 }
 
-/// What a sync answers after which the file at its path has this length, where it was left with
-/// `len` bytes.
+/// The answer of a sync after which the file at its path has the length `found`, if it was left
+/// with `len` bytes.
 fn after_sync(found: Option<u64>, len: u64, is_synced: bool) -> Result<(), FileFault> {
     match found {
         None => Err(FileFault::Elsewhere),
@@ -183,11 +183,12 @@ fn after_sync(found: Option<u64>, len: u64, is_synced: bool) -> Result<(), FileF
     }
 }
 
-/// So many zero bytes are damage wherever a record may begin: no record has the length 0, and no
+/// This many zero bytes are damage wherever a record may begin: no record has the length 0, and no
 /// header begins so.
 const DAMAGE: u64 = 2;
 
-/// So many complete any record that was cut, and make another one of it, whose checksum is wrong.
+/// This many bytes complete any record that was cut, and make another one of it, whose checksum is
+/// wrong.
 const LONGEST: u64 = 600;
 
 /// Cuts a cell that somebody else has cut to its whole records, and puts damage after them: every
@@ -201,7 +202,7 @@ fn mark_damaged(file: &mut File, alloc: Global) -> io::Result<()> {
             file.set_len(end)?;
             file.set_len(damaged)?;
         }
-        // Where the records end can't be found. In the older layout, which has no checksums, the
+        // The end of the records can't be found. In the older layout, which has no checksums, the
         // zeros may complete a record: they are better than a cell that seems whole.
         Err(_) => {
             let len = file.metadata()?.len();

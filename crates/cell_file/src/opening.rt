@@ -19,14 +19,14 @@ use system_files::{FileId, expect_same};
 /// Whether opening makes a file.
 #[derive(Clone, Copy, Debug, PartialEq, Eq)]
 pub enum Creation {
-    /// Where there is none, an empty one, with rights for its owner alone.
+    /// If there is none, an empty one, with rights for its owner alone.
     IfMissing,
     /// Never.
     Never,
 }
 
 /// The cell in the file of this path; a path without a folder leads to the present one. What a read
-/// of it gives is on the disk, and nobody else has it open as a cell, until it is dropped.
+/// of it gives is on the disk, and nobody else has it open as a cell until it is dropped.
 pub fn open_cell(rt: &HostRuntime, path: &str, creation: Creation) -> Result<DiskCell, Unopened> {
     let file = open_locked(rt, path, creation)?;
     match settle(rt, path, file) {
@@ -73,7 +73,8 @@ fn open_file(rt: &HostRuntime, path: &str, creation: Creation) -> io::Result<Fil
     Ok(file)
 }
 
-// The file of this path, if one is there. A link is refused: nothing is made where one leads nowhere.
+// The file of this path, if one is there. A link is refused, so nothing is made where a link leads
+// to no file.
 fn file_seen_at(rt: &HostRuntime, path: &str) -> io::Result<Option<FileId>> {
     match fs::symlink_metadata(rt, path) {
         Ok(there) if !there.is_file() => Err(ErrorKind::InvalidInput.into()),
@@ -92,16 +93,16 @@ fn settle(rt: &HostRuntime, path: &str, file: File) -> io::Result<HostFile>
     forget_copies(&file)?;
     let folder = fs::open(rt, folder_of(path))?;
     folder.sync_all()?;
-    // Before the lock the path may have been led elsewhere: to a file that has replaced this one,
-    // or over a link, where this one lies in another folder than the one that is synced.
+    // Before the lock the path may have been redirected: to a file that has replaced this one, or
+    // through a link, so that this file is in another folder than the one that is synced.
     if place.length().is_none() {
         return Err(ErrorKind::NotFound.into());
     }
     Ok(HostFile::new(rt.alloc(), file, place))
 }
 
-// A sync that failed before may have left the system's copies of the bytes other than the disk has
-// them: they are read again.
+// A sync that failed before may have left the system's copies of the bytes different from those on
+// the disk: they are read again.
 fn forget_copies(file: &File) -> io::Result<()> {
     let advised = libc::posix_fadvise(file.as_raw_fd(), 0, 0, libc::POSIX_FADV_DONTNEED);
     if advised == 0 {

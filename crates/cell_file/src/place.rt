@@ -1,11 +1,11 @@
-//! Where a file lies.
+//! Where a file is.
 
 use std::fs::File;
 use std::{fs, io};
 use system_files::FileId;
 
-/// A path, and the file to which it led. A file that is renamed, deleted or replaced while it is
-/// open goes on, but another that is opened by its path is not the same.
+/// A path, and the file to which it led. If the file is renamed, deleted or replaced while it is
+/// open, it goes on, but another file that is opened by its path isn't the same.
 #[derive(Drop)]
 pub(crate) struct Place {
     rt: HostRuntime,
@@ -23,7 +23,7 @@ impl Place {
         })
     }
 
-    /// The file's length; none where the path doesn't lead to it, without a link at its end.
+    /// The file's length; none if the path doesn't lead to it, without a link at its end.
     pub fn length(&self) -> Option<u64> {
         match fs::symlink_metadata(&self.rt, self.path.as_str()) {
             Ok(about) if FileId::of(&about) == self.file => Some(about.len()),

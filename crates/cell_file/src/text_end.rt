@@ -8,8 +8,8 @@ ghost use Rattle.cell_file.specs.TextEnds.{text_end};
 use ledger::{CellReader, Ending, Parts};
 use std::alloc::{AllocError, Global};
 
-/// Where the last whole record of these bytes of a cell ends, or the last whole header: 0 where
-/// there is none.
+/// Where the last whole record of these bytes of a cell ends, or the last whole header: 0 if there
+/// is none.
 pub(crate) fn find_text_end(alloc: Global, bytes: &[u8]) -> Result<usize, AllocError>
     ensures { IfOk result (λ end. (told : Told) × (ending : Ending)
         × IsWhole bytes.now told ending × (end ≡ text_end ending (length bytes.now))) }
@@ -28,7 +28,7 @@ fn ending_of(alloc: Global, bytes: &[u8]) -> Result<Ending, AllocError>
     }
 }
 
-// Where whole records end in so many bytes that end so.
+// Where whole records end in a cell of `len` bytes with this ending.
 fn text_end(ending: Ending, len: usize) -> usize
     ensures { result ≡ text_end ending len }
 {

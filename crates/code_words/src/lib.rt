@@ -1,5 +1,5 @@
-//! The codes that the program prints, with what each says and what to do about it: one table, from
-//! which come the words of `--words`, `help codes` and docs/CODES.md.
+//! The codes that the program prints, with what each says and what to do about it. The words of
+//! `--words`, `help codes` and docs/CODES.md come from this one table.
 //!
 //! ```
 //! let Some(meaning) = meaning_of_line(rt.alloc(), line)? else {

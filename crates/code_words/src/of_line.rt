@@ -14,9 +14,8 @@ const BEFORE_UNREAD: u8 = 20;
 /// Above this one it says that a bag isn't valid.
 const BEFORE_INVALID: u8 = 40;
 
-/// What a line that `check`, `run`, `site` or `send` prints says, if it has a code. Of a line
-/// `refused S 10 N`, or of a deposit's `refused S N`, it is what is wrong with the bag or the
-/// folder.
+/// The meaning of a line that `check`, `run`, `site` or `send` prints, if it has a code. For a line
+/// `refused S 10 N`, or a deposit's `refused S N`, it is what is wrong with the bag or the folder.
 pub fn meaning_of_line(alloc: Global, line: &str) -> Result<Option<&'static Meaning>, AllocError> {
     let words: Vec<&str> = line.split(' ').collect(alloc)?;
     Ok(match words.as_slice() {
@@ -60,7 +59,7 @@ fn skipped(reason: &str) -> Option<&'static Meaning> {
     None
 }
 
-// The line of another kind: its code is the line, or begins as it does, up to what is filled in.
+// A line of another kind: its code is the line, or begins as it does, up to what is filled in.
 fn other(line: &str) -> Option<&'static Meaning> {
     for meaning in OTHERS.iter() {
         if is_of(line, meaning.code) {

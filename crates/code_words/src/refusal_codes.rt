@@ -5,7 +5,7 @@ use crate::meaning::Meaning;
 /// The number of the first of them.
 pub(crate) const FIRST_REFUSAL: usize = 10;
 
-/// What `refused S N` says, N from 10 on. Of `refused S 10 N` a fault of the bag says more.
+/// What `refused S N` says, for N from 10 on. For `refused S 10 N` a fault of the bag says more.
 pub static REFUSED: [Meaning; 10] = [
     Meaning {
         code: "refused S 10 N",

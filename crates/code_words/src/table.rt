@@ -40,8 +40,8 @@ const REST: &str = "
 what else is printed of what went wrong
 ";
 
-/// Appends the table: below a heading for each kind its codes, a line of words for each, and one of
-/// what to do, where something is.
+/// Appends the table: below a heading for each kind its codes, each with a line of words, and one
+/// with what to do, if there is something to do.
 pub fn push_table(text: &mut String) -> Result<(), AllocError> {
     text.push_str(HEADING)?;
     push_part(text, CHECKS, INVALID.as_slice())?;

@@ -1,5 +1,5 @@
-//! Writing to the end, where failures are counted: so a contract can say that a fault of the output
-//! is answered only where a write failed.
+//! Writing to the end, with a count of failures, so that a contract can say: a fault of the output
+//! is answered only if a write failed.
 //!
 //! ```
 //! let mut output = CountedWriter::new(io::writer(rt));

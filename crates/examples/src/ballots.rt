@@ -7,14 +7,14 @@ ghost use Rattle.fed_types.specs.Ballots.{below};
 
 use fed_types::{BagId, Ballot, Slot};
 
-/// A ballot is less where it is below.
+/// A ballot is less if it is below.
 pub fn is_below(a: Ballot, b: Ballot) -> bool
     ensures { result ≡ below a b }
 {
     a < b
 }
 
-/// And greater where it is above.
+/// And greater if it is above.
 #[tactic(auto, using(fed_types::specs::Laws::Ballots::above_below))]
 pub fn is_above(a: Ballot, b: Ballot) -> bool
     ensures { result ≡ below b a }

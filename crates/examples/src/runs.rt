@@ -10,8 +10,8 @@ use schedule::parse;
 use simulator::{run, text};
 use std::alloc::Global;
 
-/// What the sites print in a run of this schedule, exactly as in the reference run; none where the
-/// text is no schedule, or where memory runs out.
+/// What the sites print in a run of this schedule, exactly as in the reference run; none if the
+/// text is no schedule, or if memory runs out.
 pub fn printed_run(alloc: Global, schedule: &[u8], options: Options) -> Option<String>
     ensures schedule { IfSome result (λ text. IsOk (plan_of schedule.now)) }
     ensures lines { IfSome result (λ text. IfOk (plan_of schedule.now)

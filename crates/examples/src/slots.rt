@@ -16,7 +16,7 @@ pub fn write(table: &mut SlotTable<u32>, slot: &Slot, row: u32)
     }
 }
 
-/// And where it doesn't write.
+/// And if it doesn't write.
 pub fn look(table: &mut SlotTable<u32>, slot: &Slot) -> u32
     requires { IsSome (row_at table.old slot.now) }
     ensures value { Some result ≡ row_at table.old slot.now }

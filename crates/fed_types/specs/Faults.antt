@@ -1,4 +1,4 @@
--- The numbers of the faults; and an answer in whose place one fault may come.
+-- The numbers of the faults; and an answer that one fault may replace.
 use Rattle.std.specs.Prelude.{◌≡◌, ◌⊎◌, ℕ, Result, Err}
 use Rattle.fed_types.specs.declared.type_fault.TypeFault.{TypeFault}
 use Rattle.fed_types.specs.declared.type_fault.TypeFault.TheVariants.{BadCount, BadSite}

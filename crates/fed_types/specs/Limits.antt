@@ -1,4 +1,4 @@
--- The limits, as numbers. The code has constants and types of its own, which `limits_law` and the
+-- The limits, as numbers. The code has its own constants and types, which `limits_law` and the
 -- contracts of the types hold to these.
 use Rattle.std.specs.Prelude.{ℕ, ◌-◌, ◌^◌}
 

@@ -36,7 +36,7 @@ pub record AreQuorums (q : QuorumSystem) : Type 0 where
 abbrev pub members_among : Membership → List ℕ → List ℕ
 members_among m voters = filter (is_in voters) (members_of m)
 
--- a federation's quorums: voters whose weight, taken twice, is more than that of all members;
+-- a federation's quorums: voters whose weight, taken twice, is more than the weight of all members;
 -- voters that aren't members have none
 abbrev pub quorums_of : Membership → QuorumSystem
 quorums_of m = record {

@@ -18,7 +18,7 @@ IsObjectName bytes = (1 ≤ length bytes) × (length bytes ≤ longest_object)
 abbrev pub slot_name : List ℕ → ℕ → SlotName
 slot_name object version = record { object = object; version = version }
 
--- what is true of every slot beyond what its type says; with that it is IsSlot, in Values
+-- what is true of every slot beyond what its type says; with it the slot is IsSlot, in Values
 abbrev pub IsSlotName : SlotName → Type 0
 IsSlotName s = IsObjectName s.object × (1 ≤ s.version)
 

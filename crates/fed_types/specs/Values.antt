@@ -1,4 +1,4 @@
--- When a slot, a ballot, a round or an identity is well-formed, as each that the code makes is.
+-- When a slot, a ballot, a round or an identity is well-formed; all that the code makes are.
 use Rattle.std.specs.Prelude.{ℕ, ◌≡◌, ◌≤◌, ◌<◌, ◌^◌, length}
 use Rattle.std.specs.Str.{IsUtf8}
 use Rattle.fed_types.specs.declared.bag_id.BagId.{BagId}

@@ -57,7 +57,7 @@ impl Model for Members {
 
 impl Members {
     /// The federation of this number with the sites 1 to `count`, each of weight 1, or `BadCount`
-    /// where `count` is not 1 to `MOST_MEMBERS`.
+    /// if `count` is not 1 to `MOST_MEMBERS`.
     pub fn new(federation: u64, count: u8) -> Result<Members, TypeFault>
         ensures ok { IsOk result ↔ IsMemberCount count }
         ensures value { IfOk result (λ m. m ≡ membership_of federation (replicate count 1)) }
@@ -70,8 +70,8 @@ impl Members {
         Members::weighted(federation, &ones[..usize::from(count)])
     }
 
-    /// The federation of this number whose sites, from site 1 on, have these weights. `BadCount`
-    /// where there are not 1 to `MOST_MEMBERS` weights, else `BadWeight` where a weight is 0.
+    /// The federation of this number whose sites, from site 1 on, have these weights. `BadCount` if
+    /// there are not 1 to `MOST_MEMBERS` weights, else `BadWeight` if a weight is 0.
     pub fn weighted(federation: u64, weights: &[u8]) -> Result<Members, TypeFault>
         ensures ok { IsOk result ↔ (CountFits weights.now × ¬ Contains weights.now 0) }
         ensures value { IfOk result (λ m. m ≡ membership_of federation weights.now) }
@@ -116,7 +116,7 @@ impl Members {
         self.federation
     }
 
-    /// The weights of the members, each 1 to `GREATEST_WEIGHT`, that of site 1 first.
+    /// The weights of the members, each 1 to `GREATEST_WEIGHT`; the first is that of site 1.
     pub fn weights(&self) -> &[u8]
         ensures value { result.now ≡ self.now.weights }
         ensures in_range { AreWeights result.now }

@@ -5,13 +5,13 @@ ghost use Rattle.fed_types.specs.Sites.{IsMemberCount, sites_to};
 use crate::site_no::SiteNo;
 use std::marker::Model;
 
-/// The sites of a federation that are left to an iteration over its members, ascending. A clause
+/// The sites of a federation that are left in an iteration over its members, ascending. A clause
 /// sees the list of their numbers.
 #[derive(Debug, Drop)]
 pub struct Sites {
     // The number of the site before these; 0 is before site 1.
     before: u8,
-    // That of the last one.
+    // The number of the last site.
     last: u8,
 }
 

@@ -34,8 +34,8 @@ impl Model for Slot {
 }
 
 impl Slot {
-    /// The slot of this object and version. `BadObject` where the name has not 1 to
-    /// `LONGEST_OBJECT` bytes, else `ZeroVersion` where the version is 0.
+    /// The slot of this object and version. `BadObject` if the name doesn't have 1 to
+    /// `LONGEST_OBJECT` bytes, else `ZeroVersion` if the version is 0.
     pub fn new(object: String, version: u32) -> Result<Slot, TypeFault>
         ensures ok { IsOk result ↔ (IsObjectName (string_bytes object) × (1 ≤ version)) }
         ensures value { IfOk result (λ s. s ≡ slot_name (string_bytes object) version) }

@@ -94,7 +94,7 @@ impl Voters {
         ensures value { result ≡ weight_sum members.now (members_among members.now self.now) }
         ensures most { result ≤ most_members * greatest_weight }
     {
-        // So few of them, and each so small, that the sum fits.
+        // The weights are so few, and each so small, that the sum fits.
         let _weights = members.weights();
         let mut sum = 0;
         // The ones that aren't counted yet; no site has number 0.

@@ -1,4 +1,4 @@
-//! The checksum that follows a message's fields. No call takes memory but for the bytes that it
+//! The checksum that follows a message's fields. No call takes memory except for the bytes that it
 //! appends.
 
 ghost use Rattle.std.specs.Prelude.{◌≡◌, ◌≤◌, vec_len, drop, option_map};

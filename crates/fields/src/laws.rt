@@ -4,7 +4,7 @@ ghost use Rattle.fields.specs.Checksums.{checksum_len, ChecksumsAreExact, Checks
 use crate::checksum::CHECKSUM_BYTES;
 
 /// Bytes with their checksum, which is 8 bytes, are read, and no others are. It does nothing: its
-/// contract is the laws.
+/// contract has the laws.
 pub fn checksums_are_exact()
     ensures law { ChecksumsAreExact }
     ensures length { ChecksumsHaveTheirLength }

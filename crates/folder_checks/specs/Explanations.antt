@@ -22,7 +22,7 @@ abbrev pub unread_line : TreeFault → Option (List ℕ) → List ℕ
 unread_line fault None = []
 unread_line fault (Some place) = decimal (number_of fault) ++ 32 ∷ (escaped_text place ++ 10 ∷ [])
 
--- the lines after a verdict: where the folder wasn't read, that of the place, if there is one
+-- the lines after a verdict: if the folder wasn't read, the line of the place, if there is one
 abbrev pub lines_after : Verdict → Result TreeFacts TreeFault → Option (List ℕ) → List ℕ
 lines_after (Unread fault) read place = unread_line fault place
 lines_after (Valid bag) read place = lines_of read
@@ -39,14 +39,14 @@ outcome_with verdict lines = record {
 abbrev pub IsPlace : Option (List ℕ) → Option (List ℕ) → Type 0
 IsPlace known place = IfSome known (λ it. place ≡ Some it)
 
--- what is written of the folder's verdict with all that is wrong, where there is room for it
+-- what is written for the folder's verdict with all that is wrong, if there is room for it
 abbrev pub SaysAllFor : Result TreeFacts TreeFault → Option (List ℕ) → (Outcome → Type 0) → Type 0
 SaysAllFor read known P =
     (verdict : Verdict) × (place : Option (List ℕ)) × IsOrMemory verdict (verdict_of read)
     × IsPlace known place × P (outcome_with verdict (lines_after verdict read place))
 
--- what an explained check may end with, and what is written of it then: that of the folder's
--- verdict with all that is wrong, or that memory ran out
+-- how an explained check may end, and what is then written: the folder's verdict with all that is
+-- wrong, or that memory ran out
 abbrev pub ExplainsFor : Result TreeFacts TreeFault → Option (List ℕ) → (Outcome → Type 0) → Type 0
 ExplainsFor read known P = SaysAllFor read known P ⊎ P no_memory
 

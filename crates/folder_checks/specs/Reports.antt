@@ -11,7 +11,7 @@ use Rattle.outcomes.specs.Outcomes.{Outcome, no_memory}
 use Rattle.folder_checks.specs.Verdicts.{verdict_of, SaysFor}
 use Rattle.folder_checks.specs.Explanations.{SaysAllFor}
 
--- what is written of a folder, from what a read of it gives and where it fails, where there is room
+-- what is written for a folder, from what a read of it gives and where it fails, if there is room
 -- for its lines
 abbrev pub TellsFor : Report → Result TreeFacts TreeFault → Option (List ℕ)
     → (Outcome → Type 0) → Type 0
@@ -43,8 +43,8 @@ named_outcome path outcome = record {
   text = named_from (escaped_text path) true outcome.text;
 }
 
--- the outcome is one that the check of the folder of this path, of several, may end with: its lines
--- with its name, or that memory ran out, without one
+-- the outcome is one with which the check of the folder of this path, among several, may end: its
+-- lines with its name, or that memory ran out, without a name
 abbrev pub IsReport : Report → Result TreeFacts TreeFault → Option (List ℕ) → List ℕ
     → Outcome → Type 0
 IsReport report read place path outcome =
@@ -64,14 +64,14 @@ AreReports report gives place (path ∷ paths) (outcome ∷ outcomes) =
 abbrev pub all_valid : List Outcome → Bool
 all_valid outcomes = list_all (λ outcome. nat_eq outcome.status 0) outcomes
 
--- one text after another, and the status 0 where each has it
+-- one text after another, and the status 0 if each has status 0
 abbrev pub all_of : List Outcome → Outcome
 all_of outcomes = record {
   status = if all_valid outcomes then 0 else 1;
   text = flat_map (λ outcome. outcome.text) outcomes;
 }
 
--- what the checks of these folders may end with, and what is written of it then
+-- how the checks of these folders may end, and what is then written
 abbrev pub ReportsAll : Report → (List ℕ → Result TreeFacts TreeFault) → Option (List ℕ)
     → List (List ℕ) → (Outcome → Type 0) → Type 0
 ReportsAll report gives place paths P =
@@ -79,8 +79,8 @@ ReportsAll report gives place paths P =
 
 -- ---- all folders that are asked for
 
--- what a check of these folders may end with, and what is written of it then: of one its own lines,
--- of several the lines of each with its name
+-- how a check of these folders may end, and what is then written: for one folder its own lines, for
+-- several the lines of each with its name
 abbrev pub ReportsOn : Report → (List ℕ → Result TreeFacts TreeFault) → Option (List ℕ)
     → List (List ℕ) → (Outcome → Type 0) → Type 0
 ReportsOn report gives place [] P = ReportsAll report gives place [] P
@@ -88,7 +88,8 @@ ReportsOn report gives place (path ∷ []) P = ReportsFor report (gives path) pl
 ReportsOn report gives place (path ∷ next ∷ paths) P =
     ReportsAll report gives place (path ∷ next ∷ paths) P
 
--- the same of the folders that were checked when the output failed: of several the first ones
+-- the same for the folders that were checked when the output failed: the first ones, if there are
+-- several
 abbrev pub ReportsFirst : Report → (List ℕ → Result TreeFacts TreeFault) → Option (List ℕ)
     → List (List ℕ) → (Outcome → Type 0) → Type 0
 ReportsFirst report gives place [] P = ReportsAll report gives place [] P

@@ -19,8 +19,8 @@ abbrev pub verdict_of_check : Result BagId BagFault → Verdict
 verdict_of_check (Ok bag) = Valid bag
 verdict_of_check (Err fault) = Invalid fault
 
--- the verdict on what a read of a folder gives: its identity, or the first fault that holds of it,
--- or why it can't be read
+-- the verdict on what a read of a folder gives: its identity, or the first fault that holds, or why
+-- it can't be read
 abbrev pub verdict_of : Result TreeFacts TreeFault → Verdict
 verdict_of (Ok facts) = verdict_of_check (check_of facts)
 verdict_of (Err fault) = Unread fault
@@ -52,7 +52,6 @@ outcome_of_verdict (Unread fault) =
 abbrev pub SaysFor : Verdict → (Outcome → Type 0) → Type 0
 SaysFor wanted P = (verdict : Verdict) × IsOrMemory verdict wanted × P (outcome_of_verdict verdict)
 
--- what a check may end with, and what is written of it then: that of the folder's verdict, or that
--- memory ran out
+-- how a check may end, and what is then written: the folder's verdict, or that memory ran out
 abbrev pub AnswersFor : Verdict → (Outcome → Type 0) → Type 0
 AnswersFor wanted P = SaysFor wanted P ⊎ P no_memory

@@ -14,8 +14,8 @@ use counted_writes::CountedWrite;
 use outcomes::ProgramFault;
 use std::alloc::Global;
 
-/// Checks the folders of these paths: one as `check_on` or `explain_on` does, as the report is
-/// brief or explained, and several as `check_each_on` does.
+/// Checks the folders of these paths. One folder is checked as by `check_on` or `explain_on`, for a
+/// brief or an explained report, and several as by `check_each_on`.
 pub fn check_all_on<F: Folders, W: CountedWrite>(
     alloc: Global,
     folders: &mut F,

@@ -12,7 +12,7 @@ use std::alloc::AllocError;
 use std::io;
 use std::io::{IsTerminal, Stderr};
 
-/// Checks as the arguments say. The lines are written to standard output, and how far it is to
+/// Checks as the arguments say. It writes the lines to standard output, and its progress to
 /// standard error.
 pub fn check_folders(rt: &HostRuntime, task: &CheckTask<'_>) -> Result<u8, ProgramFault> {
     let mut output = CountedWriter::new(io::writer(rt));
@@ -28,8 +28,8 @@ pub fn check_folders(rt: &HostRuntime, task: &CheckTask<'_>) -> Result<u8, Progr
     }
 }
 
-/// These folders; where that is asked for, they explain each check in words on standard error,
-/// after the folder's line: that of the last folder once `say` is called.
+/// These folders. If that is asked for, they explain each check in words on standard error, after
+/// the folder's line; they explain the last folder once `say` is called.
 pub fn spoken_folders<'a, F: Folders>(
     rt: &'a HostRuntime,
     task: &CheckTask<'_>,
@@ -39,8 +39,8 @@ pub fn spoken_folders<'a, F: Folders>(
     SpokenFolders::new(rt, task.words, are_named, folders)
 }
 
-/// The folders of the file system; on standard error it is said how far each check is, where that
-/// is asked for or a person may read it.
+/// The folders of the file system. They report the progress of each check on standard error, if
+/// that is asked for or a person may read it.
 pub fn watched_folders(
     rt: &HostRuntime,
     task: &CheckTask<'_>,
@@ -57,7 +57,7 @@ pub fn watched_folders(
     };
     let watcher = Progress::new(rt.alloc(), rt.clone()?, errors, saying);
     let folders = DiskFolders::watched(rt.clone()?, watcher);
-    // All that is wrong is said where that is asked for, and wrong digests are among it.
+    // Everything that is wrong is reported if that is asked for, including wrong digests.
     if task.words || task.report == Report::Explained {
         Ok(folders.with_all_digests())
     } else {

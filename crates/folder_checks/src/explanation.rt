@@ -22,9 +22,10 @@ use outcomes::{ProgramFault, ProgramOutput};
 use std::alloc::{AllocError, Global};
 use words::push_escaped;
 
-/// Checks the folder of this path, and writes its verdict as `check_on` does, with the same status;
-/// then a line for each fault at each place where it holds, or for the place where the folder can't
-/// be read, where that is known. Where there was no room for that, it is `memory` with status 1.
+/// Checks the folder of this path, and writes its verdict as `check_on` does, with the same status.
+/// Then it writes a line for each fault at each place where it holds, or for the place where the
+/// folder can't be read, if that is known. If there was no room for that, it writes `memory`, with
+/// status 1.
 pub fn explain_on<F: Folders, W: CountedWrite>(
     alloc: Global,
     folders: &mut F,

@@ -1,5 +1,5 @@
-//! The command `check`: whether folders are valid bags, what is wrong where they aren't, and how
-//! far a check is.
+//! The command `check`: whether folders are valid bags, what is wrong if they aren't, and how far a
+//! check is.
 //!
 //! ```
 //! let mut folders = NotedFolders::new(alloc, folders);

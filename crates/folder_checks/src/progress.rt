@@ -11,7 +11,7 @@ const STEP_BYTES: u64 = 67_108_864;
 
 const STEP_FILES: u64 = 1000;
 
-/// How many there are between two looks at the clock, where a line is renewed.
+/// How many there are between two looks at the clock, after which a line is renewed.
 const LOOK_BYTES: u64 = 1_048_576;
 
 const LOOK_FILES: u64 = 32;
@@ -19,7 +19,7 @@ const LOOK_FILES: u64 = 32;
 /// How many milliseconds a line stays as it is.
 const PAUSE: u64 = 1000;
 
-/// What takes a line away: back to its beginning, and all behind that is cleared.
+/// Clears a line: goes back to its beginning, and clears everything after that.
 const CLEAR: &str = "\r\x1b[K";
 
 /// When words are said.
@@ -27,14 +27,14 @@ const CLEAR: &str = "\r\x1b[K";
 pub enum Saying {
     /// Never.
     Never,
-    /// In one line of a terminal, which is renewed once a second at most, and gone at the end.
+    /// In one line of a terminal, which is renewed at most once a second, and cleared at the end.
     Line,
     /// After each step, and at the end.
     All,
 }
 
-/// A watcher that writes lines: files and bytes done, of how many, and megabytes a second, where
-/// the clock can be read. A line that can't be made or written is left out.
+/// A watcher that writes lines: how many files and bytes are done, out of how many, and megabytes a
+/// second, if the clock can be read. A line that can't be made or written is left out.
 #[derive(Drop)]
 pub struct Progress<C: Clock + Drop, W: Write + Drop> {
     alloc: Global,
@@ -115,7 +115,7 @@ impl<C: Clock + Drop, W: Write + Drop> Progress<C, W> {
         let _ = write_all(&mut self.output, text.as_bytes());
     }
 
-    // Takes away the line of a terminal, if it is there; or says the end of all files.
+    // Clears the line of a terminal, if it is there; or says that all files are done.
     fn end(&mut self) {
         if self.saying == Saying::All {
             self.say();

@@ -9,7 +9,7 @@ use bag_folders::Folders;
 use outcomes::ProgramOutput;
 use std::alloc::{AllocError, Global};
 
-/// How much is said of a folder.
+/// How much a report says about a folder.
 #[derive(Clone, Copy, Debug, PartialEq, Eq)]
 pub enum Report {
     /// The line of its verdict.

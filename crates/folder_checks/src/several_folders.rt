@@ -12,10 +12,10 @@ use counted_writes::{CountedWrite, write_bytes};
 use outcomes::ProgramFault;
 use std::alloc::{AllocError, Global};
 
-/// Checks the folders of these paths one by one, and writes of each what is written where it is
-/// checked alone, with its path, escaped as in a schedule, and a space before each line. The
-/// status is 0 where each folder is a valid bag, and else 1. Where there was no room for the lines
-/// of a folder, they are `memory` alone, and the other folders have theirs.
+/// Checks the folders of these paths one by one. For each it writes what a check of it alone
+/// writes, with its path, escaped as in a schedule, and a space before each line. The status is 0
+/// if each folder is a valid bag, and else 1. If there was no room for the lines of a folder, they
+/// are `memory` alone, and the other folders have theirs.
 pub fn check_each_on<F: Folders, W: CountedWrite>(
     alloc: Global,
     folders: &mut F,

@@ -27,7 +27,7 @@ pub enum Verdict {
 
 /// Checks the folder of this path, and writes its verdict as one line: `valid HEX` with status 0,
 /// the identity in 128 hex digits; `invalid N` or `unread N` with status 1, the number of the
-/// fault. Where there was no room for the line, it is `memory` with status 1.
+/// fault. If there was no room for the line, it is `memory` with status 1.
 pub fn check_on<F: Folders, W: CountedWrite>(
     alloc: Global,
     folders: &mut F,

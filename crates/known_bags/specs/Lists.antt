@@ -39,7 +39,7 @@ abbrev pub other_words : List (List ℕ)
 other_words =
     codes "pending" ∷ codes "voted" ∷ codes "asked" ∷ codes "torn" ∷ []
 
--- no words, or those of such a line
+-- no words, or the words of such a line
 unfoldable pub is_passed_over : List (List ℕ) → Bool
 is_passed_over [] = true
 is_passed_over (first ∷ words) = list_any (λ word. bytes_eq first word) other_words
@@ -64,7 +64,7 @@ abbrev pub ListKnows : List ℕ → List KnownBag → Type 0
 ListKnows text bags =
     (are_lines (lines text) ≡ true) × (bags ≡ filter_map known_by (lines text))
 
--- it is none: this line, counted from 1, is the first that is none of a ledger's
+-- it isn't one: this line, counted from 1, is the first that no ledger has
 abbrev pub HasOtherLine : List ℕ → ℕ → Type 0
 HasOtherLine text number =
     (1 ≤ number) × (number ≤ length (lines text))

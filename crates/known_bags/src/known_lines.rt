@@ -28,8 +28,8 @@ impl From<AllocError> for ListFault {
     }
 }
 
-/// Appends the bags of the lines `known OBJ V HEX`. A ledger's other lines say of no bag that
-/// it is known.
+/// Appends the bags of the lines `known OBJ V HEX`. The other lines of a ledger don't say that a
+/// bag is known.
 pub(crate) fn push_known_lines(
     alloc: Global,
     bags: &mut Vec<KnownBag>,

@@ -15,12 +15,12 @@ use Rattle.dgram.specs.Heard.{bodies_of, voters_for}
 abbrev pub with_vote : List Message → SlotName → ℕ → Vote → List Message
 with_vote heard slot from vote = heard ++ record { slot = slot; body = Accepted from vote } ∷ []
 
--- nothing is learned of a slot whose bag is known
+-- nothing is learned for a slot whose bag is known
 abbrev pub unless_known : Option BagId → Option BagId → Option BagId
 unless_known None bag = bag
 unless_known (Some known) bag = None
 
--- the vote's bag, where the sites that were heard to have cast this vote are a quorum: votes of one
+-- the vote's bag, if the sites that were heard to have cast this vote are a quorum: votes in one
 -- ballot, for one bag
 unfoldable pub chosen_by : QuorumSystem → SlotName → List Message → Vote → Option BagId
 chosen_by quorums slot heard vote =

@@ -25,7 +25,7 @@ known_in (Some (rows.Known bag)) = Some bag
 known_in (Some rows.Unheard) = None
 known_in (Some (rows.Heard votes)) = None
 
--- the votes that were heard of, and the sites that were heard to have cast each
+-- the votes that were heard, and the sites that were heard to have cast each
 abbrev pub Votes : Type 0
 Votes = List (Vote × List ℕ)
 
@@ -37,7 +37,7 @@ voters_or_none (Some voters) = voters
 abbrev pub voters_for_vote : Votes → Vote → List ℕ
 voters_for_vote votes vote = voters_or_none (lookup (same_vote vote) votes)
 
--- the same votes, but for one, which now has these voters
+-- the same votes, except for one, which now has these voters
 abbrev pub IsCountedWith : (old new : Votes) → Vote → List ℕ → Type 0
 IsCountedWith old new vote voters =
     (v : Vote)
@@ -51,7 +51,7 @@ counted_in (Some (rows.Known bag)) vote = []
 counted_in (Some rows.Unheard) vote = []
 counted_in (Some (rows.Heard votes)) vote = voters_for_vote votes vote
 
--- the learner knows of each slot its known bag, by the records; and, of a slot without one, for
+-- the learner knows for each slot its known bag, by the records; and, for a slot without one, for
 -- each vote the sites that were heard to have cast it
 pub record Represents (table : Rows Row) (records : List Record) (heard : List Message) : Type 0
   where

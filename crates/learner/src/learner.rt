@@ -27,8 +27,8 @@ use slot_table::SlotTable;
 use std::alloc::{AllocError, Global};
 use std::marker::Model;
 
-/// A learner. It is made for no records, hears of votes, and takes note of each record that the
-/// site has committed. A clause sees a `LearnerState`.
+/// A learner. It is made for no records, hears votes, and notes each record that the site has
+/// committed. A clause sees a `LearnerState`.
 #[derive(Drop)]
 pub struct Learner<Q: Quorums + Drop> {
     alloc: Global,
@@ -82,7 +82,7 @@ impl<Q: Quorums + Drop> Learner<Q> {
         }
     }
 
-    /// Hears that a site, a member, has cast a vote. Gives the bag that is learned by it; then
+    /// Hears that a site, a member, has cast a vote. Gives the bag that is learned from it; then
     /// nothing changes, and the Known record settles the slot once it is noted.
     pub fn accepted(
         &mut self,
@@ -101,7 +101,7 @@ impl<Q: Quorums + Drop> Learner<Q> {
             (record { ballot = ballot; bag = bag }))) }
         ensures unchanged { IfOk result (λ o. IsSome o → self.new ≡ self.old) }
         ensures memory { OnErr result (RepresentsSame self.old.rows self.new.rows) }
-        // Memory can run out only where nothing is learned, and the vote still counts.
+        // Memory can run out only if nothing is learned, and the vote still counts.
         ensures no_memory { OnErr result ((records : Records)
             (heard : List Message) → Represents self.old.rows records heard
             → (known_of slot.now records ≡ None)
@@ -125,8 +125,8 @@ impl<Q: Quorums + Drop> Learner<Q> {
         Ok(None)
     }
 
-    /// Makes room for the slot, so that `note` of its records takes no memory. It says nothing of
-    /// the slot.
+    /// Makes room for the slot, so that `note` of its records takes no memory. It says nothing
+    /// about the slot.
     pub fn reserve(&mut self, slot: &Slot) -> Result<(), AllocError>
         ensures same { RepresentsSame self.old.rows self.new.rows }
         ensures rooms { HasRooms self.old.rows self.new.rows }

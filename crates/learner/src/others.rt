@@ -8,9 +8,9 @@ use std::alloc::{AllocError, Global};
 use std::collections::BTreeMap;
 use std::marker::Model;
 
-/// The votes of a slot beside the one that was heard of first, and the sites that were heard to
-/// have cast each. There are seldom any: until then there is no map. A clause sees the votes and
-/// their voters.
+/// The votes of a slot except the one that was heard first, and the sites that were heard to have
+/// cast each. There are seldom any: until then there is no map. A clause sees the votes and their
+/// voters.
 #[derive(Drop)]
 pub(crate) struct Others {
     map: Option<Box<BTreeMap<Vote, Voters>>>,
@@ -27,7 +27,7 @@ impl Model for Others {
 }
 
 impl Others {
-    /// No other vote was heard of.
+    /// No other vote was heard.
     pub(crate) fn none() -> Others
         ensures { result ≡ [] }
     {
@@ -44,7 +44,8 @@ impl Others {
         }
     }
 
-    /// These are the sites that cast this vote. It takes no memory for a vote that was heard of.
+    /// These are the sites that cast this vote. It takes no memory for a vote that was heard
+    /// before.
     pub(crate) fn set(
         &mut self,
         alloc: Global,
@@ -87,7 +88,7 @@ fn set_in(map: &mut BTreeMap<Vote, Voters>, vote: Vote, voters: Voters) -> Resul
     }
 }
 
-// A map in which these are the sites that cast this vote, and no other vote stands.
+// A map in which these are the sites that cast this vote, and there is no other vote.
 fn map_of(
     alloc: Global,
     vote: Vote,

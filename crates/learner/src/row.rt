@@ -12,12 +12,12 @@ use std::alloc::{AllocError, Global};
 /// What a learner knows of a slot.
 #[derive(Drop)]
 pub(crate) enum Row {
-    /// This bag is known; votes aren't counted any more.
+    /// This bag is known; votes are no longer counted.
     Known(BagId),
-    /// No bag is known, and no vote was heard of.
+    /// No bag is known, and no vote was heard.
     Unheard,
-    /// No bag is known; the votes that were heard of. They stand in the row itself, a few words
-    /// larger than that of a known bag, so that the first takes no memory.
+    /// No bag is known; the votes that were heard. They are in the row itself, a few words larger
+    /// than the row of a known bag, so that the first vote takes no memory.
     Heard(Votes),
 }
 
@@ -34,8 +34,8 @@ impl Row {
         }
     }
 
-    /// Hears that a site cast a vote. Whether the vote's bag is learned by it: then nothing
-    /// changes.
+    /// Hears that a site cast a vote, and says whether the vote's bag is learned from it: then
+    /// nothing changes.
     pub(crate) fn add_vote<Q: Quorums>(
         &mut self,
         alloc: Global,

@@ -26,8 +26,8 @@ pub(crate) fn reserve(table: &mut SlotTable<Row>, slot: &Slot) -> Result<(), All
     table.reserve(slot, Row::Unheard)
 }
 
-/// Hears that a site cast a vote of the slot. Whether the vote's bag is learned by it: then nothing
-/// changes.
+/// Hears that a site cast a vote for the slot, and says whether the vote's bag is learned from it:
+/// then nothing changes.
 pub(crate) fn add_vote<Q: Quorums>(
     alloc: Global,
     table: &mut SlotTable<Row>,

@@ -9,12 +9,11 @@ use fed_types::{Vote, Voters};
 use std::alloc::{AllocError, Global};
 use std::marker::Model;
 
-/// The votes that were heard of, at least one, and the sites that were heard to have cast each. A
+/// The votes that were heard, at least one, and the sites that were heard to have cast each. A
 /// clause sees the votes and their voters.
 #[derive(Drop)]
 pub(crate) struct Votes {
-    /// The vote that was heard of first. There is seldom another, and then the others aren't
-    /// searched.
+    /// The vote that was heard first. There is seldom another, and then the others aren't searched.
     first: Vote,
     voters: Voters,
     others: Others,
@@ -51,7 +50,8 @@ impl Votes {
         self.others.voters(vote)
     }
 
-    /// These are the sites that cast this vote. It takes no memory for a vote that was heard of.
+    /// These are the sites that cast this vote. It takes no memory for a vote that was heard
+    /// before.
     pub(crate) fn set(
         &mut self,
         alloc: Global,

@@ -1,4 +1,4 @@
--- What the bytes of a cell say to whoever reads them: whose it is, its records, and how it ends.
+-- What the bytes of a cell say to a reader: whose it is, its records, and how it ends.
 use Rattle.std.specs.Prelude.{◌≡◌, ◌⊎◌, ◌+◌, ◌≤◌, ℕ, Bool, true, false, List, [], ◌∷◌, ◌++◌, length}
 use Rattle.fed_types.specs.Sites.{IsSiteNumber}
 use Rattle.fed_types.specs.Values.{IsMembership}
@@ -20,15 +20,15 @@ IsHeaded owner bytes =
 abbrev pub HasNoOwner : List ℕ → Type 0
 HasNoOwner bytes = (owner : Owner) → IsSiteNumber owner.site → ¬ IsHeaded owner bytes
 
--- The weights that a start names, and whether it does. One that names none is read as that of a
--- single member of weight 1: what its records are doesn't depend on that.
+-- The weights that a start names, and whether it does. A start without weights is read as that of a
+-- single member of weight 1: its records don't depend on that.
 abbrev pub NamesWeights : Start → List ℕ → Bool → Type 0
 NamesWeights Old weights named = (weights ≡ 1 ∷ []) × (named ≡ false)
 NamesWeights (New its) weights named = (weights ≡ its) × (named ≡ true)
 NamesWeights (Carried records its) weights named = (weights ≡ its) × (named ≡ true)
 
--- an owner as a header names one: the federation's number and the weights are some that a
--- federation may have, and the site's is one of a site
+-- an owner as a header names one: the federation's number and the weights are ones that a
+-- federation may have, and the site's number is one that a site may have
 abbrev pub IsOwner : Owner → Type 0
 IsOwner owner = IsMembership owner.members × IsSiteNumber owner.site
 

@@ -18,15 +18,15 @@ AreCut [] = ⊤
 AreCut (count ∷ weights) =
     (count ≤ most_members) × (length weights < count) × ¬ Contains weights 0
 
--- the bytes are those that a header begins with, of either layout: fewer than name the owner; or,
--- in the second, all that do, and fewer weights than there are members
+-- the bytes are a beginning of a header, in either layout: too few to name the owner; or, in the
+-- second layout, enough for that, and fewer weights than there are members
 abbrev pub BeginsHeader : List ℕ → Type 0
 BeginsHeader bytes =
     ((length bytes < front_len) × (AreFirst old_magic bytes ⊎ AreFirst magic bytes))
     ⊎ ((front_len ≤ length bytes) × AreFirst magic bytes × IsSiteNumber (slice_index bytes 12)
     × AreCut (drop front_len bytes))
 
--- no bytes, those that a header begins with, or others
+-- no bytes, the bytes with which a header begins, or others
 abbrev pub EndsHeadless : List ℕ → Ending → Type 0
 EndsHeadless bytes Whole = bytes ≡ []
 EndsHeadless bytes (Torn count) = BeginsHeader bytes × (1 ≤ count) × (count ≡ length bytes)

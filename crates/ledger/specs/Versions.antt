@@ -1,5 +1,5 @@
--- What the records of a cell say of each version: the known bag; where none is known, the site's
--- own deposit; where it has none either, its vote; else that it was asked, or has begun to ask.
+-- What the records of a cell say of each version: the known bag; if none is known, the site's own
+-- deposit; if it has none either, its vote; else that it was asked, or has begun to ask.
 use Rattle.std.specs.Prelude.{List, [], ◌∷◌, ◌++◌, Option, Some, None, fold, if◌then◌else◌}
 use Rattle.std.specs.List.{list_any}
 use Rattle.fed_types.specs.declared.bag_id.BagId.{BagId}

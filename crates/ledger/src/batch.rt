@@ -24,7 +24,7 @@ pub(crate) fn header_size(owner: &Owner) -> usize
     FRONT + 1 + owner.members.weights().len()
 }
 
-// Where the text of a journal ends that has these records: where it has none, after its header.
+// Where the text of a journal with these records ends: after its header, if there are none.
 fn text_end(owner: &Owner, records: &[Record], end: usize, len: usize) -> usize
     ensures { result ≡ end_by owner.now records.now end len }
 {

@@ -1,4 +1,4 @@
-//! A cell whose bytes come in pieces: its records are told as soon as there are many of them, and
+//! A cell whose bytes come in pieces: its records are given as soon as there are many of them, and
 //! forgotten.
 
 ghost use Rattle.std.specs.Prelude.{◌++◌, ℕ, List, [], IfOk};
@@ -10,7 +10,7 @@ use crate::steps::{Step, begin, go_on, last_part, whole_part};
 use records::Owner;
 use std::alloc::{AllocError, Global};
 
-/// So many bytes are read as records at once, so that each time many are.
+/// This many bytes are read as records at once, so that each read has many records.
 const WINDOW: usize = 65536;
 
 /// What is kept of a cell's bytes.
@@ -20,15 +20,15 @@ pub struct CellReader {
     owner: Option<Owner>,
     // How many bytes of the cell were read as headers and records.
     passed: usize,
-    // All bytes, while no such header was found; then the owner's, and what follows the last record
-    // that was told.
+    // All bytes, while no such header was found; then the owner's header, and what follows the last
+    // record that was given.
     bytes: Vec<u8>,
-    // They are read when they are so many.
+    // They are read when there are this many.
     wanted: usize,
 }
 
 impl CellReader {
-    /// That of a cell of which nothing was read.
+    /// The reader of a cell of which nothing was read.
     pub fn new(alloc: Global) -> CellReader
         ensures { HasTold result [] nothing }
     {
@@ -41,7 +41,7 @@ impl CellReader {
     }
 
     /// What the next bytes of the cell say. If this is how the cell ends, it is damaged, whatever
-    /// follows, and the reader is of no further use; nor is it after an error.
+    /// follows, and the reader can't be used any more; nor can it after an error.
     pub fn take(&mut self, alloc: Global, piece: &[u8]) -> Result<Parts, AllocError>
         ensures { IfOk result (λ parts. (taken : List ℕ) (told : Told)
             → HasTold self.old taken told → Tells self.new (taken ++ piece.now) told parts) }
@@ -65,13 +65,13 @@ impl CellReader {
         }
     }
 
-    // What a step says, after which the reader stands there.
+    // The parts that a step gives; after it the reader is at that place.
     fn after(&mut self, alloc: Global, step: Step) -> Parts
         ensures { (taken : List ℕ) (told : Told) → HasTold self.old taken told
             → IsStep taken told step → Tells self.new taken told result }
     {
         match step {
-            // The next look is at twice as many bytes, so that all looks together are at few.
+            // The next look is at twice as many bytes, so that all looks together take little time.
             Step::Wait => {
                 self.wanted = self.wanted.saturating_mul(2);
                 Parts::More(Part::new(alloc))

@@ -33,7 +33,7 @@ fn push_named(text: &mut String, owner: &Owner, named: bool) -> Result<(), Alloc
     push_weights(text, owner.members.weights())
 }
 
-/// Appends the line of whose cell it is, with the weights where a header names them.
+/// Appends the line for whose cell it is, with the weights if a header names them.
 #[tactic(auto, unfolding(crate::specs::Lines::owner_line), using(std::proofs::Common::append_assoc))]
 pub(crate) fn push_owner(text: &mut String, owner: &Owner, named: bool) -> Result<(), AllocError>
     ensures { Pushes result text.old text.new (owner_line owner.now named) }

@@ -3,8 +3,8 @@
 pub enum Ending {
     /// With a whole record, or a whole header.
     Whole,
-    /// With so many bytes of a record or a header that was cut short.
+    /// With this many bytes of a record or a header that was cut short.
     Torn(usize),
-    /// From this place on, in bytes from the start, they are neither a record nor a part of one.
+    /// From this byte on, counted from the start, they are neither a record nor a part of one.
     Damaged(usize),
 }

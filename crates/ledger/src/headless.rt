@@ -37,7 +37,7 @@ fn begins_header(bytes: &[u8]) -> bool
     are_first(&MAGIC, bytes) && SiteNo::new(bytes[12]).is_ok() && are_cut(&bytes[FRONT..])
 }
 
-/// How bytes end that begin with no whole header: they are the first ones of a header, or damaged.
+/// How bytes end that begin with no whole header: they are the first bytes of a header, or damaged.
 pub fn headless_ending(bytes: &[u8]) -> Ending
     ensures { EndsHeadless bytes.now result }
 {

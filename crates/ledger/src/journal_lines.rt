@@ -32,7 +32,7 @@ pub struct JournalLines {
 }
 
 impl JournalLines {
-    /// Those of a cell of which nothing was read.
+    /// The lines of a cell of which nothing was read.
     pub fn new(alloc: Global) -> JournalLines
         ensures { HasGiven result [] [] }
     {
@@ -41,7 +41,7 @@ impl JournalLines {
         }
     }
 
-    /// The lines that the next bytes of the cell give. After an error it is of no further use.
+    /// The lines that the next bytes of the cell give. After an error it can't be used any more.
     pub fn take(&mut self, alloc: Global, piece: &[u8]) -> Result<Lines, AllocError>
         ensures { IfOk result (λ lines. (taken : List ℕ) (text : List ℕ)
             → HasGiven self.old taken text → IsTaken self.new (taken ++ piece.now) text lines) }

@@ -25,7 +25,7 @@ pub struct LedgerLines {
 }
 
 impl LedgerLines {
-    /// Those of a cell of which nothing was read.
+    /// The lines of a cell of which nothing was read.
     pub fn new(alloc: Global) -> LedgerLines
         ensures { HasNoted result [] }
     {
@@ -36,8 +36,8 @@ impl LedgerLines {
     }
 
     /// Notes what the next bytes of the cell say. If the cell is damaged, whatever follows, it
-    /// gives the lines of all versions that are listed. After these or an error it is of no further
-    /// use.
+    /// gives the lines of all versions that are listed. After these or an error it can't be used
+    /// any more.
     pub fn take(
         &mut self,
         alloc: Global,
@@ -56,8 +56,8 @@ impl LedgerLines {
         }
     }
 
-    /// The lines of all versions that are listed, where the cell ends. After these it is of no
-    /// further use.
+    /// The lines of all versions that are listed, when the cell ends. After these it can't be used
+    /// any more.
     pub fn end(&mut self, alloc: Global, wanted: VersionFilter) -> Result<LastLines, AllocError>
         ensures { IfOk result (λ last. (taken : List ℕ) → HasNoted self.old taken
             → IsLedgerText wanted taken last.ending (string_bytes last.text)) }

@@ -16,11 +16,11 @@ const MOST_LOOKS: u32 = 100;
 
 /// The file of a cell, opened for reading alone, whose end is read at one moment.
 ///
-/// A reader that is held up in a record that was cut short, as by a pager, and goes on when the
-/// site has put another in its place, would else take bytes of both for one record, and call an
-/// intact cell damaged. So first come the bytes that have `CHANGING` others after them when they
-/// are read, which no site changes; then, read at once, all others, between two looks that find the
-/// file the same. What is appended after that isn't given.
+/// Suppose that a reader is held up in a record that was cut short, as by a pager, and goes on when
+/// the site has put another in its place. It would take bytes of both for one record, and call an
+/// intact cell damaged. So it first reads the bytes that have `CHANGING` others after them, which
+/// no site changes. Then it reads all others at once, between two looks that find the file the
+/// same. What is appended after that isn't given.
 #[derive(Drop)]
 pub struct LiveCell {
     file: File,
@@ -40,7 +40,7 @@ struct End {
     given: usize,
 }
 
-/// What tells that a file has changed.
+/// What shows that a file has changed.
 #[derive(Clone, Copy, PartialEq, Eq)]
 struct Look {
     length: u64,
@@ -49,7 +49,7 @@ struct Look {
 }
 
 impl LiveCell {
-    /// Opens the cell in the file of this path. What isn't a file, as a folder or a pipe, is
+    /// Opens the cell in the file of this path. Anything else, such as a folder or a pipe, is
     /// `InvalidInput`, before it is opened: opening a pipe would wait.
     pub fn open(rt: &HostRuntime, path: &str) -> Result<LiveCell> {
         if !fs::metadata(rt, path)?.is_file() {
@@ -72,7 +72,7 @@ impl LiveCell {
         &self.file
     }
 
-    // Reads bytes that no site changes, of a file of so many; none, where the end comes next.
+    // Reads bytes that no site changes, from a file of this length; none, if the end comes next.
     fn read_unchanging(&mut self, whole: u64, buf: &mut [u8]) -> Result<usize>
         ensures { IfOk result (λ count. count ≤ length buf.new) }
     {

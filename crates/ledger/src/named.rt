@@ -14,7 +14,8 @@ use fed_types::{Members, SiteNo};
 use records::{FRONT, MAGIC, OLD_MAGIC, Owner, header};
 use std::alloc::{AllocError, Global};
 
-// The owner that the bytes after a magic name, with a single member: of its weight nothing is said.
+// The owner that the bytes after a magic name, with a single member, about whose weight nothing is
+// said.
 fn named_owner(bytes: &[u8]) -> Option<Owner>
     requires { FRONT ≤ length bytes.now }
     ensures { MatchOption result (¬ IsSiteNumber (slice_index bytes.now 12))

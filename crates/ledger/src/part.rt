@@ -9,7 +9,7 @@ use std::alloc::Global;
 /// Whose cell it is, as its header says.
 #[derive(Debug, Drop)]
 pub struct Head {
-    /// The federation, the site, and the members' weights. Where no header names these, there is a
+    /// The federation, the site, and the members' weights. If no header names these, there is a
     /// single member of weight 1.
     pub owner: Owner,
     /// Whether a header names the weights.
@@ -35,7 +35,7 @@ pub struct LastPart {
 /// What the next bytes of a cell say.
 #[derive(Debug, Drop)]
 pub enum Parts {
-    /// So much, and there may be more.
+    /// These, and there may be more.
     More(Part),
     /// The last part: whatever follows these bytes, the cell is damaged.
     Last(LastPart),

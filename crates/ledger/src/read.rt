@@ -26,7 +26,7 @@ pub(crate) struct Found {
     pub end: usize,
 }
 
-// From where on the bytes are damaged, if they are.
+// The place from which the bytes are damaged, if they are.
 fn find_damage(alloc: Global, owner: &Owner, bytes: &[u8]) -> Result<Option<usize>, AllocError>
     requires { IsHeadedBy owner.now bytes.now }
     ensures { IfOk result (IsDamageFound owner.now bytes.now) }
@@ -37,7 +37,7 @@ fn find_damage(alloc: Global, owner: &Owner, bytes: &[u8]) -> Result<Option<usiz
     }
 }
 
-// Where a fault says that the bytes are damaged, if it does.
+// The place from which a fault says that the bytes are damaged, if it does.
 fn damage_in(fault: JournalFault) -> Result<Option<usize>, AllocError>
     ensures { IsDamageIn fault result }
 {
@@ -99,7 +99,7 @@ fn find_all(alloc: Global, owner: &Owner, bytes: &[u8]) -> Result<Found, AllocEr
 }
 
 /// The records of a cell that isn't damaged. Under the weights that it names it says records, so
-/// this fails only where memory runs out.
+/// this fails only if memory runs out.
 pub(crate) fn read_all(
     alloc: Global,
     owner: &Owner,
@@ -164,8 +164,8 @@ fn contents_of(alloc: Global, owner: &Owner, bytes: &[u8]) -> Result<Contents, A
     }
 }
 
-/// What the bytes of a cell say, by the header that they begin with: `None` where they begin with
-/// no whole header. It fails only where memory runs out.
+/// What the bytes of a cell say, by the header with which they begin: `None` if they begin with no
+/// whole header. It fails only if memory runs out.
 pub fn read_contents(alloc: Global, bytes: &[u8]) -> Result<Option<Contents>, AllocError>
     ensures { IfOk result (λ contents. MatchOption contents (HasNoOwner bytes.now)
         (IsCell bytes.now)) }

@@ -9,8 +9,8 @@ ghost use Rattle.ledger.specs.inner.Sizes.{IsSizeAt, Stops};
 use fields::CHECKSUM_BYTES;
 use records::LONGEST;
 
-// How many bytes come next, by the length before them: none, where there are fewer, or where no
-// record has this length.
+// How many bytes come next, by the length before them: none, if there are fewer, or if no record
+// has this length.
 fn size_at(bytes: &[u8]) -> Option<usize>
     ensures { IsSizeAt bytes.now result }
 {
@@ -24,7 +24,7 @@ fn size_at(bytes: &[u8]) -> Option<usize>
     Some(2 + size)
 }
 
-/// How many of the bytes are records, of a layout of which they are known to be.
+/// How many of the bytes are records, all of which are known to be of one layout.
 pub(crate) fn pass_sizes(bytes: &[u8]) -> usize
     ensures in_range { result ≤ length bytes.now }
     ensures passed { (l : declared_layout) (records : Records) (rest : List ℕ)

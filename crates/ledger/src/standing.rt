@@ -9,6 +9,6 @@ pub enum Standing {
     Pending(BagId),
     /// Neither, and this is the bag of the site's vote.
     Voted(BagId),
-    /// Nothing but promises or rounds.
+    /// Only promises or rounds.
     Asked,
 }

@@ -47,7 +47,7 @@ fn after_header(alloc: Global, owner: &Owner, rest: &[u8]) -> Result<Vec<u8>, Al
     Ok(bytes)
 }
 
-// Where headers and records end in so many bytes of a cell that ends so, unless it is damaged.
+// Where headers and records end in a cell of `len` bytes with this ending, unless it is damaged.
 fn text_end(ending: Ending, len: usize) -> Option<usize>
     ensures { result ≡ text_end ending len }
 {
@@ -71,7 +71,7 @@ fn part_of(contents: Contents) -> Part
     }
 }
 
-// The last part of a cell of which nothing was said before.
+// The last part of a cell of which nothing was given before.
 fn last_of(contents: Contents) -> LastPart
     ensures { IsPartOf contents result.part × (result.ending ≡ contents.ending) }
 {
@@ -102,11 +102,11 @@ fn begin_with(
     })
 }
 
-/// So many bytes the longest header has.
+/// The length of the longest header.
 const LONGEST_HEADER: usize = FRONT + 1 + MOST_MEMBERS as usize;
 
-// What bytes say that begin with no header: of so many bytes that a header would be among them it
-// is sure that nothing follows that makes them a cell.
+// What bytes say that begin with no header. If there are enough of them for a header, it is sure
+// that nothing that follows makes them a cell.
 fn headless_step(alloc: Global, bytes: &[u8]) -> Step
     requires { HasNoOwner bytes.now }
     ensures { IsStep bytes.now nothing result }
@@ -169,7 +169,7 @@ fn batch_part(
     requires { batch.end ≤ len }
     ensures { IfOk result (IsEndOfBatch batch (ending_after owner.now passed batch len)) }
 {
-    // No cell has so many bytes that their count isn't a `usize`.
+    // No cell has so many bytes that their count doesn't fit a `usize`.
     let Some(ending) = batch_ending(owner, passed, &batch, len) else {
         return Err(AllocError);
     };
@@ -179,7 +179,7 @@ fn batch_part(
     })
 }
 
-/// The last part of a cell: what comes after the last record that was told.
+/// The last part of a cell: what comes after the last record that was given.
 pub(crate) fn last_part(
     alloc: Global,
     owner: &Owner,
@@ -205,7 +205,7 @@ fn after_batch(
     ensures { IfOk result (KeepsNext owner.now batch (passed + batch_size owner.now batch)
         (drop batch.end bytes.now)) }
 {
-    // No cell has so many bytes that their count isn't a `usize`.
+    // No cell has so many bytes that their count doesn't fit a `usize`.
     let Some(passed) = passed.checked_add(batch.end.saturating_sub(header_size(owner))) else {
         return Err(AllocError);
     };

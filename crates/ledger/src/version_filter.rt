@@ -6,9 +6,9 @@ use crate::standing::Standing;
 /// Which versions are listed: all where neither is asked for.
 #[derive(Clone, Copy, Debug, PartialEq, Eq)]
 pub struct VersionFilter {
-    /// Those with a known bag.
+    /// The versions with a known bag.
     pub known: bool,
-    /// Those that are pending.
+    /// The versions that are pending.
     pub pending: bool,
 }
 

@@ -121,7 +121,7 @@ fn push_versions(
 }
 
 /// The lines of versions, in the order of their first records, and how their cell ends. It fails
-/// only where memory runs out.
+/// only if memory runs out.
 pub(crate) fn versions_text(
     alloc: Global,
     versions: &Versions,

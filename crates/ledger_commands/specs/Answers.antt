@@ -10,7 +10,6 @@ status_of Whole = 0
 status_of (Torn count) = 0
 status_of (Damaged place) = 1
 
--- what the command may end with, and what is written of it then: what it answers, or that memory
--- ran out
+-- how the command may end, and what is then written: its answer, or that memory ran out
 abbrev pub AnswersTo : (List ℕ → Outcome → Type 0) → List ℕ → (Outcome → Type 0) → Type 0
 AnswersTo Is bytes P = ((outcome : Outcome) × Is bytes outcome × P outcome) ⊎ P no_memory

@@ -12,7 +12,7 @@ IsJournal bytes outcome =
     (ending : Ending) × IsWholeText bytes ending outcome.text
     × (outcome.status ≡ status_of ending)
 
--- where memory ran out: some first lines of the cell, or none, and the line `memory`
+-- if memory ran out: some first lines of the cell, or none, and the line `memory`
 abbrev pub IsCutShort : List ℕ → Outcome → Type 0
 IsCutShort bytes outcome =
     (lines : List ℕ) × AreFirstLines bytes lines

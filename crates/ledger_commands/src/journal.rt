@@ -18,10 +18,10 @@ use std::io::{ErrorKind, Read, Write};
 const PIECE: usize = 8192;
 
 /// Reads a cell, and writes what it says: whose it is, each record, and how it ends, if that isn't
-/// with a whole record. The exit status is 0, or 1 where it is damaged. A long cell is written
-/// while it is read, and never held whole, but for what comes before a header that names the
-/// weights. Where memory runs out, the line `memory` follows the lines so far, and the status is 1.
-/// A reader that hasn't ended after `MOST_READS` reads counts as one that failed.
+/// with a whole record. The exit status is 0, or 1 if the cell is damaged. A long cell is written
+/// while it is read, and is never held whole, except for what comes before a header that names the
+/// weights. If memory runs out, the line `memory` follows the lines so far, and the status is 1. A
+/// reader that hasn't ended after `MOST_READS` reads counts as one that failed.
 pub fn journal_on<R: Read, W: Write>(
     alloc: Global,
     cell: &mut R,

@@ -9,7 +9,7 @@ use std::io::{ErrorKind, Write};
 
 const UNREAD: &str = "open 4\n";
 
-/// Prints what the cell says, to standard output: where it can't be read, `open 4`, as `site` does.
+/// Prints what the cell says, to standard output; if it can't be read, `open 4`, as `site` does.
 pub fn print_journal(rt: &HostRuntime, task: &JournalTask<'_>) -> Result<u8, ProgramFault> {
     let mut output = io::writer(rt);
     match LiveCell::open(rt, task.cell) {

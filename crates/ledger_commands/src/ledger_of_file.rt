@@ -9,8 +9,8 @@ use std::io::{ErrorKind, Write};
 
 const UNREAD: &str = "open 4\n";
 
-/// Prints what the cell says of its versions, to standard output: where it can't be read, `open 4`,
-/// as `site` does.
+/// Prints what the cell says of its versions, to standard output; if it can't be read, `open 4`, as
+/// `site` does.
 pub fn print_ledger(rt: &HostRuntime, task: &LedgerTask<'_>) -> Result<u8, ProgramFault> {
     let mut output = io::writer(rt);
     match LiveCell::open(rt, task.cell) {

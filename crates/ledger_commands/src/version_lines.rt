@@ -17,10 +17,10 @@ use std::io::{ErrorKind, Read, Write};
 const PIECE: usize = 8192;
 
 /// Reads a cell, and writes what it says of each version that is listed, and how it ends, if that
-/// isn't with a whole record. The exit status is 0, or 1 where it is damaged. Of a long cell the
-/// versions are held, and not the records, but for what comes before a header that names the
-/// weights. Where memory runs out, the line `memory` is written alone, and the status is 1. A
-/// reader that hasn't ended after `MOST_READS` reads counts as one that failed.
+/// isn't with a whole record. The exit status is 0, or 1 if the cell is damaged. From a long cell
+/// only the versions are held, and not the records, except for what comes before a header that
+/// names the weights. If memory runs out, the line `memory` is written alone, and the status is 1.
+/// A reader that hasn't ended after `MOST_READS` reads counts as one that failed.
 pub fn ledger_on<R: Read, W: Write>(
     alloc: Global,
     cell: &mut R,

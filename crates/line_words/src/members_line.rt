@@ -8,8 +8,8 @@ use crate::word_text::push_found;
 use std::alloc::{AllocError, Global};
 use words::{parse_number, split_words};
 
-/// Appends what is wrong with the line of this number, counted from 1, which is the first at fault
-/// of a text that is no members file: `line 3: "b:5002" isn't a port, 1 to 65535 ..`.
+/// Appends what is wrong with the line of this number, counted from 1, the first at fault in a text
+/// that is no members file: `line 3: "b:5002" isn't a port, 1 to 65535 ..`.
 pub fn push_members_words(
     alloc: Global,
     text: &mut String,

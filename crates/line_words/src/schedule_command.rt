@@ -32,7 +32,7 @@ fn form_of(name: &[u8]) -> Option<&'static Form> {
     None
 }
 
-// There is no command of this name; another is, whose letters have another case.
+// There is no command of this name, but another one that differs only in letter case.
 fn push_unknown(text: &mut String, name: &[u8]) -> Result<(), AllocError> {
     text.push_str("there is no command ")?;
     push_found(text, &[name])?;

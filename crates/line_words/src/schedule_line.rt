@@ -6,8 +6,8 @@ use crate::text_lines::{has_command_before, line_at};
 use std::alloc::{AllocError, Global};
 use words::split_words;
 
-/// Appends what is wrong with the line of this number, counted from 1, which is the first at fault
-/// of a text that is no schedule: `line 4: deliver takes a number; found ..`.
+/// Appends what is wrong with the line of this number, counted from 1, the first at fault in a text
+/// that is no schedule: `line 4: deliver takes a number; found ..`.
 pub fn push_schedule_words(
     alloc: Global,
     text: &mut String,

@@ -12,7 +12,7 @@ use Rattle.members_file.specs.Limits.{most_sites, greatest_port}
 use Rattle.members_file.specs.Lines.{federation_in, site_in}
 
 -- what a members file says: the number of the federation, and the port and the weight of each site,
--- those of site 1 first
+-- site 1 first
 pub record MembersFile : Type 0 where
   pub federation : ℕ
   pub sites : List ListedSite
@@ -52,7 +52,7 @@ abbrev pub are_blank : List (List ℕ) → Bool
 are_blank lines = list_all (λ line. length (words_of line) == 0) lines
 
 -- The text is a members file that says this: its first line is `federation F`, then come the lines
--- of one site or more, and then blank lines, if any.
+-- of one or more sites, and then blank lines, if any.
 pub record IsTextOf (text : List ℕ) (file : MembersFile) : Type 0 where
   pub first : List ℕ
   pub named : List (List ℕ)

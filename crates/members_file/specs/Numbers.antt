@@ -44,8 +44,8 @@ old_number sites = digest_of_text (lines_of weights.All sites)
 
 -- ---- files
 
--- the number comes from the list: the lower half from the upper one, and how many sites of which
--- weights there are; or it is the number by the rule of before
+-- the number comes from the list: the lower half from the upper half and the number and weights of
+-- the sites; or it is the number by the earlier rule
 unfoldable pub is_listed : MembersFile → Bool
 is_listed file =
     file.federation == new_number (upper_half file.federation) (weights_of file.sites)

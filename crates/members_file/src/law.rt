@@ -1,5 +1,5 @@
-//! That each text says one thing, and what a new number is, as laws of the definitions. The
-//! functions here do nothing: their contracts are the laws.
+//! Laws of the definitions: each text says one thing, and what a new number is. The functions here
+//! do nothing: their contracts are the laws.
 
 ghost use Rattle.std.specs.Prelude.{◌≡◌, ◌⊎◌, ℕ, true, List, drop};
 ghost use Rattle.std.specs.Int.{w64, to_be_bytes};
@@ -7,7 +7,7 @@ ghost use Rattle.members_file.specs.Files.{MembersFile, IsTextOf, HasFault, weig
 ghost use Rattle.members_file.specs.Numbers.{AreFourBytes, new_number, upper_half, lower_half};
 ghost use Rattle.members_file.specs.Numbers.{is_listed};
 
-/// Each text is one members file, or it has one first line at fault, and never both.
+/// Each text is one members file, or has one first line at fault, and never both.
 pub fn members_files_law()
     ensures some { (text : List ℕ)
         → ((file : MembersFile) × IsTextOf text file) ⊎ ((n : ℕ) × HasFault text n) }

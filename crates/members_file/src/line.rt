@@ -22,7 +22,7 @@ pub(crate) fn parse_federation(words: &[&[u8]]) -> Option<u64>
     parse_number(0, u64::MAX, federation)
 }
 
-// The number of a site, and what is said of it, by the words `site N PORT` or `site N PORT WEIGHT`.
+// The number of a site, and what the words `site N PORT` or `site N PORT WEIGHT` say of it.
 #[tactic(auto, unfolding(crate::specs::Lines::site_in))]
 fn parse_site(words: &[&[u8]]) -> Option<(usize, ListedSite)>
     ensures { result ≡ site_in (map (λ word. word.now) words.now) }

@@ -7,7 +7,7 @@ use thiserror::Error;
 /// Why a text could not be read as a members file.
 #[derive(Clone, Copy, Debug, PartialEq, Eq, Error)]
 pub enum MembersFault {
-    /// The first line, counted from 1, that isn't what it has to be. Where lines are missing, it is
+    /// The first line, counted from 1, that isn't what it has to be. If lines are missing, it is
     /// the line after the last one that isn't blank.
     #[error("members line {0}")]
     Line(usize),

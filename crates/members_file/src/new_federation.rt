@@ -9,10 +9,10 @@ use crate::number::number_of;
 use crate::text::{Weights, text_of};
 use std::alloc::{AllocError, Global};
 
-/// The members file of a new federation of these sites, that of site 1 first. Its number has these
-/// random bytes as its upper half; the lower half is a digest of them, of how many sites there are
-/// and of their weights. So no two federations share a number, but by chance, and a site that
-/// looks at it refuses a list that lacks one.
+/// The members file of a new federation of these sites, site 1 first. The upper half of its number
+/// is these random bytes; the lower half is a digest of them, of the number of sites and of their
+/// weights. So two federations share a number only by chance, and a site that checks the number
+/// refuses a list that lacks a site.
 pub fn new_list(alloc: Global, random: [u8; 4], sites: &[ListedSite]) -> Result<String, AllocError>
     ensures { IfOk result (λ text. string_bytes text
         ≡ text_of Greater (new_number random (weights_of sites.now)) sites.now) }

@@ -40,8 +40,8 @@ fn weighed(alloc: Global, upper: [u8; 4], sites: &[ListedSite]) -> Result<Vec<u8
     Ok(bytes)
 }
 
-/// Whether the federation's number comes from its list, by the rule of new members files or by that
-/// of before.
+/// Whether the federation's number comes from its list, by the rule of new members files or by the
+/// earlier rule.
 #[tactic(auto, unfolding(crate::specs::Numbers::is_listed))]
 pub fn is_listed(alloc: Global, file: &MemberSites) -> Result<bool, AllocError>
     ensures { IfOk result (λ listed. listed ≡ is_listed file.now) }

@@ -13,7 +13,7 @@ use std::alloc::{AllocError, Global};
 use words::{first_line, split_words};
 
 /// The members and sites of a text, or the number of its first line at fault. `Memory` is answered
-/// only where an allocation failed.
+/// only if an allocation failed.
 pub fn read_members(alloc: Global, text: &[u8]) -> Result<MemberSites, MembersFault>
     ensures { MatchResult result (IsTextOf text.now) (IsFaultOf text.now) }
 {
@@ -22,7 +22,7 @@ pub fn read_members(alloc: Global, text: &[u8]) -> Result<MemberSites, MembersFa
     let federation = parse_federation(&words).ok_or(MembersFault::Line(1))?;
     let (sites, rest) = read_sites(alloc, after)?;
     let weights = weights_of(alloc, &sites)?;
-    // Of the weights that there can be here, only none at all are refused.
+    // Of all weights that are possible here, only an empty list is refused.
     let Ok(members) = Members::weighted(federation, &weights) else {
         return Err(MembersFault::Line(2));
     };

@@ -11,7 +11,7 @@ use std::alloc::{AllocError, Global};
 #[derive(Clone, Copy)]
 pub(crate) enum Weights {
     All,
-    /// Those over 1.
+    /// The weights over 1.
     Greater,
 }
 

@@ -7,7 +7,7 @@ ghost use Rattle.outcomes.specs.Limits.{most_reads};
 use std::alloc::{AllocError, Global};
 use std::io::{ErrorKind, Read};
 
-/// A reader that hasn't ended after so many reads counts as one that failed.
+/// A reader that hasn't ended after this many reads counts as one that failed.
 pub const MOST_READS: u32 = u32::MAX;
 
 /// How many bytes are asked for at a time.
@@ -40,8 +40,8 @@ pub fn read_all<R: Read>(alloc: Global, input: &mut R) -> Result<Vec<u8>, ReadFa
     read_within(alloc, input, MOST_READS)
 }
 
-// `bag_folders` has a loop of its own, which hashes what it reads and never holds it: one loop for
-// both would want a trait of what takes pieces, with its laws, which is more than both loops.
+// `bag_folders` has a loop of its own, which hashes what it reads and never holds it. One loop for
+// both would need a trait for what takes pieces, with its laws, which is more than both loops.
 
 /// The same, of a reader that hasn't ended after `limit` reads.
 pub fn read_within<R: Read>(alloc: Global, input: &mut R, limit: u32) -> Result<Vec<u8>, ReadFault>

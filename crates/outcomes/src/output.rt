@@ -9,8 +9,8 @@ use std::io::{ErrorKind, Write};
 #[derive(Clone, Copy, Debug, PartialEq, Eq)]
 pub struct WriteFault;
 
-/// Writes all of a text. Where a write fails, a prefix of it was written. Writes that were
-/// interrupted are tried again; one that takes nothing counts as one that failed.
+/// Writes all of a text. If a write fails, a prefix of it was written. Writes that were interrupted
+/// are tried again; one that takes nothing counts as one that failed.
 pub fn write_all<W: Write>(output: &mut W, text: &[u8]) -> Result<(), WriteFault>
     ensures ok { OnOk result (Appends (W.contents output.old) (W.contents output.new) text.now) }
     ensures err { OnErr result

@@ -5,7 +5,7 @@ use site::{Answer, Line, Outgoing, Reply, SiteFault};
 use std::alloc::{AllocError, Global};
 
 /// Appends what a call answers: the line, if any, and then each datagram, with its number among all
-/// that were sent, of which there were so many before.
+/// that were sent; `sent` were sent before.
 pub(crate) fn push_answer(
     alloc: Global,
     text: &mut String,

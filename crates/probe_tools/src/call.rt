@@ -41,8 +41,8 @@ pub enum Tries {
     Twice,
 }
 
-/// Makes a call. One that finds no memory has to leave the reply as it was of each slot that has a
-/// record, and of its own.
+/// Makes a call. If it finds no memory, it has to leave unchanged the reply for each slot that has
+/// a record, and for its own slot.
 pub(crate) fn make(
     alloc: Global,
     site: &mut Site<MemoryCell>,
@@ -113,7 +113,7 @@ fn check_replies(
     }
 }
 
-/// What a query says of the slot of each record, in order, and of that of the call.
+/// What a query says for the slot of each record, in order, and for the slot of the call.
 fn replies(
     alloc: Global,
     site: &Site<MemoryCell>,
@@ -144,7 +144,7 @@ fn push_replies(
     Ok(())
 }
 
-/// Adds the reply of a datagram's slot; of what is none there is nothing to add.
+/// Adds the reply for a datagram's slot; for bytes that are no datagram it adds nothing.
 fn push_reply_of(
     alloc: Global,
     site: &Site<MemoryCell>,

@@ -12,7 +12,7 @@ use std::alloc::{AllocError, Global};
 
 pub(crate) const FEDERATION: u64 = 7;
 
-/// The slots: so many versions.
+/// The slots: this many versions.
 pub(crate) fn slots(alloc: Global, count: u32) -> Result<Vec<Slot>, ToolFault> {
     let mut slots = Vec::with_capacity(alloc, count as usize)?;
     match push_slots(alloc, count, &mut slots) {

@@ -21,7 +21,7 @@ pub(crate) struct Federation {
 }
 
 impl Federation {
-    /// One that has yet to begin.
+    /// A federation that has yet to begin.
     pub(crate) fn new(alloc: Global, tries: Tries) -> Federation {
         Federation {
             alloc,

@@ -13,7 +13,7 @@ use std::mem;
 #[derive(Drop)]
 pub(crate) struct Place {
     site: Option<Site<MemoryCell>>,
-    /// One without bytes while the site is open.
+    /// A cell without bytes while the site is open.
     cell: MemoryCell,
     tries: Tries,
 }
@@ -120,8 +120,8 @@ impl Place {
         self.cell.restart();
     }
 
-    /// Opens the site over its cell. Where that finds no memory it is opened again, and has to find
-    /// some.
+    /// Opens the site over its cell. If this finds no memory, the site is opened again, and has to
+    /// find some.
     pub(crate) fn open(
         &mut self,
         alloc: Global,

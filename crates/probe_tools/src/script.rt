@@ -24,7 +24,7 @@ use crate::federation::Federation;
 use crate::output::Output;
 use std::alloc::{AllocError, Global};
 
-/// What a script prints, whose calls are made so often where they find no memory.
+/// What a script prints, if its calls are made again this often when they find no memory.
 pub fn answers(alloc: Global, script: &str, tries: Tries) -> Result<String, ToolFault> {
     let mut federation = Federation::new(alloc, tries);
     let mut output = Output::new(alloc);

@@ -1,4 +1,4 @@
-//! Calls of a site to be timed, on so many slots. For each slot in turn the site proposes, and
+//! Calls of a site to be timed, on this many slots. For each slot in turn the site proposes, and
 //! takes in what a round of Paxos brings it.
 
 use crate::calls::{FEDERATION, datagrams, deposit_all, propose_all, slots, take_all};
@@ -30,7 +30,7 @@ fn push_rounds(rt: &HostRuntime, count: u32, text: &mut String) -> Result<(), To
     Ok(())
 }
 
-/// Appends the lines of so many members.
+/// Appends the lines for this many members.
 fn push_round(
     rt: &HostRuntime,
     count: u32,

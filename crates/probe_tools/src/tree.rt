@@ -4,7 +4,7 @@ use std::alloc::Global;
 
 const DECLARATION: &str = "BagIt-Version: 1.0\nTag-File-Character-Encoding: UTF-8\n";
 
-/// A bag without payload, whose SHA-512 manifest has these bytes; without its folder it is none.
+/// A bag without payload, whose SHA-512 manifest has these bytes; without its folder it is no bag.
 pub(crate) fn tree(alloc: Global, folder: bool, manifest: &[u8]) -> Result<Facts, ToolFault> {
     let mut tree = Tree::new(alloc);
     let facts = filled(alloc, &mut tree, folder, manifest);

@@ -39,8 +39,8 @@ pub(crate) fn bytes_of(alloc: Global, digits: &str) -> Result<Vec<u8>, ToolFault
     }
 }
 
-/// The fuse that makes the device call of a number fail, or stop the device, and leaves so many
-/// bytes of what is pending.
+/// The fuse that makes the device call of a number fail, or stop the device, and keeps a number of
+/// the pending bytes.
 pub(crate) fn fuse_of(words: &[&str]) -> Result<Fuse, ToolFault> {
     match words {
         [how, call, kept] => {

@@ -1,5 +1,5 @@
--- A process may end anywhere, as where it is killed: what it did until then is an account of its
--- member too. So of such a process there is nothing to believe but that it did a beginning of what
+-- A process may end anywhere after its start, as where it is killed: what it did until then is an
+-- account of its member too. So of such a process there is nothing to believe but that it did a beginning of what
 -- a process does that returns.
 use Rattle.std.specs.Prelude.{◌≡◌, ℕ, List, [], ◌∷◌, ◌++◌, Some}
 use Rattle.fed_types.specs.Lists.{Has}
@@ -49,7 +49,7 @@ module _ {C : Type 0} (device : C → Device) (members : Membership) where
         → later ≡ Fails n step all whole said ∷ rest → MayHaveLeft n old step.next left
         → LeavesDown m (before ++ Fails n step handed written left ∷ []) left
 
-  -- so it is of every account of a member, wherever it is cut short
+  -- so it is of every account of a member, wherever after its start it is cut short
   abbrev pub AccountsEndAnywhere : Type 0
   AccountsEndAnywhere =
       (n : ℕ) (m : Member C) (before : List (Happening C)) (old : Serving C)

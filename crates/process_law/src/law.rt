@@ -17,7 +17,7 @@ pub fn accounts_go_on<C: Cell>()
     ensures { (members : Membership) → AccountsGoOn C.device members }
 {}
 
-/// And an account may end anywhere: between two turns, in a call, or after any part of what a turn
+/// And an account may end anywhere after its start: between two turns, in a call, or after any part of what a turn
 /// hands out and writes. So of a process that is killed all that has to be believed is that it did
 /// a beginning of what a process does that returns.
 pub fn accounts_end_anywhere<C: Cell>()

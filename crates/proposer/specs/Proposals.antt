@@ -14,7 +14,7 @@ use Rattle.records.specs.SlotStates.{highest, used_of}
 use Rattle.dgram.specs.declared.message.Message.{Message}
 use Rattle.dgram.specs.Heard.{bodies_of, floor_of, PromiseFrom, promises_for, promisers, priors}
 
--- the greatest round that the site has used, or that stood in the way of one of its ballots
+-- the greatest round that the site has used, or that a refusal has named
 abbrev pub last_round : SlotName → List Record → List Message → ℕ
 last_round slot records heard = max (used_of slot records) (floor_of (bodies_of slot heard))
 
@@ -37,8 +37,8 @@ unfoldable pub gathered : SlotName → Current → List Message → List Promise
 gathered slot current heard =
     promises_for current.ballot (bodies_of slot (drop current.heard_before heard))
 
--- 'The highest-numbered proposal among the responses': of the votes that the promises name that of
--- the greatest ballot, of equal ones the first.
+-- 'The highest-numbered proposal among the responses': among the votes that the promises name, the
+-- one of the greatest ballot, of equal ones the first.
 unfoldable pub highest_prior : List PromiseFrom → Option Vote
 highest_prior promises = highest (λ v. v.ballot) (priors promises)
 

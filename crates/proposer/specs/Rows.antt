@@ -27,7 +27,7 @@ pub record ProposerState (M : Type 0) : Type 0 where
 abbrev pub IsOfSameSite : {M : Type 0} → (old new : ProposerState M) → Type 0
 IsOfSameSite old new = (new.members ≡ old.members) × (new.site ≡ old.site)
 
--- of a slot without a row nothing was recorded or heard
+-- for a slot without a row nothing was recorded or heard
 abbrev pub empty_row : Row
 empty_row = record { used = 0; floor = 0; begun = None; current = None }
 
@@ -84,7 +84,7 @@ pub record Knows
   pub current : CountsFor slot heard c (current_in row)
   pub waiting : waiting_in slot (current_in row) ≡ m
 
--- so it is of every slot
+-- this is true of every slot
 abbrev pub Represents : tables.Rows Row → List Record → VolatileState → UnderWay → Type 0
 Represents rows records volatile under =
     (slot : SlotName)

@@ -1,5 +1,5 @@
--- What a call on a proposer makes of what is represented: `old` says what was represented before
--- it, and `new` what is now, by the proposer's rows or by all tables of a site.
+-- The effect of a call on a proposer: `old` is what was represented before it, and `new` what is
+-- represented now, by the proposer's rows or by all tables of a site.
 use Rattle.std.specs.Prelude.{ℕ, [], ◌∷◌, ◌++◌, Option, None}
 use Rattle.fed_types.specs.declared.bag_id.BagId.{BagId}
 use Rattle.fed_types.specs.Ballots.{BallotNumber}

@@ -1,5 +1,5 @@
--- What a call has begun and not finished, where memory may run out before its end. A first reading
--- can pass this over: of what is heard, promised and voted it says nothing.
+-- What a call has begun and not finished, when memory may run out before its end. You can skip this
+-- at a first reading: it says nothing about what is heard, promised and voted.
 use Rattle.std.specs.Prelude.{ℕ, ◌==◌, Option, Some, None, if◌then◌else◌}
 use Rattle.fed_types.specs.declared.bag_id.BagId.{BagId}
 use Rattle.fed_types.specs.Ballots.{BallotNumber}
@@ -9,7 +9,7 @@ use Rattle.records.specs.declared.entry.Entry.TheVariants as entry
 use Rattle.dgram.specs.declared.message.Message.{Message}
 use Rattle.proposer.specs.VolatileStates.{VolatileState, hears, at_slot, with_current}
 
--- Of each slot, what the volatile state doesn't show: where memory runs out meanwhile, nothing has
+-- What the volatile state doesn't show, for each slot: if memory runs out meanwhile, nothing has
 -- happened. A ballot that was begun, while its Round record isn't noted; and the promise that made
 -- a proposal ready, while the proposal isn't issued.
 pub record UnderWay : Type 0 where
@@ -29,7 +29,8 @@ begins under slot ballot =
 abbrev pub waits : UnderWay → SlotName → Option Message → UnderWay
 waits under slot m = record { begun = under.begun; waiting = at_slot slot m under.waiting }
 
--- a promise that makes a proposal of this bag ready isn't heard yet; one that makes none ready is
+-- a promise that makes a proposal of this bag ready isn't heard yet; one that makes no proposal
+-- ready is
 abbrev pub heard_after : Option BagId → VolatileState → Message → VolatileState
 heard_after None volatile m = hears volatile m
 heard_after (Some bag) volatile m = volatile
@@ -59,7 +60,7 @@ abbrev pub current_if : VolatileState → SlotName → Option BallotNumber → V
 current_if volatile slot None = volatile
 current_if volatile slot (Some ballot) = with_current volatile slot ballot
 
--- and what is under way: of this slot nothing
+-- and what is under way: for this slot nothing
 abbrev pub under_way_if : UnderWay → SlotName → Option BallotNumber → UnderWay
 under_way_if under slot None = under
 under_way_if under slot (Some ballot) = record {

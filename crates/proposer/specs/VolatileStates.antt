@@ -1,4 +1,4 @@
--- What a site has of the time since it was opened, and loses when it goes down: all that it heard,
+-- What a site has learned since it was opened, and loses when it goes down: all that it heard,
 -- which its proposer and its learner count, and its current ballots.
 use Rattle.std.specs.Prelude.{ℕ, length, List, [], ◌∷◌, ◌++◌, Option, Some, None}
 use Rattle.std.specs.Prelude.{if◌then◌else◌}
@@ -26,7 +26,7 @@ abbrev pub refusal_message : SlotName → ℕ → (asked standing : BallotNumber
 refusal_message slot from asked standing =
     record { slot = slot; body = Refused from asked standing }
 
--- one message more was heard
+-- one more message was heard
 abbrev pub hears : VolatileState → Message → VolatileState
 hears volatile m = record { heard = volatile.heard ++ m ∷ []; current = volatile.current }
 

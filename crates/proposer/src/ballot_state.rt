@@ -40,8 +40,8 @@ impl Plan {
 }
 
 /// What was gathered for the current ballot: the sites that promised it, and the highest of the
-/// votes that they named. Most promises are answered by the ballot and those sites alone: only the
-/// rest is boxed. A clause sees a `BallotState` of specs/.
+/// votes that they named. The ballot and those sites alone answer most promises, so only the rest
+/// is boxed. A clause sees a `BallotState` of specs/.
 #[derive(Drop)]
 pub(crate) struct BallotState {
     ballot: Ballot,
@@ -64,7 +64,7 @@ impl Model for BallotState {
 }
 
 impl BallotState {
-    /// Of the ballot of this plan, which nobody has promised.
+    /// The state of the ballot of this plan, which nobody has promised.
     pub(crate) fn of(plan: Box<Plan>) -> BallotState
         ensures { result ≡ state_of (box_value plan) }
     {
@@ -75,7 +75,7 @@ impl BallotState {
         }
     }
 
-    /// Hears a promise, of which only one for this ballot counts, and gives the bag to propose.
+    /// Hears a promise, which counts only if it is for this ballot, and gives the bag to propose.
     pub(crate) fn promise_for<Q: Quorums>(
         &mut self,
         members: &Q,

@@ -55,8 +55,8 @@ impl<Q: Quorums + Drop> Proposer<Q> {
         }
     }
 
-    /// Makes room for the slot, so that `note` of its records takes no memory. It says nothing of
-    /// the slot.
+    /// Makes room for the slot, so that `note` of its records takes no memory. It says nothing
+    /// about the slot.
     pub fn reserve(&mut self, slot: &Slot) -> Result<(), AllocError>
         ensures same { KnowsSame self.old.rows self.new.rows }
         ensures present { OnOk result (IsSome (row_at self.new.rows slot.now)) }
@@ -68,8 +68,8 @@ impl<Q: Quorums + Drop> Proposer<Q> {
     }
 
     /// Begins the slot's next ballot. It becomes current once its Round record is noted, which
-    /// takes no memory. `RoundsSpent` where the greatest round was used or stood in the way; else
-    /// `Memory` where an allocation fails.
+    /// takes no memory. `RoundsSpent` if the greatest round was used or named in a refusal; else
+    /// `Memory` if an allocation fails.
     pub fn begin(&mut self, slot: &Slot) -> Result<Ballot, ProposeFault>
         ensures answer { (records : Records) (volatile : VolatileState) (under : UnderWay)
             → Represents self.old.rows records volatile under
@@ -97,10 +97,10 @@ impl<Q: Quorums + Drop> Proposer<Q> {
         }
     }
 
-    /// Hears a promise, and gives the bag to propose exactly when it makes the proposal ready: that
-    /// of the highest vote named, or where none is the own one, if there is one. Then the promise
-    /// waits, and counts once `issued` is called. Where a quorum has promised and there is no bag,
-    /// nothing is proposed in this ballot. It takes no memory.
+    /// Hears a promise, and gives the bag to propose exactly when it makes the proposal ready: the
+    /// bag of the highest vote named, or, if none is named, the own one, if there is one. Then the
+    /// promise waits, and counts once `issued` is called. If a quorum has promised and there is no
+    /// bag, nothing is proposed in this ballot. It takes no memory.
     pub fn promise(
         &mut self,
         from: SiteNo,
@@ -148,8 +148,8 @@ impl<Q: Quorums + Drop> Proposer<Q> {
         Ok(())
     }
 
-    /// Takes note of a record that was committed. The Round of a ballot that was begun makes it
-    /// current, and no older promise counts any more.
+    /// Notes a record that was committed. The Round of a ballot that was begun makes it current,
+    /// and older promises no longer count.
     pub fn note(&mut self, new: &Record) -> Result<(), AllocError>
         ensures noted { OnOk result (NotesRecord (Represents self.old.rows)
             (Represents self.new.rows) new.now) }

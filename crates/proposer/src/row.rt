@@ -21,7 +21,7 @@ pub(crate) struct Row {
 }
 
 impl Row {
-    /// The row of a slot of which nothing is known.
+    /// The row of a slot if nothing is known of it.
     pub(crate) fn empty() -> Row
         ensures { result ≡ empty_row }
     {
@@ -40,7 +40,7 @@ impl Row {
         self.used.max(self.floor)
     }
 
-    /// Hears a promise, of which only one for the current ballot counts, and gives the bag to
+    /// Hears a promise, which counts only if it is for the current ballot, and gives the bag to
     /// propose.
     pub(crate) fn promise<Q: Quorums>(
         &mut self,

@@ -22,7 +22,8 @@ some_bag = record { 0 = replicate 64 1 }
 abbrev pub deposited : Network
 deposited = run three new_network (Deposit 1 a (Ok some_bag) Whole ∷ [])
 
--- so many datagrams arrive that were sent after the first `before`, in the order of their numbers
+-- the first `count` datagrams that were sent after number `before` arrive, in the order of their
+-- numbers
 abbrev pub arrivals : (before count : ℕ) → List Event
 arrivals before zero = []
 arrivals before (suc count) = Deliver (suc before) Whole ∷ arrivals (suc before) count

@@ -3,19 +3,19 @@ use Rattle.std.specs.Prelude.{ℕ, suc, ◌≡◌, ◌<◌, ◌+◌, List, true,
 use Rattle.records.specs.declared.record.Record.{Record}
 use Rattle.udp_site.specs.Rounds.{waits, next_waiting}
 
--- Such turns of one site, one after another: what is on record at each, and the place after that of
--- the deposit that was tried last, as the rules of turns have it.
+-- Such turns of one site, one after another: what is on record at each, and the place after the
+-- deposit that was tried last, as the rules of turns have it.
 abbrev pub AreProposingTurns : (records : ℕ → List Record) → (tried : ℕ → ℕ) → Type 0
 AreProposingTurns records tried =
     (turn place : ℕ) → next_waiting (records turn) (tried turn) ≡ Some place
     → tried (suc turn) ≡ place + 1
 
--- At each of them the deposit at this place waits, and each that waits is among the first so many.
+-- At each of them the deposit at this place waits, and each that waits is among the first `most`.
 pub record Waits (records : ℕ → List Record) (place most : ℕ) : Type 0 where
   pub waits_on : (turn : ℕ) → waits (records turn) place ≡ true
   pub within : (turn other : ℕ) → waits (records turn) other ≡ true → other < most
 
--- one of the first so many turns proposes it
+-- one of the first `most` turns proposes it
 abbrev pub IsProposedInTurn :
     (records : ℕ → List Record) → (tried : ℕ → ℕ) → (place most : ℕ) → Type 0
 IsProposedInTurn records tried place most =

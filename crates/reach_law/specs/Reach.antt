@@ -15,7 +15,7 @@ use Rattle.reach_law.specs.Running.{records_at}
 -- ---- events at those that run, in which nothing fails
 
 -- One of those that run is opened, proposes for the slot, recovers it, or asks another of them; or
--- a datagram that wasn't among the first so many reaches one of them.
+-- a datagram whose number is above `before` reaches one of them.
 abbrev pub IsCalm : (running : List ℕ) → SlotName → (before : ℕ) → Network → Event → Type 0
 IsCalm running slot before w (Start n) = Has n running
 IsCalm running slot before w (Propose n s fate) = Has n running × (s ≡ slot) × (fate ≡ Whole)
@@ -40,7 +40,7 @@ AreCalm q running slot before w (e ∷ events) =
 -- ---- within reach
 
 -- There are such events, at most ten for each of those that run and two more, after which all of
--- these know one bag; and whichever was chosen before is this one.
+-- these know one bag; and any bag that was chosen before is this one.
 pub record IsWithinReach
     (q : QuorumSystem) (w : Network) (running : List ℕ) (slot : SlotName)
     : Type 0 where

@@ -23,8 +23,8 @@ volatile_at w n = volatile_in (w.sites n).mode
 abbrev pub AreMembers : QuorumSystem → (running : List ℕ) → Type 0
 AreMembers q running = (n : ℕ) → Has n running → Has n q.members
 
--- Rounds are left to the site: two above those that it has used or that stood in its way, and one
--- above that of each ballot that a member that runs has promised.
+-- Rounds are left to the site: two above those that it has used or that were named in refusals, and
+-- one above the round of each ballot that a running member has promised.
 pub record RoundsAreLeft (w : Network) (running : List ℕ) (slot : SlotName) (site : ℕ) : Type 0
   where
     pub own : 2 + last_round slot (records_at w site) (volatile_at w site).heard ≤ greatest_round

@@ -36,7 +36,7 @@ pub record CanOutbid (w : Network) (running : List ℕ) (slot : SlotName) (site 
 
 -- ---- other slots, and other members
 
--- An event of another slot, or of none; at a member that runs it is whole, and one that runs
+-- An event of another slot, or of none. At a member that runs its fate is `Whole`; such a member
 -- neither stops nor is opened.
 abbrev pub IsElsewhere : (running : List ℕ) → SlotName → Network → Event → Type 0
 IsElsewhere running slot w (Deposit n s checked fate) =
@@ -52,7 +52,7 @@ IsElsewhere running slot w (Raw n) = ⊤
 IsElsewhere running slot w (Stop n) = Has n running → ⊥
 IsElsewhere running slot w (Start n) = Has n running → ⊥
 
--- A datagram of the slot that wasn't among the first so many reaches a member that runs.
+-- A datagram of the slot whose number is above `before` reaches a member that runs.
 pub record Comes (running : List ℕ) (slot : SlotName) (before : ℕ) (w : Network) (e : Event)
     : Type 0 where
   pub number : ℕ
@@ -81,8 +81,8 @@ begun q w slot site = (happens q w (Propose site slot Whole)).network
 abbrev pub in_the_end : QuorumSystem → Network → SlotName → (site : ℕ) → List Event → Network
 in_the_end q w slot site events = run q (begun q w slot site) events
 
--- Of the slot nothing arrives but what is sent from the proposal on; each such datagram to one of
--- those that run does, at least once, in any order.
+-- Nothing of the slot arrives but what is sent from the proposal on. Each such datagram to one of
+-- those that run does arrive, at least once, in any order.
 pub record AllArrive
     (q : QuorumSystem) (w : Network) (running : List ℕ) (slot : SlotName) (site : ℕ)
     (events : List Event)

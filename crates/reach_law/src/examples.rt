@@ -2,7 +2,7 @@ ghost use Rattle.reach_law.specs.Examples.{CanBeUndisturbed};
 
 // A function here does nothing: its contract is an example, computed.
 
-/// A ballot can be undisturbed: three sites, of which one has a deposit, and 18 datagrams.
+/// A ballot can be undisturbed: three sites, one of which has a deposit, and 18 datagrams.
 pub fn a_ballot_may_be_undisturbed()
     ensures { CanBeUndisturbed }
 {}

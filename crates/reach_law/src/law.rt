@@ -17,10 +17,11 @@ ghost use Rattle.reach_law.specs.InTurn.{AreProposingTurns, Waits, IsProposedInT
 
 // ---- what is within reach
 
-/// A decision is always within reach. Whatever has happened, where the members that run are a
-/// quorum, and one of them knows the slot's bag, or has voted for one or has a deposit, and has
-/// rounds left, some events in which only they take part and nothing fails let all of them know one
-/// bag: ten for each of them and two more, at most. If a bag was chosen before, it is this one.
+/// A decision is always within reach, whatever has happened. Let the members that run be a quorum,
+/// and let one of them know the slot's bag, or have voted for one or have a deposit, and have
+/// rounds left. Then some events in which only they take part and nothing fails let all of them
+/// know one bag: at most ten for each of them and two more. If a bag was chosen before, it is this
+/// one.
 pub fn a_decision_is_within_reach()
     ensures { (q : QuorumSystem) (events : List Event) (running : List ℕ) (slot : SlotName)
         → AreQuorums q → AreMembers q running → IsQuorum q running
@@ -28,8 +29,8 @@ pub fn a_decision_is_within_reach()
         → IsWithinReach q (run q new_network events) running slot }
 {}
 
-/// What was chosen is within reach of every quorum that runs and has rounds left, whoever has
-/// deposited it, and whoever is lost.
+/// Every quorum that runs and has rounds left can reach what was chosen, whoever has deposited it,
+/// and whoever is lost.
 pub fn what_is_chosen_is_within_reach()
     ensures { (q : QuorumSystem) (events : List Event) (running : List ℕ) (slot : SlotName)
         (bag : BagId) → AreQuorums q → AreMembers q running → IsQuorum q running
@@ -38,9 +39,9 @@ pub fn what_is_chosen_is_within_reach()
         → IsWithinReach q (run q new_network events) running slot }
 {}
 
-/// Where none of the members that run has a deposit, has voted, or knows the bag, nothing that they
-/// do lets one of them know it, unless a datagram of before still arrives: they need that, or
-/// another member, or a deposit.
+/// If none of the members that run has a deposit, has voted, or knows the bag, nothing that they do
+/// lets one of them know it, unless an earlier datagram still arrives: they need that, or another
+/// member, or a deposit.
 pub fn no_decision_without_a_vote_or_a_deposit()
     ensures { (q : QuorumSystem) (w : Network) (running : List ℕ) (slot : SlotName)
         → HaveNothing w running slot → StaysUnknown q w running slot }
@@ -56,11 +57,11 @@ pub fn rounds_are_left()
 
 // ---- proposals that nothing disturbs
 
-/// An undisturbed ballot is decided: where a member begins one that is above all that the members
-/// that run, a quorum, have promised, and of the slot nothing arrives but what is sent since, each
-/// such datagram to one of them at least once, in any order, then all of them know a bag. Meanwhile
-/// anything may happen of other slots in which nothing fails at those that run; and at other
-/// members, what isn't of the slot.
+/// An undisturbed ballot is decided. Let a member begin a ballot above all that the members that
+/// run, a quorum, have promised. Let nothing of the slot arrive but what is sent since, each such
+/// datagram to one of these members at least once, in any order. Then all of them know a bag.
+/// Meanwhile anything may happen with other slots in which nothing fails at those that run; and at
+/// other members, whatever isn't about the slot.
 pub fn an_undisturbed_ballot_is_decided()
     ensures { (q : QuorumSystem) (history : List Event) (running : List ℕ) (slot : SlotName)
         (site : ℕ) (events : List Event) → AreQuorums q → AreMembers q running
@@ -93,8 +94,8 @@ pub fn two_undisturbed_proposals_decide()
 
 // ---- of a site that serves
 
-/// A site that serves proposes each of its deposits in turn: one that waits comes within as many
-/// proposing turns as there are deposits, while no others are added.
+/// A site that serves proposes each of its deposits in turn: one that waits is proposed within as
+/// many proposing turns as there are deposits, while no others are added.
 pub fn each_deposit_has_its_turn()
     ensures { (records : ℕ → List Record) (tried : ℕ → ℕ) (place most : ℕ)
         → AreProposingTurns records tried → Waits records place most

@@ -1,7 +1,7 @@
 //! What a federation can still do, whatever has happened: it is never stuck. From every network of
-//! a run a decision is within reach of the members that run, what was chosen is within reach of
-//! every quorum, and two proposals that nothing disturbs decide. The definitions stand in specs/; a
-//! function here does nothing, and its contract is a law.
+//! a run the members that run can reach a decision, every quorum can reach what was chosen, and two
+//! proposals that nothing disturbs decide. The definitions are in specs/; a function here does
+//! nothing, and its contract is a law.
 #![tactic(auto)]
 
 mod examples;

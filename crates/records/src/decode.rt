@@ -37,7 +37,7 @@ fn read_entry(kind: u8, reader: &mut Reader) -> Result<Entry, FieldFault>
     }
 }
 
-// What the bytes after its length say as a record's, its object still among them. It takes no
+// What the bytes after its length say, as a record's, with its object still among them. It takes no
 // memory.
 #[tactic(auto, unfolding(crate::specs::inner::Decoders::content_at))]
 fn read_content<'a>(bytes: &'a [u8]) -> Result<(SlotRef<'a>, Entry), FieldFault>

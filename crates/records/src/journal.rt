@@ -34,7 +34,7 @@ pub struct Journal {
 pub(crate) enum Find {
     /// Nothing, or a torn tail.
     End,
-    /// So many bytes, a length of two and as many as it says.
+    /// A record of this many bytes: a length of two, and as many as it says.
     Whole(usize),
     /// What is no record.
     Damaged,
@@ -172,7 +172,7 @@ fn are_ones(weights: &[u8]) -> bool
     weights.iter().all(|weight| *weight == 1)
 }
 
-// Whether these weights, those of a journal, are the owner's. Where it says none, all are 1.
+// Whether these weights, those of a journal, are the owner's. If it says none, all are 1.
 fn has_weights(owner: &Owner, weights: &[u8]) -> bool
     ensures none { length weights.now ≡ 0
         → (IsTrue result ↔ All (λ w. w ≡ 1) owner.now.members.weights) }
@@ -187,8 +187,8 @@ fn has_weights(owner: &Owner, weights: &[u8]) -> bool
 }
 
 // Whether a journal of these parts may be the owner's by its weights: always, if it has no records,
-// since nothing was promised then. It is asked last: a damaged cell is damaged under any weights,
-// so that nobody looks for a members file where a disk is broken.
+// since nothing was promised then. This is checked last: a damaged cell is damaged under any
+// weights, so that nobody searches for a members file when a disk is broken.
 fn allows_weights(owner: &Owner, parts: &Parts) -> bool
     ensures { (bytes : List ℕ) (is : ArePartsOf owner.now bytes parts.now)
         → Allows owner.now bytes parts.now is result }
@@ -235,9 +235,9 @@ fn read_text(alloc: Global, owner: &Owner, bytes: &[u8]) -> Result<Journal, Jour
     })
 }
 
-/// Reads the journal of this owner: its records in order, none skipped and none in part, whichever
-/// layouts they are in. What follows a crash, a torn tail or an unfinished header, is passed over.
-/// Memory can run out only where the bytes say records, so it hides no fault of theirs.
+/// Reads the journal of this owner: its records in order, none skipped and none in part, in
+/// whichever layouts they are. A torn tail or an unfinished header, which a crash may leave, is
+/// skipped. Memory can run out only if the bytes say records, so it hides no fault in them.
 pub fn read_journal(alloc: Global, owner: &Owner, bytes: &[u8]) -> Result<Journal, JournalFault>
     // What is answered is what the bytes say.
     ensures said { IsReading owner.now bytes.now result }

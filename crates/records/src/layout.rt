@@ -5,7 +5,7 @@ ghost use Rattle.records.specs.Layout.{checksum_size};
 
 use fields::CHECKSUM_BYTES;
 
-/// A layout of records: those of the first have no checksum, those of the second end with one.
+/// A layout of records: in the first they have no checksum, in the second they end with one.
 #[derive(Clone, Copy, Debug, PartialEq, Eq)]
 pub enum Layout {
     First,

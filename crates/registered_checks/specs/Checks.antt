@@ -9,7 +9,7 @@ use Rattle.outcomes.specs.Outcomes.{Outcome, Writes, no_memory}
 use Rattle.registered_checks.specs.Held.{Given, Held, bag_in, held_of}
 use Rattle.registered_checks.specs.Comparisons.{are_equal, comparison_text}
 
--- the status of the check alone, where the bags that are held are those that are known; and else 1
+-- the status of the check alone, if the bags that are held are those that are known; and else 1
 abbrev pub status_of : List Held → List KnownBag → (alone : ℕ) → ℕ
 status_of held known alone = if are_equal held known then alone else 1
 
@@ -18,12 +18,12 @@ abbrev pub compared : List Held → List KnownBag → (alone : Outcome) → Outc
 compared held known alone =
     record { status = status_of held known alone.status; text = alone.text }
 
--- and where memory runs out then: the same, and that it did
+-- and if memory runs out then: the same, and that it did
 abbrev pub not_compared : (alone : Outcome) → Outcome
 not_compared alone = record { status = no_memory.status; text = alone.text ++ no_memory.text }
 
--- what a check that alone ends so may end with, and what is written then, and said: the comparison,
--- or, where memory runs out, nothing
+-- how a check may end if alone it ends so, and what is then written and said: the comparison, or,
+-- if memory runs out, nothing
 abbrev pub ComparesFor : List Held → List KnownBag → (Outcome → List ℕ → Type 0)
     → (alone : Outcome) → Type 0
 ComparesFor held known P alone =

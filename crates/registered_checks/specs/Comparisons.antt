@@ -1,4 +1,4 @@
--- Whether the bags that are held are those that are known, and what is said of it.
+-- Whether the bags that are held are those that are known, and what is reported of that.
 use Rattle.std.specs.Prelude.{ℕ, Bool, ◌&&◌, if◌then◌else◌, List, [], ◌∷◌, ◌++◌, codes}
 use Rattle.std.specs.Fmt.{decimal}
 use Rattle.std.specs.List.{flat_map, list_all, list_any}
@@ -53,7 +53,7 @@ abbrev pub missing_line : List Held → KnownBag → List ℕ
 missing_line held version =
     if is_held held version then [] else (codes "not among these: " ++ slot_line version.slot)
 
--- what is said of each bag that is held, in order, and then of the versions whose bags aren't
+-- the report on each bag that is held, in order, and then on the versions whose bags aren't
 unfoldable pub comparison_text : List Held → List KnownBag → List ℕ
 comparison_text held known =
     flat_map (held_lines known) held ++ flat_map (missing_line held) known

@@ -1,6 +1,6 @@
 -- Read in this order: Held (the bags that folders hold), Comparisons (whether they are those that
--- are known, and what is said of it), Checks (what a check against known bags comes to), Lists (and
--- against the bytes of a list). inner/ is for private contracts and proofs.
+-- are known, and what is reported of that), Checks (the result of a check against known bags),
+-- Lists (and against the bytes of a list). inner/ is for private contracts and proofs.
 pub mod Held
 pub mod Comparisons
 pub mod Checks

@@ -9,8 +9,8 @@ use Rattle.outcomes.specs.Outcomes.{Outcome}
 use Rattle.registered_checks.specs.Held.{Given}
 use Rattle.registered_checks.specs.Checks.{ComparesOn, ComparesFirst}
 
--- what a check against a source of these bytes may end with, and what is written then, and said:
--- where it knows bags, that of a check against these; where it doesn't, why
+-- how a check against a source of these bytes may end, and what is then written and said: if it
+-- knows bags, as a check against these; if it doesn't, why
 abbrev pub AnswersTo : (source : List ℕ) → Report → Option Given → Option (List ℕ)
     → (paths : List (List ℕ)) → (Outcome → List ℕ → Type 0) → Type 0
 AnswersTo source report given place paths P =

@@ -11,9 +11,9 @@ use known_bags::{source_bytes, write_fault};
 use outcomes::{ProgramFault, ProgramOutput};
 use std::io;
 
-/// Checks the folders as without the list, and then says on standard error which are bags that the
-/// list of this path knows, or the cell. The status is 0 where all folders are valid bags, each of
-/// them is known, and each that is known is among them.
+/// Checks the folders as without the list, and then says on standard error which of them are bags
+/// that the list or cell of this path knows. The status is 0 if all folders are valid bags, each of
+/// them is known, and each known one is among them.
 pub fn check_registered(
     rt: &HostRuntime,
     task: &CheckTask<'_>,
@@ -42,7 +42,7 @@ fn check_against<W: CountedWrite>(
     Ok(say_on(&checked.answer, &mut CountedWriter::new(rt.stderr())))
 }
 
-/// Says what is to be said. The status is the answer's, but 1 where not all of it can be written.
+/// Says the comparison. The status is the answer's, but 1 if not all of it can be written.
 pub fn say_on<E: CountedWrite>(answer: &ProgramOutput, errors: &mut E) -> u8
     ensures { ((result ≡ answer.now.status) × (E.failures errors.new ≡ E.failures errors.old)
         × Appends (E.contents errors.old) (E.contents errors.new) (string_bytes answer.now.text))

@@ -1,4 +1,4 @@
-//! What is said of the bags that are held and of those that are known.
+//! The report on the bags that are held and those that are known.
 
 ghost use Rattle.std.specs.Prelude.{◌≡◌, IfOk, string_bytes};
 ghost use Rattle.std.specs.List.{flat_map};
@@ -13,8 +13,8 @@ use known_bags::KnownBag;
 use std::alloc::{AllocError, Global};
 use words::push_escaped;
 
-/// For each bag that is held a line for each version whose known bag it is, or one that it is none
-/// of these; and a line for each version whose known bag isn't held.
+/// For each bag that is held: a line for each version whose known bag it is, or a line that it is
+/// no known bag. And a line for each version whose known bag isn't held.
 #[tactic(auto, unfolding(crate::specs::Comparisons::comparison_text))]
 pub fn comparison_text(
     alloc: Global,
@@ -51,7 +51,7 @@ fn push_held(text: &mut String, held: &HeldBag, known: &[KnownBag]) -> Result<()
     }
 }
 
-// That it is the known bag of no version.
+// Appends that it is the known bag of no version.
 #[tactic(auto, using(std::proofs::Common::append_assoc))]
 fn push_unknown(text: &mut String, held: &HeldBag) -> Result<(), AllocError>
     ensures { Pushes result text.old text.new (unknown_line held.now) }

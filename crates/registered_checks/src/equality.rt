@@ -7,7 +7,7 @@ ghost use Rattle.registered_checks.specs.Comparisons.{is_bag, is_known, is_held,
 use crate::held_bag::HeldBag;
 use known_bags::KnownBag;
 
-/// Whether each bag that is held is the known one of a version, and the known one of each version
+/// Whether each bag that is held is the known bag of a version, and the known bag of each version
 /// is held.
 pub fn are_equal(held: &[HeldBag], known: &[KnownBag]) -> bool
     ensures { result ≡ are_equal held.now known.now }

@@ -32,8 +32,8 @@ pub struct Checked<F> {
 
 /// Checks the folders of these paths, writes what the check alone writes, and compares the bags
 /// that they hold with those that are known. The answer has the text of the comparison, and the
-/// status of the check, but 1 where a bag isn't known or a known one isn't held. Where memory runs
-/// out before it is made, `memory` is written too, nothing is to be said, and the status is 1.
+/// status of the check, but 1 if a bag isn't known or a known one isn't held. If memory runs out
+/// before it is made, `memory` is written too, there is nothing to say, and the status is 1.
 pub fn check_known_on<F: Folders + Drop, W: CountedWrite>(
     alloc: Global,
     folders: F,
@@ -46,7 +46,7 @@ pub fn check_known_on<F: Folders + Drop, W: CountedWrite>(
         ComparesOn report gives (F.fails_at folders) (map (λ path. path.now) paths.now) known.now
         (Ends (W.contents output.old) (W.contents output.new) checked.answer.status
         (string_bytes checked.answer.text)))) }
-    // The status 0 says that each folder is a valid bag, and that these are those that are known.
+    // The status 0 means that each folder is a valid bag, and that these are the known bags.
     ensures zero { IfOk result (λ checked. checked.answer.status ≡ 0
         → IfSome (F.gives folders) (λ gives.
         IsTrue (agree gives (map (λ path. path.now) paths.now) known.now))) }
@@ -69,7 +69,7 @@ pub fn check_known_on<F: Folders + Drop, W: CountedWrite>(
 }
 
 // The comparison of the bags of these folders with those that are known, after a check of this
-// status; none where memory ran out.
+// status; none if memory ran out.
 fn comparison_of<F: Folders>(
     alloc: Global,
     folders: &NotedFolders<F>,
@@ -111,7 +111,7 @@ fn status_of(held: &[HeldBag], known: &[KnownBag], status: u8) -> u8
     if are_equal(held, known) { status } else { 1 }
 }
 
-// The comparison; where there is none it is written that memory ran out.
+// Writes the comparison; if there is none, that memory ran out.
 fn answer_or_memory<W: CountedWrite>(
     alloc: Global,
     comparison: Option<ProgramOutput>,

@@ -18,8 +18,8 @@ use outcomes::{ProgramFault, ProgramOutput};
 use std::alloc::Global;
 
 /// Checks the folders of these paths, as `check_known_on` does, against the bags that these bytes
-/// know, of a cell or of a list that `ledger` printed. Where they are neither, no folder is
-/// checked: a line says why, nothing is to be said of bags, and the status is 1.
+/// know: the bytes of a cell or of a list that `ledger` printed. If they are neither, no folder is
+/// checked: a line says why, there is nothing to say about bags, and the status is 1.
 pub fn check_list_on<F: Folders + Drop, W: CountedWrite>(
     alloc: Global,
     source: &[u8],
@@ -33,7 +33,7 @@ pub fn check_list_on<F: Folders + Drop, W: CountedWrite>(
         (map (λ path. path.now) paths.now)
         (Ends (W.contents output.old) (W.contents output.new) checked.answer.status
         (string_bytes checked.answer.text))) }
-    // The status 0 says that each folder is a valid bag, and that these are those that are known.
+    // The status 0 means that each folder is a valid bag, and that these are the known bags.
     ensures zero { IfOk result (λ checked. checked.answer.status ≡ 0
         → (known : List KnownBag) × Knows source.now known
         × IfSome (F.gives folders) (λ gives.

@@ -1,4 +1,4 @@
-//! Folders of which it is noted which bags they hold.
+//! Folders, with a note of which bags they hold.
 
 ghost use Rattle.std.specs.Prelude.{◌≡◌, false, map, string_bytes};
 ghost use Rattle.std.specs.Option.{ForSome};
@@ -30,7 +30,7 @@ pub(crate) struct NotedFolders<F: Folders> {
 impl<F: Folders> NotedFolders<F> {
     ghost use Rattle.std.specs.Prelude.{IfSome};
 
-    /// These folders, of which none was read yet.
+    /// These folders; none was read yet.
     #[tactic(auto, using(crate::proofs::Noted::none_held))]
     pub(crate) fn new(alloc: Global, folders: F) -> NotedFolders<F>
         ensures { result.folders ≡ folders }
@@ -44,9 +44,8 @@ impl<F: Folders> NotedFolders<F> {
         }
     }
 
-    /// The bags that the folders of these paths hold, in order; `None` where memory ran out. That
-    /// these folders were read is looked at here: the contract of a check doesn't say which it
-    /// reads.
+    /// The bags that the folders of these paths hold, in order; `None` if memory ran out. This
+    /// checks that these folders were read: the contract of a check doesn't say which it reads.
     pub(crate) fn held(&self, paths: &[&str]) -> Option<&[HeldBag]>
         ensures { IfSome result (λ held. ForSome (F.gives self.now.folders) (λ gives.
             AreHeld gives (map (λ path. path.now) paths.now) held.now)) }

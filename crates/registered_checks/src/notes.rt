@@ -13,7 +13,8 @@ use bag_tree::{Facts, TreeFault};
 use fed_types::BagId;
 use std::alloc::{AllocError, Global};
 
-/// Notes the folder of this path, which was read so, and the bag that it holds, if it holds one.
+/// Notes the folder of this path, which was read with this result, and the bag that it holds, if it
+/// holds one.
 pub(crate) fn note(
     alloc: Global,
     paths: &mut Vec<String>,

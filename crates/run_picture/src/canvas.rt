@@ -26,7 +26,7 @@ impl Canvas<'_> {
         Ok(())
     }
 
-    // A record that shows only as the site starts stands below the start.
+    // A record that shows only when the site starts is put below the start.
     fn push_mark(&self, text: &mut String, event: &Event, row: usize) -> Result<(), AllocError> {
         let x = self.layout.column(event.site);
         let lower = match event.deed {

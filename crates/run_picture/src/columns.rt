@@ -30,7 +30,7 @@ impl Canvas<'_> {
         self.push_gaps(text, end)
     }
 
-    // Where there are several slots no colour says what a site knows.
+    // If there are several slots, no colour says what a site knows.
     fn push_knowledge(&self, text: &mut String, end: usize) -> Result<(), AllocError> {
         if self.story.has_many_slots() {
             return Ok(());

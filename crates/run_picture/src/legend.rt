@@ -40,7 +40,7 @@ pub(crate) struct Legend {
 }
 
 impl Legend {
-    /// At this height of a picture so wide.
+    /// The legend at this height of a picture of this width.
     pub(crate) fn new(width: usize, top: usize) -> Legend {
         Legend {
             in_a_row: (width.saturating_sub(40) / WIDE).max(1),
@@ -58,7 +58,7 @@ impl Legend {
         ]
     }
 
-    /// Where it ends, with so many trees.
+    /// Where it ends, with this many trees.
     pub(crate) fn bottom(&self, trees: usize) -> usize {
         let [_, y] = self.place((MARKS.len() - 1).saturating_add(trees));
         y.saturating_add(HIGH)

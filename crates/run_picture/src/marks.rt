@@ -23,7 +23,7 @@ const STOP: &str = "<path class='x sr' d='M$0 $1m-4 4l8 8m0 -8l-8 8'/>\n";
 
 const NOTHING: &str = "<circle class='fp' cx='$0' cy='$1' r='2.5'/>\n";
 
-/// That of the record, if there is one.
+/// The mark of the record, if there is one.
 pub(crate) fn record_mark(event: &Event) -> &'static str {
     match &event.record {
         Some(Entry::Deposit(_)) => DEPOSIT,
@@ -35,7 +35,7 @@ pub(crate) fn record_mark(event: &Event) -> &'static str {
     }
 }
 
-/// That of what came of it. A stop stands a little lower.
+/// The mark of an event's outcome. A stop is put a little lower.
 pub(crate) fn outcome_mark(event: &Event) -> &'static str {
     match event.outcome {
         Outcome::Down | Outcome::Failed => STOP,

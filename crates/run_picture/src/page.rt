@@ -40,7 +40,7 @@ path.again{stroke-dasharray:1.5 3}
 
 const SHEET: &str = "</defs>\n<rect width='100%' height='100%' fill='#fff'/>\n";
 
-/// The picture of a run, an SVG document. It fails only where memory runs out.
+/// The picture of a run, an SVG document. It fails only if memory runs out.
 pub fn picture_of(alloc: Global, story: &Story) -> Result<String, AllocError> {
     let labels = labels_of(alloc, story)?;
     let layout = Layout::of(alloc, story, labels.as_slice())?;

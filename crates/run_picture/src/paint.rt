@@ -1,4 +1,4 @@
-//! Colours, each by its letter: of bags, by the numbers of their trees, and of what names none.
+//! Colours, each by its letter: for bags, by the numbers of their trees, and for what names none.
 
 use crate::shape::push_shape;
 use run_story::{Datagram, Event, Kind, Story};
@@ -9,7 +9,7 @@ pub(crate) const PLAIN: char = 'p';
 
 pub(crate) const REFUSAL: char = 'r';
 
-/// Those of bags, which begin anew where there are more bags.
+/// The colours of bags, which begin again if there are more bags.
 const BAGS: [char; 8] = ['a', 'b', 'c', 'd', 'e', 'f', 'g', 'h'];
 
 const COLOURS: [(char, &str); 10] = [
@@ -25,7 +25,7 @@ const COLOURS: [(char, &str); 10] = [
     (REFUSAL, "#b4483c"),
 ];
 
-/// That of the bag of a tree, if there is one.
+/// The colour of the bag of a tree, if there is one.
 pub(crate) fn of_tree(tree: u32) -> char {
     match tree.checked_sub(1) {
         Some(before) => BAGS.get((before % 8) as usize).copied().unwrap_or(PLAIN),
@@ -42,7 +42,7 @@ pub(crate) fn of_datagram(datagram: &Datagram) -> char {
     }
 }
 
-/// That of the words of an event.
+/// The colour of the words of an event.
 pub(crate) fn of_event(story: &Story, event: &Event) -> char {
     match story.delivered(event) {
         Some(datagram) => of_datagram(datagram),

@@ -2,7 +2,7 @@
 
 use std::alloc::AllocError;
 
-/// Appends a shape: `$0` to `$9` are numbers of those given, and `$c` is the letter of a colour.
+/// Appends a shape: `$0` to `$9` are numbers among those given, and `$c` is the letter of a colour.
 pub(crate) fn push_shape(
     text: &mut String,
     shape: &str,
@@ -38,7 +38,7 @@ fn push_blank(
     }
 }
 
-/// Appends words as the text of an element, with the characters escaped that mean something there.
+/// Appends words as the text of an element, with the characters escaped that have a meaning there.
 pub(crate) fn push_words(text: &mut String, words: &str) -> Result<(), AllocError> {
     for character in words.chars() {
         match entity(character) {

@@ -2,15 +2,15 @@
 
 use run_story::{Event, Story};
 
-/// On which side of a place something stands.
+/// The side of a place on which something is put.
 #[derive(Clone, Copy)]
 pub(crate) enum Side {
     Left,
     Right,
 }
 
-/// On which side of its column the words of an event stand. An arrow comes from the other side;
-/// that of a site to itself from the right.
+/// The side of its column on which the words of an event are. An arrow comes from the other side;
+/// an arrow from a site to itself comes from the right.
 pub(crate) fn side_of(story: &Story, event: &Event) -> Side {
     match story.delivered(event) {
         Some(datagram) if datagram.from < datagram.to => Side::Right,
@@ -25,7 +25,7 @@ pub(crate) fn side_to(from: u8, to: u8) -> Side {
     if to < from { Side::Left } else { Side::Right }
 }
 
-/// So far from a place.
+/// The place this far from another.
 pub(crate) fn beside(x: usize, far: usize, side: Side) -> usize {
     match side {
         Side::Left => x.saturating_sub(far),

@@ -22,8 +22,8 @@ fn nothing() -> Heard {
 }
 
 impl Story {
-    /// Of a promise or a vote that the event at this place delivered, how many of the same ballot
-    /// the site had heard by then. A promise counts only where its ballot is the last that the site
+    /// For a promise or a vote that the event at this place delivered: how many of the same ballot
+    /// the site had heard by then. A promise counts only if its ballot is the last that the site
     /// has issued since it was opened.
     pub fn count_at(&self, place: usize) -> Option<Count> {
         let event = self.events.get(place)?;
@@ -96,12 +96,12 @@ impl Story {
     }
 }
 
-// Of one kind, slot and ballot.
+// Whether both are of one kind, slot and ballot.
 fn is_alike(one: &Datagram, other: &Datagram) -> bool {
     one.kind == other.kind && one.slot == other.slot && one.ballot == other.ballot
 }
 
-// A promise or a vote is heard besides.
+// A promise or a vote is heard too.
 fn with(heard: Heard, datagram: &Datagram) -> Heard {
     let mut heard = heard;
     if let Ok(site) = SiteNo::new(datagram.from) {

@@ -70,9 +70,9 @@ pub struct Event {
     pub sent_after: usize,
     /// What the record says that is in the site's cell since.
     pub record: Option<Entry>,
-    /// The site's device had failed before it: the record is of the call that failed.
+    /// The site's device had failed before it: the record belongs to the call that failed.
     pub was_unopened: bool,
-    /// The tree of the bag that its record or its line names, 0 where they name none.
+    /// The tree of the bag that its record or its line names, 0 if they name none.
     pub tree: u32,
 }
 

@@ -1,6 +1,6 @@
-//! What happened in a run, event by event, in numbers: what a command asked for, what came of it,
-//! what the site put on record and what it sent. The run is made by the simulator's own federation,
-//! a line of the schedule at a time. Sentences with blanks say it in words.
+//! What happened in a run, event by event, in numbers: what a command asked for, its outcome, what
+//! the site put on record and what it sent. The simulator's own federation makes the run, a line of
+//! the schedule at a time. Sentences with blanks say it in words.
 //!
 //! ```
 //! match parse(rt.alloc(), bytes) {

@@ -166,7 +166,7 @@ impl Notes {
     ) -> Result<(), AllocError> {
         match decode(self.alloc, self.members.federation(), bytes) {
             Ok(message) => self.note_message(event, seen, to, &message),
-            // No other fault comes of what a site has sealed.
+            // What a site has sealed causes no other fault.
             Err(_) => Err(AllocError),
         }
     }
@@ -264,7 +264,7 @@ fn tree_of(seen: &SeenBags, bag: Option<BagId>) -> u32 {
     }
 }
 
-// What the station's site has on record, wherever it is. Where its device has failed, the cell may
+// What the station's site has on record, wherever it is. If its device has failed, the cell may
 // have one record more.
 fn recorded_at(alloc: Global, members: Members, station: &Station) -> Result<Recorded, AllocError> {
     match station.run_state() {
@@ -282,7 +282,7 @@ fn recorded_at(alloc: Global, members: Members, station: &Station) -> Result<Rec
 fn recorded_in(alloc: Global, owner: &Owner, bytes: &[u8]) -> Result<Recorded, AllocError> {
     match read_journal(alloc, owner, bytes) {
         Ok(journal) => Ok(recorded_among(journal.records.as_slice())),
-        // No other fault comes of a cell that keeps records.
+        // A cell that keeps records causes no other fault.
         Err(_) => Err(AllocError),
     }
 }

@@ -31,8 +31,8 @@ pub struct Scene<'a> {
 }
 
 impl<'a> Scene<'a> {
-    /// Of the event at a place, with the datagram that it delivered, or else the first that it
-    /// sent.
+    /// The scene of the event at a place, with the datagram that it delivered, or else the first
+    /// that it sent.
     pub fn of(story: &'a Story, place: usize, event: &'a Event) -> Scene<'a> {
         let delivered = story.delivered(event);
         Scene {
@@ -104,7 +104,7 @@ impl Scene<'_> {
         }
     }
 
-    /// With how many records a site starts.
+    /// How many records a site starts with.
     pub fn records(&self) -> usize {
         match self.story.line_of(self.event) {
             Some(Line::Up { records, .. }) => *records,

@@ -16,13 +16,13 @@ pub enum Passage {
     Arrived(usize),
 }
 
-/// How much weight the members have whose promise of a ballot, or whose vote in one, a site has
-/// heard. A site's own counts.
+/// The weight of the members whose promise of a ballot, or whose vote in one, a site has heard. A
+/// site's own counts.
 #[derive(Clone, Copy)]
 pub struct Count {
     /// Their weights, added: how many they are where each weight is 1.
     pub heard: u16,
-    /// Of promises, the ballot of the highest vote that they name, if they name one.
+    /// For promises, the ballot of the highest vote that they name, if they name one.
     pub highest: Option<Ballot>,
 }
 
@@ -87,7 +87,7 @@ impl Story {
     }
 }
 
-/// What became of a datagram that the event at this place delivered, if it did.
+/// The outcome of a datagram that the event at this place delivered, if it did.
 pub(crate) fn passage_after(before: Passage, event: &Event, place: usize) -> Passage {
     match (before, event.outcome) {
         (Passage::Never, Outcome::Skipped(Reason::Down)) => Passage::ToNobody(place),

@@ -9,7 +9,7 @@ use schedule::{Command, Schedule};
 use sim_federation::Federation;
 use std::alloc::{AllocError, Global};
 
-/// Runs a schedule, and says what happened. It fails only where memory runs out.
+/// Runs a schedule, and says what happened. It fails only if memory runs out.
 pub fn tell(alloc: Global, schedule: &Schedule) -> Result<Story, AllocError> {
     let mut federation = Federation::new(alloc, schedule.members())?;
     let mut notes = Notes::new(alloc, schedule.members())?;

@@ -59,7 +59,7 @@ fn pick(is_promise: bool, promised: &'static str, voted: &'static str) -> &'stat
     if is_promise { promised } else { voted }
 }
 
-/// What the site does since: it has learned a bag, or proposes one, its own or, where votes were
+/// What the site does since then: it has learned a bag, or proposes one, its own or, if votes were
 /// named, that of the highest.
 pub(crate) fn consequence(scene: &Scene<'_>, datagram: &Datagram) -> &'static str {
     match scene.event.outcome {

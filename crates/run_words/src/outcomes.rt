@@ -1,4 +1,4 @@
-//! What came of an event, but for arrivals.
+//! The outcomes of events other than arrivals.
 
 use records::Entry;
 use run_story::{Deed, Event, Outcome, Scene};

@@ -10,7 +10,7 @@ use lines::{Options, push_line};
 use run_story::{Datagram, Deed, Event, Outcome, Passage, Scene, Story};
 use std::alloc::{AllocError, Global};
 
-/// A run in words. A line that is printed stands below the words of its event, as it is printed.
+/// A run in words. A printed line comes below the words of its event, as it is printed.
 pub fn words_of(alloc: Global, story: &Story, options: Options) -> Result<String, AllocError> {
     let mut text = String::new(alloc);
     push_heading(&mut text, story)?;
@@ -37,7 +37,7 @@ fn push_heading(text: &mut String, story: &Story) -> Result<(), AllocError> {
     }
 }
 
-// A tree that is declared or filled makes words only where a line is printed.
+// A tree that is declared or filled makes words only if a line is printed.
 fn is_told(event: &Event) -> bool {
     match event.deed {
         Deed::Tree => event.said.is_some(),
@@ -128,7 +128,7 @@ fn push_passages(text: &mut String, story: &Story) -> Result<(), AllocError> {
     Ok(())
 }
 
-// The numbers of those that were lost so, or `none`, and the end of the line.
+// The numbers of those that were lost in this way, or `none`, and the end of the line.
 fn push_lost(text: &mut String, story: &Story, was_down: bool) -> Result<(), AllocError> {
     let mut none = " none";
     for (before, passage) in story.passages.iter().enumerate() {

@@ -1,5 +1,5 @@
 -- The commands, each by its words: the function that reads a line. `Lines` has the grammar as a
--- table, and `commands_law` says that the two are one.
+-- table, and `commands_law` says that the two agree.
 use Rattle.std.specs.Prelude.{ℕ, List, [], ◌∷◌, length, replicate, codes}
 use Rattle.std.specs.Prelude.{◌==◌, if◌then◌else◌, Option, Some, None}
 use Rattle.std.specs.Option.{option_map}
@@ -38,7 +38,7 @@ weights_in (word ∷ words) = do
   ws ← weights_in words
   Some (w ∷ ws)
 
--- the weights of n members: 1 for each where no word names one, else each has a word of its own
+-- the weights of n members: 1 for each if no word names one, else each has a word of its own
 unfoldable pub weights_of : ℕ → List (List ℕ) → Option (List ℕ)
 weights_of n words =
     if length words == 0 then Some (replicate n 1)
@@ -96,8 +96,8 @@ fail_of at number = do
   kept ← amount_of number
   Some (FailsIn device kept)
 
--- the fate of a call, by the words that follow the call's own: where there are none, nothing
--- befalls the site
+-- the fate of a call, by the words that follow the call's own: if there are none, nothing happens
+-- to the site
 unfoldable pub fate_of : List (List ℕ) → Option Fate
 fate_of [] = Some Whole
 fate_of (what ∷ at ∷ number ∷ []) =

@@ -7,8 +7,8 @@ abbrev pub number_of : ParseFault → ℕ
 number_of (Line line) = 1
 number_of Memory = 2
 
--- the answer is what the definition gives, a value or the number of a line at fault, or it is that
--- memory ran out
+-- the answer is what the definition gives, a value or the number of a line at fault, or that memory
+-- ran out
 abbrev pub IsOrMemory : {X : Type 0} → Result X ParseFault → Result X ℕ → Type 0
 IsOrMemory (Ok value) wanted = wanted ≡ Ok value
 IsOrMemory (Err (Line number)) wanted = wanted ≡ Err number

@@ -1,6 +1,6 @@
 -- Read Tokens and Lines first (the words of each command: the grammar), then Plans and Schedules
 -- (what a text says), Texts (how one is printed), Faults. Commands is the function that reads a
--- line; `commands_law` says that it and the grammar are one.
+-- line; `commands_law` says that it and the grammar agree.
 pub mod Limits
 pub mod Tokens
 pub mod Lines

@@ -80,7 +80,7 @@ federation_tokens m weights =
     ∷ Number 1 most_members (count_of m)
     ∷ map (λ w. Number 1 greatest_weight w) weights
 
--- the words name the members: the weight of each comes last, or none where each is 1
+-- the words name the members: the weight of each comes last, or no weight if each is 1
 abbrev pub AreWordsForMembers : List (List ℕ) → Membership → Type 0
 AreWordsForMembers words m =
     AreWordsFor words (federation_tokens m m.weights)

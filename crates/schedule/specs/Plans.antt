@@ -21,7 +21,7 @@ abbrev pub plan_with : ℕ → Membership → List (Option Command) → Plan
 plan_with skipped members lines =
     record { skipped = skipped; members = members; lines = lines }
 
--- nothing but spaces, or a comment: a line whose first byte is `#`
+-- only spaces, or a comment: a line whose first byte is `#`
 abbrev pub is_skipped : List ℕ → Bool
 is_skipped line = length (words_of line) == 0 || slice_index line 0 == 35
 
@@ -57,7 +57,7 @@ plan_from skipped (Some members) (Err fault) = Err fault
 plan_from skipped (Some members) (Ok commands) =
     Ok (plan_with skipped members commands)
 
--- the schedule of these lines, after so many that were skipped
+-- the schedule of these lines, after some that were skipped, by their number
 unfoldable pub plan_after : ℕ → List (List ℕ) → Result Plan ℕ
 plan_after skipped [] = Err 1
 plan_after skipped (line ∷ lines) =

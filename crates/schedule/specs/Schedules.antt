@@ -12,7 +12,7 @@ use Rattle.schedule.specs.Lines.{command_tokens, AreWordsForMembers}
 use Rattle.schedule.specs.Plans.{Plan}
 use Rattle.schedule.specs.Tokens.{AreWordsFor, HasWord}
 
--- the line is skipped: it is nothing but spaces, or its first byte is `#`
+-- the line is skipped: it has only spaces, or its first byte is `#`
 abbrev pub IsSkipped : List ℕ → Type 0
 IsSkipped line = HasWords line [] ⊎ ((rest : List ℕ) × (line ≡ 35 ∷ rest))
 
@@ -32,7 +32,7 @@ AllSay [] [] = ⊤
 AllSay (line ∷ lines) (said ∷ more) = Says line said × AllSay lines more
 AllSay lines more = ⊥
 
--- The text is the schedule's: its first lines are skipped, the next one names the members, and the
+-- The text is this schedule: its first lines are skipped, the next one names the members, and the
 -- later ones say what the schedule has.
 pub record IsTextOf (text : List ℕ) (plan : Plan) : Type 0 where
   pub before : List (List ℕ)
@@ -44,8 +44,8 @@ pub record IsTextOf (text : List ℕ) (plan : Plan) : Type 0 where
   pub members : NamesMembers first plan.members
   pub says : AllSay later plan.lines
 
--- The text is no schedule's, and this is the number of its first line at fault: 1 where every line
--- is skipped; the first line that isn't, if it names no members; or the first line after those that
+-- The text is no schedule, and this is the number of its first line at fault: 1 if every line is
+-- skipped; the first line that isn't, if it names no members; or the first line after those that
 -- name members and say something, if it says nothing.
 pub data HasFault : List ℕ → ℕ → Type 0 where
   no_command : (text : List ℕ) (number : ℕ) → AllByRecursion IsSkipped (lines text) → number ≡ 1

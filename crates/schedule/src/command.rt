@@ -6,7 +6,7 @@ use crate::tree_no::TreeNo;
 use fed_types::Slot;
 
 /// A command of a schedule, after the one that names the federation. A site is named by any number
-/// that a byte holds: whether it is a member is asked when the schedule runs.
+/// that fits a byte: whether it is a member is checked when the schedule runs.
 #[derive(Debug, Drop)]
 pub enum Command {
     /// `tree T` declares an empty tree.
@@ -38,8 +38,8 @@ pub enum Command {
         site: u8,
         bytes: HexBytes,
     },
-    /// `pump N`: so many turns, each of which delivers the datagram of the least number that no
-    /// `deliver` and no turn has named, where there is one.
+    /// `pump N`: N turns. Each delivers the datagram with the least number that no `deliver` and no
+    /// turn has named, if there is one.
     Pump {
         turns: u32,
     },

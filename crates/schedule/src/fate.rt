@@ -1,4 +1,4 @@
-/// The two device calls of a commit, which each may fail or be the last that a site makes.
+/// The two device calls of a commit. Each may fail, or be the last that a site makes.
 #[derive(Clone, Copy, Debug, PartialEq, Eq)]
 pub enum DeviceCall {
     /// The first: it adds the record's bytes to the cell.
@@ -7,7 +7,7 @@ pub enum DeviceCall {
     Sync,
 }
 
-/// What befalls a site within a call, or at its end. A record of a commit is kept if the number
+/// What happens to a site within a call, or at its end. A record of a commit is kept if the number
 /// beside the device call is at least the record's bytes in the cell, else it is lost.
 #[derive(Clone, Copy, Debug, PartialEq, Eq)]
 pub enum Fate {

@@ -28,7 +28,7 @@ pub fn commands_law()
         → AreWordsForMembers words members ↔ (federation_of words ≡ Some members) }
 {}
 
-/// `plan_of` says which schedule a text is of, or what its first line at fault is.
+/// `plan_of` says which schedule a text is, or what its first line at fault is.
 pub fn schedules_law()
     ensures schedules { (text : List ℕ) (plan : Plan)
         → IsTextOf text plan ↔ (plan_of text ≡ Ok plan) }
@@ -36,8 +36,8 @@ pub fn schedules_law()
         → HasFault text number ↔ (plan_of text ≡ Err number) }
 {}
 
-/// What is printed of a schedule is read as that schedule again, whatever its parts are, where each
-/// is in its range; and so are those of each schedule that is read.
+/// The printed text of a schedule is read as that schedule again, whatever its parts are, if each
+/// is in its range; and so is the text of each schedule that is read.
 pub fn round_trip_law()
     ensures again { (plan : Plan) → IsPlan plan → plan_of (schedule_text plan) ≡ Ok plan }
     ensures in_range { (text : List ℕ) (plan : Plan) → plan_of text ≡ Ok plan → IsPlan plan }

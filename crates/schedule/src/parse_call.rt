@@ -9,7 +9,7 @@ use crate::value::{parse_amount, parse_site, parse_tree_no};
 use std::alloc::{AllocError, Global};
 use words::parse_slot;
 
-// The command of a call and of the fate that the words after the call's own name.
+// The command for a call and for the fate that the words after the call's own name.
 #[tactic(auto, unfolding(crate::specs::Commands::call_command))]
 fn with_fate(call: Call, words: &[&[u8]]) -> Option<Command>
     ensures { result ≡ call_command call (map (λ word. word.now) words.now) }

@@ -26,7 +26,7 @@ pub(crate) fn parse_federation(words: &[&[u8]]) -> Option<Members>
     parse_members(federation, count as u8, weights)
 }
 
-// So many members, with the weights that the words name, or of weight 1 where there is no word.
+// `count` members, with the weights that the words name, or of weight 1 if there is no word.
 #[tactic(auto, unfolding(crate::specs::Commands::weights_of))]
 fn parse_members(federation: u64, count: u8, words: &[&[u8]]) -> Option<Members>
     requires { IsMemberCount count }

@@ -13,8 +13,8 @@ use crate::plan::Schedule;
 use std::alloc::{AllocError, Global};
 use words::{first_line, split_words};
 
-/// The schedule of a text, or the number of its first line at fault. `Memory` is answered only
-/// where an allocation failed.
+/// The schedule of a text, or the number of its first line at fault. `Memory` is answered only if
+/// an allocation failed.
 pub fn parse(alloc: Global, text: &[u8]) -> Result<Schedule, ParseFault>
     ensures { IsOrMemory result (plan_of text.now) }
 {
@@ -41,7 +41,7 @@ fn skips(line: &[u8], words: &[&[u8]]) -> bool
     words.is_empty() || line.first() == Some(&b'#')
 }
 
-// What the lines of a text say, the first of them being the line of this number.
+// What the lines of a text say; the first of them is the line of this number.
 fn parse_lines(alloc: Global, text: &[u8], first: usize) -> Result<Vec<Option<Command>>, ParseFault>
     requires { first + length text.now < 2 ^ 64 }
     ensures value { IfOk result

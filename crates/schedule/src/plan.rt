@@ -29,8 +29,8 @@ impl Model for Schedule {
 }
 
 impl Schedule {
-    /// The schedule of a federation's line, after so many that are skipped, and of what the lines
-    /// after it say.
+    /// The schedule of a federation's line, after some lines that are skipped, and of what the
+    /// lines after it say.
     pub(crate) fn new(skipped: usize, members: Members, lines: Vec<Option<Command>>) -> Schedule
         requires room { skipped + 2 + vec_len lines < 2 ^ 64 }
         requires in_range { IsPlan (plan_with skipped members lines.items) }
@@ -66,7 +66,7 @@ impl Schedule {
         self.members
     }
 
-    /// Each line after the federation's: its command, or `None` where it is skipped. Every part of
+    /// Each line after the federation's: its command, or `None` if it is skipped. Every part of
     /// each is in its range.
     pub fn lines(&self) -> &[Option<Command>]
         ensures value { result.now ≡ self.now.lines }

@@ -35,7 +35,8 @@ AreNew members all = AreStations members all (λ site. new_site)
 
 -- ---- the network
 
--- the members are numbers of sites; messages are well-formed; and what is no member stays new
+-- the members are numbers of sites; messages are well-formed; and numbers that are no member's stay
+-- new
 pub record IsSound (q : QuorumSystem) (network : Network) : Type 0 where
   pub sites : MembersAreSites q
   pub well_formed : IsWellFormed network
@@ -43,8 +44,8 @@ pub record IsSound (q : QuorumSystem) (network : Network) : Type 0 where
 
 -- ---- the federation
 
--- its sites represent those of the world, a line stands where it has to be for each datagram that
--- was sent; and trees, seen bags, named numbers and lines are the world's
+-- its sites represent those of the world, and each datagram that was sent has its line in its
+-- place; trees, seen bags, named numbers and lines are the world's
 pub record Represents (f : Federation) (w : World) : Type 0 where
   pub members : f.members ≡ w.members
   pub stations : AreStations w.members f.stations.items w.network.sites

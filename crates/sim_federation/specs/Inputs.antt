@@ -19,6 +19,6 @@ after w h = record w {
 abbrev pub after_input : World → (site : ℕ) → Input → Fate → World
 after_input w site input fate = after w (takes (quorums w) w.network site input fate)
 
--- the place of a member, of so many
+-- the place of a member, among `count` members
 abbrev pub place_in : (count site : ℕ) → Option ℕ
 place_in count site = if nat_le 1 site && nat_le site count then Some (site - 1) else None

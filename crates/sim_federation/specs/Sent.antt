@@ -1,4 +1,4 @@
--- The lines of datagrams that are sent, and where they stand among all lines.
+-- The lines of datagrams that are sent, and their places among all lines.
 use Rattle.std.specs.Prelude.{ℕ, zero, suc, ◌+◌, ◌≡◌, get_or, List, [], ◌∷◌, Option, Some, None}
 use Rattle.std.specs.Prelude.{slice_get}
 use Rattle.site.specs.Datagrams.{datagram}
@@ -12,21 +12,21 @@ use Rattle.sim_federation.specs.declared.arrival.Arrival.{Arrival}
 abbrev pub SENDER_PLACE : ℕ
 SENDER_PLACE = 12
 
--- the line of a datagram of this number, by the site that it goes to and its bytes
+-- the line of a datagram of this number, by the site to which it goes and its bytes
 abbrev pub line_sent : (number : ℕ) → ℕ × List ℕ → Line
 line_sent number d = lines.Sent number (get_or d.1 SENDER_PLACE 0) d.0 d.1
 
--- a line for each datagram, the first of which has this number
+-- a line for each datagram; the first has this number
 unfoldable pub lines_sent : (number : ℕ) → List (ℕ × List ℕ) → List Line
 lines_sent number [] = []
 lines_sent number (d ∷ sends) = line_sent number d ∷ lines_sent (number + 1) sends
 
--- so many places, one after the other
+-- `count` places, one after the other
 unfoldable pub places_from : (first count : ℕ) → List ℕ
 places_from first zero = []
 places_from first (suc count) = first ∷ places_from (first + 1) count
 
--- at each of these places stands the line of a datagram, the first of which has this number
+-- each of these places has the line of a datagram; the first datagram has this number
 unfoldable pub AreSent : (federation number : ℕ) → List Line → (places : List ℕ) → List Send
     → Type 0
 AreSent federation number all [] [] = Unit {0}

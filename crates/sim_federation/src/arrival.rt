@@ -44,8 +44,8 @@ impl Federation {
         }
     }
 
-    /// So many turns, each of which delivers the datagram of the least number that nothing has
-    /// named. Where every number is named the pump ends.
+    /// `turns` turns. Each delivers the datagram with the least number that nothing has named. When
+    /// every number is named the pump ends.
     pub(crate) fn pump(&mut self, number: usize, turns: u32) -> Result<(), AllocError>
         ensures { OnOk result ((w : World) → Represents self.old w
             → Represents self.new (pumped w number turns)) }
@@ -89,7 +89,7 @@ impl Federation {
         }
     }
 
-    // A datagram arrives at a site. One to a site that is no member would reach nobody.
+    // A datagram arrives at a site. A datagram to a site that is no member would reach nobody.
     fn arrive(&mut self, number: usize, to: u8, bytes: &[u8], fate: Fate) -> Result<(), AllocError>
         ensures { OnOk result ((w : World) (k : ℕ) (d : Send) → Represents self.old w
             → datagram_at k w.network.sent ≡ Some d

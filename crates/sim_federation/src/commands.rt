@@ -14,7 +14,7 @@ use std::alloc::AllocError;
 
 impl Federation {
     /// Runs the line of this number: its command, if it has one. `Err`: out of memory, and the
-    /// federation is given up.
+    /// federation is dropped.
     pub fn run_line(self, number: usize, line: &Option<Command>) -> Result<Federation, AllocError>
         ensures { IfOk result (λ after. (w : World) → Represents self w
             → Represents after (after_line w number line.now)) }

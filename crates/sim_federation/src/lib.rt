@@ -1,5 +1,5 @@
 //! The simulator's federation, which a schedule runs line by line: real sites over cells in memory,
-//! the datagrams that they sent, the declared trees, and what was said.
+//! the datagrams that they sent, the declared trees, and the lines.
 //!
 //! ```
 //! let mut federation = Federation::new(alloc, schedule.members())?;

@@ -1,4 +1,4 @@
-//! What is said of an event.
+//! The lines of an event.
 
 ghost use Rattle.std.specs.Prelude.{◌≡◌, ◌++◌, List, OnOk};
 ghost use Rattle.lines.specs.Named.{SeenBag, line_of, tree_of};
@@ -59,7 +59,7 @@ pub(crate) fn line_said(seen: &SeenBags, notice: Notice) -> Line
     line_of(notice, tree)
 }
 
-// The number of the tree in which a bag was seen first, and 0 where there is no bag.
+// The number of the tree in which a bag was seen first, or 0 if there is no bag.
 fn first_tree(seen: &SeenBags, bag: Option<BagId>) -> u32
     ensures { (bags : List SeenBag) → firsts.Represents seen.now bags → result ≡ tree_of bags bag }
 {

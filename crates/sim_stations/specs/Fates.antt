@@ -1,4 +1,4 @@
--- A call whose site stops is one that goes on or fails, and the stop after it.
+-- A call in which the site stops is a call that goes on or fails, and then the stop.
 use Rattle.schedule.specs.declared.fate.Fate.{Fate}
 use Rattle.schedule.specs.declared.fate.Fate.TheVariants.{Whole, StopsIn, StopsAfter, FailsIn}
 

@@ -10,6 +10,6 @@ abbrev pub call_number : DeviceCall → ℕ
 call_number Append = 1
 call_number Sync = 2
 
--- the fuse for this device call of the next commit, which keeps so many bytes
+-- the fuse for this device call of the next commit, which keeps `kept` bytes
 abbrev pub fuse_in : DeviceCall → How → (kept : ℕ) → Fuse
 fuse_in device how kept = record { call = call_number device; how = how; kept = kept }

@@ -1,4 +1,4 @@
--- Stations says what a station represents and what comes of each of its calls; before it come
+-- Stations says what a station represents and the outcome of each of its calls; before it come
 -- Calls, and `Networks` of `world_law`.
 pub mod Calls
 pub mod Told

@@ -1,4 +1,4 @@
--- Whose a station is, and whether it runs.
+-- The owner of a station, and whether it runs.
 use Rattle.records.specs.declared.owner.Owner.{Owner}
 use Rattle.sim_stations.specs.declared.run_state.RunState.{RunState}
 use Rattle.sim_stations.specs.declared.station.Station.{Station}

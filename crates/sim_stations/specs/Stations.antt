@@ -1,4 +1,4 @@
--- What a station of a simulator represents, and what comes of each of its calls, in the words of
+-- What a station of a simulator represents, and the outcome of each of its calls, in the words of
 -- `Networks`.
 use Rattle.std.specs.Prelude.{◌≡◌, true, false, List, map, Option, Some, None, Result, Ok}
 use Rattle.std.specs.Prelude.{Err}
@@ -46,7 +46,7 @@ pub record IsOpened (owner : Owner) (records : List Record) (site : OpenSite Mem
   pub whose : site.book.owner ≡ owner
   pub up : IsUp site records new_volatile
 
--- one whose device has failed: its cell keeps these records
+-- a site whose device has failed: its cell keeps these records
 pub record NeedsToOpen (site : OpenSite MemoryCell) (kept : List Record) : Type 0 where
   pub failed : site.book.needs_opening ≡ true
   pub records : Keeps site.book.owner site.book.cell kept

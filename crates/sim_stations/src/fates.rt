@@ -15,8 +15,8 @@ use schedule::{DeviceCall, Fate};
 use site::Site;
 use std::alloc::{AllocError, Global};
 
-/// Makes a call of a running site, up to where its fate stops it, and tells what came of it. `Err`:
-/// out of memory.
+/// Makes a call of a running site, up to where its fate stops it, and gives its outcome. `Err`: out
+/// of memory.
 pub(crate) fn undergo(
     alloc: Global,
     site: &mut Site<MemoryCell>,
@@ -44,7 +44,7 @@ fn goes_on(alloc: Global, site: &mut Site<MemoryCell>, call: &SiteCall) -> Resul
     told_of(alloc, number, call, make(site, call))
 }
 
-// This device call fails where the call commits a record; afterwards no fuse is set.
+// This device call fails if the call commits a record; afterwards no fuse is set.
 fn fails_in(
     alloc: Global,
     site: &mut Site<MemoryCell>,
@@ -64,7 +64,7 @@ fn fails_in(
     told_of(alloc, number, call, answer)
 }
 
-// A device call of the next commit fails, and so many bytes are kept.
+// A device call of the next commit fails, and `kept` bytes are kept.
 fn fuse_in(device: DeviceCall, how: How, kept: u32) -> Fuse
     ensures { result ≡ fuse_in device how kept }
 {

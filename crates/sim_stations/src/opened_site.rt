@@ -20,7 +20,7 @@ pub(crate) fn open(
     cell.restart();
     match Site::open(alloc, cell, *owner) {
         Ok(site) => Ok(site),
-        // No other fault comes of a cell that keeps records.
+        // A cell that keeps records causes no other fault.
         Err(_) => Err(AllocError),
     }
 }

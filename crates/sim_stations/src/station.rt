@@ -93,7 +93,7 @@ impl Station {
         mem::replace(self, left)
     }
 
-    /// The site is called, under a fate. `Err`: out of memory, and the station is given up.
+    /// The site is called, under a fate. `Err`: out of memory, and the station is dropped.
     pub fn call(self, call: &SiteCall, fate: Fate) -> Result<(Station, Told), AllocError>
         ensures whose { IfOk result (λ done. done.0.owner ≡ self.owner) }
         ensures comes { IfOk result (λ done. Undergoes self.owner
@@ -157,7 +157,8 @@ impl Station {
         }
     }
 
-    /// The site is opened, with so many records. `Err`: out of memory, and the station is given up.
+    /// The site is opened, with this many records. `Err`: out of memory, and the station is
+    /// dropped.
     pub fn start(self) -> Result<(Station, usize), AllocError>
         ensures whose { IfOk result (λ done. done.0.owner ≡ self.owner) }
         ensures starts { IfOk result (λ done. (s : SiteState)

@@ -9,7 +9,7 @@ use lines::{Notice, notice_of};
 use site::{Answer, Outgoing, SiteFault};
 use std::alloc::{AllocError, Global};
 
-/// What an event at a site comes to: what is said of it, if anything, and the datagrams that were
+/// The outcome of an event at a site: what is reported, if anything, and the datagrams that were
 /// sent, in order.
 #[derive(Debug, Drop)]
 pub struct Told {
@@ -17,7 +17,7 @@ pub struct Told {
     pub sends: Vec<Outgoing>,
 }
 
-/// What the site of this number answers to a call, as it is told. `Err`: out of memory.
+/// What the site of this number answers to a call, as it is reported. `Err`: out of memory.
 pub(crate) fn told_of(
     alloc: Global,
     site: u8,

@@ -29,7 +29,7 @@ files_unless path bytes files (Some fault) = files
 abbrev pub files_after : (path bytes : List ℕ) → Files → Files
 files_after path bytes files = files_unless path bytes files (fault_of_added files path bytes)
 
--- the trees after a file was to be added to one of them: they change where it has no fault
+-- the trees after a file was to be added to one of them: they change if it has no fault
 abbrev pub trees_with_file_unless :
     ℕ → (path bytes : List ℕ) → Files → Option TreeFault → List NumberedTree → List NumberedTree
 trees_with_file_unless number path bytes files None trees =

@@ -6,7 +6,7 @@ use Rattle.fed_types.specs.Lists.{is_in}
 use Rattle.world_law.specs.Worlds.{numbers_to}
 
 -- What was sent; and which numbers were named: the first numbers, from 1 on, have a mark each, and
--- those of the others that were named stand in a list.
+-- the others that were named are in a list.
 pub record Sending (T : Type 0) : Type 0 where
   pub sent : List T
   pub marks : List Bool
@@ -38,7 +38,7 @@ Represents d named = (k : ℕ) → is_named d.marks d.others k ≡ is_in named k
 abbrev pub RepresentsSame : {T : Type 0} → (old new : Sending T) → Type 0
 RepresentsSame old new = (named : List ℕ) → Represents old named → Represents new named
 
--- the least number of a datagram, of so many that were sent, that nothing has named
+-- the least number of a datagram, of `count` that were sent, that nothing has named
 abbrev pub next_unnamed : (named : List ℕ) → (count : ℕ) → Option ℕ
 next_unnamed named count = find (λ k. not (is_in named k)) (numbers_to count)
 

@@ -5,7 +5,7 @@ use Rattle.std.specs.Map.{lookup}
 use Rattle.std.specs.Option.{option_map}
 use Rattle.world_law.specs.Trees.{NumberedTree}
 
--- how many trees were declared before the one of this number, where it was declared
+-- how many trees were declared before the one of this number, if it was declared
 unfoldable pub place_of : (number : ℕ) → List NumberedTree → Option ℕ
 place_of number [] = None
 place_of number (tree ∷ trees) =

@@ -107,7 +107,7 @@ impl<T: Drop> Datagrams<T> {
     }
 }
 
-/// How far all numbers were named, of so many, where those up to `from` were.
+/// How far all numbers up to `count` were named, if those up to `from` were.
 fn last_named(marks: &[bool], others: &BTreeSet<usize>, from: usize, count: usize) -> usize
     requires { AreNamed marks.now others.now.keys from }
     ensures { IsLast marks.now others.now.keys count result }

@@ -46,7 +46,7 @@ impl SeenBags {
         Ok(())
     }
 
-    /// The number of the tree in which the bag was seen first, and 0 where none has held it.
+    /// The number of the tree in which the bag was seen first, or 0 if none has held it.
     pub fn first_tree(&self, bag: BagId) -> u32
         ensures { (seen : List SeenBag) → Represents self.now seen → result ≡ first_tree bag seen }
     {

@@ -15,7 +15,7 @@ use std::marker::Model;
 /// The trees that were declared, each found by its number. A clause sees them in the order of their
 /// declarations.
 ///
-/// A tree is found in a time that grows with the logarithm of how many there are, whatever their
+/// A tree is found in a time that grows with the logarithm of the number of trees, whatever their
 /// numbers are: a schedule may choose them so that hashes of them collide.
 #[derive(Drop)]
 pub struct Trees {

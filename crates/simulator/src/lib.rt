@@ -1,4 +1,4 @@
-//! A federation of sites, run by a schedule, and the text of what the run says:
+//! A federation of sites, run by a schedule, and the text of what the sites say:
 //!
 //! ```
 //! let schedule = parse(alloc, schedule).ok()?;

@@ -5,8 +5,8 @@ use crate::trace::Trace;
 use lines::{Options, push_printed};
 use std::alloc::{AllocError, Global};
 
-/// The text of a run: its lines in order, each ended by LF; those of datagrams only where `sent`
-/// asks for them. It fails only where memory runs out.
+/// The text of a run: its lines in order, each ended by LF; those of datagrams only if `sent` asks
+/// for them. It fails only if memory runs out.
 pub fn text(alloc: Global, trace: &Trace, options: Options) -> Result<String, AllocError>
     ensures { IfOk result (λ text. string_bytes text ≡ text_of options trace.now) }
 {

@@ -9,9 +9,9 @@ use sim_federation::Federation;
 use std::alloc::Global;
 
 /// Runs a schedule: the lines are those of the reference run. No two of them report different bags
-/// for one slot, and each bag that one of them reports was deposited for the slot by a line of the
-/// schedule before the one that prints it, from files that were a valid bag of its identity. The
-/// one fault is out of memory, and then there is no trace.
+/// for one slot. Each bag that a line reports was deposited for the slot by an earlier line of the
+/// schedule than the one that prints it, from files that were a valid bag of its identity. The only
+/// fault is out of memory, and then there is no trace.
 #[tactic(auto, unfolding(world_law::specs::Worlds::run_of))]
 pub fn run(alloc: Global, schedule: &Schedule) -> Result<Trace, RunFault>
     ensures lines { IfOk result (λ trace. trace ≡ (run_of schedule.now).lines) }

@@ -21,9 +21,9 @@ use Rattle.site.specs.Sites.{OpenSite, Represents}
 
 -- ---- the record
 
--- What a call's answer says of the commit of its record. Device and NeedsOpen are the commit's own.
--- Of the other faults only Memory comes where there is a record: a refusal of the definitions has
--- none, and `Keeps` doesn't ask this of it.
+-- What a call's answer says about the commit of its record. Device and NeedsOpen are the commit's
+-- own. Of the other faults, only Memory comes if there is a record: a refusal of the definitions
+-- has none, and `Keeps` doesn't require this of it.
 abbrev pub commit_of : Result Answer SiteFault → Result (Unit {0}) CommitFault
 commit_of (Ok answer) = Ok tt
 commit_of (Err faults.Device) = Err commits.Device
@@ -42,8 +42,8 @@ Keeps device (Some r) result old new =
 -- ---- the answer
 
 -- the call says what it has to and hands out the datagrams, in order; a refusal is that of the
--- definitions, and then, as where memory runs out, the site represents what it represented; Device
--- can come only where there is a record
+-- definitions, and then, or if memory runs out, the site represents what it represented; Device can
+-- come only if there is a record
 abbrev pub Gives :
     {C : Type 0} → (old new : OpenSite C) → VolatileState → Effect → Result Answer SiteFault
     → Type 0
@@ -66,7 +66,7 @@ pub record IsAnswered
   pub keeps : Keeps device e.commits result old.book new.book
   pub gives : Gives old new volatile e result
 
--- where the definitions refuse, the call refuses so, whatever memory there is
+-- if the definitions refuse, the call refuses in the same way, whatever memory there is
 abbrev pub IsRefused : Effect → Result Answer SiteFault → Type 0
 IsRefused e result = (fault : SiteFault) → e.says ≡ Err fault → result ≡ Err fault
 

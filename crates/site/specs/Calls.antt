@@ -32,7 +32,7 @@ abbrev pub other_than : BagId → Option BagId → Option BagId
 other_than bag None = None
 other_than bag (Some other) = if same_bag other bag then None else Some other
 
--- why a valid bag is refused: the own deposit is another, else the known bag is another
+-- why a valid bag is refused: the site's own deposit is another, else the known bag is another
 abbrev pub deposit_fault : (other_own other_known : Option BagId) → Option SiteFault
 deposit_fault (Some own) known = Some (faults.OtherDeposit own)
 deposit_fault None (Some known) = Some (faults.OtherKnown known)
@@ -50,7 +50,7 @@ registering slot own bag (Some fault) volatile = refuses fault volatile
 registering slot own bag None volatile =
     commits_and_says slot (deposit_entry own bag) (site_lines.Registered bag) volatile
 
--- a tree is deposited, of which the check gave this answer
+-- a tree is deposited, for which the check gave this answer
 unfoldable pub on_deposit : List Record → VolatileState → SlotName → Result BagId BagFault → Effect
 on_deposit records volatile slot (Err fault) = refuses (check_fault fault) volatile
 on_deposit records volatile slot (Ok bag) =
@@ -72,8 +72,8 @@ abbrev pub begins_next : QuorumSystem → SlotName → Option BallotNumber → V
 begins_next q slot None volatile = refuses faults.RoundsSpent volatile
 begins_next q slot (Some ballot) volatile = begins_ballot q slot ballot volatile
 
--- a site proposes where no bag is known, it has a deposit, and a ballot is left; the first of these
--- that isn't so is why it refuses
+-- a site proposes if no bag is known, it has a deposit, and a ballot is left; the first of these
+-- that fails is why it refuses
 abbrev pub begins_ballot_if :
     QuorumSystem → SlotName → (known own : Option BagId) → Option BallotNumber → VolatileState
     → Effect
@@ -89,9 +89,9 @@ on_propose q site records volatile slot =
 
 -- ---- a recovery
 
--- A site recovers where no bag is known, it has a vote or a deposit on record, and a ballot is
--- left; the first of these that isn't so is why it refuses. What comes of the ballot is as after a
--- proposal: a site without a deposit proposes only what promises name.
+-- A site recovers if no bag is known, it has a vote or a deposit on record, and a ballot is left;
+-- the first of these that fails is why it refuses. The rest of the ballot is as after a proposal: a
+-- site without a deposit proposes only what promises name.
 abbrev pub recovers_if :
     QuorumSystem → SlotName → (known : Option BagId) → (has : Bool) → Option BallotNumber
     → VolatileState → Effect
@@ -108,7 +108,7 @@ on_recover q site records volatile slot =
 
 -- ---- a question
 
--- a member is asked for the known bag; who calls says which, and that it is one
+-- a member is asked for the known bag; the caller says which, and that it is one
 unfoldable pub on_ask : (site : ℕ) → VolatileState → SlotName → (member : ℕ) → Effect
 on_ask site volatile slot member = commits_and_sends slot None (Ask site) (member ∷ []) volatile
 

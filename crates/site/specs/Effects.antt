@@ -1,4 +1,4 @@
--- What a call of a site comes to: the record that it commits first, if any; the messages that it
+-- The effect of a call of a site: the record that it commits first, if any; the messages that it
 -- then sends, in order; what it says, or why it refuses; and the volatile state from then on.
 use Rattle.std.specs.Prelude.{ℕ, List, [], map, Option, Some, None, Result, Ok, Err}
 use Rattle.fed_types.specs.Slots.{SlotName}
@@ -10,7 +10,7 @@ use Rattle.proposer.specs.VolatileStates.{VolatileState}
 use Rattle.site.specs.declared.answer.Line.{Line}
 use Rattle.site.specs.declared.fault.SiteFault.{SiteFault}
 
--- a message and the site that it goes to; its sender is the site that it names
+-- a message and the site to which it goes; its sender is the site that it names
 pub record Send : Type 0 where
   pub to : ℕ
   pub message : Message
@@ -49,16 +49,16 @@ commits_and_says slot entry line volatile = record {
   volatile = volatile;
 }
 
--- it says this, and nothing else comes of it
+-- it says this, and has no other effect
 abbrev pub only_says : Line → VolatileState → Effect
 only_says line volatile =
     record { commits = None; sends = []; says = Ok (Some line); volatile = volatile }
 
--- it refuses, and nothing comes of it
+-- it refuses, and has no other effect
 abbrev pub refuses : SiteFault → VolatileState → Effect
 refuses fault volatile =
     record { commits = None; sends = []; says = Err fault; volatile = volatile }
 
--- nothing comes of it but the volatile state
+-- its only effect is the volatile state
 abbrev pub quiet : VolatileState → Effect
 quiet volatile = record { commits = None; sends = []; says = Ok None; volatile = volatile }

@@ -1,4 +1,4 @@
--- The faults: their numbers, and what they are of the faults of a check, a commit and a proposal.
+-- The faults: their numbers, and how they come from the faults of a check, a commit and a proposal.
 use Rattle.std.specs.Prelude.{ℕ}
 use Rattle.bag_check.specs.declared.fault.BagFault.{BagFault}
 use Rattle.bag_check.specs.declared.fault.BagFault.TheVariants as checks
@@ -21,7 +21,8 @@ number_of faults.RoundsSpent = 17
 number_of faults.AlreadyKnown = 18
 number_of faults.NothingToRecover = 19
 
--- why a tree is not deposited, by what its check says; where memory ran out it says nothing of it
+-- why a tree is not deposited, by what its check says; if memory ran out, the check says nothing
+-- about it
 abbrev pub check_fault : BagFault → SiteFault
 check_fault checks.Memory = faults.Memory
 check_fault fault = faults.InvalidBag fault

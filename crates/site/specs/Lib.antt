@@ -1,4 +1,4 @@
--- What a site promises is read in this order: Effects (what a call comes to), Arrivals (what a
+-- What a site promises is read in this order: Effects (the effect of a call), Arrivals (what a
 -- message does), Calls (what a call does), Sites (what a site represents), Answered (when a call
 -- answers so), Datagrams, Opened, Faults. Before them come the words of `acceptor`, `proposer` and
 -- `learner`, and of `book` Committed and Opened. A commit puts a record on record; that a quorum

@@ -1,5 +1,5 @@
--- What a site reports, over any list of its acts. Each act may have any volatile state, so
--- nothing is assumed of the network: whatever the site has heard, forged messages too, and however
+-- What a site reports, over any list of its acts. Each act may have any volatile state, so nothing
+-- is assumed about the network: whatever the site has heard, including forged messages, and however
 -- often it was opened in between.
 use Rattle.std.specs.Prelude.{◌≡◌, ℕ, List, [], ◌∷◌, ◌++◌, Option, Some, None, Result, Ok}
 use Rattle.std.specs.Option.{option_to_list}
@@ -17,8 +17,8 @@ use Rattle.site.specs.declared.fault.SiteFault.{SiteFault}
 use Rattle.site.specs.Effects.{Effect}
 use Rattle.site.specs.Calls.{Input, effect_of, reply_of}
 
--- what becomes of a call: it is answered; or, since memory ran out, the device failed or the site
--- stopped, it isn't, and its record is kept or lost
+-- the outcome of a call: it is answered; or it isn't, since memory ran out, the device failed or
+-- the site stopped, and its record is kept or lost
 pub data Ending : Type 0 where
   Answered : Ending
   Kept : Ending

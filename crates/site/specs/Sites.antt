@@ -19,7 +19,7 @@ abbrev pub Represents : {C : Type 0} → OpenSite C → VolatileState → Type 0
 Represents s volatile =
     (under : UnderWay) × tables.Represents s.tables s.book.records volatile under
 
--- what is so of every site: its tables are those of its records, and it represents some volatile
+-- what is true of every site: its tables are those of its records, and it represents some volatile
 -- state
 pub record IsInOrder {C : Type 0} (s : OpenSite C) : Type 0 where
   pub of : IsOf s.tables s.book.owner s.book.records

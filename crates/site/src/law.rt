@@ -5,8 +5,8 @@ ghost use Rattle.records.specs.SlotStates.{known_of};
 ghost use Rattle.site.specs.Reported.{Act, Report, Agree, records_after, report_of, reports_of};
 
 /// A site never reports two bags for one slot, whatever arrives, and however often it is opened:
-/// its records only grow, and a report names the bag of the slot's first Known record, which the
-/// site then has. It does nothing: its contract is the law.
+/// its records are only added to, and a report names the bag of the slot's first Known record,
+/// which the site then has. It does nothing: its contract is the law.
 pub fn a_site_reports_one_bag()
     ensures agree { (q : QuorumSystem) (site : ℕ) (records : List Record) (acts : List Act)
         → Agree (reports_of q site records acts) }

@@ -53,8 +53,8 @@ impl<C: Cell> Model for Site<C> {
 }
 
 impl<C: Cell> Site<C> {
-    /// Opens the site of this owner, from the journal in the cell. It has heard nothing yet, and no
-    /// ballot of it is current. On a refusal the cell is handed back.
+    /// Opens the site of this owner, from the journal in the cell. It has heard nothing yet, and
+    /// has no current ballot. If it is refused, the cell is handed back.
     pub fn open(alloc: Global, cell: C, owner: Owner) -> Result<Site<C>, (C, OpenFault)>
         ensures opened { Opens C.device owner cell (book_of result) }
         ensures stands { IfOk result (λ s. Represents s new_volatile) }
@@ -96,7 +96,7 @@ impl<C: Cell> Site<C> {
         self.book.members()
     }
 
-    /// The records, in order. Where the site needs opening, the cell may hold one more.
+    /// The records, in order. If the site needs opening, the cell may hold one more.
     pub fn records(&self) -> &[Record]
         ensures { result.now ≡ self.now.book.records }
     {
@@ -110,8 +110,8 @@ impl<C: Cell> Site<C> {
         self.book.needs_opening()
     }
 
-    /// The slot at this place, counted from 0, of those that have a deposit among the records, in
-    /// the order of these.
+    /// The slot at this place, counted from 0, among those that have a deposit on record, in the
+    /// order of these records.
     pub fn deposited(&self, place: usize) -> Option<&Slot>
         ensures { option_copied result ≡ slot_at (deposits_of self.now.book.records) place }
     {
@@ -138,7 +138,7 @@ impl<C: Cell> Site<C> {
         })
     }
 
-    /// Asks a member for the bag that it knows. The caller ensures that it is one.
+    /// Asks a member for the bag that it knows. The caller ensures that it is a member.
     pub fn ask(&self, slot: &Slot, to: SiteNo) -> Result<Answer, SiteFault>
         ensures answer { self.now.book.needs_opening ≡ false → (volatile : VolatileState)
             → Represents self.now volatile
@@ -158,7 +158,7 @@ impl<C: Cell> Site<C> {
         Ok(Answer { line: None, sends })
     }
 
-    /// Takes a tree as the slot's deposit, where it is a valid bag, and neither another deposit nor
+    /// Takes a tree as the slot's deposit, if it is a valid bag, and neither another deposit nor
     /// another known bag is in the way.
     pub fn deposit(&mut self, slot: &Slot, facts: &Facts) -> Result<Answer, SiteFault>
         ensures answer { self.old.book.needs_opening ≡ false → (volatile : VolatileState)
@@ -176,8 +176,8 @@ impl<C: Cell> Site<C> {
         self.register(slot, bag)
     }
 
-    /// Proposes the slot's deposit: begins the next ballot, and asks all members to promise it.
-    /// Where that is refused, it takes no memory.
+    /// Proposes the slot's deposit: begins the next ballot, and asks all members to promise it. If
+    /// that is refused, it takes no memory.
     pub fn propose(&mut self, slot: &Slot) -> Result<Answer, SiteFault>
         ensures answer { self.old.book.needs_opening ≡ false → (volatile : VolatileState)
             → Represents self.old volatile
@@ -202,9 +202,9 @@ impl<C: Cell> Site<C> {
         }
     }
 
-    /// Recovers what may be chosen for the slot: where the site has a vote or a deposit, begins the
-    /// next ballot, and asks all members to promise it. What comes of it is as after `propose`;
-    /// without a deposit it proposes only a bag that promises name. A refusal takes no memory.
+    /// Recovers what may be chosen for the slot: if the site has a vote or a deposit, begins the
+    /// next ballot, and asks all members to promise it. The rest is as after `propose`; without a
+    /// deposit it proposes only a bag that promises name. A refusal takes no memory.
     pub fn recover(&mut self, slot: &Slot) -> Result<Answer, SiteFault>
         ensures answer { self.old.book.needs_opening ≡ false → (volatile : VolatileState)
             → Represents self.old volatile

@@ -47,8 +47,8 @@ deposits_of records = fold with_deposit [] records
 abbrev pub slot_at : Rows BagId → ℕ → Option SlotName
 slot_at rows place = option_map (λ row. row.0) (slice_get rows place)
 
--- The tables of this owner say what these records say: what follows of the records alone. Whatever
--- the learner has heard, it knows the bags that they say are known.
+-- The tables of this owner say what these records say: what follows from the records alone.
+-- Whatever the learner has heard, it knows the bags that the records say are known.
 pub record IsOf (t : Contents) (owner : Owner) (records : List Record) : Type 0 where
   pub deposits : t.deposits ≡ deposits_of records
   pub acceptor : acceptors.Represents t.acceptor records

@@ -1,6 +1,6 @@
 //! What a site knows of every slot: its deposits, and what its acceptor, proposer and learner know.
-//! The tables take note of each record that the site has committed, and hear each message that it
-//! has taken in.
+//! The tables note each record that the site has committed, and hear each message that it has taken
+//! in.
 //!
 //! ```
 //! match self.tables.accepted(from, &slot, vote)? {

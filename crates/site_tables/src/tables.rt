@@ -86,8 +86,8 @@ impl Tables {
         self.deposits.of(slot)
     }
 
-    /// The slot at this place, counted from 0, of those that have a deposit, in the order of their
-    /// records.
+    /// The slot at this place, counted from 0, among those that have a deposit, in the order of
+    /// their records.
     pub fn deposited(&self, place: usize) -> Option<&Slot>
         ensures { (owner : declared_owner) (records : Records)
             → IsOf self.now owner records
@@ -151,8 +151,8 @@ impl Tables {
         self.proposer.begin(slot)
     }
 
-    /// Hears a promise, and gives the bag to propose exactly when it makes the proposal ready: that
-    /// of the highest vote named, or else the slot's deposit, if there is one. Then the promise
+    /// Hears a promise, and gives the bag to propose exactly when it makes the proposal ready: the
+    /// bag of the highest vote named, or else the slot's deposit, if there is one. Then the promise
     /// waits, and is heard once `issued` is called.
     pub fn promise(
         &mut self,
@@ -193,7 +193,7 @@ impl Tables {
         self.proposer.refused(slot, standing)
     }
 
-    /// Hears of a vote, and gives the bag that is learned by it: then nothing changes.
+    /// Hears a vote, and gives the bag that is learned from it: then nothing changes.
     pub fn accepted(
         &mut self,
         from: SiteNo,
@@ -213,7 +213,7 @@ impl Tables {
         ensures unchanged { IfOk result (λ o. IsSome o → self.new ≡ self.old) }
         ensures of { IsOfSame self.old self.new }
         ensures same { OnErr result (RepresentsSame self.old self.new) }
-        // Memory can run out only where nothing is learned, and the vote still counts.
+        // Memory can run out only if nothing is learned, and the vote still counts.
         ensures no_memory { OnErr result ((owner : declared_owner)
             (records : Records) (volatile : VolatileState) (under : UnderWay)
             → IsOf self.old owner records → Represents self.old records volatile under
@@ -245,7 +245,7 @@ impl Tables {
         self.learner.reserve(slot)
     }
 
-    /// Takes note of a record that was committed, for which there is room. It takes no memory.
+    /// Notes a record that was committed, for which there is room. It takes no memory.
     pub fn note(&mut self, new: Record)
         requires { HasRoom self.old new.slot }
         ensures of { (owner : declared_owner) (records : Records)

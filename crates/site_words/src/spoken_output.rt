@@ -5,8 +5,8 @@ use crate::line_reason::push_reason;
 use std::alloc::AllocError;
 use std::io::{Result, Write};
 
-/// An output that says on standard error, after each line that has a code, what it says; where that
-/// isn't asked for, or memory or standard error fails, nothing. It is the output otherwise.
+/// An output that says on standard error, after each line that has a code, what it says. If that
+/// isn't asked for, or memory or standard error fails, it says nothing. Otherwise it is the output.
 #[derive(Drop)]
 pub struct SpokenOutput<'a, W> {
     output: W,
@@ -24,7 +24,7 @@ struct Speaker<'a> {
 }
 
 impl<'a, W: Write> SpokenOutput<'a, W> {
-    /// This output, with words where something is given of which they may speak.
+    /// This output, with words if something is given of which they may speak.
     pub fn new(rt: &'a HostRuntime, asked: Option<Asked<'a>>, output: W) -> SpokenOutput<'a, W> {
         let begun = String::new(rt.alloc());
         SpokenOutput {
@@ -49,7 +49,7 @@ impl<W: Write> Write for SpokenOutput<'_, W> {
 }
 
 impl Speaker<'_> {
-    // At the end of each line that was written it is said.
+    // At the end of each line that was written, its words are said.
     fn take(&mut self, written: &[u8]) {
         let Some(asked) = self.asked else {
             return;
@@ -65,7 +65,7 @@ impl Speaker<'_> {
     }
 }
 
-// Says what a line says, if it has a code. Where standard error can't be written nobody is told.
+// Says what a line says, if it has a code. If standard error can't be written, it says nothing.
 fn say(rt: &HostRuntime, asked: &Asked<'_>, line: &str) -> std::result::Result<(), AllocError> {
     let mut text = String::new(rt.alloc());
     push_reason(rt, &mut text, asked, line)?;

@@ -5,8 +5,8 @@ use Rattle.fed_types.specs.Slots.{SlotName}
 use Rattle.slot_table.specs.Rows.{Rows, row_at, IsWith}
 use Rattle.slot_table.specs.contracts.slot_table.SlotTable.{the_row}
 
--- the slot has the row that was written last, and all others are as they were; and where that is
--- the row that it had, the table is the one that it was
+-- the slot has the row that was written last, and all others are as they were; and if that is the
+-- row that it had, the table is as it was
 abbrev pub IsWritten : {R : Type 0} → (old new : Rows R) → SlotName → R → Type 0
 IsWritten old new slot written =
     (IsSome (row_at old slot) → IsWith old new slot written)

@@ -1,4 +1,4 @@
--- Rows by slot, and the slots in the order in which they got their first ones.
+-- Rows by slot, and the slots in the order in which they got their first rows.
 use Rattle.std.specs.Prelude.{◌≡◌, List, ◌∷◌, [], ◌++◌, is_some, if◌then◌else◌}
 use Rattle.std.specs.List.{list_any}
 use Rattle.fed_types.specs.Slots.{SlotName, same_slot}

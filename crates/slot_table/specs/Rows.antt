@@ -16,7 +16,7 @@ abbrev pub row_or : {R : Type 0} → (empty : R) → Option R → R
 row_or empty None = empty
 row_or empty (Some row) = row
 
--- what a table knows of a slot, where it knows of one without a row what the empty row says
+-- what a table knows of a slot; of a slot without a row it knows what the empty row says
 abbrev pub row_of : {R : Type 0} → (empty : R) → Rows R → SlotName → R
 row_of empty rows slot = row_or empty (row_at rows slot)
 

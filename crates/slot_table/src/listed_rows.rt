@@ -39,7 +39,7 @@ impl<R: Drop> ListedRows<R> {
         }
     }
 
-    /// The slots that have a row, in the order in which they got their first ones.
+    /// The slots that have a row, in the order in which they got their first rows.
     pub fn slots(&self) -> &[Slot]
         ensures { result.now ≡ self.now.slots }
     {
@@ -53,7 +53,7 @@ impl<R: Drop> ListedRows<R> {
         self.rows.get(slot)
     }
 
-    /// Gives the slot this row, in the place of the one that it has, if it has one.
+    /// Gives the slot this row, in place of the one that it has, if it has one.
     pub fn put(&mut self, slot: &Slot, row: R) -> Result<(), AllocError>
         ensures slots { OnOk result (self.new.slots ≡ listed self.old.slots slot.now) }
         ensures rows { OnOk result (IsWith self.old.rows self.new.rows slot.now row) }

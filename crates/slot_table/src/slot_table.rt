@@ -12,8 +12,8 @@ use std::marker::Model;
 
 /// A row for each slot that has one. A clause sees the slots and their rows.
 ///
-/// It is found in a time that grows with the logarithm of how many there are, whatever the slots
-/// are: names may be chosen by an adversary, and so the table isn't a hashed one.
+/// A row is found in a time that grows with the logarithm of the number of rows, whatever the slots
+/// are: an adversary may choose names, so the table isn't hashed.
 #[derive(Drop)]
 pub struct SlotTable<R: Drop> {
     alloc: Global,
@@ -54,7 +54,7 @@ impl<R: Drop> SlotTable<R> {
         self.rows.get_mut(slot)
     }
 
-    /// Gives the slot this row, in the place of the one that it has, if it has one.
+    /// Gives the slot this row, in place of the one that it has, if it has one.
     pub fn put(&mut self, slot: Slot, row: R) -> Result<(), AllocError>
         ensures ok { OnOk result (IsWith self.old self.new slot row) }
         ensures err { OnErr result (self.new ≡ self.old) }

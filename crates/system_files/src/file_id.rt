@@ -21,8 +21,8 @@ impl FileId {
     }
 }
 
-/// The regular file to which a path leads, over links; none where nothing is there. What is no such
-/// file is refused: an open of a pipe may wait for ever.
+/// The regular file to which a path leads, through links; none if nothing is there. Anything else
+/// is refused: opening a pipe may wait for ever.
 pub fn regular_file_at(rt: &HostRuntime, path: &str) -> io::Result<Option<FileId>> {
     match fs::metadata(rt, path) {
         Ok(about) if about.is_file() => Ok(Some(FileId::of(&about))),
@@ -32,8 +32,8 @@ pub fn regular_file_at(rt: &HostRuntime, path: &str) -> io::Result<Option<FileId
     }
 }
 
-/// Refuses an open file that isn't the one that was seen before its open, or, where none was there,
-/// that is no regular one.
+/// Refuses an open file that isn't the one that was seen before it was opened, or, if none was
+/// there, that isn't a regular file.
 pub fn expect_same(seen: Option<FileId>, file: &File) -> io::Result<()> {
     let about = file.metadata()?;
     let is_same = match seen {

@@ -3,8 +3,8 @@
 use libc::net::{POLLOUT, poll};
 use libc::types::pollfd;
 
-/// Whether a write of 4,096 bytes at most to this descriptor doesn't wait for a reader, as far as
-/// the system says so: a pipe then takes them all. Where it can't say, the write will tell why.
+/// Whether a write of at most 4,096 bytes to this descriptor doesn't wait for a reader, as far as
+/// the system says so: a pipe then takes them all. If it can't say, the write will show why.
 pub fn takes_now(descriptor: i32) -> bool {
     let mut asked = [pollfd {
         fd: descriptor,

@@ -10,7 +10,7 @@ use std::io;
 /// What `getrlimit` is asked.
 const RLIMIT_FSIZE: i32 = 1;
 
-/// Refuses to append so many bytes to a file where that would make it longer than the process may
+/// Refuses to append `more` bytes to a file if that would make it longer than the process may
 /// write. Such a write would end the process by a signal.
 pub fn expect_room(file: &File, more: u64) -> io::Result<()> {
     match size_limit() {
@@ -19,8 +19,8 @@ pub fn expect_room(file: &File, more: u64) -> io::Result<()> {
     }
 }
 
-/// The same of standard output, if that is a file. It is the longer of the file and of the place at
-/// which it is written.
+/// The same for standard output, if that is a file. Its length is the greater of the file's length
+/// and the place at which it is written.
 pub fn expect_room_in_output(rt: &HostRuntime, more: u64) -> io::Result<()> {
     let Some(limit) = size_limit() else {
         return Ok(());
@@ -58,7 +58,7 @@ pub fn size_limit() -> Option<u64> {
     Some(limit.rlim_cur)
 }
 
-/// Whether a file of this length may have so many bytes more.
+/// Whether a file of this length may have `more` bytes more.
 pub fn has_room(limit: u64, length: u64, more: u64) -> bool
     ensures { IsTrue result ↔ length + more ≤ limit }
 {

@@ -6,7 +6,7 @@ use std::fs;
 use std::io::ErrorKind;
 use std::path::Path;
 
-/// So many links are followed where they lead to nothing: as many as the system follows.
+/// This many links are followed if they lead to nothing: as many as the system follows.
 const MOST_LINKS: u32 = 40;
 
 /// What a path leads to, over links.
@@ -23,11 +23,11 @@ enum Target {
 #[derive(Drop)]
 enum Step {
     End(Target),
-    /// To this path: that of a link that leads to nothing.
+    /// To this path: the path in a link that leads to nothing.
     Link(String),
 }
 
-/// Whether two paths lead to one file, over links of either kind, or would, once it is made.
+/// Whether two paths lead to one file, through links of either kind, or would, once it is made.
 pub fn is_same_file(rt: &HostRuntime, one: &str, other: &str) -> Result<bool, AllocError> {
     let one = target_of(rt, one)?;
     let other = target_of(rt, other)?;
@@ -60,7 +60,7 @@ fn look_at(rt: &HostRuntime, path: &str) -> Result<Step, AllocError> {
     }
 }
 
-// What a path leads to at whose end no file is: a link, or what isn't there yet.
+// What a path leads to if no file is at its end: a link, or what isn't there yet.
 fn look_at_missing(rt: &HostRuntime, path: &str) -> Result<Step, AllocError> {
     match fs::read_link(rt, path) {
         Ok(link) => Ok(Step::Link(beside(rt, path, link.as_str())?)),

@@ -1,4 +1,4 @@
--- The words of a line, and what one stands for, by cases, beside the functions that read them
+-- The words of a line, and what a word stands for, by cases, beside the functions that read them
 -- (`words_of`, `number_in`, `text_of` and `bytes_of`), which say the same.
 use Rattle.std.specs.Prelude.{◌≡◌, ◌≢◌, ℕ, ◌+◌, ◌*◌, ◌<◌, ⊤, ◌⊎◌}
 use Rattle.std.specs.Prelude.{List, [], ◌∷◌, ◌++◌, length, replicate, All}

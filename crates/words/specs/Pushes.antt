@@ -3,6 +3,6 @@ use Rattle.std.specs.Prelude.{◌≡◌, ℕ, List, ◌++◌, Result, OnOk, Stri
 use Rattle.std.specs.Global.{Global}
 use Rattle.std.specs.String.{string_bytes}
 
--- where the call succeeds, it appended these bytes
+-- if the call succeeds, it appended these bytes
 abbrev pub Pushes : {X E : Type 0} → Result X E → String Global → String Global → List ℕ → Type 0
 Pushes result old new bytes = OnOk result (string_bytes new ≡ string_bytes old ++ bytes)

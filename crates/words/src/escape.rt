@@ -10,8 +10,8 @@ use std::alloc::AllocError;
 const ESCAPED: AsciiSet = ascii_set!(CONTROLS.add(b' ').add(b'%'));
 
 /// Appends a name or a path as one word of a line, in a schedule and in what a run prints: bytes 00
-/// to 20, 25, and 7F and all above are percent-encoded, with capital hex digits. Out of memory, it
-/// leaves the text as it was.
+/// to 20, 25, and 7F and all above are percent-encoded, with capital hex digits. If memory runs
+/// out, it leaves the text as it was.
 pub fn push_escaped(text: &mut String, name: &str) -> Result<(), AllocError>
     ensures ok { Pushes result text.old text.new (escaped_text name.now) }
     ensures err { OnErr result (string_bytes text.new ≡ string_bytes text.old) }

@@ -5,8 +5,8 @@ ghost use Rattle.words.specs.Words.{words_of};
 
 use std::alloc::{AllocError, Global};
 
-/// The first line of a text without its end, and the text after it, or `None` where no line is
-/// left. A line ends at LF, or at the end of the text.
+/// The first line of a text without its end, and the text after it, or `None` if no line is left. A
+/// line ends at LF, or at the end of the text.
 pub fn first_line(text: &[u8]) -> Option<(&[u8], &[u8])>
     ensures value { MatchOption result (lines text.now ≡ [])
         (λ x. lines text.now ≡ x.0.now ∷ lines x.1.now) }

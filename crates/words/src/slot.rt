@@ -6,7 +6,7 @@ use crate::text::parse_text;
 use fed_types::Slot;
 use std::alloc::{AllocError, Global};
 
-/// The slot of two words: an object's name, and a version. It fails only where memory runs out.
+/// The slot of two words: an object's name, and a version. It fails only if memory runs out.
 #[tactic(auto, unfolding(crate::specs::Slots::slot_of, crate::specs::Slots::object_of))]
 pub fn parse_slot(alloc: Global, object: &[u8], version: &[u8]) -> Result<Option<Slot>, AllocError>
     ensures { IfOk result (λ slot. slot ≡ slot_of object.now version.now) }

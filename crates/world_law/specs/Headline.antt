@@ -45,8 +45,8 @@ LinesAgree all =
 
 -- ---- deposits
 
--- A line of a schedule is a `deposit` at this site for the slot, and isn't skipped; and its tree,
--- as it is then, is a valid bag of this identity.
+-- A line of a schedule is a `deposit` at this site for the slot, and isn't skipped; its tree, as it
+-- is then, is a valid bag of this identity.
 pub record IsValidDeposit
     (w : World) (line : Option Command) (site : ℕ) (slot : SlotName) (bag : BagId)
     : Type 0 where
@@ -62,7 +62,7 @@ pub record IsValidDeposit
 
 -- The line, which has this number, deposits the bag for the slot: it hands the site a valid tree of
 -- that bag, and after it the site has that deposit on record, by this line or an earlier one,
--- whatever it answered, and also where it was stopped or its device failed.
+-- whatever the site answered, and even if it was stopped or its device failed.
 pub record DepositedBy
     (w : World) (number : ℕ) (line : Option Command) (slot : SlotName) (bag : BagId)
     : Type 0 where
@@ -103,7 +103,7 @@ LinesStay =
     → (after_line w number line).lines ≡ w.lines ++ printed w number line
 
 -- This line of the schedule, with these before it, prints the output line of this place, counted
--- from 0: before it at most so many lines were printed, and after it more.
+-- from 0: before the schedule's line at most `place` lines were printed, and after it more.
 pub record IsPrintedBy
     (plan : Plan) (place : ℕ) (before : List (Option Command)) (line : Option Command)
     : Type 0 where
@@ -112,8 +112,8 @@ pub record IsPrintedBy
   pub not_yet : length (world_after plan before).lines ≤ place
   pub by_it : place < length (world_with plan before line).lines
 
--- validity: what a line of the run reports was deposited by a line of the schedule before the one
--- that prints it
+-- validity: what a line of the run reports was deposited by an earlier line of the schedule than
+-- the one that prints it
 abbrev pub ReportsWereDeposited : Plan → List Line → Type 0
 ReportsWereDeposited plan trace =
     (earlier later : List Line) (l : Line) (slot : SlotName) (bag : BagId)

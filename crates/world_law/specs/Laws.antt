@@ -1,5 +1,5 @@
--- What is said of a network, and the laws of agreement (Lamport, Paxos Made Simple, section 2.2).
--- Each law is the contract of a function of src/law.rt.
+-- Facts about a network, and the laws of agreement (Lamport, Paxos Made Simple, section 2.2). Each
+-- law is the contract of a function of src/law.rt.
 use Rattle.std.specs.Prelude.{ℕ, ◌≡◌, ◌⊎◌, List, [], ◌∷◌, ◌++◌, Option, Some, None}
 use Rattle.std.specs.Option.{option_to_list, option_map}
 use Rattle.fed_types.specs.declared.bag_id.BagId.{BagId}
@@ -71,7 +71,7 @@ IsPrior w n slot b (Some vote) = IsHighestBelow w n slot b vote
 
 -- ---- what backs a proposal
 
--- P2c: the bag of the highest prior vote; where none was named, a deposit of the proposer
+-- P2c: the bag of the highest prior vote; if none was named, a deposit of the proposer
 abbrev pub SatisfiesP2c : Network → (proposer : ℕ) → SlotName → Option Vote → BagId → Type 0
 SatisfiesP2c w proposer slot None bag = OnRecord w proposer slot (entry.Deposit bag)
 SatisfiesP2c w proposer slot (Some prior) bag = prior.bag ≡ bag
@@ -82,7 +82,7 @@ pub record IsNamed (promises : List PromiseFrom) (vote : Vote) : Type 0 where
   pub among : Has promise promises
   pub names : promise.prior ≡ Some vote
 
--- one of them names it, and none a higher one
+-- one of them names it, and none names a higher one
 pub record IsHighestNamed (promises : List PromiseFrom) (highest : Vote) : Type 0 where
   pub named : IsNamed promises highest
   pub none_higher : (vote : Vote) → IsNamed promises vote → ¬ Below highest.ballot vote.ballot
@@ -177,7 +177,7 @@ ReportWasChosen q w e =
     (notice : Notice) (r : Report) → (happens q w e).notice ≡ Some notice
     → notice_report notice ≡ Some r → IsChosen q w r.slot r.bag
 
--- the site at which an event happens; that of an arrival is the datagram's addressee
+-- the site at which an event happens; for an arrival it is the datagram's addressee
 abbrev pub site_of : Network → Event → Option ℕ
 site_of w (Deposit site slot checked fate) = Some site
 site_of w (Propose site slot fate) = Some site

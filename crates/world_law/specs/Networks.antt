@@ -24,7 +24,7 @@ use Rattle.schedule.specs.declared.fate.Fate.TheVariants.{Whole, StopsIn, StopsA
 -- ---- sites and datagrams
 
 -- A site is up, with its volatile state; or it is down; or its device has failed, and it needs
--- opening. One that isn't up has lost its volatile state.
+-- opening. A site that isn't up has lost its volatile state.
 pub data Mode : Type 0 where
   Up : VolatileState → Mode
   Down : Mode
@@ -42,9 +42,9 @@ pub record SiteState : Type 0 where
   pub mode : Mode
 
 -- Each site by its number: numbers that are no member's are there too, and `run` leaves them new.
--- And all datagrams, in the order in which they were sent, each as the message that its bytes
--- decode to (`message_of_its_datagram` of `dgram`); its sender is the site that the message names.
--- `run` takes none away: one may arrive once, often or never, in any order.
+-- And all datagrams, in the order in which they were sent, each as the message to which its bytes
+-- decode (`message_of_its_datagram` of `dgram`); its sender is the site that the message names.
+-- `run` removes none: one may arrive once, often or never, in any order.
 pub record Network : Type 0 where
   pub sites : ℕ → SiteState
   pub sent : List Send
@@ -59,10 +59,10 @@ new_network = record { sites = λ site. new_site; sent = [] }
 
 -- ---- events
 
--- A site is called to take a tree as its deposit, of which the check gave this answer; to propose;
--- to recover; to ask a member; to reply to a query. The datagram of this number, of all that were
--- ever sent, counted from 1, arrives at its addressee; bytes arrive that are no message. A site
--- stops between calls; it is opened again.
+-- A site is called to take a tree as its deposit, for which the check gave this answer; to propose;
+-- to recover; to ask a member; to reply to a query. The datagram of this number, among all that
+-- were ever sent, counted from 1, arrives at its addressee; bytes arrive that are no message. A
+-- site stops between calls; it is opened again.
 pub data Event : Type 0 where
   Deposit : (site : ℕ) → SlotName → Result BagId BagFault → Fate → Event
   Propose : (site : ℕ) → SlotName → Fate → Event
@@ -74,7 +74,7 @@ pub data Event : Type 0 where
   Stop : (site : ℕ) → Event
   Start : (site : ℕ) → Event
 
--- what an event brings about at a site: what the site is then, what it sent, and what is said
+-- the outcome of an event at a site: what the site is then, what it sent, and what is reported
 pub record SiteOutcome : Type 0 where
   pub site : SiteState
   pub sends : List Send
@@ -112,9 +112,9 @@ fails site s kept = record {
   notice = Some (Refused site faults.Device);
 }
 
--- What comes of a call under a fate. `commits` is the record that it commits, if any, and `after`
--- the mode of a site that goes on. A stop or a failure in a device call leaves the record where at
--- least as many bytes are kept as it has, and nothing is sent. Where there is no record there is no
+-- The outcome of a call under a fate. `commits` is the record that it commits, if any, and `after`
+-- the mode of a site that goes on. A stop or a failure in a device call leaves the record if at
+-- least as many bytes are kept as it has, and nothing is sent. If there is no record there is no
 -- device call: a stop there is one before any datagram is sent, and a failure changes nothing.
 unfoldable pub outcome :
     (site : ℕ) → SiteState → (after : Mode) → Input → Effect → (commits : Option Record) → Fate
@@ -126,7 +126,7 @@ outcome site s after input e commits (StopsAfter j) = goes_down site s commits (
 outcome site s after input e None (FailsIn device k) = goes_on site s after input e
 outcome site s after input e (Some r) (FailsIn device k) = fails site s (kept_record k r)
 
--- what comes of an effect at a site that is up
+-- the outcome of an effect at a site that is up
 abbrev pub under_fate : (site : ℕ) → SiteState → Input → Effect → Fate → SiteOutcome
 under_fate site s input e fate = outcome site s (Up e.volatile) input e e.commits fate
 
@@ -135,8 +135,8 @@ abbrev pub refuses_all : (site : ℕ) → SiteState → Input → Fate → SiteO
 refuses_all site s input fate =
     outcome site s NeedsOpening input (refuses faults.NeedsOpen new_volatile) None fate
 
--- What comes of an input that reaches a site, under a fate: one that is up does what it says; one
--- that needs opening refuses; of one that is down nothing comes.
+-- The outcome of an input that reaches a site, under a fate: a site that is up does what the effect
+-- says; one that needs opening refuses; one that is down does nothing.
 abbrev pub step : QuorumSystem → (site : ℕ) → SiteState → Mode → Input → Fate → SiteOutcome
 step q site s (Up volatile) input fate =
     under_fate site s input (effect_of q site s.records volatile input) fate
@@ -164,7 +164,7 @@ happening w site o = record {
 abbrev pub if_member : QuorumSystem → Network → (site : ℕ) → Happening → Happening
 if_member q w site h = if is_in q.members site then h else nothing w
 
--- an input reaches a site; where it is down the network is left as it is, and not made anew
+-- an input reaches a site; if the site is down, the network is left as it is, and not made anew
 abbrev pub reaches : QuorumSystem → Network → (site : ℕ) → Mode → Input → Fate → Happening
 reaches q w site Down input fate = nothing w
 reaches q w site mode input fate = happening w site (step q site (w.sites site) mode input fate)
@@ -173,11 +173,11 @@ abbrev pub takes : QuorumSystem → Network → (site : ℕ) → Input → Fate 
 takes q w site input fate =
     if_member q w site (reaches q w site (w.sites site).mode input fate)
 
--- a site says this, and nothing else comes of it
+-- a site says this, and nothing else happens
 abbrev pub says : Network → Notice → Happening
 says w notice = record { network = w; sends = []; notice = Some notice }
 
--- a query: nothing but a reply comes of it
+-- a query: its only outcome is a reply
 abbrev pub replies : Network → (site : ℕ) → Mode → SlotName → Happening
 replies w site (Up volatile) slot =
     says w (Replied site slot (reply_of slot (w.sites site).records))

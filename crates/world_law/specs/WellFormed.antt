@@ -32,7 +32,7 @@ pub record IsWellFormed (w : Network) : Type 0 where
   pub heard : (n : ℕ) → AreMessages (volatile_in (w.sites n).mode).heard
 
 -- What an event brings in: a slot, a valid bag's identity, the site that is asked. The site at
--- which it happens is a member, or nothing comes of it.
+-- which it happens is a member, or the event has no effect.
 abbrev pub IsWellFormedEvent : Event → Type 0
 IsWellFormedEvent (Deposit site slot checked fate) = IsSlot slot × IfOk checked IsBag
 IsWellFormedEvent (Propose site slot fate) = IsSlot slot

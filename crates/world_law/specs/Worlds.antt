@@ -1,4 +1,4 @@
--- The reference run: a federation as a schedule makes it, and what each command makes of it.
+-- The reference run: a federation as a schedule makes it, and the effect of each command on it.
 use Rattle.std.specs.Prelude.{ℕ, zero, suc, ◌+◌, Bool, not, List, [], ◌∷◌, ◌++◌, length}
 use Rattle.std.specs.Prelude.{Option, Some, None, Result, Ok, Err, if◌then◌else◌}
 use Rattle.std.specs.List.{find}
@@ -35,7 +35,7 @@ use Rattle.lines.specs.Named.{SeenBag, line_of}
 use Rattle.world_law.specs.Trees.{NumberedTree, tree_at, put_tree}
 
 -- The members and their network; the numbers of datagrams that a `deliver` or a turn of a `pump`
--- has named; the trees, in the order in which they were declared; the bags, in that of their
+-- has named; the trees, in the order of their declarations; the bags, in the order of their
 -- deposits; and the lines so far.
 pub record World : Type 0 where
   pub members : Membership
@@ -63,7 +63,7 @@ abbrev pub own_lines : List SeenBag → Option Notice → List Line
 own_lines seen None = []
 own_lines seen (Some notice) = line_of seen notice ∷ []
 
--- a line for each datagram, the first of which has this number among all that were sent
+-- a line for each datagram; the first has this number among all that were sent
 unfoldable pub sent_lines : (federation : ℕ) → (number : ℕ) → List Send → List Line
 sent_lines federation number [] = []
 sent_lines federation number (d ∷ sends) =
@@ -76,7 +76,8 @@ sent_lines federation number (d ∷ sends) =
 abbrev pub with_line : World → Line → World
 with_line w line = record w { lines = w.lines ++ line ∷ [] }
 
--- a command that can't apply changes nothing but its line; a `deliver` has named its number then
+-- a command that can't apply changes nothing, and prints its line; a `deliver` has named its number
+-- then
 abbrev pub skips : World → (number : ℕ) → Reason → World
 skips w number reason = with_line w (lines.Skip number reason)
 
@@ -161,7 +162,7 @@ on_file w number tree path bytes (Some files) =
 abbrev pub checked : Files → Result BagId BagFault
 checked files = check_of (facts_of_tree files)
 
--- `deposit S T OBJ V` hands a member the tree, as it is now, of which the check says this
+-- `deposit S T OBJ V` hands a member the tree, as it is now, for which the check says this
 abbrev pub on_checked :
     World → (number site tree : ℕ) → SlotName → Fate → Result BagId BagFault → World
 on_checked w number site tree slot fate found =
@@ -218,7 +219,7 @@ unfoldable pub on_turn : World → (number : ℕ) → Option ℕ → World
 on_turn w number None = w
 on_turn w number (Some k) = on_deliver w number k Whole
 
--- `pump N`: so many turns, each with its own lines
+-- `pump N`: N turns, each with its own lines
 unfoldable pub pumped : World → (number : ℕ) → (turns : ℕ) → World
 pumped w number zero = w
 pumped w number (suc turns) = pumped (on_turn w number (next_unnamed w)) number turns
@@ -255,7 +256,7 @@ abbrev pub after_line : World → (number : ℕ) → Option Command → World
 after_line w number None = w
 after_line w number (Some command) = after_command w number command
 
--- the world after these lines, the first of which has this number
+-- the world after these lines; the first has this number
 unfoldable pub run_from : (number : ℕ) → World → List (Option Command) → World
 run_from number w [] = w
 run_from number w (line ∷ others) = run_from (number + 1) (after_line w number line) others

@@ -75,7 +75,7 @@ pub fn senders_are_named()
         → SendersAreNamed q (run q new_network events) e }
 {}
 
-/// Where the events bring in nothing else, each message that is sent is well-formed, so that its
+/// If the events bring in nothing else, each message that is sent is well-formed, so that its
 /// datagram is read as this message; and it goes to the number of a site.
 pub fn sent_messages_are_well_formed()
     ensures { SentMessagesAreWellFormed }
@@ -88,9 +88,9 @@ pub fn lines_agree()
     ensures { (plan : Plan) → LinesAgree (run_of plan).lines }
 {}
 
-/// What a line of a run reports was deposited for the slot by a line of the schedule before the one
-/// that prints it, from files that were a valid bag of this identity. What is printed is added at
-/// the end, and stays.
+/// What a line of a run reports was deposited for the slot by an earlier line of the schedule than
+/// the one that prints it, from files that were a valid bag of this identity. What is printed is
+/// added at the end, and stays.
 pub fn reports_were_deposited()
     ensures deposited { (plan : Plan) → ReportsWereDeposited plan (run_of plan).lines }
     ensures lines { LinesStay }

@@ -20,7 +20,7 @@ cast_of slot vote = record { slot = slot; vote = vote }
 abbrev pub voters_in : Casts → Cast → List ℕ
 voters_in casts cast = voters_or_none (lookup (same_cast cast) casts)
 
--- those of one vote are these now, and all others are as they were
+-- one vote has these voters now, and all others are as they were
 abbrev pub IsCounted : (old new : Casts) → Cast → List ℕ → Type 0
 IsCounted old new cast voters =
     (c : Cast)

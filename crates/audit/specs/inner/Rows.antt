@@ -8,7 +8,7 @@ use Rattle.audit.specs.declared.finding.Finding.{Finding}
 use Rattle.audit.specs.declared.finding.Finding.TheVariants.{Chosen, Known, Open, Conflict}
 use Rattle.audit.specs.declared.row.Row.{Row}
 
--- of a version of which nothing was given
+-- the row of a version for which nothing was given
 abbrev pub empty_row : Row
 empty_row = record { first = None; other = None; chosen = None }
 

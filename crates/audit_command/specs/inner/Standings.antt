@@ -1,4 +1,4 @@
--- A cell that is being read: whose it is, and what is counted of it.
+-- A cell that is being read: whose it is, and which of its records are counted.
 use Rattle.std.specs.Prelude.{◌≡◌, ◌-◌, false, IsSome, ℕ, List, [], ◌++◌, length, Option, Some}
 use Rattle.std.specs.Prelude.{None}
 use Rattle.fed_types.specs.Sites.{Membership}
@@ -35,7 +35,7 @@ abbrev pub IsStandingAfter : Membership → Standing → Option Head → List Re
 IsStandingAfter members before None records after = after ≡ before
 IsStandingAfter members before (Some head) records after = IsStanding members head records after
 
--- whose it is by all that was told
+-- whose it is by everything that was given
 abbrev pub HasStanding : Membership → Told → Standing → Type 0
 HasStanding members told Unknown = told ≡ nothing
 HasStanding members told (Member site) =
@@ -51,24 +51,24 @@ counted_as Unknown records = []
 counted_as (Member site) records = of_site site records
 counted_as Foreign records = []
 
--- what is amiss with a cell that ends so
+-- what is wrong with a cell that ends so
 abbrev pub fault_of : Standing → Ending → Option CellDefect
 fault_of Unknown ending = Some faults.Unread
 fault_of (Member site) ending = damage_of ending
 fault_of Foreign ending = Some faults.Foreign
 
--- so much more was counted
+-- these records were counted too
 abbrev pub Adds : (old new : Evidence) → List SiteRecord → Type 0
 Adds old new more =
     (members : Membership) (given : List SiteRecord) → IsEvidence members old given
     → IsEvidence members new (given ++ more)
 
--- these records are so many that were counted, and the last, of which that isn't sure
+-- these records are those that were counted, and the last ones, which aren't sure
 pub record IsSplit (unsure : ℕ) (records counted last : List Record) : Type 0 where
   pub parts_are : records ≡ counted ++ last
   pub length_is : length counted ≡ length records - unsure
 
--- A part was counted: of the last records before it and its own, those of which it is sure now.
+-- A part was counted: those of the earlier last records and of its own that are sure now.
 pub record IsPartCounted (members : Membership) (old new : Evidence) (before after : CellReading)
     (part : Part) (sure : List Record) : Type 0 where
   pub reader_is : after.reader ≡ before.reader
@@ -79,7 +79,7 @@ pub record IsPartCounted (members : Membership) (old new : Evidence) (before aft
       after.last.records.items
   pub counted : Adds old new (counted_as after.standing sure)
 
--- the last part was, and this is amiss
+-- the last part was, and this is the defect
 abbrev pub IsLastCounted : Membership → (old new : Evidence) → (before after : CellReading)
     → LastPart → Option CellDefect → Type 0
 IsLastCounted members old new before after last fault =
@@ -88,7 +88,7 @@ IsLastCounted members old new before after last fault =
 
 -- ---- between two pieces
 
--- of what was told so much is sure, and was counted after this
+-- of the records that were given these are sure, and were counted after this
 pub record CountsTold (members : Membership) (unsure : ℕ) (reading : CellReading)
     (evidence : Evidence) (taken : List ℕ) (given : List SiteRecord) (told : Told)
     (sure : List Record) : Type 0 where
@@ -98,22 +98,22 @@ pub record CountsTold (members : Membership) (unsure : ℕ) (reading : CellReadi
   pub split : IsSplit unsure told.records sure reading.last.records.items
   pub counted : IsEvidence members evidence (given ++ counted_as reading.standing sure)
 
--- these bytes were taken, and what they tell was counted after this, but for so many of the last
--- records
+-- these bytes were taken, and the records that they give were counted after this, except `unsure`
+-- of the last
 abbrev pub HasCounted : Membership → (unsure : ℕ) → CellReading → Evidence → (taken : List ℕ)
     → (given : List SiteRecord) → Type 0
 HasCounted members unsure reading evidence taken given =
     (told : Told) × (sure : List Record)
     × CountsTold members unsure reading evidence taken given told sure
 
--- this is amiss with a cell that says all that its bytes do, and what counts of it was counted
+-- this is wrong with a cell that says all that its bytes do, and what counts of it was counted
 abbrev pub IsCounted : Membership → (unsure : ℕ) → Evidence → (bytes : List ℕ)
     → (given : List SiteRecord) → Option CellDefect → Type 0
 IsCounted members unsure evidence bytes given fault =
     (counted : List SiteRecord) × IsReadingOf members unsure bytes fault counted
     × IsEvidence members evidence (given ++ counted)
 
--- after one more piece it goes on; or something is amiss, whatever follows
+-- after one more piece it goes on; or there is a defect, whatever follows
 abbrev pub IsProgress : Membership → (unsure : ℕ) → CellReading → Evidence → (taken : List ℕ)
     → (given : List SiteRecord) → Progress → Type 0
 IsProgress members unsure reading evidence taken given More =

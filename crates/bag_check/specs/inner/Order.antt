@@ -55,7 +55,7 @@ fault_of_tag_files files payload =
 
 -- ---- what the manifests list
 
--- a manifest, every line of which is well-formed, and what it lists
+-- a manifest, if every line of it is well-formed, and what it lists
 pub record Listed : Type 0 where
   pub kind : Kind
   pub algorithm : Algorithm
@@ -66,7 +66,7 @@ listed_in kind algorithm (Ok files) =
     record { kind = kind; algorithm = algorithm; files = files } ∷ []
 listed_in kind algorithm (Err line) = []
 
--- what the manifests list, but for those with a malformed line
+-- what the manifests list, without those that have a malformed line
 unfoldable pub listings : List Manifest → List Listed
 listings manifests =
     flat_map (λ manifest. listed_in manifest.kind manifest.algorithm (entries manifest)) manifests

@@ -3,7 +3,7 @@ use Rattle.std.specs.Prelude.{◌≡◌, ◌⊎◌, ℕ, ◌+◌, ◌-◌, List,
 use Rattle.std.proofs.Common.{zero, suc}
 use Rattle.cell_device.specs.declared.change.Change.{Change}
 
--- a buffer, of which a crash leaves the first bytes, at least and at most so many
+-- a buffer; a crash leaves its first bytes, from `least` to `most` of them
 pub record State : Type 0 where
   pub buffer : List ℕ
   pub least : ℕ

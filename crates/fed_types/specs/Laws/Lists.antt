@@ -1,4 +1,4 @@
--- What stands in a list, by the fact `Has` and by the test `is_in`.
+-- What is in a list, by the fact `Has` and by the test `is_in`.
 use Rattle.std.specs.Prelude.{◌≡◌, ℕ, zero, suc, true, false, ◌||◌, ◌==◌, List, [], ◌∷◌, ◌++◌, ◌⊎◌}
 use Rattle.std.specs.Prelude.{Option, Some, None, Decides, take, drop, map, refl}
 use Rattle.std.specs.List.{cons_option, filter_map, fold}
@@ -14,7 +14,7 @@ unfolding is_in
 passes {n} (here {y} {ys} e) = or_left (y == n) (is_in ys n) (eq-eqb y n e)
 passes {n} (there {y} {ys} h) = or_right (y == n) (is_in ys n) (passes h)
 
--- what passes it stands in the list
+-- what passes it is in the list
 stands : (xs : List ℕ) (n : ℕ) → is_in xs n ≡ true → Has n xs
 unfolding is_in
 stands [] n e = absurd (false≢true e)
@@ -24,16 +24,16 @@ stands (x ∷ xs) n e =
       | inr p ↦ there (stands xs n p)
     ]
 
--- it passes exactly for what stands in the list
+-- it passes exactly for what is in the list
 pub is_in_decides : (xs : List ℕ) (n : ℕ) → Decides (is_in xs n) (Has n xs)
 is_in_decides xs n = (stands xs n, λ h. passes h)
 
--- nothing stands in the empty list
+-- nothing is in the empty list
 pub is_in-nil : (n : ℕ) → is_in [] n ≡ false
 unfolding is_in
 is_in-nil n = refl
 
--- what stands in two lists one after the other
+-- what is in two lists one after the other
 pub is_in-append : (xs ys : List ℕ) (n : ℕ) → is_in (xs ++ ys) n ≡ (is_in xs n || is_in ys n)
 unfolding is_in
 is_in-append [] ys n = refl
@@ -55,12 +55,12 @@ pub has_left : {X : Type 0} {x : X} {xs : List X} (ys : List X) → Has x xs →
 has_left ys (here e) = here e
 has_left ys (there h) = there (has_left ys h)
 
--- what stands in the second
+-- what is in the second
 pub has_right : {X : Type 0} {x : X} (xs : List X) {ys : List X} → Has x ys → Has x (xs ++ ys)
 has_right [] h = h
 has_right (y ∷ xs) h = there (has_right xs h)
 
--- what stands in both stands in one of them
+-- what is in both together is in one of them
 pub has_cases : {X : Type 0} {x : X} (xs ys : List X) → Has x (xs ++ ys) → Has x xs ⊎ Has x ys
 has_cases [] ys h = inr h
 has_cases (y ∷ xs) ys (here e) = inl (here e)

@@ -19,7 +19,7 @@ among_none : (f : ℕ → ℕ) (p : ℕ → Bool) → (among f p [] ≡ 0) × (s
 unfolding among
 among_none f p = (refl, refl)
 
--- one element more counts where it passes
+-- one more element counts if it passes
 among_more : (f : ℕ → ℕ) (p : ℕ → Bool) (n : ℕ) (ns : List ℕ) (t : Bool) → p n ≡ t
     → among f p (n ∷ ns) ≡ cond t (f n) 0 + among f p ns
 unfolding among
@@ -30,7 +30,7 @@ among_more f p n ns false e = rw e (omega arith)
 abbrev Both : (ℕ → Bool) → (ℕ → Bool) → List ℕ → Type 0
 Both p q ns = (n : ℕ) × Has n ns × (p n ≡ true) × (q n ≡ true)
 
--- one that a shorter list has
+-- an element that a shorter list has
 both_later : (p q : ℕ → Bool) (m : ℕ) (ns : List ℕ) → Both p q ns → Both p q (m ∷ ns)
 both_later p q m ns found = (found.0, there found.1, found.2, found.3)
 
@@ -43,7 +43,7 @@ both_more p q n w all a b ns true false e g before h = both_later p q n ns (befo
 both_more p q n w all a b ns false true e g before h = both_later p q n ns (before (omega arith))
 both_more p q n w all a b ns false false e g before h = both_later p q n ns (before (omega arith))
 
--- where two sums are together more than that of all, some element is in both
+-- if two sums together are more than the sum of all, some element is in both
 both : (f : ℕ → ℕ) (p q : ℕ → Bool) (ns : List ℕ) → sum_by f ns < among f p ns + among f q ns
     → Both p q ns
 both f p q [] h = absurd (omega (arith, among_none f p, among_none f q))
@@ -54,7 +54,7 @@ both f p q (n ∷ ns) h =
     let second = among_more f q n ns (q n) refl in
     omega (arith, sum_by-cons f n ns))
 
--- one element more counts in the second sum where it counts in the first
+-- one more element counts in the second sum if it counts in the first
 no_less_more : (w a b : ℕ) (s t : Bool) → (s ≡ true → t ≡ true) → a ≤ b
     → cond s w 0 + a ≤ cond t w 0 + b
 no_less_more w a b true true h l = omega arith

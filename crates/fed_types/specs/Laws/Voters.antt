@@ -38,7 +38,7 @@ or_exchange true false r = refl
 or_exchange false true r = refl
 or_exchange false false r = refl
 
--- what stands in a list with a first element
+-- what is in a list with a first element
 is_in-cons : (x : ℕ) (xs : List ℕ) (m : ℕ) → is_in (x ∷ xs) m ≡ (x == m || is_in xs m)
 unfolding is_in
 is_in-cons x xs m = refl
@@ -92,7 +92,7 @@ with_voter-last_again [] n h = with_voter-first n []
 with_voter-last_again (x ∷ xs) n h =
     rw (with_voter-later x n (xs ++ n ∷ []) h.0, with_voter-last_again xs n h.1)
 
--- all voters stand in the list with one more
+-- all voters are in the list with one more
 pub has_with_voter : {m : ℕ} (xs : List ℕ) (n : ℕ) → Has m xs → Has m (with_voter xs n)
 has_with_voter {m} xs n h =
     let more = or_right (n == m) (is_in xs m) ((is_in_decides xs m).1 h) in

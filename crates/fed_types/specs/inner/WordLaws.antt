@@ -58,7 +58,7 @@ place_more n i true false h = grind (arith, nat_tests)
 place_more n i false true h = grind (arith, nat_tests)
 place_more n i false false h = grind (arith, nat_tests)
 
--- a place stands in the list where it is below n and the word has a one there
+-- a place is in the list if it is below n and the word has a one there
 pub is_in-bits_below : (word n i : ℕ)
     → is_in (bits_below word n) i ≡ (nat_lt i n && (bit_at word i == 1))
 unfolding bits_below

@@ -18,13 +18,13 @@ abbrev pub CountsSame : (old new : Rows Row) → Type 0
 CountsSame old new =
     (s : SlotName) (v : Vote) → counted_in (row_at new s) v ≡ counted_in (row_at old s) v
 
--- a row whose votes are the same, but for one, which now has these voters
+-- a row with the same votes, except for one, which now has these voters
 abbrev pub IsRowCounted : (old new : Row) → Vote → List ℕ → Type 0
 IsRowCounted old new vote voters =
     (v : Vote)
     → counted_in (Some new) v ≡ (if same_vote vote v then voters else counted_in (Some old) v)
 
--- the counted sites are the same, but for one vote of one slot, which now has these voters
+-- the counted sites are the same, except for one vote of one slot, which now has these voters
 abbrev pub IsCounted : (old new : Rows Row) → SlotName → Vote → List ℕ → Type 0
 IsCounted old new slot vote voters =
     (s : SlotName) (v : Vote)
@@ -42,7 +42,7 @@ abbrev pub is_learned : QuorumSystem → Option BagId → List ℕ → Bool
 is_learned quorums None voters = quorums.is_quorum voters
 is_learned quorums (Some known) voters = false
 
--- one fact where no bag is known, and another where one is
+-- one fact if no bag is known, and another if one is
 abbrev pub UnlessKnown : Option BagId → (known unknown : Type 0) → Type 0
 UnlessKnown None known unknown = unknown
 UnlessKnown (Some bag) known unknown = known

@@ -60,7 +60,7 @@ IsNextPart batch part = (part.head ≡ None) × (part.records.items ≡ batch.re
 abbrev pub IsEndOfBatch : Batch → Ending → LastPart → Type 0
 IsEndOfBatch batch ending last = IsNextPart batch last.part × (last.ending ≡ ending)
 
--- where headers and records end in so many bytes of a cell that isn't damaged
+-- where headers and records end in a cell of `len` bytes that isn't damaged
 abbrev pub text_end : Ending → ℕ → Option ℕ
 text_end Whole len = Some len
 text_end (Torn count) len = Some (len - count)
@@ -72,7 +72,7 @@ IsPartOf contents part =
     (part.head ≡ Some (record { owner = contents.owner; names_weights = contents.names_weights }))
     × (part.records.items ≡ contents.records.items)
 
--- what is kept after a part: so many bytes are passed, and the rest is
+-- what is kept after a part: `passed` bytes are passed, and the rest is kept
 pub record Keeps (owner : Owner) (passed : ℕ) (rest : List ℕ) (kept : Kept) : Type 0 where
   pub owner_is : kept.owner ≡ owner
   pub passed_is : kept.passed ≡ passed
@@ -88,7 +88,7 @@ abbrev pub KeepsNext : Owner → Batch → ℕ → List ℕ → Kept → Type 0
 KeepsNext owner batch passed rest kept =
     IsNextPart batch kept.part × Keeps owner passed rest kept
 
--- what the bytes that were taken say, after what was told
+-- what the bytes that were taken say, after what was given
 abbrev pub IsStep : (taken : List ℕ) → Told → Step → Type 0
 IsStep taken told Wait = ⊤
 IsStep taken told (Next kept) =

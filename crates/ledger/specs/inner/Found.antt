@@ -66,7 +66,7 @@ AreRecordsRead owner bytes read =
     → Reaches owner bytes start records rest → IsEnd owner start rest
     → HasWeights owner.members.weights start → read ≡ records_of start records
 
--- how a cell ends with so many bytes after its text
+-- how a cell ends with this many bytes after its text
 abbrev pub ending_of : ℕ → Ending
 ending_of zero = Whole
 ending_of (suc n) = Torn (suc n)

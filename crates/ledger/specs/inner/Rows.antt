@@ -14,7 +14,7 @@ use Rattle.ledger.specs.declared.standing.Standing.{Standing}
 use Rattle.ledger.specs.Ledgers.{listed_line}
 use Rattle.ledger.specs.Versions.{slots_of, standing}
 
--- of a version without records
+-- the row of a version without records
 abbrev pub empty_row : Row
 empty_row = record { known = None; deposit = None; vote = None }
 

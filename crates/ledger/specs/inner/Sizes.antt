@@ -9,7 +9,7 @@ Stops bytes =
     (length bytes < 2) ⊎ (longest_content + 8 < length_field bytes)
     ⊎ (length bytes < 2 + length_field bytes)
 
--- so many bytes come next
+-- this many bytes come next
 abbrev pub IsSizeAt : List ℕ → Option ℕ → Type 0
 IsSizeAt bytes None = Stops bytes
 IsSizeAt bytes (Some size) =

@@ -39,7 +39,7 @@ record_before l bytes = content_at (drop 2 (take (length bytes - checksum_size l
 abbrev pub IsShort : Layout → List ℕ → Type 0
 IsShort l bytes = (length bytes ≡ 0) ⊎ IsTornRecord l bytes
 
--- so many bytes, by the length before them
+-- this many bytes, by the length before them
 abbrev pub IsSized : Layout → List ℕ → Find → Type 0
 IsSized l bytes finds.End = IsShort l bytes
 IsSized l bytes (finds.Whole size) =
@@ -63,7 +63,7 @@ pub record IsNext (l : Layout) (bytes : List ℕ) (next : Option (Record × ℕ)
   pub none : bytes ≡ [] → next ≡ None
   pub in_range : (n : Record × ℕ) → next ≡ Some n → (1 ≤ n.1) × (n.1 ≤ length bytes)
 
--- so many of the bytes are records
+-- `len` of the bytes are these records
 abbrev pub IsPassed : Layout → List ℕ → List Record → ℕ → Type 0
 IsPassed l bytes records len =
     AreRecords records × (len ≤ length bytes) × (take len bytes ≡ all_encoded l records)
@@ -85,7 +85,7 @@ HasRead l bytes old new =
     (records : List Record) → AreRecords records → bytes ≡ all_encoded l records
     → new ≡ old ++ records
 
--- those of the first layout, and then those of the second
+-- the records of the first layout, and then those of the second
 abbrev pub HasReadBoth : (old new : List ℕ) → List Record → Type 0
 HasReadBoth old new records =
     (none : List Record) × (mid : List Record) × (none ≡ []) × HasRead First old none mid
@@ -99,7 +99,7 @@ front_of owner = magic ++ owner_bytes owner
 abbrev pub has_zero : List ℕ → Bool
 has_zero bytes = list_any (λ b. b == 0) bytes
 
--- so many weights begin the bytes; or the bytes are fewer weights; or neither
+-- `count` weights begin the bytes; or the bytes are fewer weights; or neither
 abbrev pub IsWeightsAt : ℕ → List ℕ → HeaderAt → Type 0
 IsWeightsAt count bytes (headers.Whole n) =
     (n ≡ count) × (1 ≤ count) × (count ≤ most_members) × (count ≤ length bytes)

@@ -14,7 +14,8 @@ IsComparison held known alone answer =
     (answer.status ≡ status_of held known alone)
     × (string_bytes answer.text ≡ comparison_text held known)
 
--- it is this one, and nothing is written; or there is none, and it is written that memory ran out
+-- it is this one, and nothing is written; or there is none, and the line that memory ran out is
+-- written
 abbrev pub IsOrMemory :
     Option ProgramOutput → Option (List ℕ) → Option (List ℕ) → ProgramOutput → Type 0
 IsOrMemory (Some known) old new answer = (answer ≡ known) × (new ≡ old)

@@ -49,7 +49,7 @@ Begins owner tables slot records volatile under (Err faults.Memory) =
     × (after : UnderWay) × Represents tables records volatile after
 Begins owner tables slot records volatile under (Err fault) = ⊥
 
--- so it is of each volatile state that the tables represent
+-- this is true of each volatile state that the tables represent
 pub record BeginsBallot
     (owner : Owner) (old new : Contents) (slot : SlotName)
     (result : Result (Record × Answer) SiteFault)
