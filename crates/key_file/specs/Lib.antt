@@ -1,0 +1,4 @@
+pub mod Lines
+pub mod Files
+pub mod Faults
+pub mod Texts
