@@ -7,33 +7,42 @@ use std::alloc::{AllocError, Global};
 const ABOUT: &str = "Says which bags the cells of several sites prove to be chosen";
 
 const EXAMPLE: &str =
-    "Cells may be in use: of such a cell each whole record but the last is counted, since a crash
-may take that one back. A cell that no site holds is synced before it is read, and a site that
-starts meanwhile waits for that. No cell is changed. Cells may be copies, but a copy of a cell in
-use can't be recognised as one: copy a cell while its site is stopped, or audit the cell itself.
-Two cells of one site count as one.
+    "Cells may be in use: of such a cell each whole record but the last is counted,
+since a crash may take that one back. A cell that no site holds is synced before
+it is read, and a site that starts meanwhile waits for that. No cell is changed.
+Cells may be copies, but a copy of a cell in use can't be recognised as one:
+copy a cell while its site is stopped, or audit the cell itself. Two cells of
+one site count as one.
 
 First it prints
-  in-use CELL               for each cell that is in use; it changes no status
+  in-use CELL            for each cell that is in use; it changes no status
 and then for each cell that can't be used as it is:
-  unread CELL               it can't be opened, synced or read, or begins with no header; what was
-                            read before a fault is used
-  foreign CELL              it is of another federation, of no member, or of other weights; where
-                            no header names any, each is 1. Nothing of it is used
-  damaged CELL OFFSET       it is damaged from this byte on; what comes before is used
+  unread CELL            it can't be opened, synced or read, or begins with no
+                         header; what was read before a fault is used
+  foreign CELL           it is of another federation, of no member, or of other
+                         weights; if no header names any, each is 1. Nothing of
+                         it is used
+  damaged CELL OFFSET    it is damaged from this byte on; what comes before is
+                         used
 For each version, in the order in which the cells name them:
-  chosen OBJ V HEX R S      members with more than half of all weight have a vote for this bag on
-                            record, in the ballot of round R of site S: no other bag is ever known
-  known OBJ V HEX           a cell says that this bag is known; these cells don't show why
-  open OBJ V                these cells show no bag
-  conflict OBJ V HEX HEX    they show two bags: a site's cell was lost, replaced or altered
+  chosen OBJ V HEX R S   members with more than half of all weight have a vote
+                         for this bag on record, in the ballot of round R of
+                         site S: no other bag is ever known
+  known OBJ V HEX        a cell says that this bag is known; these cells don't
+                         show why
+  open OBJ V             these cells show no bag
+  conflict OBJ V HEX HEX
+                         they show two bags: a site's cell was lost, replaced or
+                         altered
 and finally how many of each there are: C chosen, K known, O open, X conflicts.
 
-With --words standard error says of each cell whether it is in use, or why it can't be opened.
+With --words standard error says of each cell whether it is in use, or why it
+can't be opened.
 
-The exit status is 0 where there is no conflict, and each cell can be used as it is; 1 where that
-isn't so, or a last line says `members unread`, `members line N` or `memory`, or standard output
-can't be written; and 2 for a mistake in the arguments.
+The exit status is 0 if there is no conflict, and each cell can be used as it
+is; 1 if that isn't so, or a last line says `members unread`, `members line N`
+or `memory`, or standard output can't be written; and 2 for a mistake in the
+arguments.
 
 Example:
   bagpaxos audit --members members cell.1 cell.2 cell.3";

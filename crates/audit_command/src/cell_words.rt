@@ -1,8 +1,14 @@
 //! How a cell was opened and synced, in words.
 
+ghost use Rattle.std.specs.Prelude.{◌++◌};
+ghost use Rattle.code_words.specs.Names.{shown_name};
+ghost use Rattle.words.specs.Pushes.{Pushes};
+ghost use Rattle.audit_command.specs.Words.{Explains};
+
 use crate::disk_cells::DiskCell;
 use code_words::push_name;
 use std::alloc::AllocError;
+use std::fmt::Display;
 use std::io::{self, ErrorKind};
 
 const IN_USE: &str =
@@ -11,48 +17,67 @@ const IN_USE: &str =
 const FREE: &str =
     " isn't in use: it was synced before it was read, and each of its records can be counted";
 
-/// Says on standard error that the cell of this path is in use, or why it can't be opened. Where
-/// standard error can't be written, or memory runs out, nobody is told.
+/// Says on standard error that the cell of this path is in use, or why it can't be opened. If
+/// standard error can't be written, or memory runs out, it says nothing.
 pub(crate) fn say_opened(rt: &HostRuntime, path: &str, opened: &io::Result<DiskCell>) {
     match opened {
         Ok(cell) if !cell.in_use => {}
-        Ok(_) => say(rt, path, None, IN_USE),
-        Err(error) => say(rt, path, Some(error), ""),
+        Ok(_) => say_state(rt, path, IN_USE),
+        Err(error) => say_unopened(rt, path, error),
     }
 }
 
-/// Says likewise that it was synced, or why it can't be.
+/// Says in the same way that it was synced, or why it can't be.
 pub(crate) fn say_synced(rt: &HostRuntime, path: &str, synced: &io::Result<()>) {
     match synced {
-        Ok(()) => say(rt, path, None, FREE),
-        Err(error) => say(rt, path, Some(error), ""),
+        Ok(()) => say_state(rt, path, FREE),
+        Err(error) => say_unopened(rt, path, error),
     }
 }
 
-fn say(rt: &HostRuntime, path: &str, error: Option<&io::Error>, state: &str) {
+fn say_state(rt: &HostRuntime, path: &str, state: &str) {
     let mut text = String::new(rt.alloc());
-    if push_state(&mut text, path, error, state).is_ok() {
+    if push_state(&mut text, path, state).is_ok() {
         let _ = rt.eprintln(text.as_str());
     }
 }
 
-// Appends the cell's path, and why it isn't read, or else its state.
-fn push_state(
-    text: &mut String,
-    path: &str,
-    error: Option<&io::Error>,
-    state: &str,
-) -> Result<(), AllocError> {
-    push_name(text, path)?;
-    match error {
-        None => text.push_str(state),
-        Some(error) => push_error(text, error),
+fn say_unopened(rt: &HostRuntime, path: &str, error: &io::Error) {
+    let mut text = String::new(rt.alloc());
+    if push_unopened(&mut text, path, error.kind(), error).is_ok() {
+        let _ = rt.eprintln(text.as_str());
     }
 }
 
+// Appends the cell's path, and its state.
+#[tactic(auto, using(std::proofs::Common::append_assoc))]
+fn push_state(text: &mut String, path: &str, state: &str) -> Result<(), AllocError>
+    ensures { Pushes result text.old text.new (shown_name path.now ++ state.now) }
+{
+    push_name(text, path)?;
+    text.push_str(state)
+}
+
+// Appends the cell's path, and why it isn't read: an error of this kind, which says this.
+#[tactic(auto, using(std::proofs::Common::append_assoc))]
+fn push_unopened<E: Display>(
+    text: &mut String,
+    path: &str,
+    kind: ErrorKind,
+    error: &E,
+) -> Result<(), AllocError>
+    ensures { Explains kind (E.output error.now)
+        (λ why. Pushes result text.old text.new (shown_name path.now ++ why)) }
+{
+    push_name(text, path)?;
+    push_error(text, kind, error)
+}
+
 // Appends why a cell isn't read.
-fn push_error(text: &mut String, error: &io::Error) -> Result<(), AllocError> {
-    match error.kind() {
+fn push_error<E: Display>(text: &mut String, kind: ErrorKind, error: &E) -> Result<(), AllocError>
+    ensures { Explains kind (E.output error.now) (λ why. Pushes result text.old text.new why) }
+{
+    match kind {
         ErrorKind::NotFound => text.push_str(" isn't there"),
         ErrorKind::PermissionDenied => text.push_str(" may not be opened by this user"),
         ErrorKind::InvalidInput => text.push_str(" isn't a file, as a cell is"),

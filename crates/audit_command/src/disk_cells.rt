@@ -1,6 +1,8 @@
 //! Cells in their files.
 
-ghost use Rattle.std.specs.Prelude.{◌≤◌, length, IfSome};
+ghost use Rattle.std.specs.Prelude.{◌≡◌, ◌≢◌, ◌≤◌, ◌-◌, length, min, Some, None, Ok, IsErr, IfOk};
+ghost use Rattle.std.specs.Prelude.{IfErr, IfSome};
+ghost use Rattle.std.specs.IoError.{error_kind};
 
 use crate::cell_files::CellFiles;
 use crate::cell_words::{say_opened, say_synced};
@@ -27,14 +29,16 @@ pub(crate) struct DiskCell {
     /// Whether a site holds its lock. Where none does, this file does, shared: no site can open the
     /// cell until it is dropped.
     pub(crate) in_use: bool,
-    /// At most so many more bytes are read.
+    /// At most this many more bytes are read.
     unread: u64,
 }
 
 impl CellFiles for DiskCells<'_> {
     type Cell = DiskCell;
 
-    fn hashing(&self) -> RandomState {
+    fn hashing(&self) -> RandomState
+        ensures { result ≡ self.now.hashing }
+    {
         self.hashing
     }
 
@@ -43,14 +47,12 @@ impl CellFiles for DiskCells<'_> {
         if self.words {
             say_opened(self.rt, path, &opened);
         }
-        match opened {
-            Ok(cell) => Ok(Some(cell)),
-            Err(error) if error.kind() == ErrorKind::OutOfMemory => Err(AllocError),
-            Err(_) => Ok(None),
-        }
+        cell_of(opened)
     }
 
-    fn is_in_use(&self, cell: &DiskCell) -> bool {
+    fn is_in_use(&self, cell: &DiskCell) -> bool
+        ensures { result ≡ cell.now.in_use }
+    {
         cell.in_use
     }
 
@@ -62,7 +64,11 @@ impl CellFiles for DiskCells<'_> {
         synced.is_ok()
     }
 
-    fn read(&self, cell: &mut DiskCell, piece: &mut [u8]) -> Option<usize> {
+    fn read(&self, cell: &mut DiskCell, piece: &mut [u8]) -> Option<usize>
+        ensures bound { IfSome result (λ count. count ≤ length piece.new) }
+        ensures room { IfSome result (λ count. count ≤ cell.old.unread) }
+        ensures unread { IfSome result (λ count. cell.new.unread ≡ cell.old.unread - count) }
+    {
         let room = room_for(cell.unread, piece.len());
         let count = read_some(&mut cell.bytes, &mut piece[..room])?;
         cell.unread = cell.unread.saturating_sub(count as u64);
@@ -70,14 +76,29 @@ impl CellFiles for DiskCells<'_> {
     }
 }
 
+/// The cell that was opened; none where that can't be done. It fails only where memory ran out.
+fn cell_of<C>(opened: io::Result<C>) -> Result<Option<C>, AllocError>
+    ensures opened { IfOk opened (λ cell. result ≡ Ok (Some cell)) }
+    ensures memory { IfErr opened
+        (λ error. error_kind error ≡ ErrorKind.OutOfMemory → IsErr result) }
+    ensures unopened { IfErr opened
+        (λ error. error_kind error ≢ ErrorKind.OutOfMemory → result ≡ Ok None) }
+{
+    match opened {
+        Ok(cell) => Ok(Some(cell)),
+        Err(error) if error.kind() == ErrorKind::OutOfMemory => Err(AllocError),
+        Err(_) => Ok(None),
+    }
+}
+
 /// Opens the file of this path for reading as a cell.
 fn open_cell(rt: &HostRuntime, path: &str) -> io::Result<DiskCell> {
     let bytes = LiveCell::open(rt, path)?;
     if is_locked(bytes.file())? {
-        // By now its site has synced all of these records but the last, if that: it syncs before
-        // it appends the next. What comes after them isn't read. So where the site cuts the last
-        // one off, since it couldn't be synced, and appends others in its place, none of those
-        // counts that may be mixed with it.
+        // By now its site has synced all of these records, except perhaps the last: it syncs before
+        // it appends the next. What comes after them isn't read. If the site couldn't sync the last
+        // one, it may cut it off and append others in its place; no record counts that may be mixed
+        // with those.
         let unread = bytes.file().metadata()?.len();
         return Ok(DiskCell {
             bytes,
@@ -104,8 +125,8 @@ fn is_locked(file: &File) -> io::Result<bool> {
 /// What a read of the file gives is on the disk.
 fn settle(file: &File) -> io::Result<()> {
     file.sync_all()?;
-    // A sync that failed before may have left the system's copies of the bytes other than the disk
-    // has them: they are read again.
+    // A sync that failed before may have left the system's copies of the bytes different from those
+    // on the disk: they are read again.
     let advised = libc::posix_fadvise(file.as_raw_fd(), 0, 0, libc::POSIX_FADV_DONTNEED);
     if advised == 0 {
         Ok(())
@@ -114,9 +135,9 @@ fn settle(file: &File) -> io::Result<()> {
     }
 }
 
-/// How many bytes are read at once into a piece of so many.
+/// How many bytes are read at once into a piece of this length.
 fn room_for(unread: u64, len: usize) -> usize
-    ensures { result ≤ len }
+    ensures { result ≡ min unread len }
 {
     if unread < len as u64 {
         unread as usize

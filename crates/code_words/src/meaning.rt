@@ -1,5 +1,8 @@
 //! What a code says.
 
+ghost use Rattle.std.specs.Prelude.{◌≡◌, ◌++◌, OnOk, string_bytes};
+ghost use Rattle.code_words.specs.Meanings.{advice_text, sentence};
+
 use std::alloc::AllocError;
 
 /// A code, what it says, and what to do about it.
@@ -15,13 +18,20 @@ pub struct Meaning {
 
 impl Meaning {
     /// Appends what it says and what to do, as a sentence without its end.
-    pub fn push(&self, text: &mut String) -> Result<(), AllocError> {
+    #[tactic(auto, using(std::proofs::Common::append_assoc))]
+    pub fn push(&self, text: &mut String) -> Result<(), AllocError>
+        ensures { OnOk result (string_bytes text.new ≡ string_bytes text.old ++ sentence self.now) }
+    {
         text.push_str(self.words)?;
         self.push_advice(text)
     }
 
     /// Appends a semicolon and what to do, where something is.
-    pub fn push_advice(&self, text: &mut String) -> Result<(), AllocError> {
+    #[tactic(auto, using(std::proofs::Common::append_assoc))]
+    pub fn push_advice(&self, text: &mut String) -> Result<(), AllocError>
+        ensures { OnOk result
+            (string_bytes text.new ≡ string_bytes text.old ++ advice_text self.now) }
+    {
         if self.advice.is_empty() {
             return Ok(());
         }

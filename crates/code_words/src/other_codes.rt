@@ -3,7 +3,7 @@
 use crate::meaning::Meaning;
 
 /// What these lines say.
-pub static OTHERS: [Meaning; 21] = [
+pub static OTHERS: [Meaning; 28] = [
     Meaning {
         code: "memory",
         words: "memory ran out",
@@ -58,6 +58,41 @@ pub static OTHERS: [Meaning; 21] = [
         code: "same file",
         words: "two of --cell, --members and --log name one file",
         advice: "give each a file of its own",
+    },
+    Meaning {
+        code: "key unread",
+        words: "the key file can't be read",
+        advice: "look at the path and the rights",
+    },
+    Meaning {
+        code: "key open to others",
+        words: "others than the owner of the key file have rights to it",
+        advice: "`chmod 600` it; whoever has read it has the keys, so make new ones",
+    },
+    Meaning {
+        code: "key line N",
+        words: "the key file's line isn't `sites HEX` or `clients HEX`, or is one too many",
+        advice: "copy the file anew; a key has 128 digits, a kind two lines at most",
+    },
+    Meaning {
+        code: "key lacks sites",
+        words: "the key file has no key of messages between sites",
+        advice: "give the site the file of the other sites, not that of a client",
+    },
+    Meaning {
+        code: "key same file",
+        words: "--key names the file of --cell, --members or --log",
+        advice: "give the key a file of its own",
+    },
+    Meaning {
+        code: "key exists",
+        words: "where the new key file was to be made there is a file",
+        advice: "give another path; a key that is in use is never overwritten",
+    },
+    Meaning {
+        code: "key unwritten",
+        words: "the new key file can't be written",
+        advice: "look at the folder, its rights and its room",
     },
     Meaning {
         code: "bags unread",

@@ -3,6 +3,8 @@ use Rattle.std.specs.Prelude.{◌≡◌, ◌≢◌, ◌⊎◌, ◌++◌, ℕ, �
 use Rattle.std.specs.Prelude.{filter_map, codes, Option, Result, Ok, Err, IsErrAnd}
 use Rattle.std.specs.Option.{option_map}
 use Rattle.std.specs.Str.{bytes_eq}
+use Rattle.std.specs.declared.io.ErrorKind.{ErrorKind}
+use Rattle.std.specs.declared.io.ErrorKind.TheVariants.{OutOfMemory}
 use Rattle.records.specs.declared.record.Record.{Record}
 use Rattle.records.specs.SlotStates as records
 use Rattle.ledger.specs.declared.contents.Contents.{Contents}
@@ -16,7 +18,7 @@ use Rattle.known_bags.specs.declared.sources.SourceFault.TheVariants.{Unread, Li
 use Rattle.known_bags.specs.declared.sources.SourceFault.TheVariants as faults
 use Rattle.known_bags.specs.Lists.{known_for, ListKnows, HasOtherLine}
 
--- a source is read as a cell if it begins with the magic of one, of whichever layout
+-- a source is read as a cell if it begins with the magic of one, in either layout
 abbrev pub is_cell : List ℕ → Bool
 is_cell bytes = bytes_eq (take 3 bytes) (codes "BPJ")
 
@@ -26,7 +28,7 @@ is_cell bytes = bytes_eq (take 3 bytes) (codes "BPJ")
 abbrev pub known_by : Record → Option KnownBag
 known_by r = option_map (known_for r.slot) (records.known_in r.body)
 
--- those of records, in order
+-- the bags of records, in order
 unfoldable pub known_of : List Record → List KnownBag
 known_of all = filter_map known_by all
 
@@ -66,7 +68,7 @@ IsNoSource bytes (faults.Damaged place) = (is_cell bytes ≡ true) × EndsCell b
 IsNoSource bytes (Line number) = (is_cell bytes ≡ false) × HasOtherLine bytes number
 IsNoSource bytes Memory = ⊤
 
--- what a source gives: the bags that it knows after the earlier ones; or why it is none
+-- what a source gives: the bags that it knows, after the earlier ones; or why it is no source
 abbrev pub IsSourceOf : List ℕ → (old new : List KnownBag) → Result (Unit {0}) SourceFault → Type 0
 IsSourceOf bytes old new (Ok u) = (bags : List KnownBag) × Knows bytes bags × (new ≡ old ++ bags)
 IsSourceOf bytes old new (Err fault) = IsNoSource bytes fault
@@ -77,8 +79,13 @@ IsSourceOf bytes old new (Err fault) = IsNoSource bytes fault
 abbrev pub IsUnread : SourceFault → Type 0
 IsUnread fault = (fault ≡ Unread) ⊎ (fault ≡ Memory)
 
--- A file has these bytes, whichever, and they are a source of what was appended, or none; or its
--- bytes can't be had, and nothing was appended. Which bytes a file has no clause says.
+-- a source that can't be opened, since an error of this kind came: memory ran out, or it can't be
+-- read
+abbrev pub IsUnopened : ErrorKind → SourceFault → Type 0
+IsUnopened kind fault = (kind ≡ OutOfMemory → fault ≡ Memory) × (kind ≢ OutOfMemory → fault ≡ Unread)
+
+-- A file has these bytes, whichever they are, and they are a source of what was appended, or none;
+-- or its bytes aren't available, and nothing was appended. No clause says which bytes a file has.
 abbrev pub IsOfSomeFile : (old new : List KnownBag) → Result (Unit {0}) SourceFault → Type 0
 IsOfSomeFile old new result =
     ((bytes : List ℕ) × IsSourceOf bytes old new result)

@@ -1,9 +1,10 @@
 //! The files that say what is known: cells, and lists of their versions.
 
-ghost use Rattle.std.specs.Prelude.{◌≡◌, ◌++◌, true, false, IfErr, OnOk};
+ghost use Rattle.std.specs.Prelude.{◌≡◌, ◌++◌, true, false, IfOk, IfErr, IfSome, IsErrAnd, OnOk};
 ghost use Rattle.std.specs.Option.{option_to_list};
+ghost use Rattle.std.specs.IoError.{error_kind};
 ghost use Rattle.known_bags.specs.Sources.{is_cell, known_by, known_of, IsSourceOf};
-ghost use Rattle.known_bags.specs.Sources.{IsUnread, IsOfSomeFile};
+ghost use Rattle.known_bags.specs.Sources.{IsUnread, IsUnopened, IsOfSomeFile};
 ghost use Rattle.known_bags.specs.inner.Sources.{end_of, AreOfContents};
 
 use crate::known_bag::KnownBag;
@@ -12,7 +13,7 @@ use ledger::{Contents, Ending, LiveCell, headless_ending, read_contents};
 use outcomes::{ReadFault, read_all};
 use records::{Entry, Record};
 use std::alloc::{AllocError, Global};
-use std::io::ErrorKind;
+use std::io::{self, ErrorKind, Read};
 
 /// Why a source can't be used.
 #[derive(Clone, Copy, Debug)]
@@ -56,7 +57,7 @@ fn is_cell(bytes: &[u8]) -> bool
     bytes.starts_with(b"BPJ")
 }
 
-// Those of a list.
+// Appends the bags of a list.
 fn push_list(alloc: Global, bags: &mut Vec<KnownBag>, bytes: &[u8]) -> Result<(), SourceFault>
     ensures { is_cell bytes.now ≡ false
         → IsSourceOf bytes.now bags.old.items bags.new.items result }
@@ -68,7 +69,7 @@ fn push_list(alloc: Global, bags: &mut Vec<KnownBag>, bytes: &[u8]) -> Result<()
     }
 }
 
-// Those of a cell, or of bytes that begin with no whole header of one.
+// Appends the bags of a cell, or of bytes that begin with no whole header of one.
 fn push_cell(alloc: Global, bags: &mut Vec<KnownBag>, bytes: &[u8]) -> Result<(), SourceFault>
     ensures { is_cell bytes.now ≡ true
         → IsSourceOf bytes.now bags.old.items bags.new.items result }
@@ -90,7 +91,7 @@ fn end_of(ending: Ending) -> Result<(), SourceFault>
     }
 }
 
-// Those that a cell's records know, unless it is damaged.
+// Appends the bags that a cell's records know, unless it is damaged.
 fn push_contents(
     alloc: Global,
     bags: &mut Vec<KnownBag>,
@@ -105,7 +106,7 @@ fn push_contents(
     }
 }
 
-// Those that records know, in order.
+// Appends the bags that records know, in order.
 #[tactic(auto, unfolding(crate::specs::Sources::known_of))]
 fn push_records(
     alloc: Global,
@@ -120,7 +121,7 @@ fn push_records(
     Ok(())
 }
 
-// That of a record, if it knows one.
+// Appends the bag of a record, if it knows one.
 fn push_record(alloc: Global, bags: &mut Vec<KnownBag>, kept: &Record) -> Result<(), AllocError>
     ensures { OnOk result (bags.new.items ≡ bags.old.items ++ option_to_list (known_by kept.now)) }
 {
@@ -134,23 +135,36 @@ fn push_record(alloc: Global, bags: &mut Vec<KnownBag>, kept: &Record) -> Result
     }
 }
 
-/// All bytes of the file of this path; `Unread` or `Memory` where it can't be read. What isn't a
-/// file is refused before it is opened: opening a pipe would wait.
+/// All bytes of the file of this path; `Unread` or `Memory` if it can't be read. What isn't a file
+/// is refused before it is opened: opening a pipe would wait.
 pub fn source_bytes(rt: &HostRuntime, path: &str) -> Result<Vec<u8>, SourceFault>
     ensures { IfErr result IsUnread }
 {
-    match LiveCell::open(rt, path) {
-        Ok(mut file) => match read_all(rt.alloc(), &mut file) {
-            Ok(bytes) => Ok(bytes),
-            Err(ReadFault::Input) => Err(SourceFault::Unread),
-            Err(ReadFault::Memory) => Err(SourceFault::Memory),
-        },
+    bytes_of(rt.alloc(), LiveCell::open(rt, path))
+}
+
+// All bytes of a source that was opened, or why it can't be read.
+fn bytes_of<R: Read + Drop>(alloc: Global, opened: io::Result<R>) -> Result<Vec<u8>, SourceFault>
+    ensures bytes { IfOk opened (λ source. IfOk result (λ bytes.
+        IfSome (R.remaining source) (λ all. bytes.items ≡ all))) }
+    ensures unread { IfErr result IsUnread }
+    ensures unopened { IfErr opened (λ error. IsErrAnd result (IsUnopened (error_kind error))) }
+{
+    match opened {
+        Ok(source) => {
+            let mut source = source;
+            match read_all(alloc, &mut source) {
+                Ok(bytes) => Ok(bytes),
+                Err(ReadFault::Input) => Err(SourceFault::Unread),
+                Err(ReadFault::Memory) => Err(SourceFault::Memory),
+            }
+        }
         Err(error) => Err(fault_of(error.kind())),
     }
 }
 
 fn fault_of(kind: ErrorKind) -> SourceFault
-    ensures { IsUnread result }
+    ensures { IsUnopened kind result }
 {
     if kind == ErrorKind::OutOfMemory {
         SourceFault::Memory
