@@ -8,6 +8,8 @@ from typing import NamedTuple
 SVG = "{http://www.w3.org/2000/svg}"
 # How far from a column an arrow may end; and how far from the middle of its row a stop may stand.
 NEAR, ROW = 12, 26
+# How wide a letter is at least, and how many of words beside an event there is room for.
+LETTER, LETTERS = 6, 60
 MARKS = {
     "deposit recorded": "deposit",
     "round recorded": "round",
@@ -132,6 +134,13 @@ class Labels:
         if datagram.message.kind == "Promise":
             return "p"
         return colour_of(self.run.tree_of(datagram.message.bag))
+
+
+def end_of_words(words):
+    """Where words end that begin beside a place; to the left, where they stand there."""
+    wide = LETTER * min(len(words.text), LETTERS)
+    beside = int(words.get("dx", 0))
+    return int(words.get("x")) + beside + (-wide if "l" in classes(words) else wide)
 
 
 def is_drawn(event):
@@ -455,8 +464,23 @@ class Picture:
             same(f"{what}: side", "l" in classes(label), is_left)
             beyond = int(label.get("x")) - way.end[0]
             claim(0 < abs(beyond) < 2 * NEAR and (beyond < 0) == is_left, f"{what}: at {beyond}")
+            self.check_room(label)
+
+    def check_room(self, words):
+        """Words don't run out of the picture, or over the next column."""
+        at, to = int(words.get("x")), end_of_words(words)
+        claim(0 <= to <= self.wide, f"words that end outside of the picture: {words.text}")
+        over = [it for it in self.columns.values() if at < it < to or to < it < at]
+        claim(not over, f"words over the next column: {words.text}")
 
     def check_inside(self):
+        """Words are inside of the picture: those beside events and of the legend to their ends, and
+        the former don't run over the next column."""
         for words in self.drawn.iter(f"{SVG}text"):
             is_inside = 0 < int(words.get("x")) < self.wide and 0 < int(words.get("y")) < self.high
             claim(is_inside, f"words outside of the picture: {words.text}")
+            if words.get("dx") in ("13", "-13"):
+                self.check_room(words)
+            elif "g" in classes(words):
+                is_inside = end_of_words(words) <= self.wide
+                claim(is_inside, f"words that end outside of the picture: {words.text}")

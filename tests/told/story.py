@@ -10,7 +10,7 @@ from rules import Effect, Message, Site, Slot
 WITH_FATES = ("deposit", "propose", "recover", "deliver", "ask")
 KINDS = ["Prepare", "Promise", "Accept", "Accepted", "Refused", "Ask", "Known"]
 # What of a client may come, with its body's bytes; a Deposit says how long its path is.
-CLIENTS = {16: None, 17: 0}
+CLIENTS = {16: None, 17: 0, 18: 0}
 REPLIES = {32: {0, 11, 12, 13, 14, 15, *range(21, 27), *range(41, 55)}, 33: {0, 1, 2, 15}}
 WITH_BAG = {32: {0, 11, 12}, 33: {0, 1}}
 

@@ -1,17 +1,17 @@
 //! An arrow for each datagram that was sent.
 
 use crate::canvas::Canvas;
+use crate::labels::message_of;
+use crate::layout::BEYOND;
 use crate::marks::CROSS;
 use crate::paint::{PLAIN, of_datagram};
 use crate::shape::{push_shape, push_words};
 use crate::sides::{Side, beside, side_to};
-use run_story::{Datagram, Deed, Passage, Scene};
+use run_story::{Datagram, Deed, Passage};
 use std::alloc::AllocError;
 
 /// How far an arrow that breaks off goes.
 const BROKEN: usize = 62;
-/// How far from its column the words of such an arrow stand.
-const BEYOND: usize = 74;
 /// How far from a column an arrow ends.
 const GAP: usize = 7;
 
@@ -20,7 +20,7 @@ const ONCE: &str = "<path class='a ";
 const AGAIN: &str = "<path class='a again ";
 
 const LINE: &str = "s$c' marker-end='url(#h$c)' d='M$0 $1L$2 $3'/>\n";
-// Of a site to itself: to the right, and back.
+// The path of an arrow from a site to itself: to the right, and back.
 const LOOP: &str = "s$c' marker-end='url(#h$c)' d='M$0 $1C$4 $1 $4 $3 $2 $3'/>\n";
 
 const STUB: &str = "<path class='a b s$c' d='M$0 $1L$2 $3'/>";
@@ -91,19 +91,7 @@ impl Canvas<'_> {
         number: usize,
         datagram: &Datagram,
     ) -> Result<(), AllocError> {
-        let Some(event) = self.story.events.get(datagram.event) else {
-            return Ok(());
-        };
-        let scene = Scene {
-            story: self.story,
-            event,
-            datagram: Some(datagram),
-            count: None,
-        };
-        let mut words = String::new(self.alloc);
-        scene.say(&mut words, datagram.head())?;
-        scene.say(&mut words, datagram.tail())?;
-        write!(text, "#{number} ")?;
+        let words = message_of(self.alloc, self.story, number, datagram)?;
         push_words(text, words.as_str())
     }
 

@@ -12,6 +12,27 @@ pub(crate) fn labels_of(alloc: Global, story: &Story) -> Result<Vec<String>, All
     Ok(labels)
 }
 
+/// What a datagram says, with its number.
+pub(crate) fn message_of(
+    alloc: Global,
+    story: &Story,
+    number: usize,
+    datagram: &Datagram,
+) -> Result<String, AllocError> {
+    let mut text = format!(in alloc; "#{number} ")?;
+    if let Some(event) = story.events.get(datagram.event) {
+        let scene = Scene {
+            story,
+            event,
+            datagram: Some(datagram),
+            count: None,
+        };
+        scene.say(&mut text, datagram.head())?;
+        scene.say(&mut text, datagram.tail())?;
+    }
+    Ok(text)
+}
+
 fn label_of(
     alloc: Global,
     story: &Story,
@@ -48,7 +69,7 @@ fn note(scene: &Scene<'_>, datagram: &Datagram) -> &'static str {
     }
 }
 
-// How much was heard: where each weight is 1, as long as that is no more than what is needed.
+// How much was heard: if each weight is 1, only as long as that is no more than what is needed.
 fn heard(scene: &Scene<'_>, datagram: &Datagram) -> &'static str {
     match (datagram.kind, scene.count) {
         (Kind::Prepare | Kind::Accept, _) => answer(scene),
@@ -70,7 +91,7 @@ fn answer(scene: &Scene<'_>) -> &'static str {
     }
 }
 
-// What is asked of a site.
+// What a site is asked to do.
 fn deed(event: &Event) -> &'static str {
     match event.deed {
         Deed::Deposit if matches!(event.outcome, Outcome::Registered) => "deposit$u: ",

@@ -1,8 +1,9 @@
 //! Where everything is, in units of the picture.
 
-use crate::sides::{Side, side_of};
+use crate::labels::message_of;
+use crate::sides::{Side, side_of, side_to};
 use lines::Reason;
-use run_story::{Deed, Event, Outcome, Passage, Story};
+use run_story::{Datagram, Deed, Event, Outcome, Passage, Story};
 use std::alloc::{AllocError, Global};
 
 /// The height above the first row, in which the sites are named.
@@ -17,6 +18,8 @@ const GUTTER: usize = 56;
 const LEAST_SPACING: usize = 250;
 
 const LEAST_MARGIN: usize = 84;
+/// How far from its column the words of an arrow are that breaks off.
+pub(crate) const BEYOND: usize = 74;
 
 /// Where everything is.
 #[derive(Drop)]
@@ -27,14 +30,14 @@ pub(crate) struct Layout {
     right: usize,
     // The row of each event, 0 where it isn't drawn.
     rows: Vec<usize>,
-    // Of each datagram, where it ends if it was never delivered.
+    // For each datagram, where it ends if it was never delivered.
     stubs: Vec<usize>,
     /// The last row.
     pub(crate) bottom: usize,
 }
 
 impl Layout {
-    /// Of a story, whose events have these words beside them.
+    /// The layout of a story, whose events have these words beside them.
     pub(crate) fn of(
         alloc: Global,
         story: &Story,
@@ -50,7 +53,7 @@ impl Layout {
         };
         for (event, label) in story.events.iter().zip(labels.iter()) {
             layout.add_row(event)?;
-            layout.add_stubs(story, event)?;
+            layout.add_stubs(alloc, story, event)?;
             layout.allow(story, event, room_for(label.len()));
         }
         Ok(layout)
@@ -67,27 +70,34 @@ impl Layout {
         Ok(())
     }
 
-    // Where the datagrams that it sent break off.
-    fn add_stubs(&mut self, story: &Story, event: &Event) -> Result<(), AllocError> {
+    // Adds where the datagrams that it sent break off.
+    fn add_stubs(&mut self, alloc: Global, story: &Story, event: &Event) -> Result<(), AllocError> {
         for before in event.sent_before..event.sent_after {
             if let Some(Passage::Never) = story.passages.get(before) {
                 self.bottom = self.bottom.saturating_add(STUB);
-                self.allow_stub(story, event);
+                let number = before.saturating_add(1);
+                if let Some(datagram) = story.datagram(number) {
+                    let words = message_of(alloc, story, number, datagram)?;
+                    self.allow_stub(story, datagram, room_beyond(words.len()));
+                }
             }
             self.stubs.push(self.bottom)?;
         }
         Ok(())
     }
 
-    // To the right of the last column there may be a datagram that its site has sent to itself, and
-    // that breaks off.
-    fn allow_stub(&mut self, story: &Story, event: &Event) {
-        if event.site == story.members.count() {
-            self.right = self.right.max(LEAST_SPACING);
+    // Leaves this much room beside a datagram that breaks off: to the right of the last column there
+    // may be one that its site has sent to itself.
+    fn allow_stub(&mut self, story: &Story, datagram: &Datagram, room: usize) {
+        match side_to(datagram.from, datagram.to) {
+            Side::Right if datagram.from == story.members.count() => {
+                self.right = self.right.max(LEAST_SPACING).max(room);
+            }
+            _ => self.spacing = self.spacing.max(room),
         }
     }
 
-    // Leaves so much room beside an event.
+    // Leaves this much room beside an event.
     fn allow(&mut self, story: &Story, event: &Event, room: usize) {
         let last = story.members.count();
         match side_of(story, event) {
@@ -104,7 +114,7 @@ impl Layout {
             .saturating_add(before.saturating_mul(self.spacing))
     }
 
-    /// How wide the picture of so many sites is.
+    /// How wide the picture of this many sites is.
     pub(crate) fn width(&self, sites: u8) -> usize {
         self.column(sites).saturating_add(self.right)
     }
@@ -120,7 +130,7 @@ impl Layout {
     }
 }
 
-// Whether an event has a row: it happened at a site, or a datagram came where the site was down.
+// Whether an event has a row: it happened at a site, or a datagram came while the site was down.
 fn is_drawn(event: &Event) -> bool {
     match (event.deed, event.outcome) {
         (Deed::Tree, _) => false,
@@ -130,7 +140,12 @@ fn is_drawn(event: &Event) -> bool {
     }
 }
 
-// How much room words of so many bytes take, at most 60 of which are seen.
+// How much room words of this many bytes take; at most 60 of them are seen.
 fn room_for(bytes: usize) -> usize {
     (bytes.min(60).saturating_mul(13) / 2).saturating_add(36)
+}
+
+// The same beyond an arrow that breaks off.
+fn room_beyond(bytes: usize) -> usize {
+    (bytes.min(60).saturating_mul(13) / 2).saturating_add(BEYOND)
 }
