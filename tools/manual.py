@@ -59,7 +59,8 @@ def manual(program, version):
     whole, commands = helps(program)
     usages = "\n".join(it.usage for it in [whole, *commands.values()])
     lines = [f'.TH BAGPAXOS 1 "" "{escaped(version.partition(chr(10))[0])}"']
-    lines += [".SH NAME", f"bagpaxos \\- {escaped(whole.about)}"]
+    about = whole.about.replace("\n", " ")
+    lines += [".SH NAME", f"bagpaxos \\- {escaped(about)}"]
     lines += [".SH SYNOPSIS", *as_it_stands(usages)]
     lines += [".SH COMMANDS", *listed(whole.entries("Commands"))]
     lines += [".SH OPTIONS", *listed(whole.entries("Options")), *as_it_stands(whole.rest)]
@@ -92,6 +93,7 @@ def completion(program):
         words.append(f"    {name}:-*) _bagpaxos_by -W '{options}' ;;")
         arguments = [it.rstrip(".") for it, _ in command.entries("Arguments")]
         words += [f"    {name}:*) _bagpaxos_by {it} ;;" for it in kinds_for(arguments)[:1]]
+    words.append(f"    help:*) _bagpaxos_by -W '{' '.join(commands)} codes' ;;")
     lines = {"values": "\n".join(values), "words": "\n".join(words)}
     return COMPLETION.format(first=" ".join(first), **lines)
 

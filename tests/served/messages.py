@@ -8,7 +8,7 @@ CHECKSUM_BYTES = 8
 OLD_HEADER_BYTES = 13
 # The kinds of datagrams, and of records.
 PREPARE, PROMISE, ACCEPT, ACCEPTED, REFUSED, ASK, KNOWN = range(1, 8)
-DEPOSIT, QUERY, DEPOSIT_REPLY, QUERY_REPLY = 16, 17, 32, 33
+DEPOSIT, QUERY, RECOVER, DEPOSIT_REPLY, QUERY_REPLY = 16, 17, 18, 32, 33
 DEPOSITED, ROUND, PROMISED, VOTED, LEARNED = range(1, 6)
 # A client deposits the folder `x` as version 1 of the object `a`, or asks for its bag: in hex.
 DEPOSITS_X = "4250021000000000000000070001610000000100017851c96259d5fef935"
@@ -77,6 +77,7 @@ def ballot(round, site):
 # What may come for a version of an object that nobody has, by its kind.
 FOR_NOBODY = {
     "Query": lambda name: Message(QUERY, 0, name, 1),
+    "Recover": lambda name: Message(RECOVER, 0, name, 1),
     "Ask": lambda name: Message(ASK, 2, name, 1),
     "Refused": lambda name: Message(REFUSED, 2, name, 1, ballot(1, 1) + ballot(5, 2)),
     "Accepted": lambda name: Message(ACCEPTED, 2, name, 1, ballot(5, 2) + bytes(64)),

@@ -12,13 +12,14 @@ from sites import socket_at, write_members
 
 class Relay(threading.Thread):
     """Passes datagrams on between sites, each pair by a socket of its own. Of those that it passes
-    it loses some by chance, and holds each for some seconds."""
+    it loses some by chance, or as it is told by `loses`, and holds each for some seconds."""
 
     def __init__(self, ports, seed=1, loss=0.0, delay=(0.0, 0.0)):
         super().__init__(daemon=True)
         self.ports, self.loss, self.delay = ports, loss, delay
         self.chance, self.held, self.order = random.Random(seed), [], itertools.count()
         self.cut_off, self.is_over = set(), False
+        self.loses = lambda site, to, datagram: False
         self.sites, self.sockets = range(1, len(ports) + 1), {}
         self.comes = selectors.DefaultSelector()
         for site, to in itertools.permutations(self.sites, 2):
@@ -57,6 +58,8 @@ class Relay(threading.Thread):
         except OSError:
             return
         if self.cut_off & {site, to} or self.chance.random() < self.loss:
+            return
+        if self.loses(site, to, datagram):
             return
         due = time.monotonic() + self.chance.uniform(*self.delay)
         heapq.heappush(self.held, (due, next(self.order), made, to, datagram))

@@ -15,8 +15,8 @@ use site_commands::{
 };
 use std::alloc::{AllocError, Global};
 
-const ABOUT: &str =
-    "Several repositories, each with copies of one collection, agree which bag is a version of an object, with no master site.";
+const ABOUT: &str = "Several repositories, each with copies of one collection, agree which bag is a
+version of an object, with no master site.";
 
 const EXAMPLE: &str =
     "`bagpaxos help codes` lists what it prints by a number or a word, and what each says.
@@ -52,8 +52,8 @@ pub enum Task<'a> {
     Ledger(LedgerTask<'a>),
 }
 
-/// What these words ask for, the program's own name being the first of them. Help is an error of
-/// clap's that goes to standard output, with status 0.
+/// What these words ask for; the first is the program's own name. Help is an error of clap's that
+/// goes to standard output, with status 0.
 pub fn task_of(alloc: Global, words: &[String]) -> Result<Option<Task<'_>>, Error> {
     let matches = matches_of(alloc, words)?;
     let task = task_in(alloc, &matches)?;
@@ -135,7 +135,8 @@ fn cell_task_in<'a>(matches: &ArgMatches<'a>) -> Option<Task<'a>> {
     }
 }
 
-// Each part is added in a call of its own: a command is much for a proof to carry past a `?`.
+// Each part is added in a call of its own, since it is costly to prove that a command is carried
+// past a `?`.
 fn command<'a>(alloc: Global) -> Result<Command<'a>, AllocError> {
     let command = with_subcommand(Ok(program(alloc)), audit_command(alloc));
     let command = with_subcommand(command, catch_up_command(alloc));

@@ -7,36 +7,42 @@ use std::alloc::{AllocError, Global};
 const ABOUT: &str = "Runs a schedule, and prints what the sites say";
 
 const EXAMPLE: &str = "A schedule is a text of commands, one a line:
-  federation F N        the sites 1 to N of federation F; this command comes first, once
+  federation F N        the sites 1 to N of federation F; this comes first, once
   federation F N W1 .. WN
-                        the same, with the weights of the sites; else each has the weight 1
+                        the same, with the weights of the sites; else each is 1
   tree T                declares an empty tree of files
   folder T              adds the tree's payload folder `data`
   file T PATH HEX       adds a file, its bytes in hex (`-` for none)
-  deposit S T OBJ V     deposits the tree at site S, as version V of the object OBJ
+  deposit S T OBJ V     deposits the tree at site S, as version V of object OBJ
   propose S OBJ V       site S proposes its deposit to all
-  recover S OBJ V       site S, which has voted or has a deposit, has all decide what may be chosen
+  recover S OBJ V       site S, which has voted or has a deposit, has all decide
+                        what may be chosen
   deliver K             the K-th datagram that was sent arrives
-  pump N                N times: the oldest datagram arrives that no deliver or pump has named
+  pump N                N times: the oldest datagram arrives that no deliver or
+                        pump has named
   ask S TO OBJ V        site S asks site TO which bag it knows
   query S OBJ V         asks site S which bag is version V of OBJ
   raw S HEX             bytes that no site sent arrive at site S
   stop S                stops site S between calls
   start S               opens its cell again
 A deposit, propose, recover, deliver or ask may end in a fate:
-  stop 1 K, stop 2 K    the site stops as it writes its record, or syncs it; of it K bytes are kept
-  stop 3 J              the site stops when the first J of its datagrams were sent
-  fail 1 K, fail 2 K    the write, or the sync, fails; the site has to be started again
+  stop 1 K, stop 2 K    the site stops as it writes its record, or syncs it; of
+                        it K bytes are kept
+  stop 3 J              the site stops when the first J of its datagrams were
+                        sent
+  fail 1 K, fail 2 K    the write, or the sync, fails; the site has to be
+                        started again
 Lines that are blank, or begin with `#`, are skipped.
 
-With `--words` standard error says, once the lines are printed, what each command did, with its own
-line below it, and which datagrams were never delivered; or, where the text is no schedule, what is
-wrong with its first line at fault. With `--draw` a picture of the run is written to a file, in
-place of what is there: one column per site, time downwards, one arrow per datagram.
+With `--words` standard error says, once the lines are printed, what each
+command did, with its own line below it, and which datagrams were never
+delivered; or, if the text is no schedule, what is wrong with its first line at
+fault. With `--draw` a picture of the run is written to a file, in place of what
+is there: one column per site, time downwards, one arrow per datagram.
 
-The exit status is 0; 1 where the text is no schedule (`schedule line N`), memory runs out
-(`memory`), the schedule can't be read (`input unread`), or standard output or the picture can't be
-written; and 2 for a mistake in the arguments.
+The exit status is 0; 1 if the text is no schedule (`schedule line N`), memory
+runs out (`memory`), the schedule can't be read (`input unread`), or standard
+output or the picture can't be written; and 2 for a mistake in the arguments.
 
 Examples:
   printf 'federation 7 3\\nquery 1 a 1\\n' | bagpaxos run
@@ -94,7 +100,7 @@ fn identities_argument<'a>(alloc: Global) -> Arg<'a> {
     Arg::new(alloc, "identities")
         .long("identities")
         .action(ArgAction::SetTrue)
-        .help("Name a bag by the 128 hex digits of its identity, not by its tree")
+        .help("Name bags by the 128 hex digits of their identities")
 }
 
 fn words_argument<'a>(alloc: Global) -> Arg<'a> {

@@ -36,7 +36,7 @@ module _ (asked : Target) (v : KnownBag) (a b : Option (List Move)) where
   pub no_answer : (o : Option (List ℕ)) (result : Result Answer AllocError)
       → IsAskedFor asked v.slot a b result → StopsIn asked (v ∷ []) a b o o Memory
   no_answer o result (moves, grows, asks, is) =
-      ([], [], moves, grows, refl, (_, asks), no_part o [])
+      ([], [], moves, grows, refl, (v.slot, asks), no_part o [])
 
   -- there was one
   answered : (o n : Option (List ℕ)) (answer : Answer) → IsAskedFor asked v.slot a b (Ok answer)

@@ -16,9 +16,9 @@ use Rattle.catch_up.specs.declared.rounds.AskFault.{AskFault}
 use Rattle.catch_up.specs.declared.rounds.Target.{Target}
 use Rattle.catch_up.specs.Rounds.{Answer, AreAnswers, answer_line, answer_lines, is_same, same_in}
 use Rattle.catch_up.specs.Rounds.{left_by, left_of, AreRounds, AreWhole, round_lines, same_after}
-use Rattle.catch_up.specs.Rounds.{left_after, open_of}
+use Rattle.catch_up.specs.Rounds.{left_after, next_round, round_after, last_round, open_of}
 use Rattle.catch_up.specs.inner.Progress.{GoesOn, StopsIn, GoesOnRounds, StopsInRounds}
-use Rattle.catch_up.specs.inner.Progress.{AppendsPart, IsRound, AreAsked}
+use Rattle.catch_up.specs.inner.Progress.{AppendsPart, OnlyAsked, IsRound, AreAsked}
 use Rattle.catch_up.proofs.Parts.{then_part}
 
 -- ---- some versions, and others
@@ -171,7 +171,7 @@ module _ (asked : Target) where
 
 rounds_then : (asked : Target) (vs : List KnownBag) (rounds : List (List Answer))
     (us : List Answer) (m n : List Move) → AreRounds asked vs rounds m
-    → AreAnswers asked (left_after vs rounds) us n
+    → AreAnswers (round_after asked rounds) (left_after vs rounds) us n
     → AreRounds asked vs (rounds ++ us ∷ []) (m ++ n)
 rounds_then asked vs [] us m n p q =
     (n, [], ap (λ (k : List Move). k ++ n) p ∙ sym (append-nil n), q, refl)
@@ -180,8 +180,19 @@ rounds_then asked vs (bs ∷ rounds) us m n (first, rest, is, one, more) q = (
   rest ++ n,
   ap (λ (k : List Move). k ++ n) is ∙ append_assoc first rest n,
   one,
-  rounds_then asked (left_of vs bs) rounds us rest n more q,
+  rounds_then (next_round asked) (left_of vs bs) rounds us rest n more q,
 )
+
+round_then : (asked : Target) (rounds : List (List Answer)) (us : List Answer)
+    → round_after asked (rounds ++ us ∷ []) ≡ next_round (round_after asked rounds)
+round_then asked [] us = refl
+round_then asked (bs ∷ rounds) us = round_then (next_round asked) rounds us
+
+last_then : (asked : Target) (rounds : List (List Answer)) (us : List Answer)
+    → round_after asked rounds ≡ last_round asked (rounds ++ us ∷ [])
+last_then asked [] us = refl
+last_then asked (bs ∷ []) us = refl
+last_then asked (bs ∷ cs ∷ rounds) us = last_then (next_round asked) (cs ∷ rounds) us
 
 whole_then : (vs : List KnownBag) (rounds : List (List Answer)) (us : List Answer)
     → AreWhole vs rounds → length us ≡ length (left_after vs rounds)
@@ -223,7 +234,7 @@ module _ (asked : Target) (vs : List KnownBag) where
 
   pub one_more_round : (a b c : Option (List Move)) (o n p : Option (List ℕ))
       (rounds : List (List Answer)) (us : List Answer) → GoesOnRounds asked vs a b o n rounds
-      → GoesOn asked (left_after vs rounds) b c n p us
+      → GoesOn (round_after asked rounds) (left_after vs rounds) b c n p us
       → GoesOnRounds asked vs a c o p (rounds ++ us ∷ [])
   one_more_round a b c o n p rounds us (moves, grows, are, whole, lines)
       (others, more, are_more, count, lines_more) = (
@@ -238,7 +249,7 @@ module _ (asked : Target) (vs : List KnownBag) where
 
   pub stops_in_round : (a b c : Option (List Move)) (o n p : Option (List ℕ))
       (rounds : List (List Answer)) (fault : AskFault) → GoesOnRounds asked vs a b o n rounds
-      → StopsIn asked (left_after vs rounds) b c n p fault
+      → StopsIn (round_after asked rounds) (left_after vs rounds) b c n p fault
       → StopsInRounds asked vs a c o p fault
   stops_in_round a b c o n p rounds fault (moves, grows, are, whole, lines)
       (us, some, others, more, are_more, only, part) = (
@@ -248,7 +259,7 @@ module _ (asked : Target) (vs : List KnownBag) where
         subst (Grows a c) (sym (append_assoc moves some others))
             (Grows-trans a b c moves (some ++ others) grows more),
         rounds_then asked vs rounds us moves some are are_more,
-        only,
+        subst (λ (t : Target). OnlyAsked t fault others) (last_then asked rounds us) only,
         subst (λ (l : List ℕ). AppendsPart o p l) (sym (round_lines_then vs rounds us))
             (then_part o n p (round_lines vs rounds) (answer_lines (left_after vs rounds) us) lines
             part),
@@ -256,29 +267,32 @@ module _ (asked : Target) (vs : List KnownBag) where
 
 -- ---- the rounds so far
 
--- so many rounds
-abbrev pub RoundsSoFar : Target → (old now : List KnownBag) → (before after : Option (List Move))
-    → (written next : Option (List ℕ)) → (same count : ℕ) → Type 0
-RoundsSoFar asked old now before after written next same count =
-    (rounds : List (List Answer)) × (length rounds ≡ count)
+-- so many rounds, and the next one
+abbrev pub RoundsSoFar : (asked at : Target) → (old now : List KnownBag)
+    → (before after : Option (List Move)) → (written next : Option (List ℕ)) → (same count : ℕ)
+    → Type 0
+RoundsSoFar asked at old now before after written next same count =
+    (rounds : List (List Answer)) × (length rounds ≡ count) × (at ≡ round_after asked rounds)
     × GoesOnRounds asked (open_of old) before after written next rounds
     × (open_of now ≡ left_after (open_of old) rounds)
     × (same ≡ same_after (open_of old) rounds)
 
 module _ (asked : Target) (old : List KnownBag) (a : Option (List Move)) (o : Option (List ℕ)) where
-  pub at_first_round : RoundsSoFar asked old old a a o o 0 0
-  at_first_round = ([], refl, no_rounds asked (open_of old) a o, refl, refl)
+  pub at_first_round : (at : Target) → at ≡ asked → RoundsSoFar asked at old old a a o o 0 0
+  at_first_round at here = ([], refl, here, no_rounds asked (open_of old) a o, refl, refl)
 
-  pub next_round : (now next : List KnownBag) (b c : Option (List Move)) (n p : Option (List ℕ))
-      (same count more : ℕ) → RoundsSoFar asked old now a b o n same count
-      → IsRound asked now next b c n p (Ok more)
-      → RoundsSoFar asked old next a c o p (same + more) (count + 1)
-  next_round now next b c n p same count more (rounds, so_many, gone, kept, is)
+  pub then_round : (at : Target) (now next : List KnownBag) (b c : Option (List Move))
+      (n p : Option (List ℕ)) (same count more : ℕ) → RoundsSoFar asked at old now a b o n same count
+      → IsRound at now next b c n p (Ok more)
+      → RoundsSoFar asked (next_round at) old next a c o p (same + more) (count + 1)
+  then_round at now next b c n p same count more (rounds, so_many, here, gone, kept, is)
       (answers, goes, left, counted) = (
         rounds ++ answers ∷ [],
         length-append rounds (answers ∷ []) ∙ ap (λ (k : ℕ). k + 1) so_many,
+        ap next_round here ∙ sym (round_then asked rounds answers),
         one_more_round asked (open_of old) a b c o n p rounds answers gone
-            (subst (λ (vs : List KnownBag). GoesOn asked vs b c n p answers) kept goes),
+            (subst (λ (t : Target). GoesOn t (left_after (open_of old) rounds) b c n p answers) here
+            (subst (λ (vs : List KnownBag). GoesOn at vs b c n p answers) kept goes)),
         left ∙ (ap (λ (vs : List KnownBag). left_of vs answers) kept
             ∙ sym (left_after_then (open_of old) rounds answers)),
         ap (λ (k : ℕ). same + k)
@@ -287,26 +301,29 @@ module _ (asked : Target) (old : List KnownBag) (a : Option (List Move)) (o : Op
             ∙ sym (same_after_then (open_of old) rounds answers)),
       )
 
-  pub stops_at_round : (now next : List KnownBag) (b c : Option (List Move))
+  pub stops_at_round : (at : Target) (now next : List KnownBag) (b c : Option (List Move))
       (n p : Option (List ℕ)) (same count : ℕ) (fault : AskFault)
-      → RoundsSoFar asked old now a b o n same count
-      → IsRound asked now next b c n p (Err fault)
+      → RoundsSoFar asked at old now a b o n same count
+      → IsRound at now next b c n p (Err fault)
       → StopsInRounds asked (open_of old) a c o p fault
-  stops_at_round now next b c n p same count fault (rounds, so_many, gone, kept, is) stops =
+  stops_at_round at now next b c n p same count fault (rounds, so_many, here, gone, kept, is)
+      stops =
       stops_in_round asked (open_of old) a b c o n p rounds fault gone
-      (subst (λ (vs : List KnownBag). StopsIn asked vs b c n p fault) kept stops)
+      (subst (λ (t : Target). StopsIn t (left_after (open_of old) rounds) b c n p fault) here
+      (subst (λ (vs : List KnownBag). StopsIn at vs b c n p fault) kept stops))
 
   -- no more are the same than there are
-  pub same_at_most : (now : List KnownBag) (b : Option (List Move)) (n : Option (List ℕ))
-      (same count : ℕ) → RoundsSoFar asked old now a b o n same count → same ≤ length old
-  same_at_most now b n same count (rounds, so_many, gone, kept, is) =
+  pub same_at_most : (at : Target) (now : List KnownBag) (b : Option (List Move))
+      (n : Option (List ℕ)) (same count : ℕ) → RoundsSoFar asked at old now a b o n same count
+      → same ≤ length old
+  same_at_most at now b n same count (rounds, so_many, here, gone, kept, is) =
       omega (arith, is, same_after_bound (open_of old) rounds, open_at_most old)
 
-  pub asked_all : (now : List KnownBag) (b : Option (List Move)) (n : Option (List ℕ))
-      (same count : ℕ) → 1 ≤ count → length now ≡ length old
-      → RoundsSoFar asked old now a b o n same count
+  pub asked_all : (at : Target) (now : List KnownBag) (b : Option (List Move))
+      (n : Option (List ℕ)) (same count : ℕ) → 1 ≤ count → length now ≡ length old
+      → RoundsSoFar asked at old now a b o n same count
       → AreAsked asked old now a b o n (Ok same)
-  asked_all now b n same count some as_long (rounds, so_many, gone, kept, is) =
+  asked_all at now b n same count some as_long (rounds, so_many, here, gone, kept, is) =
       (rounds, omega arith, gone, kept, as_long, is)
 
   -- why it was asked in no more rounds

@@ -18,7 +18,7 @@ use Rattle.catch_up.specs.declared.rounds.AskFault.{AskFault}
 use Rattle.catch_up.specs.declared.rounds.AskFault.TheVariants.{Memory, Output}
 use Rattle.catch_up.specs.declared.rounds.Target.{Target}
 use Rattle.catch_up.specs.Lines.{open_line, count_line}
-use Rattle.catch_up.specs.Rounds.{open_of, round_lines, same_after, left_after}
+use Rattle.catch_up.specs.Rounds.{open_of, round_lines, same_after, left_after, last_round}
 use Rattle.catch_up.specs.Reports.{open_lines, status_of, report, cut_short, IsCaughtUp}
 use Rattle.catch_up.specs.inner.Progress.{AppendsPart, StopsInRounds, AreAsked, AreReported}
 use Rattle.catch_up.proofs.Parts.{part_of_both, then_part}
@@ -109,7 +109,7 @@ module _ (asked : Target) (old : List KnownBag) (a b : Option (List Move)) (o : 
             [],
             subst (Grows a b) (sym (append-nil moves)) grows,
             are,
-            only_answers asked fault,
+            only_answers (last_round asked rounds) fault,
             then_part o n p (round_lines (open_of old) rounds) _ lines
                 (subst (AppendsPart n p)
                 (ap (λ (vs : List KnownBag). open_lines vs ++ count_line same (length now)) kept

@@ -10,7 +10,7 @@ use Rattle.site_commands.specs.Answers.{IsWritten}
 use Rattle.catch_up.specs.declared.rounds.Target.{Target}
 use Rattle.catch_up.specs.Lines.{open_line, count_line}
 use Rattle.catch_up.specs.Rounds.{Answer, open_of, AreRounds, AreWhole, round_lines, same_after}
-use Rattle.catch_up.specs.Rounds.{left_after, IsOneMore}
+use Rattle.catch_up.specs.Rounds.{left_after, last_round, IsOneMore}
 
 -- a line for each version that is left
 unfoldable pub open_lines : List KnownBag → List ℕ
@@ -57,7 +57,7 @@ abbrev pub IsCutShort : Target → List KnownBag → (before after : Option (Lis
 IsCutShort asked versions before after old new result =
     (rounds : List (List Answer)) × (moves : List Move) × (others : List Move)
     × Grows before after (moves ++ others)
-    × AreRounds asked (open_of versions) rounds moves × IsOneMore asked others
+    × AreRounds asked (open_of versions) rounds moves × IsOneMore (last_round asked rounds) others
     × ((n : ℕ) × IsWritten old new result (cut_short n (report versions rounds)))
 
 abbrev pub IsCaughtUp : Target → List KnownBag → (before after : Option (List Move))

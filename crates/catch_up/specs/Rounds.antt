@@ -1,6 +1,6 @@
 -- A site that is asked for the bags of versions, round after round.
-use Rattle.std.specs.Prelude.{◌≡◌, ⊤, ℕ, ◌+◌, Bool, false, not, if◌then◌else◌, List, [], ◌∷◌}
-use Rattle.std.specs.Prelude.{◌++◌, length, filter, Option, Some, None}
+use Rattle.std.specs.Prelude.{◌≡◌, ⊤, ℕ, ◌+◌, min, Bool, false, not, if◌then◌else◌}
+use Rattle.std.specs.Prelude.{List, [], ◌∷◌, ◌++◌, length, filter, Option, Some, None}
 use Rattle.fed_types.specs.declared.bag_id.BagId.{BagId}
 use Rattle.fed_types.specs.Bags.{same_bag}
 use Rattle.fed_types.specs.Slots.{SlotName}
@@ -13,6 +13,7 @@ use Rattle.site_commands.specs.declared.reply.ClientReply.TheVariants.{ToDeposit
 use Rattle.site_commands.specs.declared.reply.Wanted.TheVariants as wanted
 use Rattle.site_commands.specs.Replies.{Question, datagram_to, first_reply}
 use Rattle.site_commands.specs.Exchanges.{Asks}
+use Rattle.site_commands.specs.Recoveries.{recovery_of}
 use Rattle.catch_up.specs.declared.rounds.Target.{Target}
 use Rattle.catch_up.specs.Lines.{known_line}
 
@@ -24,6 +25,8 @@ question asked slot = record {
   to = asked.to;
   target = asked.target;
   slot = slot;
+  ports = asked.ports.now;
+  asked = asked.round;
 }
 
 -- a bag, if the site knows one
@@ -40,16 +43,22 @@ bag_in None = None
 bag_in (Some (ToDeposit answer)) = None
 bag_in (Some (ToQuery answer)) = bag_by answer
 
--- the site is asked once for the slot's bag, and this is the bag in its first reply to that query
+-- The site is asked for the slot's bag, in each round once; so the round is how many questions about
+-- it came before. After enough of them each question brings a Recover.
+abbrev pub AsksFor : Target → SlotName → List Move → Type 0
+AsksFor asked slot moves =
+    Asks (asked.target, datagram_to (question asked slot) None) (recovery_of (question asked slot))
+    moves
+
+-- it is asked, and this is the bag in its first reply to that query
 abbrev pub IsAnswer : Target → SlotName → Answer → List Move → Type 0
 IsAnswer asked slot answer moves =
-    Asks (asked.target, datagram_to (question asked slot) None) moves
+    AsksFor asked slot moves
     × (answer ≡ bag_in (first_reply (question asked slot) wanted.ToQuery moves))
 
 -- the site is asked once more at most, for some slot's bag
 abbrev pub IsOneMore : Target → List Move → Type 0
-IsOneMore asked moves =
-    (slot : SlotName) × Asks (asked.target, datagram_to (question asked slot) None) moves
+IsOneMore asked moves = (slot : SlotName) × AsksFor asked slot moves
 
 -- ---- one round
 
@@ -100,13 +109,32 @@ left_of (v ∷ versions) (answer ∷ answers) = left_by v answer (left_of versio
 
 -- ---- all rounds
 
+-- the same in this round
+abbrev pub in_round : Target → (round : ℕ) → Target
+in_round asked round = record asked { round = round }
+
+-- the next round
+abbrev pub next_round : Target → Target
+next_round asked = in_round asked (min (asked.round + 1) 4294967295)
+
+-- the round after these
+abbrev pub round_after : Target → List (List Answer) → Target
+round_after asked [] = asked
+round_after asked (answers ∷ rounds) = round_after (next_round asked) rounds
+
+-- the last of these rounds
+abbrev pub last_round : Target → List (List Answer) → Target
+last_round asked [] = asked
+last_round asked (answers ∷ []) = asked
+last_round asked (answers ∷ next ∷ rounds) = last_round (next_round asked) (next ∷ rounds)
+
 -- in each round it is asked for those that are left
 abbrev pub AreRounds : Target → List KnownBag → List (List Answer) → List Move → Type 0
 AreRounds asked versions [] moves = moves ≡ []
 AreRounds asked versions (answers ∷ rounds) moves =
     (first : List Move) × (rest : List Move) × (moves ≡ first ++ rest)
     × AreAnswers asked versions answers first
-    × AreRounds asked (left_of versions answers) rounds rest
+    × AreRounds (next_round asked) (left_of versions answers) rounds rest
 
 -- in each for all of them
 abbrev pub AreWhole : List KnownBag → List (List Answer) → Type 0

@@ -2,32 +2,41 @@
 
 use clap::{Arg, ArgMatches, Command, value_parser};
 use fed_types::SiteNo;
-use site_commands::{members_argument, to_argument, wait_argument};
+use site_commands::{key_argument, members_argument, to_argument, wait_argument};
 use std::alloc::{AllocError, Global};
 
 const ABOUT: &str = "Asks a site for all that others know, until it knows that too";
 
-const EXAMPLE: &str =
-    "Each file is a cell, which may be in use and is never changed, or a list that `ledger` printed. The
-site is asked for each version for which one of them knows a bag. It asks the other sites for what
-it doesn't know; so it is asked again, after pauses of 20 ms to a second, until it knows all, or
-until --for seconds have passed. For each known bag of each file it prints
+const EXAMPLE: &str = "Each file is a cell, which may be in use and is never changed, or a list that
+`ledger` printed. The site is asked for each version for which one of them knows
+a bag. It asks the other sites for what it doesn't know. So it is asked again,
+after pauses of 20 ms to a second, until it knows all, or until --for seconds
+have passed. Once it is asked each second, the sites recover what is left, one
+after the other: so it learns even what no running site knows, if one has voted
+for it. For each known bag of each file it prints
   known OBJ V HEX       the site knows the bag that the file knows
   other OBJ V HEX HEX   it knows the first, and the file knows the second
   open OBJ V            it didn't know the version when time was over
-and finally `K of N`: of K of the N versions it knows the bag that the file knows.
+and finally `K of N`: of K of the N versions it knows the bag that the file
+knows.
 
-The exit status is 0 where that is all of them; 1 where it isn't, or a last line says why nobody
-was asked:
+With --key what is sent has a tag, as with bagpaxos send.
+
+The exit status is 0 if that is all of them; 1 if it isn't, or a last line says
+why nobody was asked:
   members unread    the members file can't be read
   members line N    line N of the members file is at fault
   not a member      the members file has no such site
+  key unread        the key file can't be read
+  key open to others
+                    others than its owner have rights to the key file
+  key line N        line N of the key file is at fault
   open 4            a file can't be read
   damaged OFFSET    a cell is damaged from this byte on
   ledger line N     line N of a list is none of a ledger's
   socket            a socket can't be had
   memory            out of memory
-or where standard output can't be written; and 2 for a mistake in the arguments.
+or if standard output can't be written; and 2 for a mistake in the arguments.
 
 Example:
   bagpaxos catch-up --members members --to 2 cell.1 cell.3";
@@ -36,6 +45,8 @@ Example:
 #[derive(Debug, Drop)]
 pub struct CatchUpTask<'a> {
     pub members: &'a str,
+    /// The path of the key file, if there is one.
+    pub key: Option<&'a str>,
     pub to: SiteNo,
     /// How many milliseconds an answer may take.
     pub wait: u32,
@@ -59,6 +70,7 @@ pub fn catch_up_task<'a>(
 fn task_of<'a>(matches: &ArgMatches<'a>, files: Vec<&'a str>) -> Option<CatchUpTask<'a>> {
     Some(CatchUpTask {
         members: matches.get_str("members")?,
+        key: matches.get_str("key"),
         to: SiteNo::new(matches.get_one::<u8>("to")?).ok()?,
         wait: matches.get_one::<u32>("wait")?,
         seconds: matches.get_one::<u32>("for")?,
@@ -78,8 +90,16 @@ pub fn catch_up_command<'a>(alloc: Global) -> Result<Command<'a>, AllocError> {
 fn with_site<'a>(alloc: Global, command: Command<'a>) -> Result<Command<'a>, AllocError> {
     command
         .arg(members_argument(alloc))?
+        .arg(key_argument(alloc))?
         .arg(to_argument(alloc))?
-        .arg(wait_argument(alloc).required(false).default_value("1000"))
+        .arg(answer_argument(alloc))
+}
+
+fn answer_argument<'a>(alloc: Global) -> Arg<'a> {
+    wait_argument(alloc)
+        .required(false)
+        .default_value("1000")
+        .help("Milliseconds for an answer, 1 to 60000")
 }
 
 fn for_argument<'a>(alloc: Global) -> Arg<'a> {

@@ -5,9 +5,10 @@ use crate::rounds::{Target, catch_up_on};
 use counted_writes::CountedWriter;
 use known_bags::{KnownBag, push_source, write_fault};
 use outcomes::ProgramFault;
-use site_commands::{Stop, members_at, port_of, socket, write_stop};
+use site_commands::{Stop, keys_for, members_at, port_of, ports_of, socket, write_stop};
 use std::io;
 use std::io::Write;
+use tags::KeyRing;
 use udp_site::Waits;
 
 /// Asks as the arguments say. The lines are written to standard output.
@@ -21,29 +22,53 @@ pub fn catch_up_site(rt: &HostRuntime, task: &CatchUpTask<'_>) -> Result<u8, Pro
         }
     }
     match asked_by(rt, task) {
-        Ok(asked) => ask_all(rt, task, asked, &mut versions, output),
+        Ok(sites) => ask_all(rt, task, sites, &mut versions, output),
         Err(stop) => write_stop(rt.alloc(), &mut output, stop),
     }
 }
 
-fn asked_by(rt: &HostRuntime, task: &CatchUpTask<'_>) -> Result<Target, Stop> {
+/// The federation, the port of the site that is asked, those of all sites, and the keys, if there
+/// are some.
+#[derive(Drop)]
+struct Sites {
+    federation: u64,
+    target: u16,
+    ports: Vec<u16>,
+    keys: Option<KeyRing>,
+}
+
+fn asked_by(rt: &HostRuntime, task: &CatchUpTask<'_>) -> Result<Sites, Stop> {
     let members = members_at(rt, task.members)?;
     let target = port_of(&members, task.to)?;
-    Ok(Target {
+    Ok(Sites {
         federation: members.members().federation(),
-        to: task.to,
         target,
+        ports: ports_of(rt.alloc(), &members)?,
+        keys: keys_for(rt, task.key)?,
     })
 }
 
 fn ask_all<W: Write + Drop>(
     rt: &HostRuntime,
     task: &CatchUpTask<'_>,
-    asked: Target,
+    sites: Sites,
     versions: &mut Vec<KnownBag>,
     mut output: W,
 ) -> Result<u8, ProgramFault> {
-    match socket(rt, asked.federation, 0, Waits::always(task.wait)) {
+    let Sites {
+        federation,
+        target,
+        ports,
+        keys,
+    } = sites;
+    let asked = Target {
+        federation,
+        to: task.to,
+        target,
+        ports: &ports,
+        round: 0,
+    };
+    match socket(rt, federation, 0, Waits::always(task.wait), keys) {
         Ok(mut port) => {
             let alloc = rt.alloc();
             let output = &mut CountedWriter::new(output);

@@ -5,7 +5,7 @@ ghost use Rattle.std.specs.Io.KnownBytes.{Appends};
 ghost use Rattle.cell_device.specs.Calls.{HasCause};
 ghost use Rattle.fed_types.specs.Bags.{same_bag};
 ghost use Rattle.catch_up.specs.Lines.{count_line};
-ghost use Rattle.catch_up.specs.Rounds.{bag_by, open_of};
+ghost use Rattle.catch_up.specs.Rounds.{bag_by, open_of, in_round, next_round};
 ghost use Rattle.catch_up.specs.Reports.{open_lines, status_of, IsCaughtUp};
 ghost use Rattle.catch_up.specs.inner.Progress.{AppendsPart, IsAskedFor, IsAskedOnce, IsRound};
 ghost use Rattle.catch_up.specs.inner.Progress.{AreAsked, AreReported};
@@ -30,11 +30,37 @@ const LONGEST_PAUSE: u64 = 1000;
 
 /// The site that is asked.
 #[derive(Clone, Copy)]
-pub struct Target {
+pub struct Target<'a> {
     pub federation: u64,
     pub to: SiteNo,
     /// Its port.
     pub target: u16,
+    /// The ports of all sites, that of site 1 first.
+    pub ports: &'a [u16],
+    /// In how many rounds it was asked before.
+    pub round: u32,
+}
+
+impl<'a> Target<'a> {
+    // The same in this round.
+    fn at(&self, round: u32) -> Target<'a>
+        ensures { result ≡ in_round self.now round }
+    {
+        Target {
+            federation: self.federation,
+            to: self.to,
+            target: self.target,
+            ports: self.ports,
+            round,
+        }
+    }
+
+    // The next round.
+    fn next(&self) -> Target<'a>
+        ensures { result ≡ next_round self.now }
+    {
+        self.at(self.round.saturating_add(1))
+    }
 }
 
 /// Why it isn't asked to the end.
@@ -56,13 +82,15 @@ impl From<AllocError> for AskFault {
 
 /// Asks for each version, again and again for so many seconds at most, and writes a line for each
 /// as soon as the site knows it; then one for each that is left, and how many of how many it knows
-/// as the sources do. The status is 0 where that is all. Where memory runs out, the line `memory`
-/// follows what was written, and the status is 1.
+/// as the sources do. From the seventh question about a version on a site is asked to recover it
+/// after each: first the same site, and then the others in turn. The status is 0 where the site
+/// knows all. Where memory runs out, the line `memory` follows what was written, and
+/// the status is 1.
 pub fn catch_up_on<P: Port, C: Clock, W: CountedWrite>(
     alloc: Global,
     clock: &C,
     port: &mut P,
-    asked: &Target,
+    asked: &Target<'_>,
     versions: &mut [KnownBag],
     seconds: u32,
     output: &mut W,
@@ -84,7 +112,7 @@ fn report_on<P: Port, C: Clock, W: CountedWrite>(
     alloc: Global,
     clock: &C,
     port: &mut P,
-    asked: &Target,
+    asked: &Target<'_>,
     versions: &mut [KnownBag],
     seconds: u32,
     output: &mut W,
@@ -103,7 +131,7 @@ fn ask_rounds<P: Port, C: Clock, W: CountedWrite>(
     alloc: Global,
     clock: &C,
     port: &mut P,
-    asked: &Target,
+    asked: &Target<'_>,
     versions: &mut [KnownBag],
     seconds: u32,
     output: &mut W,
@@ -115,13 +143,15 @@ fn ask_rounds<P: Port, C: Clock, W: CountedWrite>(
     let mut same = 0usize;
     let mut millis = FIRST_PAUSE;
     let start = Instant::now(clock).ok();
+    let mut round = asked.at(asked.round);
     for _ in 0..u32::MAX {
-        same += ask_round(alloc, port, asked, versions, output)?;
+        same += ask_round(alloc, port, &round, versions, output)?;
         if versions.iter().all(|it| it.is_found) || is_over(clock, start, seconds) {
             return Ok(same);
         }
         thread::sleep(clock, Duration::from_millis(millis));
         millis = millis.saturating_mul(2).min(LONGEST_PAUSE);
+        round = round.next();
     }
     Ok(same)
 }
@@ -140,7 +170,7 @@ fn is_over<C: Clock>(clock: &C, start: Option<Instant>, seconds: u32) -> bool {
 fn ask_round<P: Port, W: CountedWrite>(
     alloc: Global,
     port: &mut P,
-    asked: &Target,
+    asked: &Target<'_>,
     versions: &mut [KnownBag],
     output: &mut W,
 ) -> Result<usize, AskFault>
@@ -159,7 +189,7 @@ fn ask_round<P: Port, W: CountedWrite>(
 fn ask_unless_known<P: Port, W: CountedWrite>(
     alloc: Global,
     port: &mut P,
-    asked: &Target,
+    asked: &Target<'_>,
     version: &mut KnownBag,
     output: &mut W,
 ) -> Result<usize, AskFault>
@@ -178,7 +208,7 @@ fn ask_unless_known<P: Port, W: CountedWrite>(
 fn ask_version<P: Port, W: CountedWrite>(
     alloc: Global,
     port: &mut P,
-    asked: &Target,
+    asked: &Target<'_>,
     version: &mut KnownBag,
     output: &mut W,
 ) -> Result<usize, AskFault>
@@ -205,7 +235,7 @@ fn one_if_same(bag: BagId, wanted: BagId) -> usize
 fn known_bag<P: Port>(
     alloc: Global,
     port: &mut P,
-    asked: &Target,
+    asked: &Target<'_>,
     version: &KnownBag,
 ) -> Result<Option<BagId>, AllocError>
     ensures { IsAskedFor asked.now version.now.slot (P.traffic port.old) (P.traffic port.new)
@@ -216,6 +246,8 @@ fn known_bag<P: Port>(
         to: asked.to,
         target: asked.target,
         slot: &version.slot,
+        ports: asked.ports,
+        asked: asked.round,
     };
     match ask_for_bag(alloc, port, &request)? {
         Some(answer) => Ok(bag_by(answer)),

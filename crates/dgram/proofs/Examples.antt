@@ -7,7 +7,7 @@ use Rattle.fed_types.specs.Ballots.{BallotNumber}
 use Rattle.fed_types.specs.Slots.{SlotName, same_slot}
 use Rattle.dgram.specs.declared.body.Body.{Body}
 use Rattle.dgram.specs.declared.body.Body.TheVariants.{Prepare, Promise, Accept, Accepted, Refused}
-use Rattle.dgram.specs.declared.body.Body.TheVariants.{Ask, Known, Query}
+use Rattle.dgram.specs.declared.body.Body.TheVariants.{Ask, Known, Query, Recover}
 use Rattle.dgram.specs.declared.message.Message.{Message}
 use Rattle.fields.specs.Checksums.{checksum}
 use Rattle.sha2.specs.Sha256.{sha256, digest_bytes, hash_after, compress, rounds, schedule}
@@ -52,11 +52,11 @@ heard =
     ∷ at a1 (Accepted 2 (vote (ballot 3 2) 7)) ∷ at a1 (Accepted 3 (vote (ballot 3 2) 8))
     ∷ at a1 (Accepted 4 (vote (ballot 3 3) 7)) ∷ at b1 (Accepted 5 (vote (ballot 3 2) 7))
     ∷ at a1 (Accepted 2 (vote (ballot 3 2) 7)) ∷ at a1 (Accepted 6 (vote (ballot 3 2) 7))
-    ∷ at a1 (Accept (vote (ballot 3 2) 7)) ∷ at a1 (Ask 4) ∷ at a1 Query ∷ at a2 (Known 2 (bag 9))
-    ∷ at a1 (Known 5 (bag 7)) ∷ []
+    ∷ at a1 (Accept (vote (ballot 3 2) 7)) ∷ at a1 (Ask 4) ∷ at a1 Query ∷ at a1 Recover
+    ∷ at a2 (Known 2 (bag 9)) ∷ at a1 (Known 5 (bag 7)) ∷ []
 
 -- of each slot what is about it alone
-bodies : (length (bodies_of a1 heard) ≡ 16) × (length (bodies_of a2 heard) ≡ 2)
+bodies : (length (bodies_of a1 heard) ≡ 17) × (length (bodies_of a2 heard) ≡ 2)
     × (bodies_of b1 heard ≡ Refused 2 (ballot 2 1) (ballot 9 2) ∷ Accepted 5 (vote (ballot 3 2) 7)
     ∷ [])
 unfolding bodies_of same_slot
@@ -107,6 +107,10 @@ sum = 0x9a ∷ 0x94 ∷ 0x46 ∷ 0x1b ∷ 0xad ∷ 0xd1 ∷ 0xee ∷ 0x50 ∷ []
 
 encoded : message_bytes 7 (at a1 Query) ≡ before
 encoded = refl
+
+-- a Recover has its kind alone otherwise
+encoded_recover : message_bytes 7 (at a1 Recover) ≡ take 3 before ++ 18 ∷ drop 4 before
+encoded_recover = refl
 
 summed : checksum before ≡ sum
 unfolding checksum sha256 digest_bytes hash_after compress rounds schedule first_words

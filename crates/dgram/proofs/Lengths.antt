@@ -10,8 +10,8 @@ use Rattle.dgram.specs.Numbers.{LONGEST_DATAGRAM, LONGEST_PATH}
 use Rattle.fed_types.specs.declared.vote.Vote.{Vote}
 use Rattle.dgram.specs.declared.body.Body.{Body}
 use Rattle.dgram.specs.declared.body.Body.TheVariants.{Prepare, Promise, Accept, Accepted, Refused}
-use Rattle.dgram.specs.declared.body.Body.TheVariants.{Ask, Known, Deposit, Query, DepositReply}
-use Rattle.dgram.specs.declared.body.Body.TheVariants.{QueryReply}
+use Rattle.dgram.specs.declared.body.Body.TheVariants.{Ask, Known, Deposit, Query, Recover}
+use Rattle.dgram.specs.declared.body.Body.TheVariants.{DepositReply, QueryReply}
 use Rattle.dgram.specs.declared.message.Message.{Message}
 use Rattle.dgram.specs.Messages.{IsPrior, IsBody, IsMessage}
 use Rattle.dgram.specs.Encoding.{kind_of, body_from, from_byte, prior_bytes, body_bytes}
@@ -45,6 +45,7 @@ body_length (Known from bag) h = omega (arith, h.1)
 body_length (Deposit path) h =
     omega (arith, h.0.1, length-append (to_be_bytes w16 (length path)) path)
 body_length Query h = omega arith
+body_length Recover h = omega arith
 body_length (DepositReply from answer) h = omega (arith, (deposit_again answer h.1).1)
 body_length (QueryReply from answer) h = omega (arith, (query_again answer h.1).1)
 

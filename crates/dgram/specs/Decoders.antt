@@ -11,7 +11,7 @@ use Rattle.fields.specs.Decoders.{site_of, ballot_at, bag_at, vote_at, text_at, 
 use Rattle.fields.specs.Checksums.{without_checksum}
 use Rattle.dgram.specs.Numbers.{FRONT, NO_SITE, NO_PRIOR, PRIOR, LONGEST_PATH, NO_BAG}
 use Rattle.dgram.specs.Numbers.{PREPARE, PROMISE, ACCEPT, ACCEPTED, REFUSED, ASK, KNOWN, DEPOSIT}
-use Rattle.dgram.specs.Numbers.{QUERY, DEPOSIT_REPLY, QUERY_REPLY}
+use Rattle.dgram.specs.Numbers.{QUERY, RECOVER, DEPOSIT_REPLY, QUERY_REPLY}
 use Rattle.dgram.specs.Numbers.{REGISTERED, OTHER_DEPOSIT, OTHER_KNOWN, DEVICE, MEMORY, NEEDS_OPEN}
 use Rattle.dgram.specs.Numbers.{BEFORE_TREE_FAULTS, GREATEST_TREE_FAULT}
 use Rattle.dgram.specs.Numbers.{BEFORE_BAG_FAULTS, GREATEST_BAG_FAULT}
@@ -22,7 +22,7 @@ use Rattle.dgram.specs.declared.answers.QueryAnswer.{QueryAnswer}
 use Rattle.dgram.specs.declared.answers.QueryAnswer.TheVariants as query
 use Rattle.dgram.specs.declared.body.Body.{Body}
 use Rattle.dgram.specs.declared.body.Body.TheVariants.{Prepare, Promise, Accept, Accepted, Refused}
-use Rattle.dgram.specs.declared.body.Body.TheVariants.{Ask, Known, Deposit, Query}
+use Rattle.dgram.specs.declared.body.Body.TheVariants.{Ask, Known, Deposit, Query, Recover}
 use Rattle.dgram.specs.declared.body.Body.TheVariants.{DepositReply, QueryReply}
 use Rattle.dgram.specs.declared.message.Message.{Message}
 
@@ -123,6 +123,9 @@ deposit_at from bytes = meant path_at (λ p. from_none from (Deposit p)) bytes
 unfoldable pub query_at : ℕ → Decoder Body
 query_at from bytes = meant nothing_at (λ _. from_none from Query) bytes
 
+unfoldable pub recover_at : ℕ → Decoder Body
+recover_at from bytes = meant nothing_at (λ _. from_none from Recover) bytes
+
 unfoldable pub deposit_reply_at : ℕ → Decoder Body
 deposit_reply_at from bytes =
     meant (both byte_at bag_at)
@@ -151,6 +154,7 @@ kinds =
     ∷ record { kind = KNOWN; body = known_at }
     ∷ record { kind = DEPOSIT; body = deposit_at }
     ∷ record { kind = QUERY; body = query_at }
+    ∷ record { kind = RECOVER; body = recover_at }
     ∷ record { kind = DEPOSIT_REPLY; body = deposit_reply_at }
     ∷ record { kind = QUERY_REPLY; body = query_reply_at }
     ∷ []

@@ -6,7 +6,7 @@ use Rattle.fed_types.specs.declared.vote.Vote.{Vote}
 use Rattle.fields.specs.Checksums.{with_checksum}
 use Rattle.fields.specs.Encoding.{ballot_bytes, bag_bytes, vote_bytes, slot_bytes}
 use Rattle.dgram.specs.Numbers.{MAGIC, LAYOUT, NO_SITE, NO_BAG, NO_PRIOR, PRIOR, PREPARE, PROMISE}
-use Rattle.dgram.specs.Numbers.{ACCEPT, ACCEPTED, REFUSED, ASK, KNOWN, DEPOSIT, QUERY}
+use Rattle.dgram.specs.Numbers.{ACCEPT, ACCEPTED, REFUSED, ASK, KNOWN, DEPOSIT, QUERY, RECOVER}
 use Rattle.dgram.specs.Numbers.{DEPOSIT_REPLY, QUERY_REPLY, REGISTERED, OTHER_DEPOSIT, OTHER_KNOWN}
 use Rattle.dgram.specs.Numbers.{DEVICE, MEMORY, NEEDS_OPEN, BEFORE_TREE_FAULTS, BEFORE_BAG_FAULTS}
 use Rattle.dgram.specs.Numbers.{IS_KNOWN, IS_PENDING, IS_NOTHING}
@@ -16,8 +16,8 @@ use Rattle.dgram.specs.declared.answers.QueryAnswer.{QueryAnswer}
 use Rattle.dgram.specs.declared.answers.QueryAnswer.TheVariants as query
 use Rattle.dgram.specs.declared.body.Body.{Body}
 use Rattle.dgram.specs.declared.body.Body.TheVariants.{Prepare, Promise, Accept, Accepted, Refused}
-use Rattle.dgram.specs.declared.body.Body.TheVariants.{Ask, Known, Deposit, Query, DepositReply}
-use Rattle.dgram.specs.declared.body.Body.TheVariants.{QueryReply}
+use Rattle.dgram.specs.declared.body.Body.TheVariants.{Ask, Known, Deposit, Query, Recover}
+use Rattle.dgram.specs.declared.body.Body.TheVariants.{DepositReply, QueryReply}
 use Rattle.dgram.specs.declared.message.Message.{Message}
 
 -- the byte of each kind
@@ -31,6 +31,7 @@ kind_of (Ask from) = ASK
 kind_of (Known from bag) = KNOWN
 kind_of (Deposit path) = DEPOSIT
 kind_of Query = QUERY
+kind_of Recover = RECOVER
 kind_of (DepositReply from answer) = DEPOSIT_REPLY
 kind_of (QueryReply from answer) = QUERY_REPLY
 
@@ -45,6 +46,7 @@ body_from (Ask from) = Some from
 body_from (Known from bag) = Some from
 body_from (Deposit path) = None
 body_from Query = None
+body_from Recover = None
 body_from (DepositReply from answer) = Some from
 body_from (QueryReply from answer) = Some from
 
@@ -113,6 +115,7 @@ body_bytes (Ask from) = []
 body_bytes (Known from bag) = bag_bytes bag
 body_bytes (Deposit path) = path_bytes path
 body_bytes Query = []
+body_bytes Recover = []
 body_bytes (DepositReply from answer) = reply_bytes (deposit_code answer) (deposit_bag answer)
 body_bytes (QueryReply from answer) = reply_bytes (query_code answer) (query_bag answer)
 

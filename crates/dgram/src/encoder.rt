@@ -63,7 +63,7 @@ fn put_body(out: &mut Vec<u8>, body: &Body) -> Result<(), AllocError>
             put_ballot(out, *asked)?;
             put_ballot(out, *standing)
         }
-        Body::Ask { .. } | Body::Query => Ok(()),
+        Body::Ask { .. } | Body::Query | Body::Recover => Ok(()),
         Body::Known { bag, .. } => put_bag(out, bag),
         Body::Deposit { path } => put_path(out, path),
         Body::DepositReply { answer, .. } => put_reply(out, answer.code(), &answer.bag()),

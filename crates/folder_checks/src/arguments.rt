@@ -4,58 +4,71 @@ use crate::report::Report;
 use clap::{Arg, ArgAction, ArgMatches, Command};
 use std::alloc::{AllocError, Global};
 
-const ABOUT: &str = "Checks whether folders are valid BagIt bags, and prints their identities";
+const ABOUT: &str = "Checks whether folders are valid BagIt bags, and prints identities";
 
 const EXAMPLE: &str = "It prints one line:
-  valid HEX     a valid bag; HEX is its identity, the SHA-512 of its manifest-sha512.txt
+  valid HEX     a valid bag; its identity HEX is the SHA-512 of its
+                manifest-sha512.txt
   invalid N     no valid bag; N is the first fault that holds:
-                  1 no bagit.txt                 8 a manifest of an unknown algorithm
-                  2 bagit.txt is malformed       9 a malformed line in a manifest
-                  3 neither BagIt 1.0 nor 0.97  10 an unsafe path in a manifest
-                  4 an encoding not UTF-8       11 a path twice in a payload manifest
-                  5 there is a fetch.txt        12 a listed file is missing
-                  6 no payload folder data      13 a payload file is not listed
-                  7 no manifest-sha512.txt      14 a file has another digest than the listed one
-                                                15 out of memory
+                  1 no bagit.txt
+                  2 bagit.txt is malformed
+                  3 neither BagIt 1.0 nor 0.97
+                  4 an encoding not UTF-8
+                  5 there is a fetch.txt
+                  6 no payload folder data
+                  7 no manifest-sha512.txt
+                  8 a manifest of an unknown algorithm
+                  9 a malformed line in a manifest
+                 10 an unsafe path in a manifest
+                 11 a path twice in a payload manifest
+                 12 a listed file is missing
+                 13 a payload file is not listed
+                 14 a file has another digest than the listed one
+                 15 out of memory
   unread N      a folder that can't be read:
-                  1 a folder can't be listed     4 over 100,000 files and folders
-                  2 neither file nor folder      5 a text over 64 MiB
-                  3 a path of over 32 parts      6 a file can't be read
-                                                 7 out of memory
+                  1 a folder can't be listed
+                  2 neither file nor folder
+                  3 a path of over 32 parts
+                  4 over 100,000 files and folders
+                  5 a text over 64 MiB
+                  6 a file can't be read
+                  7 out of memory
   memory        out of memory, before or after the folder was read
 
-With --explain, a line for each thing that is wrong comes after it, as the number of the fault and
-where it is, a space as %20:
-  6 data                                           a file or folder
-  9 manifest-md5.txt:2                             a line of a text
-  12 data/b.txt manifest-md5.txt:3                 a path that the line of a manifest lists
-  13 data/c.txt manifest-md5.txt                   a file that a manifest doesn't list
-  14 data/a.txt md5 manifest-md5.txt:1             a file, the algorithm, and the line
-  6 data/a.txt                                     after `unread 6`: what can't be read, `.` for
-                                                   the folder itself
+With --explain, a line for each thing that is wrong comes after it, as the
+number of the fault and where it is, a space as %20:
+  6 data                                a file or folder
+  9 manifest-md5.txt:2                  a line of a text
+  12 data/b.txt manifest-md5.txt:3      a path that the line of a manifest lists
+  13 data/c.txt manifest-md5.txt        a file that a manifest doesn't list
+  14 data/a.txt md5 manifest-md5.txt:1  a file, the algorithm, and the line
+  6 data/a.txt                          after `unread 6`: what can't be read,
+                                        `.` for the folder itself
 
-Of several folders, each of these lines but `memory` has the folder before it, as in
+Of several folders, each of these lines but `memory` has the folder before it:
   path/to/bag invalid 14
 
-With --words standard error says in words what is wrong, of all that can be read, with names as they
-are: digests beside those that are listed, names that are nearly alike, warnings that change no
-answer, and counts. `bagpaxos help codes` lists what each number says.
+With --words standard error says in words what is wrong, of all that can be
+read, with names as they are: digests beside those that are listed, names that
+are nearly alike, warnings that change no answer, and counts. `bagpaxos help
+codes` lists what each number says.
 
 With --progress lines on standard error say how far it is:
   1000 of 2500 files, 4096000 of 10240000 bytes, 300 MB/s
-On a terminal it is one line, also without --progress, which is renewed once a second at most; with
---quiet there is none.
+On a terminal it is one line, also without --progress, which is renewed once a
+second at most; with --quiet there is none.
 
-With --registered FILE, a site's cell or a list that `ledger` printed, lines there say which of the
-known bags the folders are, once all are checked:
+With --registered FILE, a site's cell or a list that `ledger` printed, lines
+there say which of the known bags the folders are, once all are checked:
   FOLDER is OBJ V               it is the bag that is known as version V of OBJ
   FOLDER is no registered bag   it is a valid bag, but that of no version
   not among these: OBJ V        no folder is the bag of this version
-and where FILE can't be used the only line on standard output says why: `open 4`, `damaged OFFSET`,
-`ledger line N`.
+and if FILE can't be used, the only line on standard output says why: `open 4`,
+`damaged OFFSET`, `ledger line N`.
 
-The exit status is 0 where each folder is a valid bag, and with --registered each is registered and
-none is missing; 1 for all else, and 2 for a mistake in the arguments.
+The exit status is 0 if each folder is a valid bag, and with --registered each
+is registered and none is missing; 1 for all else; and 2 for a mistake in the
+arguments.
 
 Examples:
   bagpaxos check path/to/bag
@@ -67,7 +80,7 @@ Examples:
 /// Folders to check.
 #[derive(Debug, Drop)]
 pub struct CheckTask<'a> {
-    /// Their paths, of which there is one or more.
+    /// Their paths, one or more.
     pub paths: Vec<&'a str>,
     pub report: Report,
     /// Whether to say in words what is wrong.
@@ -76,7 +89,8 @@ pub struct CheckTask<'a> {
     pub progress: bool,
     /// Whether not to say it, on a terminal too.
     pub quiet: bool,
-    /// The path of what knows the registered bags, if the folders are compared with it.
+    /// The path of the cell or list that knows the registered bags, if the folders are compared
+    /// with it.
     pub registered: Option<&'a str>,
 }
 
@@ -121,7 +135,7 @@ pub fn check_command<'a>(alloc: Global) -> Result<Command<'a>, AllocError> {
     let registered = Arg::new(alloc, "registered")
         .long("registered")
         .value_name("FILE")
-        .help("Say on standard error which registered bags they are, by a cell or a ledger");
+        .help("Say which of the registered bags of FILE they are");
     let command = Command::new(alloc, "check")
         .about(ABOUT)
         .after_help(EXAMPLE);

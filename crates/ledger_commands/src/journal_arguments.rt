@@ -6,23 +6,26 @@ use std::alloc::{AllocError, Global};
 const ABOUT: &str = "Prints what a site's cell says, record by record";
 
 const EXAMPLE: &str =
-    "The cell may be in use, or a copy: it is read without a lock, and never changed. The newest record
-of a cell in use may not be synced yet, and a crash may take it back: the lines say what the bytes
-are as they are read. It prints
-  cell F S [W1 .. WN]       whose it is: the federation, the site, and the members' weights, if
-                            the cell names them
+    "The cell may be in use, or a copy: it is read without a lock, and never changed.
+The newest record of a cell in use may not be synced yet, and a crash may take
+it back: the lines say what the bytes are as they are read. It prints
+  cell F S [W1 .. WN]     whose it is: the federation, the site, and the
+                          members' weights, if the cell names them
 and then a line for each record, in order:
-  deposit OBJ V HEX         the site registered this bag as its deposit
-  round OBJ V R             it issued a ballot of round R
-  promise OBJ V R S         it promised the ballot of round R of site S
-  vote OBJ V R S HEX        it voted for this bag in that ballot
-  known OBJ V HEX           it knows that this bag was chosen
+  deposit OBJ V HEX       the site registered this bag as its deposit
+  round OBJ V R           it issued a ballot of round R
+  promise OBJ V R S       it promised the ballot of round R of site S
+  vote OBJ V R S HEX      it voted for this bag in that ballot
+  known OBJ V HEX         it knows that this bag was chosen
 and finally, unless the cell ends with a whole record:
-  torn BYTES                so many bytes of a record that was cut short; opening cuts them off
-  damaged OFFSET            from this byte on there is neither a record nor a part of one
+  torn BYTES              so many bytes of a record that was cut short; opening
+                          cuts them off
+  damaged OFFSET          from this byte on there is neither a record nor a part
+                          of one
 
-The exit status is 0; 1 where the cell is damaged, can't be read (`open 4`), memory runs out
-(`memory`) or standard output can't be written; and 2 for a mistake in the arguments.
+The exit status is 0; 1 if the cell is damaged, can't be read (`open 4`), memory
+runs out (`memory`) or standard output can't be written; and 2 for a mistake in
+the arguments.
 
 Example:
   bagpaxos journal cell.1";

@@ -7,23 +7,31 @@ use std::alloc::{AllocError, Global};
 const ABOUT: &str = "Prints what a site's cell says of each version: which bag is known";
 
 const EXAMPLE: &str =
-    "The cell may be in use, or a copy: it is read without a lock, and never changed. The newest record
-of a cell in use may not be synced yet, and a crash may take it back: the lines say what the bytes
-are as they are read. A `known` line is true even so: the votes that chose its bag are synced.
-It prints a line for each version, in the order in which the versions come first in the cell:
-  known OBJ V HEX           the site knows that this bag was chosen
-  pending OBJ V HEX         it knows of none, and has registered this bag as its own deposit
-  voted OBJ V HEX           no known bag and no deposit; it voted for this, in its greatest ballot
-  asked OBJ V               neither, and no vote: it has promised or issued a ballot, no more
+    "The cell may be in use, or a copy: it is read without a lock, and never changed.
+The newest record of a cell in use may not be synced yet, and a crash may take
+it back: the lines say what the bytes are as they are read. A `known` line is
+true even so: the votes that chose its bag are synced.
+It prints a line for each version, in the order in which the versions come first
+in the cell:
+  known OBJ V HEX         the site knows that this bag was chosen
+  pending OBJ V HEX       it knows of none, and has registered this bag as its
+                          own deposit
+  voted OBJ V HEX         no known bag and no deposit; it voted for this, in its
+                          greatest ballot
+  asked OBJ V             neither, and no vote: it has promised or issued a
+                          ballot, no more
 and finally, unless the cell ends with a whole record:
-  torn BYTES                so many bytes of a record that was cut short; opening cuts them off
-  damaged OFFSET            from this byte on there is neither a record nor a part of one
-The versions are then those of the records before that. With `--known`, `--pending` or both, only
-the lines of these kinds are printed, and the last one. `comm` of two sorted lists shows what a site
-lacks.
+  torn BYTES              so many bytes of a record that was cut short; opening
+                          cuts them off
+  damaged OFFSET          from this byte on there is neither a record nor a part
+                          of one
+The versions are then those of the records before that. With `--known`,
+`--pending` or both, only the lines of these kinds are printed, and the last
+one. `comm` of two sorted lists shows what a site lacks.
 
-The exit status is 0; 1 where the cell is damaged, can't be read (`open 4`), memory runs out
-(`memory`) or standard output can't be written; and 2 for a mistake in the arguments.
+The exit status is 0; 1 if the cell is damaged, can't be read (`open 4`), memory
+runs out (`memory`) or standard output can't be written; and 2 for a mistake in
+the arguments.
 
 Example:
   bagpaxos ledger --known cell.1 | sort > known.1";
@@ -75,5 +83,5 @@ fn pending_argument<'a>(alloc: Global) -> Arg<'a> {
     Arg::new(alloc, "pending")
         .long("pending")
         .action(ArgAction::SetTrue)
-        .help("Print the versions with a deposit of the site's and no known bag")
+        .help("Print those with a deposit of the site's and no known bag")
 }

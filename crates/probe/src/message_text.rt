@@ -39,6 +39,7 @@ fn kind_name(body: &Body) -> &'static str {
         Body::Known { .. } => "Known",
         Body::Deposit { .. } => "Deposit",
         Body::Query => "Query",
+        Body::Recover => "Recover",
         Body::DepositReply { .. } => "DepositReply",
         Body::QueryReply { .. } => "QueryReply",
     }
@@ -54,7 +55,7 @@ fn push_body(alloc: Global, text: &mut String, body: &Body) -> Result<(), AllocE
             standing,
             ..
         } => push_ballots(text, *asked, *standing),
-        Body::Ask { .. } | Body::Query => Ok(()),
+        Body::Ask { .. } | Body::Query | Body::Recover => Ok(()),
         Body::Known { bag, .. } => push_bag(alloc, text, bag),
         Body::Deposit { path } => push_path(text, path.as_str()),
         Body::DepositReply { answer, .. } => push_deposit_answer(alloc, text, answer),

@@ -19,11 +19,13 @@ use Rattle.site.specs.Answered.{Keeps, Gives}
 use Rattle.site.specs.Calls as calls
 use Rattle.site.specs.Calls.{Input}
 use Rattle.site.specs.Sites.{OpenSite, effect}
-use Rattle.udp_site.specs.Requests.{Request, Waits, Says, Deposits, Queries, Noise, request_of}
+use Rattle.udp_site.specs.Requests.{Request, Waits, Says, Deposits, Queries, Recovers, Noise}
+use Rattle.udp_site.specs.Requests.{request_of}
 use Rattle.udp_site.specs.Rounds.{next_waiting}
 use Rattle.udp_site.specs.Turns as turns
 use Rattle.udp_site.specs.Turns.{Serving, Done, IsCalled, turn_of, comes_of, idles_if}
 use Rattle.udp_site.specs.Turns.{one_more_idle, proposes, slot_of, notices_of, proposal_notices}
+use Rattle.udp_site.specs.Turns.{recovery_notices}
 use Rattle.udp_site.specs.Turns.{takes_tree, number, tries}
 use Rattle.udp_site.specs.Served.{Turned, or_one, is_the_last}
 
@@ -158,6 +160,10 @@ module _ {C : Type 0} (device : C → Device) where
         (notices _ done_is))
     came (Deposits port slot path) (read, given, tree) = treed port slot read tree
     came (Queries port slot) (asks, a, done_is, e) = same old (nothing old last) e
+    came (Recovers slot) (result, c, refuses, done_is) =
+        called old next (calls.Recovers slot) result last c
+        (device_is_last (recovery_notices (number old) (calls.Recovers slot)) refl result done
+        (notices _ done_is))
     came Noise (done_is, e) = same old (nothing old last) e
 
   pub follows : (ports : List ℕ) (gives : Option (List ℕ → Result TreeFacts TreeFault))

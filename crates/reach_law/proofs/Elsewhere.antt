@@ -23,8 +23,8 @@ use Rattle.records.specs.SlotStates.{deposit_of, known_of}
 use Rattle.records.proofs.SlotStates.{deposit-push, known-push}
 use Rattle.dgram.specs.declared.body.Body.{Body}
 use Rattle.dgram.specs.declared.body.Body.TheVariants.{Prepare, Promise, Accept, Accepted, Refused}
-use Rattle.dgram.specs.declared.body.Body.TheVariants.{Ask, Known, Deposit, Query, DepositReply}
-use Rattle.dgram.specs.declared.body.Body.TheVariants.{QueryReply}
+use Rattle.dgram.specs.declared.body.Body.TheVariants.{Ask, Known, Deposit, Query, Recover}
+use Rattle.dgram.specs.declared.body.Body.TheVariants.{DepositReply, QueryReply}
 use Rattle.dgram.specs.declared.message.Message.{Message}
 use Rattle.dgram.specs.Encoding.{body_from}
 use Rattle.dgram.specs.Heard.{body_in, bodies_of, promise_in}
@@ -248,6 +248,7 @@ module _ (slot : SlotName) where
         telling_other now s from (known_of s rs) other same
     body_other now s (Deposit path) other same = nothing_other v _ refl refl (same_for v)
     body_other now s Query other same = nothing_other v _ refl refl (same_for v)
+    body_other now s Recover other same = nothing_other v _ refl refl (same_for v)
     body_other now s (DepositReply from answer) other same =
         nothing_other v _ refl refl (same_for v)
     body_other now s (QueryReply from answer) other same =

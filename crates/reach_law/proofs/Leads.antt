@@ -4,7 +4,7 @@ use Rattle.std.proofs.Common.{ℕ, zero, suc, ◌≡◌, ◌≤◌, ◌<◌, ◌
 use Rattle.std.proofs.Common.{cond, inl, inr, refl, sym, ap, subst, ◌∙◌, List, [], ◌∷◌, ◌++◌}
 use Rattle.std.proofs.Common.{length, Option, None, Some, append-nil, arith, length-append, eq-eqb}
 use Rattle.std.specs.Bool.{◌==◌}
-use Rattle.std.specs.Prelude.{IsSome, is_some, slice_get}
+use Rattle.std.specs.Prelude.{IsSome, is_some, slice_get, ⊤}
 use Rattle.std.specs.Option.{option_to_list}
 use Rattle.std.proofs.lemmas.Bool.{cases_eq, ne_eqb}
 use Rattle.fed_types.specs.declared.bag_id.BagId.{BagId}
@@ -219,6 +219,20 @@ has_one_of true t h = refl
 has_one_of false t (inl h) = absurd (cc h)
 has_one_of false t (inr h) = h
 
+-- a client can bring this about: no proposal; and a question of a site that doesn't know the bag,
+-- to another one
+abbrev pub IsBrought : SlotName → Network → Event → Type 0
+IsBrought slot w (networks.Propose n s fate) = ⊥
+IsBrought slot w (networks.Ask n m s fate) =
+    (known_of slot (records_at w n) ≡ None) × (n ≡ m → ⊥)
+IsBrought slot w e = ⊤
+
+-- each of them, one after another
+unfoldable pub AreBrought : QuorumSystem → SlotName → Network → List Event → Type 0
+AreBrought q slot w [] = ⊤
+AreBrought q slot w (e ∷ events) =
+    IsBrought slot w e × AreBrought q slot (happens q w e).network events
+
 module _ (q : QuorumSystem) (running : List ℕ) (slot : SlotName) (before : ℕ) where
   has_either : (rs : List Record) → HasVoteOrDeposit slot rs
       → (is_some (vote_of slot rs) || is_some (deposit_of slot rs)) ≡ true
@@ -228,6 +242,7 @@ module _ (q : QuorumSystem) (running : List ℕ) (slot : SlotName) (before : ℕ
     pub events : List Event
     pub few : length events ≤ most
     pub calm : AreCalm q running slot before w events
+    pub brought : AreBrought q slot w events
     pub known : (n : ℕ) → Has n running
         → IsSome (known_of slot (records_at (run q w events) n))
 
@@ -236,21 +251,24 @@ module _ (q : QuorumSystem) (running : List ℕ) (slot : SlotName) (before : ℕ
     events = r.events;
     few = let few = r.few in omega arith;
     calm = r.calm;
+    brought = r.brought;
     known = r.known;
   }
 
   pub leads_now : (w : Network)
       → ((n : ℕ) → Has n running → IsSome (known_of slot (records_at w n))) → Leads w 0
-  unfolding run AreCalm
-  leads_now w known = record { events = []; few = omega arith; calm = tt; known = known }
+  unfolding run AreCalm AreBrought
+  leads_now w known =
+      record { events = []; few = omega arith; calm = tt; brought = tt; known = known }
 
   pub leads_after : (w : Network) (e : Event) (k : ℕ) → IsCalm running slot before w e
-      → Leads (happens q w e).network k → Leads w (1 + k)
-  unfolding run AreCalm
-  leads_after w e k calm r = record {
+      → IsBrought slot w e → Leads (happens q w e).network k → Leads w (1 + k)
+  unfolding run AreCalm AreBrought
+  leads_after w e k calm brought r = record {
     events = e ∷ r.events;
     few = let few = r.few in omega arith;
     calm = (calm, r.calm);
+    brought = (brought, r.brought);
     known = r.known;
   }
 
@@ -283,7 +301,7 @@ module _ (q : QuorumSystem) (running : List ℕ) (slot : SlotName) (before : ℕ
   -- ---- an event
 
   module _ (members : (n : ℕ) → Has n running → Has n q.members) where
-    takes_whole : (w : Network) (n : ℕ) (input : Input) (e : Effect) → Has n running → IsUp w n
+    pub takes_whole : (w : Network) (n : ℕ) (input : Input) (e : Effect) → Has n running → IsUp w n
         → effect_of q n (records_at w n) (volatile_at w n) input ≡ e
         → (takes q w n input Whole).network
         ≡ went w n (records_at w n ++ option_to_list e.commits) (Up e.volatile) e.sends
@@ -297,13 +315,13 @@ module _ (q : QuorumSystem) (running : List ℕ) (slot : SlotName) (before : ℕ
         went w n (records_at w n ++ option_to_list e.commits) (Up e.volatile) e.sends) is
 
     leads_to : (w : Network) (n : ℕ) (event : Event) (e : Effect) (k : ℕ)
-        → IsCalm running slot before w event
+        → IsCalm running slot before w event → IsBrought slot w event
         → (happens q w event).network
         ≡ went w n (records_at w n ++ option_to_list e.commits) (Up e.volatile) e.sends
         → ((x : Network) → Took w n e.commits e.volatile e.sends x → Leads x k)
         → Leads w (1 + k)
-    leads_to w n event e k calm same next =
-        leads_after w event k calm
+    leads_to w n event e k calm brought same next =
+        leads_after w event k calm brought
         (rw same (next _ (took w n e.commits e.volatile e.sends)))
 
     -- a datagram arrives, of a member
@@ -317,7 +335,7 @@ module _ (q : QuorumSystem) (running : List ℕ) (slot : SlotName) (before : ℕ
     unfolding happens on_arrival
     deliver_leads w n from body e k h up fresh by member is next =
         leads_to w n (Deliver fresh.0 Whole) e k
-        (fresh.1, refl, (to_site n slot body, fresh.2, h))
+        (fresh.1, refl, (to_site n slot body, fresh.2, h)) tt
         (ap (λ (o : Option Send). (arrives q w o Whole).network) fresh.2
         ∙ takes_whole w n (Arrives (Some (about slot body))) e h up heard) next
       where
@@ -413,7 +431,7 @@ module _ (q : QuorumSystem) (running : List ℕ) (slot : SlotName) (before : ℕ
     unfolding happens on_recover
     recover_leads w n b k h up unknown has left next =
         leads_to w n (networks.Recover n slot Whole)
-        (begins_ballot q slot b (volatile_at w n)) k (h, refl, refl)
+        (begins_ballot q slot b (volatile_at w n)) k (h, refl, refl) tt
         (takes_whole w n (Recovers slot) (begins_ballot q slot b (volatile_at w n)) h up begins)
         next
       where
@@ -421,15 +439,17 @@ module _ (q : QuorumSystem) (running : List ℕ) (slot : SlotName) (before : ℕ
             ≡ begins_ballot q slot b (volatile_at w n)
         begins = rw (unknown, has_either (records_at w n) has, left) refl
 
-    -- a site asks another
+    -- a site that doesn't know the bag asks another
     pub ask_leads : (w : Network) (n m k : ℕ) → Has n running → Has m running → IsUp w n
+        → known_of slot (records_at w n) ≡ None → (n ≡ m → ⊥)
         → ((x : Network) → Took w n None (volatile_at w n) (to_each slot (Ask n) (m ∷ [])) x
         → Leads x k)
         → Leads w (1 + k)
     unfolding happens on_ask
-    ask_leads w n m k h h' up next =
+    ask_leads w n m k h h' up unknown other next =
         leads_to w n (networks.Ask n m slot Whole)
         (commits_and_sends slot None (Ask n) (m ∷ []) (volatile_at w n)) k (h, h', refl, refl)
+        (unknown, other)
         (takes_whole w n (Asks slot m)
         (commits_and_sends slot None (Ask n) (m ∷ []) (volatile_at w n)) h up asks) next
       where
@@ -486,7 +506,7 @@ module _ (q : QuorumSystem) (running : List ℕ) (slot : SlotName) (before : ℕ
               → (starts w n mode).network ≡ open_now → volatile_in mode ≡ new_volatile
               → Leads w (1 + k)
           opening mode is same lost =
-              leads_after w (Start n) k h
+              leads_after w (Start n) k h tt
               (rw (
               ap (λ (t : Bool). (cond t (starts w n (w.sites n).mode) (nothing w)).network)
               ((is_in_decides q.members n).1 (members n h))

@@ -6,7 +6,7 @@ use Rattle.fed_types.specs.Lists.{Has}
 use Rattle.fed_types.specs.Quorums.{QuorumSystem, IsQuorum, AreQuorums}
 use Rattle.fed_types.specs.Slots.{SlotName}
 use Rattle.records.specs.declared.entry.Entry.TheVariants as entry
-use Rattle.records.specs.SlotStates.{promised_of, vote_of, known_of}
+use Rattle.records.specs.SlotStates.{promised_of, known_of}
 use Rattle.records.proofs.Bounds.{vote_bounds, known_among}
 use Rattle.proposer.specs.Proposals.{last_round}
 use Rattle.proposer.specs.VolatileStates.{VolatileState}
@@ -171,7 +171,7 @@ module _ (q : QuorumSystem) (laws : AreQuorums q) (slot : SlotName) where
   run_on_kept (e ∷ events) w kept =
       run_on_kept events (happens q w e).network (happens_kept q laws w kept e).kept
 
-  known_chosen : (w : Network) → Kept q w → (n : ℕ) (v : BagId)
+  pub known_chosen : (w : Network) → Kept q w → (n : ℕ) (v : BagId)
       → known_of slot (records_at w n) ≡ Some v → IsChosen q w slot v
   known_chosen w kept n v e =
       kept.records n slot (entry.Known v) (known_among slot (records_at w n) v e)
@@ -212,7 +212,7 @@ within_reach q events running slot laws members quorum can =
 -- ---- what is chosen
 
 -- a vote on record is one
-has_voted : (w : Network) (n : ℕ) (slot : SlotName) (vote : Vote)
+pub has_voted : (w : Network) (n : ℕ) (slot : SlotName) (vote : Vote)
     → OnRecord w n slot (entry.Vote vote) → HasVoteOrDeposit slot (records_at w n)
 has_voted w n slot vote h =
     let top = vote_bounds slot (records_at w n) vote h in

@@ -103,6 +103,13 @@ module _ (q : QuorumSystem) (running : List ℕ) (slot : SlotName) (before : ℕ
           telling p slot n o (hears (volatile_at x p) (about slot (Ask n)))) s'.knows.1)
           (λ y u. told x y s' s'.knows.0 stays u (known_of slot (records_at y n)) refl)
 
+      other : known_of slot (records_at w n) ≡ None → n ≡ p → ⊥
+      other e same =
+          none (sym e ∙ ap (λ (k : ℕ). known_of slot (records_at w k)) same ∙ s.knows.1)
+        where
+          none : {bag : BagId} → ◌≡◌ {A = Option BagId} None (Some bag) → ⊥
+          none g = cc
+
       go : (o : Option BagId) → known_of slot (records_at w n) ≡ o
           → Leads q running slot before w (3 + k)
       go (Some bag) e =
@@ -110,7 +117,7 @@ module _ (q : QuorumSystem) (running : List ℕ) (slot : SlotName) (before : ℕ
           (next w s (bag, e) (λ m h f. f))
       go None e =
           leads_more q running slot before w (1 + (2 + k)) (3 + k) (omega arith)
-          (ask_leads q running slot before members w n p (2 + k) h runs (s.up n h)
+          (ask_leads q running slot before members w n p (2 + k) h runs (s.up n h) e (other e)
           (λ x t. asked x (spreading_stays t s) (λ m h f. took_known slot m t f) t))
 
   is_some_of : (o : Option BagId) (bag : BagId) → o ≡ Some bag → IsSome o

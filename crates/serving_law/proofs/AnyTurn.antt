@@ -27,27 +27,29 @@ use Rattle.site.specs.declared.answer.Answer.{Answer}
 use Rattle.site.specs.declared.answer.Line.TheVariants as site_lines
 use Rattle.site.specs.declared.fault.SiteFault.{SiteFault}
 use Rattle.site.specs.declared.fault.SiteFault.TheVariants as faults
+use Rattle.site.specs.Calls as calls
 use Rattle.site.specs.Calls.{Input, Proposes, Arrives, effect_of, on_propose, begins_ballot_if}
 use Rattle.lines.specs.declared.notice.Notice.{Notice}
 use Rattle.world_law.specs.Laws.{WasSent}
 use Rattle.world_law.specs.Networks.{volatile_in}
 use Rattle.world_law.proofs.Arrivals.{arrival_deed, says_deed}
-use Rattle.world_law.proofs.Calls.{propose_deed}
+use Rattle.world_law.proofs.Calls.{propose_deed, recover_deed}
 use Rattle.world_law.proofs.Deeds.{Deed, some_same}
 use Rattle.world_law.proofs.Step.{reports_plain}
 use Rattle.world_law.proofs.WellFormedCalls.{effect_is, refuses_is}
 use Rattle.world_law.proofs.WellFormedEffects.{IsWellFormedEffect}
 use Rattle.world_law.proofs.WellFormedWords.{all_has}
 use Rattle.udp_site.specs.Traffic.{Post, Taken}
-use Rattle.udp_site.specs.Requests.{Request, Waits, Says, Deposits, Queries, Noise, request_of}
-use Rattle.udp_site.specs.Turns.{Serving, Done, notices_of, proposal_notices, hears, deposits}
-use Rattle.udp_site.specs.Turns.{proposes, idles_if, comes_of}
+use Rattle.udp_site.specs.Requests.{Request, Waits, Says, Deposits, Queries, Recovers, Noise}
+use Rattle.udp_site.specs.Requests.{request_of}
+use Rattle.udp_site.specs.Turns.{Serving, Done, notices_of, proposal_notices, recovery_notices}
+use Rattle.udp_site.specs.Turns.{hears, deposits, recovering, proposes, idles_if, comes_of}
 use Rattle.udp_site.specs.Turns.{slot_of}
 use Rattle.udp_site.specs.Rounds.{next_waiting}
 use Rattle.udp_site.specs.Served.{or_one}
 use Rattle.serving_law.specs.Rules.{MayCome, IsOfMember}
 use Rattle.serving_law.proofs.Requests.{IsAsked, deposit_is_slot, query_is_slot, says_was_sent}
-use Rattle.serving_law.proofs.Requests.{says_is_message}
+use Rattle.serving_law.proofs.Requests.{recover_is_slot, says_is_message}
 use Rattle.serving_law.proofs.Scene.{Scene}
 use Rattle.serving_law.proofs.Networks.{quorums, Means, May, IsNotice}
 use Rattle.serving_law.proofs.Deposits.{tree_ends}
@@ -60,6 +62,15 @@ proposal_among : (n : ℕ) (input : Input) (result : Result Answer SiteFault) (n
 proposal_among n input (Err faults.RoundsSpent) notice h = absurd (has_none h)
 proposal_among n input (Err fault) notice h = h
 proposal_among n input (Ok answer) notice h = h
+
+-- so does what a recovery says
+recovery_among : (n : ℕ) (input : Input) (result : Result Answer SiteFault) (notice : Notice)
+    → Has notice (recovery_notices n input result) → Has notice (notices_of n input result)
+recovery_among n input (Err faults.AlreadyKnown) notice h = absurd (has_none h)
+recovery_among n input (Err faults.NothingToRecover) notice h = absurd (has_none h)
+recovery_among n input (Err faults.RoundsSpent) notice h = absurd (has_none h)
+recovery_among n input (Err fault) notice h = h
+recovery_among n input (Ok answer) notice h = h
 
 module _ {C : Type 0} (device : C → Device) (members : Membership) (s : Scene device members) where
   open s use {w, inv, formed, n, member, cell, tables, recovers, is_membership, only_now}
@@ -197,6 +208,29 @@ module _ {C : Type 0} (device : C → Device) (members : Membership) (s : Scene 
   if_ends idle tried ports D done new false (done_is, same) =
       idle_ends idle tried D done new done_is same
 
+  -- ---- a recovery
+
+  recovers_ends : (idle tried : ℕ) (ports : List ℕ) (slot : SlotName) → IsSlot slot → (D : May)
+      (done : Done) (new : Serving C) → recovering device ports (at idle tried) slot done new
+      → Ends done new D
+  recovers_ends idle tried ports slot is_slot D done new (result, called, refuses, done_is) =
+      subst (λ (d : Done). Ends d new D) (sym done_is)
+      (turning.speaks_ends device members s idle tried (calls.Recovers slot)
+      (recover_deed q
+      (turning.laws device members s)
+      w inv n slot)
+      (effect_is q
+      (turning.sites device members s)
+      n
+      (turning.is_site device members s)
+      (w.sites n).records (formed.records n) volatile (formed.heard n)
+      (calls.Recovers slot) is_slot)
+      D (λ s bag none. absurd none) result new called ports
+      (recovery_notices n (calls.Recovers slot) result)
+      (recovery_among n (calls.Recovers slot) result)
+      (λ e. subst (λ (r : Result Answer SiteFault).
+      or_one (recovery_notices n (calls.Recovers slot) r) ≡ true) (sym e) refl))
+
   -- ---- any turn
 
   module _ (handed : List Post)
@@ -241,6 +275,9 @@ module _ {C : Type 0} (device : C → Device) (members : Membership) (s : Scene 
     by_request (Queries port slot) e t =
         query_ends device members s
         idle tried slot (query_is_slot members handed took may port slot e) ports port D done new t
+    by_request (Recovers slot) e t =
+        recovers_ends idle tried ports slot (recover_is_slot members handed took may slot e) D done
+        new t
     by_request Noise e (done_is, same) =
         subst (λ (d : Done). Ends d new D) (sym done_is)
         (turning.quiet_ends device members s idle tried new same _ D

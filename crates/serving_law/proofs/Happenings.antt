@@ -48,7 +48,7 @@ use Rattle.world_law.proofs.Deeds.{some_same, nothing_sent}
 use Rattle.world_law.proofs.Grows.{Grows, grows_itself}
 use Rattle.world_law.proofs.Step.{moved, kept_moved, Next, nothing_recalled, reports_nothing}
 use Rattle.udp_site.specs.Traffic.{Post}
-use Rattle.udp_site.specs.Requests.{Request, Waits, Says, Deposits, Queries, Noise}
+use Rattle.udp_site.specs.Requests.{Request, Waits, Says, Deposits, Queries, Recovers, Noise}
 use Rattle.udp_site.specs.Turns as turns
 use Rattle.udp_site.specs.Turns.{Serving, Done, begins, turn_of, comes_of}
 use Rattle.udp_site.specs.Served.{Turned, is_the_last}
@@ -92,6 +92,7 @@ site_tells_nothing (bodies.Ask from) bag is e = cc
 site_tells_nothing (bodies.Known from known) bag is e = cc
 site_tells_nothing (bodies.Deposit path) bag is e = absurd is
 site_tells_nothing bodies.Query bag is e = absurd is
+site_tells_nothing bodies.Recover bag is e = absurd is
 site_tells_nothing (bodies.DepositReply from answer) bag is e = absurd is
 site_tells_nothing (bodies.QueryReply from answer) bag is e = absurd is
 
@@ -637,6 +638,7 @@ module _ {C : Type 0} (device : C → Device) (ports : List ℕ) (old next : Ser
       as_read (Err trees.Memory) = tt
       as_read (Err fault) = refl
   unknown_folders (Queries port slot) t = (λ path. Err trees.Memory, tt, t)
+  unknown_folders (Recovers slot) t = (λ path. Err trees.Memory, tt, t)
   unknown_folders Noise t = (λ path. Err trees.Memory, tt, t)
 
   pub with_folders : (gives : Option (List ℕ → Result TreeFacts TreeFault)) (r : Request)

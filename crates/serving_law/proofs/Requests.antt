@@ -12,7 +12,8 @@ use Rattle.bag_tree.specs.Facts.{TreeFacts}
 use Rattle.bag_check.specs.Check.{check_of}
 use Rattle.dgram.specs.declared.body.Body.{Body}
 use Rattle.dgram.specs.declared.body.Body.TheVariants.{Prepare, Promise, Accept, Accepted, Refused}
-use Rattle.dgram.specs.declared.body.Body.TheVariants.{Ask, Known, Query, DepositReply, QueryReply}
+use Rattle.dgram.specs.declared.body.Body.TheVariants.{Ask, Known, Query, Recover, DepositReply}
+use Rattle.dgram.specs.declared.body.Body.TheVariants.{QueryReply}
 use Rattle.dgram.specs.declared.body.Body.TheVariants as bodies
 use Rattle.dgram.specs.declared.message.Message.{Message}
 use Rattle.dgram.specs.Decoded.{message_of}
@@ -22,7 +23,7 @@ use Rattle.world_law.specs.Laws.{WasSent}
 use Rattle.world_law.specs.Networks.{Network}
 use Rattle.world_law.specs.WellFormed.{IsWellFormed}
 use Rattle.udp_site.specs.Traffic.{Post, Taken, Nothing, From}
-use Rattle.udp_site.specs.Requests.{Says, Deposits, Queries, request_by}
+use Rattle.udp_site.specs.Requests.{Says, Deposits, Queries, Recovers, request_by}
 use Rattle.udp_site.specs.Requests.{request_in, request_of}
 use Rattle.serving_law.specs.Rules.{MayCome, IsOfMember}
 use Rattle.serving_law.proofs.Networks.{IsReplyBody, Means}
@@ -50,6 +51,7 @@ says_message port m (Ask from) message e = cc
 says_message port m (Known from bag) message e = cc
 says_message port m (bodies.Deposit path) message e = absurd (cc e)
 says_message port m Query message e = absurd (cc e)
+says_message port m Recover message e = absurd (cc e)
 says_message port m (DepositReply from answer) message e = absurd (cc e)
 says_message port m (QueryReply from answer) message e = absurd (cc e)
 
@@ -64,6 +66,7 @@ deposit_slot port m (Ask from) at slot path e = absurd (cc e)
 deposit_slot port m (Known from bag) at slot path e = absurd (cc e)
 deposit_slot port m (bodies.Deposit to) at slot path e = cc
 deposit_slot port m Query at slot path e = absurd (cc e)
+deposit_slot port m Recover at slot path e = absurd (cc e)
 deposit_slot port m (DepositReply from answer) at slot path e = absurd (cc e)
 deposit_slot port m (QueryReply from answer) at slot path e = absurd (cc e)
 
@@ -78,8 +81,24 @@ query_slot port m (Ask from) at slot e = absurd (cc e)
 query_slot port m (Known from bag) at slot e = absurd (cc e)
 query_slot port m (bodies.Deposit to) at slot e = absurd (cc e)
 query_slot port m Query at slot e = cc
+query_slot port m Recover at slot e = absurd (cc e)
 query_slot port m (DepositReply from answer) at slot e = absurd (cc e)
 query_slot port m (QueryReply from answer) at slot e = absurd (cc e)
+
+recover_slot : (port : ℕ) (m : Message) (body : Body) (slot : SlotName)
+    → request_by port m body ≡ Recovers slot → m.slot ≡ slot
+recover_slot port m (Prepare ballot) slot e = absurd (cc e)
+recover_slot port m (Promise from ballot prior) slot e = absurd (cc e)
+recover_slot port m (Accept vote) slot e = absurd (cc e)
+recover_slot port m (Accepted from vote) slot e = absurd (cc e)
+recover_slot port m (Refused from asked standing) slot e = absurd (cc e)
+recover_slot port m (Ask from) slot e = absurd (cc e)
+recover_slot port m (Known from bag) slot e = absurd (cc e)
+recover_slot port m (bodies.Deposit to) slot e = absurd (cc e)
+recover_slot port m Query slot e = absurd (cc e)
+recover_slot port m Recover slot e = cc
+recover_slot port m (DepositReply from answer) slot e = absurd (cc e)
+recover_slot port m (QueryReply from answer) slot e = absurd (cc e)
 
 reply_says_nothing : (port : ℕ) (m : Message) (body : Body) (message : Message)
     → IsReplyBody body → request_by port m body ≡ Says message → ⊥
@@ -94,6 +113,7 @@ reply_says_nothing port m (Ask from) message is e = absurd is
 reply_says_nothing port m (Known from bag) message is e = absurd is
 reply_says_nothing port m (bodies.Deposit path) message is e = absurd is
 reply_says_nothing port m Query message is e = absurd is
+reply_says_nothing port m Recover message is e = absurd is
 
 -- ---- bytes that come
 
@@ -125,6 +145,18 @@ module _ (members : Membership) (handed : List Post) where
       go None f g = absurd (cc g)
       go (Some m) f g =
           subst IsSlot (query_slot from m m.body port slot g)
+          (message_of-found federation bytes m may.0 f).0.0
+
+  pub recover_is_slot : (took : Taken) → MayCome members handed took → (slot : SlotName)
+      → request_of federation took ≡ Recovers slot → IsSlot slot
+  recover_is_slot Nothing may slot e = absurd (cc e)
+  recover_is_slot (From from bytes) may slot e = go (message_of federation bytes) refl e
+    where
+      go : (o : Option Message) → message_of federation bytes ≡ o
+          → request_in from o ≡ Recovers slot → IsSlot slot
+      go None f g = absurd (cc g)
+      go (Some m) f g =
+          subst IsSlot (recover_slot from m m.body slot g)
           (message_of-found federation bytes m may.0 f).0.0
 
   pub says_is_message : (took : Taken) → MayCome members handed took → (message : Message)

@@ -12,8 +12,8 @@ use Rattle.records.specs.declared.record.Record.{Record}
 use Rattle.records.specs.SlotStates.{deposit_of, known_of}
 use Rattle.dgram.specs.declared.body.Body.{Body}
 use Rattle.dgram.specs.declared.body.Body.TheVariants.{Prepare, Promise, Accept, Accepted, Refused}
-use Rattle.dgram.specs.declared.body.Body.TheVariants.{Ask, Known, Deposit, Query, DepositReply}
-use Rattle.dgram.specs.declared.body.Body.TheVariants.{QueryReply}
+use Rattle.dgram.specs.declared.body.Body.TheVariants.{Ask, Known, Deposit, Query, Recover}
+use Rattle.dgram.specs.declared.body.Body.TheVariants.{DepositReply, QueryReply}
 use Rattle.dgram.specs.declared.message.Message.{Message}
 use Rattle.dgram.specs.Encoding.{body_from}
 use Rattle.acceptor.specs.declared.decision.Response.{Response}
@@ -36,6 +36,7 @@ use Rattle.site.specs.Effects.{Send, to_each, only_says}
 abbrev pub IsSiteBody : Body → Type 0
 IsSiteBody (Deposit path) = ⊥
 IsSiteBody Query = ⊥
+IsSiteBody Recover = ⊥
 IsSiteBody (DepositReply from answer) = ⊥
 IsSiteBody (QueryReply from answer) = ⊥
 IsSiteBody _ = Unit {0}
@@ -103,6 +104,7 @@ module _ (q : QuorumSystem) (n : ℕ) (records : List Record) where
   body_speaks old now slot (Ask from) = telling_speaks slot from (known_of slot records) now
   body_speaks old now slot (Deposit path) = none_speak
   body_speaks old now slot Query = none_speak
+  body_speaks old now slot Recover = none_speak
   body_speaks old now slot (DepositReply from answer) = none_speak
   body_speaks old now slot (QueryReply from answer) = none_speak
 

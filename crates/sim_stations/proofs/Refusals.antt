@@ -120,6 +120,7 @@ module _ (q : QuorumSystem) (site : ℕ) (records : List Record) (volatile : Vol
     on_body_refuses (bodies.Ask from) = tells from (known_of slot records)
     on_body_refuses (bodies.Deposit path) = λ fault e. no_answer e
     on_body_refuses bodies.Query = λ fault e. no_answer e
+    on_body_refuses bodies.Recover = λ fault e. no_answer e
     on_body_refuses (bodies.DepositReply from answer) = λ fault e. no_answer e
     on_body_refuses (bodies.QueryReply from answer) = λ fault e. no_answer e
 

@@ -59,6 +59,7 @@ pub record IsOther (body : Body) : Type 0 where
 abbrev pub IsRequest : Body → Type 0
 IsRequest (bodies.Deposit path) = Unit {0}
 IsRequest bodies.Query = Unit {0}
+IsRequest bodies.Recover = Unit {0}
 IsRequest (bodies.DepositReply from answer) = Unit {0}
 IsRequest (bodies.QueryReply from answer) = Unit {0}
 IsRequest _ = ⊥
@@ -506,6 +507,8 @@ module _ {C : Type 0} (device : C → Device) (old new : OpenSite C) (slot : Slo
   drops_request (bodies.Deposit path) is a dropped same volatile stands =
       says_dropped device old new volatile a dropped same stands
   drops_request bodies.Query is a dropped same volatile stands =
+      says_dropped device old new volatile a dropped same stands
+  drops_request bodies.Recover is a dropped same volatile stands =
       says_dropped device old new volatile a dropped same stands
   drops_request (bodies.DepositReply from answer) is a dropped same volatile stands =
       says_dropped device old new volatile a dropped same stands

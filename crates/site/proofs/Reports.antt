@@ -182,6 +182,8 @@ module _ (q : QuorumSystem) (site : ℕ) (records : List Record) (volatile : Vol
       says_nothing records (on_body q site records old volatile slot (bodies.Deposit path)) refl
   heard old slot bodies.Query =
       says_nothing records (on_body q site records old volatile slot bodies.Query) refl
+  heard old slot bodies.Recover =
+      says_nothing records (on_body q site records old volatile slot bodies.Recover) refl
   heard old slot (bodies.DepositReply from answer) =
       says_nothing records (on_body q site records old volatile slot
       (bodies.DepositReply from answer)) refl

@@ -12,8 +12,8 @@ use Rattle.records.specs.declared.record.Record.{Record}
 use Rattle.records.specs.SlotStates.{deposit_of, known_of}
 use Rattle.dgram.specs.declared.body.Body.{Body}
 use Rattle.dgram.specs.declared.body.Body.TheVariants.{Prepare, Promise, Accept, Accepted, Refused}
-use Rattle.dgram.specs.declared.body.Body.TheVariants.{Ask, Known, Deposit, Query, DepositReply}
-use Rattle.dgram.specs.declared.body.Body.TheVariants.{QueryReply}
+use Rattle.dgram.specs.declared.body.Body.TheVariants.{Ask, Known, Deposit, Query, Recover}
+use Rattle.dgram.specs.declared.body.Body.TheVariants.{DepositReply, QueryReply}
 use Rattle.dgram.specs.declared.message.Message.{Message}
 use Rattle.dgram.specs.Encoding.{body_from}
 use Rattle.acceptor.specs.declared.decision.Response.{Response}
@@ -64,8 +64,8 @@ telling site slot asker None volatile = quiet volatile
 telling site slot asker (Some bag) volatile =
     commits_and_sends slot None (Known site bag) (asker ∷ []) volatile
 
--- What a message of a member does, where `old` is the volatile state before it came, and `now` has
--- heard it too. Requests of clients, and the replies to them, are dropped, and aren't heard.
+-- What a message of a member does; `old` is the volatile state before it came, and `now` has heard
+-- it too. Requests of clients, and the replies to them, are dropped, and aren't heard.
 unfoldable pub on_body :
     QuorumSystem → (site : ℕ) → List Record → (old now : VolatileState) → SlotName → Body → Effect
 on_body q site records old now slot (Prepare ballot) =
@@ -85,6 +85,7 @@ on_body q site records old now slot (Ask from) =
     telling site slot from (known_of slot records) now
 on_body q site records old now slot (Deposit path) = only_says site_lines.Dropped old
 on_body q site records old now slot Query = only_says site_lines.Dropped old
+on_body q site records old now slot Recover = only_says site_lines.Dropped old
 on_body q site records old now slot (DepositReply from answer) = only_says site_lines.Dropped old
 on_body q site records old now slot (QueryReply from answer) = only_says site_lines.Dropped old
 

@@ -53,7 +53,7 @@ impl<C: Cell> Site<C> {
         }
     }
 
-    /// Like `arrive`, of a datagram of the federation that was decoded already, to this message.
+    /// Like `arrive`, for a datagram of the federation that was decoded already, to this message.
     pub fn arrive_message(&mut self, message: Message) -> Result<Answer, SiteFault>
         ensures answer { self.old.book.needs_opening ≡ false → (volatile : VolatileState)
             → Represents self.old volatile
@@ -132,6 +132,7 @@ impl<C: Cell> Site<C> {
             Body::Ask { from } => self.answer_ask(slot, from),
             Body::Deposit { .. }
             | Body::Query
+            | Body::Recover
             | Body::DepositReply { .. }
             | Body::QueryReply { .. } => Ok(dropped(self.alloc)),
         }

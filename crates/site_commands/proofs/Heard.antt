@@ -11,7 +11,10 @@ use Rattle.dgram.specs.declared.body.Body.{Body}
 use Rattle.dgram.specs.declared.body.Body.TheVariants as bodies
 use Rattle.dgram.specs.declared.message.Message.{Message}
 use Rattle.dgram.specs.Decoded.{message_of}
-use Rattle.udp_site.specs.Traffic.{Nothing, From, Move, Took, Failed, Handed, Grows}
+use Rattle.udp_site.specs.declared.port_fault.PortFault.{PortFault}
+use Rattle.udp_site.specs.declared.port_fault.PortFault.TheVariants as faults
+use Rattle.udp_site.specs.Traffic.{Nothing, From, Post, Move, Took, Failed, Handed, Grows}
+use Rattle.udp_site.specs.Traffic.{IsHanded}
 use Rattle.udp_site.proofs.Growth.{Grows-trans, Grows-none}
 use Rattle.site_commands.specs.declared.reply.ClientReply.{ClientReply}
 use Rattle.site_commands.specs.declared.reply.ClientReply.TheVariants.{ToDeposit, ToQuery}
@@ -19,8 +22,10 @@ use Rattle.site_commands.specs.declared.reply.Wanted.{Wanted}
 use Rattle.site_commands.specs.declared.reply.Wanted.TheVariants as wanted
 use Rattle.site_commands.specs.Replies.{Question, datagram_to, reply_by, reply_of, reply_from}
 use Rattle.site_commands.specs.Replies.{reply_at, first_reply}
-use Rattle.site_commands.specs.Exchanges.{OnlyTakes, Asks, IsAsked, IsAskedForBag}
-use Rattle.site_commands.specs.inner.Heard.{BringsNone, TakesOne, Hears, query_in}
+use Rattle.site_commands.specs.Exchanges.{OnlyTakes, HandsNext, Asks, IsAsked, IsAskedForBag}
+use Rattle.site_commands.specs.Recoveries.{recovery_of, recovery_port, recovery_datagram}
+use Rattle.site_commands.specs.inner.Heard.{BringsNone, TakesOne, handed_if, IsAskedToRecover}
+use Rattle.site_commands.specs.inner.Heard.{OnlyHands, IsHandedOut, Hears, query_in}
 
 pub takes_both : (m n : List Move) → OnlyTakes m → OnlyTakes n → OnlyTakes (m ++ n)
 takes_both [] n p q = q
@@ -117,17 +122,114 @@ err_if_ok (Err e) P Q is = tt
 
 -- ---- asking
 
-module _ (q : Question) (kind : Wanted) (bytes : List ℕ) where
-  -- a datagram was handed out, and then some are taken in
-  pub asks_then : (a b c : Option (List Move)) → Grows a b (Handed (q.target, bytes) ∷ [])
-      → (result : Result (Option ClientReply) AllocError) → Hears q kind b c result
-      → IsAsked q kind bytes a c result
-  asks_then a b c handed result (moves, grows, takes, reply) = (
-    Handed (q.target, bytes) ∷ moves,
-    Grows-trans a b c _ moves handed grows,
-    (refl, takes),
-    reply,
+-- it is not time for a Recover
+pub no_recovery : (q : Question) (a : Option (List Move)) → None ≡ recovery_port q
+    → IsAskedToRecover q a a (Ok tt)
+no_recovery q a none =
+    subst (λ (port : Option ℕ). Grows a a (handed_if (option_map (λ p. (p, recovery_datagram q)) port)))
+    none (Grows-none a)
+
+-- one was handed out, unless there was no memory for it
+pub recovery_sent : (q : Question) (a b : Option (List Move)) (port : ℕ) (bytes : List ℕ)
+    → Some port ≡ recovery_port q → bytes ≡ recovery_datagram q
+    → (result : Result (Unit {0}) PortFault) → IsHanded a b (port, bytes) result
+    → IsAskedToRecover q a b result
+recovery_sent q a b port bytes to are (Err faults.Memory) handed = handed
+recovery_sent q a b port bytes to are (Err faults.Device) handed =
+    one_sent q a b port bytes to are handed
+  where
+    one_sent : (q : Question) (a b : Option (List Move)) (port : ℕ) (bytes : List ℕ)
+        → Some port ≡ recovery_port q → bytes ≡ recovery_datagram q
+        → Grows a b (Handed (port, bytes) ∷ []) → Grows a b (handed_if (recovery_of q))
+    one_sent q a b port bytes to are handed =
+        subst (λ (o : Option ℕ). Grows a b (handed_if (option_map (λ p. (p, recovery_datagram q)) o)))
+        to (subst (λ (l : List ℕ). Grows a b (Handed (port, l) ∷ [])) are handed)
+recovery_sent q a b port bytes to are (Ok done) handed =
+    subst (λ (o : Option ℕ). Grows a b (handed_if (option_map (λ p. (p, recovery_datagram q)) o)))
+    to (subst (λ (l : List ℕ). Grows a b (Handed (port, l) ∷ [])) are handed)
+
+-- after a Recover nothing but what is taken in follows
+hands_then : (post : Option Post) (moves : List Move) → OnlyTakes moves
+    → HandsNext post (handed_if post ++ moves)
+hands_then None moves p = p
+hands_then (Some post) moves p = (refl, p)
+
+hands_no_more : (post : Option Post) → HandsNext post []
+hands_no_more None = tt
+hands_no_more (Some post) = tt
+
+only_hands : (post : Option Post) → OnlyHands (handed_if post)
+only_hands None = tt
+only_hands (Some post) = tt
+
+-- what is handed out is no reply
+none_in_handed : (q : Question) (kind : Wanted) (post : Option Post) (moves : List Move)
+    → first_reply q kind moves ≡ first_reply q kind (handed_if post ++ moves)
+none_in_handed q kind None moves = refl
+none_in_handed q kind (Some post) moves = refl
+
+none_in_only_handed : (q : Question) (kind : Wanted) (moves : List Move) → OnlyHands moves
+    → None ≡ first_reply q kind moves
+none_in_only_handed q kind [] p = refl
+none_in_only_handed q kind (Took taken ∷ moves) p = absurd p
+none_in_only_handed q kind (Failed ∷ moves) p = absurd p
+none_in_only_handed q kind (Handed post ∷ moves) p = none_in_only_handed q kind moves p
+
+module _ (q : Question) (bytes : List ℕ) where
+  -- the question was handed out, and then a Recover, if it was time for one
+  pub hands_both : (a b c : Option (List Move)) → Grows a b (Handed (q.target, bytes) ∷ [])
+      → (result : Result (Unit {0}) PortFault) → IsAskedToRecover q b c result
+      → IsHandedOut q bytes a c result
+  hands_both a b c handed (Ok done) more = Grows-trans a b c _ _ handed more
+  hands_both a b c handed (Err faults.Memory) more = (
+    Handed (q.target, bytes) ∷ [],
+    Grows-trans a b c _ _ handed more,
+    (refl, hands_no_more (recovery_of q)),
+    tt,
   )
+  hands_both a b c handed (Err faults.Device) more = (
+    Handed (q.target, bytes) ∷ handed_if (recovery_of q),
+    Grows-trans a b c _ _ handed more,
+    (refl, hands_all (recovery_of q)),
+    only_hands (recovery_of q),
+  )
+    where
+      hands_all : (post : Option Post) → HandsNext post (handed_if post)
+      hands_all None = tt
+      hands_all (Some post) = (refl, tt)
+
+  -- the question wasn't handed out whole
+  pub hands_question : (a b : Option (List Move)) (fault : PortFault)
+      → IsHanded a b (q.target, bytes) (Err fault) → (result : Result (Unit {0}) PortFault)
+      → IsErrAnd result (λ e. e ≡ fault) → IsHandedOut q bytes a b result
+  hands_question a b fault handed (Ok done) err = absurd err
+  hands_question a b faults.Memory handed (Err e) err = ([], handed, tt, tt)
+  hands_question a b faults.Device handed (Err e) err =
+      (Handed (q.target, bytes) ∷ [], handed, (refl, hands_no_more (recovery_of q)), tt)
+
+  module _ (kind : Wanted) where
+    -- all was handed out, and then some are taken in
+    pub asks_then : (a b c : Option (List Move)) → IsHandedOut q bytes a b (Ok tt)
+        → (result : Result (Option ClientReply) AllocError) → Hears q kind b c result
+        → IsAsked q kind bytes a c result
+    asks_then a b c handed result (moves, grows, takes, reply) = (
+      Handed (q.target, bytes) ∷ (handed_if (recovery_of q) ++ moves),
+      Grows-trans a b c _ moves handed grows,
+      (refl, hands_then (recovery_of q) moves takes),
+      go result reply,
+    )
+      where
+        go : (r : Result (Option ClientReply) AllocError)
+            → IfOk r (λ reply. reply ≡ first_reply q kind moves)
+            → IfOk r (λ reply. reply ≡ first_reply q kind (handed_if (recovery_of q) ++ moves))
+        go (Ok given) is = is ∙ none_in_handed q kind (recovery_of q) moves
+        go (Err fault) is = tt
+
+    -- not all was
+    pub asks_no_more : (a b : Option (List Move)) (fault : PortFault)
+        → IsHandedOut q bytes a b (Err fault) → IsAsked q kind bytes a b (Ok None)
+    asks_no_more a b fault (moves, grows, asks, hands) =
+        (moves, grows, asks, none_in_only_handed q kind moves hands)
 
 -- ---- a bag that is asked for
 
@@ -191,6 +293,6 @@ unfolding IsOfQuery
 bag_asked q bytes are a b reply answer is (moves, grows, asks, first) = (
   moves,
   grows,
-  subst (λ (sent : List ℕ). Asks (q.target, sent) moves) are asks,
+  subst (λ (sent : List ℕ). Asks (q.target, sent) (recovery_of q) moves) are asks,
   ap (option_map ToQuery) (is ∙ ap query_in first) ∙ first_of_query q moves,
 )

@@ -13,8 +13,10 @@ use Rattle.site_commands.specs.declared.reply.ClientReply.{ClientReply}
 use Rattle.site_commands.specs.declared.reply.Wanted.{Wanted}
 use Rattle.site_commands.specs.Replies.{Question, datagram_to, first_reply}
 use Rattle.site_commands.specs.Exchanges.{Asks, IsAsked}
+use Rattle.site_commands.specs.Recoveries.{recovery_of, next_question}
 use Rattle.site_commands.specs.Repeats.{next_path, path_after, wanted_until, is_last, ends}
-use Rattle.site_commands.specs.Repeats.{NoneEnds, AreReplies, last_of, IsSentUntilKnown}
+use Rattle.site_commands.specs.Repeats.{question_after, NoneEnds, AreReplies, AsksNext, last_of}
+use Rattle.site_commands.specs.Repeats.{IsSentUntilKnown}
 use Rattle.site_commands.specs.Answers.{IsWritten}
 use Rattle.site_commands.specs.inner.Repeated.{IsLastReply, IsLastAnswer}
 use Rattle.site_commands.specs.inner.Written.{outcome_to}
@@ -39,8 +41,8 @@ not_last (Some r) replies is = λ last. absurd (cc (is, last))
 
 replies_then : (q : Question) (path next : Option (List ℕ)) (replies : List (Option ClientReply))
     (m n : List Move) (reply : Option ClientReply) → AreReplies q path next replies m
-    → NoneEnds replies → Asks (q.target, datagram_to q (path_after path next replies)) n
-    → reply ≡ first_reply q (wanted_until path) n
+    → NoneEnds replies → AsksNext (question_after q replies) (path_after path next replies) n
+    → reply ≡ first_reply (question_after q replies) (wanted_until path) n
     → AreReplies q path next (replies ++ reply ∷ []) (m ++ n)
 replies_then q path next [] m n reply p none asks is = (
   n,
@@ -59,7 +61,7 @@ replies_then q path next (r ∷ replies) m n reply (first, rest, parts, one, giv
       one,
       given,
       not_last r (replies ++ reply ∷ []) goes_on,
-      replies_then q path (next_path path r) replies rest n reply more none asks is,
+      replies_then (next_question q) path (next_path path r) replies rest n reply more none asks is,
     )
 
 last_then : (replies : List (Option ClientReply)) (reply : Option ClientReply)
@@ -75,82 +77,125 @@ path_then : (path next : Option (List ℕ)) (replies : List (Option ClientReply)
 path_then path next [] reply = refl
 path_then path next (r ∷ replies) reply = path_then path (next_path path r) replies reply
 
--- the replies so far, of which none is the last, and what is sent next
+question_then : (q : Question) (replies : List (Option ClientReply)) (reply : Option ClientReply)
+    → question_after q (replies ++ reply ∷ []) ≡ next_question (question_after q replies)
+question_then q [] reply = refl
+question_then q (r ∷ replies) reply = question_then (next_question q) replies reply
+
+-- the datagrams are the same, however many questions came before
+same_datagram : (q : Question) (path : Option (List ℕ))
+    → datagram_to (next_question q) path ≡ datagram_to q path
+unfolding datagram_to
+same_datagram q path = refl
+
+datagram_after : (q : Question) (replies : List (Option ClientReply)) (path : Option (List ℕ))
+    → datagram_to (question_after q replies) path ≡ datagram_to q path
+datagram_after q [] path = refl
+datagram_after q (reply ∷ replies) path =
+    datagram_after (next_question q) replies path ∙ same_datagram q path
+
+-- the replies so far, of which none is the last; and whom is asked next, and what is sent
 abbrev pub SoFar : Question → (path : Option (List ℕ)) → (before after : Option (List Move))
-    → (last : Option ClientReply) → (bytes : List ℕ) → Type 0
-SoFar q path before after last bytes =
+    → (last : Option ClientReply) → (next : Question) → (bytes : List ℕ) → Type 0
+SoFar q path before after last next bytes =
     (replies : List (Option ClientReply)) × (moves : List Move) × Grows before after moves
     × AreReplies q path path replies moves × NoneEnds replies × (last ≡ last_of replies)
+    × (next ≡ question_after q replies)
     × (bytes ≡ datagram_to q (path_after path path replies))
 
 module _ (q : Question) (path : Option (List ℕ)) (a : Option (List Move)) where
-  pub at_first : (bytes : List ℕ) → bytes ≡ datagram_to q path → SoFar q path a a None bytes
-  at_first bytes is = ([], [], Grows-none a, refl, tt, refl, is)
+  pub at_first : (at : Question) (bytes : List ℕ) → at ≡ q → bytes ≡ datagram_to q path
+      → SoFar q path a a None at bytes
+  at_first at bytes here is = ([], [], Grows-none a, refl, tt, refl, here, is)
 
   pub none_asked : IsLastReply q path a a (Ok None)
   none_asked = ([], [], Grows-none a, refl, refl)
 
-  module _ (b c : Option (List Move)) (last : Option ClientReply) (bytes : List ℕ)
-      (far : SoFar q path a b last bytes) (reply : Option ClientReply) (kind : Wanted)
-      (kind_is : kind ≡ wanted_until path) (asked_so : IsAsked q kind bytes b c (Ok reply)) where
-    asked : IsAsked q (wanted_until path) bytes b c (Ok reply)
-    asked = subst (λ (k : Wanted). IsAsked q k bytes b c (Ok reply)) kind_is asked_so
+  -- what is asked by the bytes that are sent is what is asked next
+  asks_next : (at : Question) (replies : List (Option ClientReply)) (bytes : List ℕ)
+      (moves : List Move) → at ≡ question_after q replies
+      → bytes ≡ datagram_to q (path_after path path replies)
+      → Asks (at.target, bytes) (recovery_of at) moves
+      → AsksNext (question_after q replies) (path_after path path replies) moves
+  asks_next at replies bytes moves is sent asks =
+      subst (λ (l : List ℕ). Asks ((question_after q replies).target, l)
+      (recovery_of (question_after q replies)) moves)
+      (sent ∙ sym (datagram_after q replies (path_after path path replies)))
+      (subst (λ (p : Question). Asks (p.target, bytes) (recovery_of p) moves) is asks)
+
+  module _ (b c : Option (List Move)) (last : Option ClientReply) (at : Question) (bytes : List ℕ)
+      (far : SoFar q path a b last at bytes) (reply : Option ClientReply) (kind : Wanted)
+      (kind_is : kind ≡ wanted_until path) (asked_so : IsAsked at kind bytes b c (Ok reply)) where
+    asked : IsAsked at (wanted_until path) bytes b c (Ok reply)
+    asked = subst (λ (k : Wanted). IsAsked at k bytes b c (Ok reply)) kind_is asked_so
+
+    -- one reply more
+    more : (replies : List (Option ClientReply)) (m n : List Move) → NoneEnds replies
+        → at ≡ question_after q replies → bytes ≡ datagram_to q (path_after path path replies)
+        → AreReplies q path path replies m → Asks (at.target, bytes) (recovery_of at) n
+        → reply ≡ first_reply at (wanted_until path) n
+        → AreReplies q path path (replies ++ reply ∷ []) (m ++ n)
+    more replies m n none here sent are asks is =
+        replies_then q path path replies m n reply are none
+        (asks_next at replies bytes n here sent asks)
+        (is ∙ ap (λ (p : Question). first_reply p (wanted_until path) n) here)
 
     -- the next reply is the last
     pub then_last : (new : Option ClientReply) → new ≡ option_or reply last
         → IsLastReply q path a c (Ok new)
     then_last new is_new = go far asked
       where
-        go : SoFar q path a b last bytes → IsAsked q (wanted_until path) bytes b c (Ok reply)
+        go : SoFar q path a b last at bytes → IsAsked at (wanted_until path) bytes b c (Ok reply)
             → IsLastReply q path a c (Ok new)
-        go (replies, m, grows, are, none, was, sent) (n, more, asks, is) = (
+        go (replies, m, grows, are, none, was, here, sent) (n, grows_more, asks, is) = (
           replies ++ reply ∷ [],
           m ++ n,
-          Grows-trans a b c m n grows more,
-          replies_then q path path replies m n reply are none
-              (subst (λ (l : List ℕ). Asks (q.target, l) n) sent asks) is,
+          Grows-trans a b c m n grows grows_more,
+          more replies m n none here sent are asks is,
           is_new ∙ (ap (option_or reply) was ∙ sym (last_then replies reply)),
         )
 
     -- it isn't
-    pub then_more : (new : Option ClientReply) (next : List ℕ) → new ≡ option_or reply last
-        → ends reply ≡ false → next ≡ datagram_to q (next_path path reply)
-        → SoFar q path a c new next
-    then_more new next is_new goes_on is_next = go far asked
+    pub then_more : (new : Option ClientReply) (next : Question) (bytes_next : List ℕ)
+        → new ≡ option_or reply last → ends reply ≡ false → next ≡ next_question at
+        → bytes_next ≡ datagram_to q (next_path path reply)
+        → SoFar q path a c new next bytes_next
+    then_more new next bytes_next is_new goes_on at_next is_next = go far asked
       where
-        go : SoFar q path a b last bytes → IsAsked q (wanted_until path) bytes b c (Ok reply)
-            → SoFar q path a c new next
-        go (replies, m, grows, are, none, was, sent) (n, more, asks, is) = (
+        go : SoFar q path a b last at bytes → IsAsked at (wanted_until path) bytes b c (Ok reply)
+            → SoFar q path a c new next bytes_next
+        go (replies, m, grows, are, none, was, here, sent) (n, grows_more, asks, is) = (
           replies ++ reply ∷ [],
           m ++ n,
-          Grows-trans a b c m n grows more,
-          replies_then q path path replies m n reply are none
-              (subst (λ (l : List ℕ). Asks (q.target, l) n) sent asks) is,
+          Grows-trans a b c m n grows grows_more,
+          more replies m n none here sent are asks is,
           none_ends_then replies reply none goes_on,
           is_new ∙ (ap (option_or reply) was ∙ sym (last_then replies reply)),
+          at_next ∙ (ap next_question here ∙ sym (question_then q replies reply)),
           is_next ∙ sym (ap (datagram_to q) (path_then path path replies reply)),
         )
 
   -- memory ran out
-  pub then_stopped : (b c : Option (List Move)) (last : Option ClientReply) (bytes : List ℕ)
-      (fault : AllocError) (result : Result (Option ClientReply) AllocError)
-      → SoFar q path a b last bytes → (kind : Wanted) → IsAsked q kind bytes b c (Err fault)
+  pub then_stopped : (b c : Option (List Move)) (last : Option ClientReply) (at : Question)
+      (bytes : List ℕ) (fault : AllocError) (result : Result (Option ClientReply) AllocError)
+      → SoFar q path a b last at bytes → (kind : Wanted) → IsAsked at kind bytes b c (Err fault)
       → IsErr result → IsLastReply q path a c result
-  then_stopped b c last bytes fault (Ok given) far kind asked err = absurd (cc err)
-  then_stopped b c last bytes fault (Err e) (replies, m, grows, are, none, was, sent) kind
-      (n, more, asks, is) err = (
+  then_stopped b c last at bytes fault (Ok given) far kind asked err = absurd (cc err)
+  then_stopped b c last at bytes fault (Err e) (replies, m, grows, are, none, was, here, sent) kind
+      (n, grows_more, asks, is) err = (
         replies,
         m,
         n,
-        Grows-trans a b c m n grows more,
+        Grows-trans a b c m n grows grows_more,
         are,
-        inr (none, subst (λ (l : List ℕ). Asks (q.target, l) n) sent asks),
+        inr (none, asks_next at replies bytes n here sent asks),
       )
 
   -- time is over
-  pub no_more : (b : Option (List Move)) (last : Option ClientReply) (bytes : List ℕ)
-      → SoFar q path a b last bytes → IsLastReply q path a b (Ok last)
-  no_more b last bytes (replies, m, grows, are, none, was, sent) = (replies, m, grows, are, was)
+  pub no_more : (b : Option (List Move)) (last : Option ClientReply) (at : Question)
+      (bytes : List ℕ) → SoFar q path a b last at bytes → IsLastReply q path a b (Ok last)
+  no_more b last at bytes (replies, m, grows, are, none, was, here, sent) =
+      (replies, m, grows, are, was)
 
 -- ---- what is told
 

@@ -21,7 +21,8 @@ use Rattle.site.specs.Sites.{OpenSite, Represents, effect}
 use Rattle.outcomes.specs.declared.fault.ProgramFault.{ProgramFault}
 use Rattle.udp_site.specs.declared.fault.ServeFault.{ServeFault}
 use Rattle.udp_site.specs.declared.fault.ServeFault.TheVariants as faults
-use Rattle.udp_site.specs.Requests.{Request, Waits, Says, Deposits, Queries, Noise, request_of}
+use Rattle.udp_site.specs.Requests.{Request, Waits, Says, Deposits, Queries, Recovers, Noise}
+use Rattle.udp_site.specs.Requests.{request_of}
 use Rattle.udp_site.specs.Rounds.{next_waiting}
 use Rattle.udp_site.specs.Turns as turns
 use Rattle.udp_site.specs.Turns.{Serving, Done, IsServing, IsCalled, begins, turn_of, comes_of}
@@ -102,6 +103,8 @@ module _ {C : Type 0} (device : C → Device) where
         called_stands old new (calls.Arrives (Some message)) result c
     came (Deposits port slot path) (read, given, tree) = treed port slot read tree
     came (Queries port slot) (asks, a, done_is, e) = same old serves e
+    came (Recovers slot) (result, c, refuses, done_is) =
+        called_stands old new (calls.Recovers slot) result c
     came Noise (done_is, e) = same old serves e
 
   module _ (ports : List ℕ) (gives : Option (List ℕ → Result TreeFacts TreeFault)) where

@@ -22,6 +22,7 @@ use Rattle.site_commands.specs.declared.reply.Wanted.{Wanted}
 use Rattle.site_commands.specs.declared.reply.Wanted.TheVariants as wanted
 use Rattle.site_commands.specs.Replies.{Question, datagram_to, first_reply}
 use Rattle.site_commands.specs.Exchanges.{Asks}
+use Rattle.site_commands.specs.Recoveries.{recovery_of}
 
 -- ---- lines
 
@@ -89,10 +90,11 @@ abbrev pub wanted_for : Option (List ℕ) → Wanted
 wanted_for (Some path) = wanted.ToDeposit
 wanted_for None = wanted.ToQuery
 
--- A site is sent a deposit or a query, and no other datagram, and what is written is what the first
--- reply to it that the port takes in says.
+-- A site is sent a deposit or a query, and what is written is what the first reply to it that the
+-- port takes in says. No other datagram is sent, unless enough questions came before.
 abbrev pub IsSent : Question → (path : Option (List ℕ)) → (before after : Option (List Move))
     → (old new : Option (List ℕ)) → Result ℕ ProgramFault → Type 0
 IsSent q path before after old new result =
-    (moves : List Move) × Grows before after moves × Asks (q.target, datagram_to q path) moves
+    (moves : List Move) × Grows before after moves
+    × Asks (q.target, datagram_to q path) (recovery_of q) moves
     × IsTold old new result (outcome_of q (first_reply q (wanted_for path) moves))

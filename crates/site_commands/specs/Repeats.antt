@@ -13,6 +13,7 @@ use Rattle.site_commands.specs.declared.reply.Wanted.{Wanted}
 use Rattle.site_commands.specs.declared.reply.Wanted.TheVariants as wanted
 use Rattle.site_commands.specs.Replies.{Question, datagram_to, first_reply}
 use Rattle.site_commands.specs.Exchanges.{Asks}
+use Rattle.site_commands.specs.Recoveries.{recovery_of, next_question}
 use Rattle.site_commands.specs.Answers.{no_answer, reply_outcome, IsWritten}
 
 -- the site knows the bag
@@ -48,22 +49,28 @@ abbrev pub ends : Option ClientReply → Bool
 ends None = false
 ends (Some reply) = is_last reply
 
+-- what is asked after these replies, of whom
+abbrev pub question_after : Question → List (Option ClientReply) → Question
+question_after q [] = q
+question_after q (reply ∷ replies) = question_after (next_question q) replies
+
 -- none of these is
 abbrev pub NoneEnds : List (Option ClientReply) → Type 0
 NoneEnds [] = ⊤
 NoneEnds (reply ∷ replies) = (ends reply ≡ false) × NoneEnds replies
 
 -- One after another the site is asked, and these are its first replies, if it replied. With a path
--- the folder is deposited first. After the last reply there is no other question.
+-- the folder is deposited first. After the last reply there is no other question. After enough of
+-- them each question brings a Recover.
 abbrev pub AreReplies : Question → (path next : Option (List ℕ)) → List (Option ClientReply)
     → List Move → Type 0
 AreReplies q path next [] moves = moves ≡ []
 AreReplies q path next (reply ∷ replies) moves =
     (first : List Move) × (rest : List Move) × (moves ≡ first ++ rest)
-    × Asks (q.target, datagram_to q next) first
+    × Asks (q.target, datagram_to q next) (recovery_of q) first
     × (reply ≡ first_reply q (wanted_until path) first)
     × IfSome reply (λ r. is_last r ≡ true → replies ≡ [])
-    × AreReplies q path (next_path path reply) replies rest
+    × AreReplies (next_question q) path (next_path path reply) replies rest
 
 -- the last reply that there was
 abbrev pub last_of : List (Option ClientReply) → Option ClientReply
@@ -78,6 +85,10 @@ until_outcome q (Some reply) = record {
   text = (reply_outcome q reply).text;
 }
 
+-- the site is asked once more
+abbrev pub AsksNext : Question → (path : Option (List ℕ)) → List Move → Type 0
+AsksNext q path moves = Asks (q.target, datagram_to q path) (recovery_of q) moves
+
 -- Memory runs out where the last reply is told, or while the site is asked once more.
 abbrev pub IsBrokenOff : Question → (path : Option (List ℕ)) → (before after : Option (List Move))
     → Type 0
@@ -85,7 +96,7 @@ IsBrokenOff q path before after =
     (replies : List (Option ClientReply)) × (moves : List Move) × (others : List Move)
     × Grows before after (moves ++ others) × AreReplies q path path replies moves
     × ((others ≡ []) ⊎ (NoneEnds replies
-    × Asks (q.target, datagram_to q (path_after path path replies)) others))
+    × AsksNext (question_after q replies) (path_after path path replies) others))
 
 -- The site is asked until the bag is known, or time is over, and what is written is what its last
 -- reply says; or memory runs out, and the line `memory` is.

@@ -17,12 +17,15 @@ use Rattle.site_commands.specs.declared.reply.Wanted.TheVariants as wanted
 
 -- ---- what is asked
 
--- whom a client asks, a site of a federation, at its port, and for which slot
+-- whom a client asks, a site of a federation, at its port, and for which slot; the ports of all
+-- sites, that of site 1 first; and how many questions about the slot came before this one
 pub record Question : Type 0 where
   pub federation : ℕ
   pub to : ℕ
   pub target : ℕ
   pub slot : SlotName
+  pub ports : List ℕ
+  pub asked : ℕ
 
 abbrev pub question_of : Request → Question
 question_of request = record {
@@ -30,6 +33,8 @@ question_of request = record {
   to = request.to;
   target = request.target;
   slot = request.slot.now;
+  ports = request.ports.now;
+  asked = request.asked;
 }
 
 -- the folder of a path is deposited, or the slot's bag is asked for

@@ -1,7 +1,8 @@
 //! The command `send`: a client of a site of the members file.
 
 use crate::client::send_on;
-use crate::file_members::{members_at, port_of};
+use crate::file_members::{members_at, port_of, ports_of};
+use crate::key_files::keys_for;
 use crate::request::Request;
 use crate::send_arguments::SendTask;
 use crate::stop::{Stop, write_stop};
@@ -32,6 +33,7 @@ fn output_of<'a>(
 ) -> SpokenOutput<'a, Printer<'a, HostRuntime>> {
     let asked = Asked {
         members: task.members,
+        key: task.key,
         site: task.to.number(),
         cell: None,
         bags: None,
@@ -51,15 +53,19 @@ fn try_to_send<W: Write>(
 ) -> Result<Result<u8, ProgramFault>, Stop> {
     let members = members_at(rt, task.members)?;
     let target = port_of(&members, task.to)?;
+    let keys = keys_for(rt, task.key)?;
     let slot = slot_of(rt.alloc(), task)?;
     let path = path_of(rt.alloc(), task)?;
+    let ports = ports_of(rt.alloc(), &members)?;
     let federation = members.members().federation();
-    let mut port = socket(rt, federation, 0, Waits::always(task.wait))?;
+    let mut port = socket(rt, federation, 0, Waits::always(task.wait), keys)?;
     let request = Request {
         federation,
         to: task.to,
         target,
         slot: &slot,
+        ports: &ports,
+        asked: 0,
     };
     Ok(match task.until_known {
         Some(seconds) => {

@@ -4,13 +4,14 @@ ghost use Rattle.std.specs.Prelude.{◌≡◌, IfOk};
 ghost use Rattle.std.specs.Option.{option_map};
 ghost use Rattle.site_commands.specs.Replies.{question_of, datagram_to};
 ghost use Rattle.site_commands.specs.Exchanges.{IsAsked};
-ghost use Rattle.site_commands.specs.inner.Heard.{TakesOne, Hears};
+ghost use Rattle.site_commands.specs.inner.Heard.{TakesOne, IsHandedOut, Hears};
 
+use crate::recovery::ask_to_recover;
 use crate::reply::{ClientReply, Wanted, reply_from};
 use crate::request::Request;
 use dgram::{Body, FolderPath, LONGEST_DATAGRAM, Message, encode};
 use std::alloc::{AllocError, Global};
-use udp_site::{Port, Turn};
+use udp_site::{Port, PortFault, Turn};
 
 /// How many datagrams are taken in, of which one is to be the answer. What comes from another port
 /// is no answer, but counts: so strangers who send without end cost a client its answer, not its
@@ -45,7 +46,8 @@ pub(crate) fn datagram(
 }
 
 /// Sends a datagram, and gives the reply that is wanted, if it comes before a turn is idle, or
-/// before a second one at a port that was used.
+/// before a second one at a port that was used. After the datagram a site is asked to recover, where
+/// enough questions came before.
 pub(crate) fn ask<P: Port>(
     alloc: Global,
     port: &mut P,
@@ -57,7 +59,7 @@ pub(crate) fn ask<P: Port>(
     ensures { IsAsked (question_of request.now) wanted bytes.now
         (P.traffic port.old) (P.traffic port.new) result }
 {
-    match port.send(request.target, bytes) {
+    match hand_out(alloc, port, request, bytes) {
         Ok(()) => {}
         Err(_) => return Ok(None),
     }
@@ -66,6 +68,20 @@ pub(crate) fn ask<P: Port>(
         (None, PortUse::Used) => receive_reply(alloc, port, request, wanted),
         _ => Ok(reply),
     }
+}
+
+// Sends a datagram, and after it the one that asks a site to recover, where it is time for it.
+fn hand_out<P: Port>(
+    alloc: Global,
+    port: &mut P,
+    request: &Request<'_>,
+    bytes: &[u8],
+) -> Result<(), PortFault>
+    ensures { IsHandedOut (question_of request.now) bytes.now
+        (P.traffic port.old) (P.traffic port.new) result }
+{
+    port.send(request.target, bytes)?;
+    ask_to_recover(alloc, port, request)
 }
 
 // The reply that is wanted, if it comes before a turn is idle.

@@ -54,7 +54,7 @@ pub fn port_of(members: &MemberSites, number: SiteNo) -> Result<u16, Stop> {
 }
 
 /// The ports of all sites, that of site 1 first.
-pub(crate) fn ports_of(alloc: Global, members: &MemberSites) -> Result<Vec<u16>, Stop> {
+pub fn ports_of(alloc: Global, members: &MemberSites) -> Result<Vec<u16>, Stop> {
     match members.ports(alloc) {
         Ok(ports) => Ok(ports),
         Err(AllocError) => Err(Stop::Memory),

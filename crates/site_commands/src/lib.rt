@@ -16,10 +16,13 @@ mod exchange;
 mod file_members;
 mod first_start;
 mod folders_below;
+mod key_files;
 mod member_words;
 mod members_arguments;
 mod noted_ending;
+mod printed_keys;
 mod printed_members;
+mod recovery;
 mod reply;
 mod request;
 mod send_arguments;
@@ -33,8 +36,9 @@ mod until_known;
 
 pub use client::{ask_for_bag, send_on};
 pub use client_command::send_to_site;
-pub use file_members::{members_at, port_of};
+pub use file_members::{members_at, port_of, ports_of};
 pub use first_start::{Unprepared, prepare_cell};
+pub use key_files::keys_for;
 pub use members_arguments::{MembersTask, members_command, members_task};
 pub use printed_members::print_members;
 pub use reply::{ClientReply, Wanted};
@@ -43,7 +47,7 @@ pub use send_arguments::{SendTask, send_command, send_task, to_argument};
 pub use server_command::serve_site;
 pub use service::{Service, open_and_serve};
 pub use site_arguments::{
-    SiteTask, Turns, members_argument, site_command, site_task, wait_argument,
+    SiteTask, Turns, key_argument, members_argument, site_command, site_task, wait_argument,
 };
 pub use stop::{Stop, write_numbered, write_stop};
 pub use udp_socket::socket;

@@ -1,36 +1,53 @@
 //! The arguments of the command `members`.
 
 use crate::member_words::list_fault;
+use crate::site_arguments::key_argument;
 use clap::{Arg, ArgAction, ArgMatches, Command};
 use std::alloc::{AllocError, Global};
 
-const ABOUT: &str = "Reads a members file, or writes one";
+const ABOUT: &str = "Reads a members file or a key file, or writes one";
 
 const EXAMPLE: &str = "Of a members file it prints
-  ok F N Q HEX      the federation's number, the number of its sites, the weight that decides, and
-                    a digest of what the file says. Sites with different digests mustn't be run
-                    together: compare it before the first start, and after every copy of the file.
-With --new it prints the members file of a new federation, with sites on these ports, that of site 1
-first, each with its weight where one is given. Half of the federation's number is random: so no two
-federations are the same, even on the same ports, and their sites don't hear each other, nor open
-each other's cells. The other half comes from the list: from the number of sites and their weights.
-With --listed a file whose number doesn't come from its list is refused, as one in which a site is
-missing. Ports aren't in it: they may be changed, in all copies of the file, while no site runs.
+  ok F N Q HEX      the federation's number, the number of its sites, the
+                    weight that decides, and a digest of what the file says.
+                    Sites with different digests mustn't be run together:
+                    compare it before the first start, and after every copy of
+                    the file.
+With --new it prints the members file of a new federation, with sites on these
+ports, that of site 1 first, each with its weight if one is given. Half of the
+federation's number is random: so no two federations are the same, even on the
+same ports, and their sites don't hear each other, nor open each other's cells.
+The other half comes from the list: from the number of sites and their weights.
+With --listed a file whose number doesn't come from its list is refused, as one
+in which a site is missing. Ports aren't in it: they may be changed, in all
+copies of the file, while no site runs.
 
-The exit status is 0; 1 where the last line says what is amiss:
+With --key it prints a line for each key of a key file, `key sites NAME` or
+`key clients NAME`. A name says which key it is, and doesn't give it away:
+compare names, and never keys. With --new-key it writes a key file, for its
+owner alone, with random keys, and prints their names.
+
+The exit status is 0; 1 if the last line says what is amiss:
   members unread        the members file can't be read
   members line N        line N of the members file is at fault
-  members other list    with --listed: the federation's number doesn't come from this list
+  members other list    with --listed: the federation's number doesn't come from
+                        this list
+  key unread            the key file can't be read
+  key open to others    others than its owner have rights to the key file
+  key line N            line N of the key file is at fault
+  key exists            --new-key names a file that is there; it stays as it is
+  key unwritten         the new key file can't be written
   memory                out of memory
-or where standard output can't be written, or the system has no random numbers for --new, and
+or if standard output can't be written, or the system has no random numbers, and
 standard error says so; and 2 for a mistake in the arguments.
 
 Examples:
   bagpaxos members --new 5011 5012 5013 > members
   bagpaxos members --new 5011:2 5012 5013 > members
-  bagpaxos members members";
+  bagpaxos members members
+  bagpaxos members --new-key key";
 
-/// A members file to read, or to write.
+/// A members file or a key file to read, or to write.
 #[derive(Debug, Drop)]
 pub struct MembersTask<'a> {
     /// The path of the file that is to be read, if one is.
@@ -39,15 +56,19 @@ pub struct MembersTask<'a> {
     pub listed: bool,
     /// The sites of the file that is to be written, each as `PORT` or `PORT:WEIGHT`.
     pub sites: Vec<&'a str>,
+    /// The path of the key file that is to be read, if one is.
+    pub key: Option<&'a str>,
+    /// The path of the key file that is to be made, if one is.
+    pub new_key: Option<&'a str>,
 }
 
 impl MembersTask<'_> {
     /// What is amiss in the arguments together, if anything is.
     pub fn mistake(&self) -> Option<&'static str> {
-        match self.file {
-            Some(_) => None,
-            None => list_fault(self.sites.as_slice()),
+        if self.sites.is_empty() {
+            return None;
         }
+        list_fault(self.sites.as_slice())
     }
 }
 
@@ -64,6 +85,8 @@ pub fn members_task<'a>(
         file: matches.get_str("FILE"),
         listed: matches.get_flag("listed"),
         sites,
+        key: matches.get_str("key"),
+        new_key: matches.get_str("new-key"),
     })
 }
 
@@ -74,6 +97,8 @@ pub fn members_command<'a>(alloc: Global) -> Result<Command<'a>, AllocError> {
         .after_help(EXAMPLE)
         .arg(new_argument(alloc)?)?
         .arg(listed_argument(alloc)?)?
+        .arg(names_argument(alloc)?)?
+        .arg(new_key_argument(alloc)?)?
         .arg(file_argument(alloc)?)
 }
 
@@ -82,7 +107,7 @@ fn new_argument<'a>(alloc: Global) -> Result<Arg<'a>, AllocError> {
         .long("new")
         .value_name("PORT")
         .num_args(1..)
-        .help("Print a members file of sites with these ports, as PORT or PORT:WEIGHT")
+        .help("Print a members file; each site as PORT or PORT:WEIGHT")
         .conflicts_with("FILE")
 }
 
@@ -90,12 +115,33 @@ fn listed_argument<'a>(alloc: Global) -> Result<Arg<'a>, AllocError> {
     Arg::new(alloc, "listed")
         .long("listed")
         .action(ArgAction::SetTrue)
-        .help("Refuse a file whose federation number doesn't come from its list")
+        .help("Refuse a file whose number doesn't come from its list")
+        .conflicts_with("new")?
+        .conflicts_with("key")?
+        .conflicts_with("new-key")
+}
+
+fn names_argument<'a>(alloc: Global) -> Result<Arg<'a>, AllocError> {
+    key_argument(alloc)
+        .help("Print the names of the keys of this file")
+        .conflicts_with("FILE")?
+        .conflicts_with("new")?
+        .conflicts_with("new-key")
+}
+
+fn new_key_argument<'a>(alloc: Global) -> Result<Arg<'a>, AllocError> {
+    Arg::new(alloc, "new-key")
+        .long("new-key")
+        .value_name("FILE")
+        .help("Write a key file here, where no file is")
+        .conflicts_with("FILE")?
         .conflicts_with("new")
 }
 
 fn file_argument<'a>(alloc: Global) -> Result<Arg<'a>, AllocError> {
     Arg::new(alloc, "FILE")
         .help("The members file")
-        .required_unless_present("new")
+        .required_unless_present("new")?
+        .required_unless_present("key")?
+        .required_unless_present("new-key")
 }

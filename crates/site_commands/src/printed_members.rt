@@ -3,6 +3,7 @@
 use crate::file_members::{expect_listed, members_at};
 use crate::member_words::sites_in;
 use crate::members_arguments::MembersTask;
+use crate::printed_keys::{make_keys, print_keys};
 use crate::stop::{Stop, write_stop};
 use members_file::{MemberSites, digest_of, new_list};
 use outcomes::{ProgramFault, write_output};
@@ -10,8 +11,14 @@ use std::alloc::{AllocError, Global};
 use std::io;
 use std::random::RandomSource;
 
-/// Prints what a members file says, or a members file.
+/// Prints what a members file or a key file says, or makes one.
 pub fn print_members(rt: &HostRuntime, task: &MembersTask<'_>) -> Result<u8, ProgramFault> {
+    if let Some(path) = task.key {
+        return print_keys(rt, path);
+    }
+    if let Some(path) = task.new_key {
+        return make_keys(rt, path);
+    }
     match task.file {
         Some(path) => print_summary(rt, path, task.listed),
         None => print_new(rt, task.sites.as_slice()),
@@ -24,11 +31,14 @@ fn print_new(rt: &HostRuntime, words: &[&str]) -> Result<u8, ProgramFault> {
     let mut random = [0; 4];
     match rt.fill_bytes(&mut random) {
         Ok(()) => print_text(rt, new_text(rt.alloc(), random, words)),
-        Err(_) => {
-            let _ = rt.eprintln("error: the system gives no random numbers");
-            Ok(1)
-        }
+        Err(_) => no_random_numbers(rt),
     }
+}
+
+/// Says that the system has no random numbers, and gives the status 1.
+pub(crate) fn no_random_numbers(rt: &HostRuntime) -> Result<u8, ProgramFault> {
+    let _ = rt.eprintln("error: the system gives no random numbers");
+    Ok(1)
 }
 
 fn new_text(alloc: Global, random: [u8; 4], words: &[&str]) -> Result<String, Stop> {
@@ -68,7 +78,8 @@ fn summary_of(alloc: Global, file: &MemberSites) -> Result<String, AllocError> {
     format!(in alloc; "ok {federation} {count} {quorum} {digest:016x}\n")
 }
 
-fn print_text(rt: &HostRuntime, text: Result<String, Stop>) -> Result<u8, ProgramFault> {
+/// Prints this text, or why there is none.
+pub(crate) fn print_text(rt: &HostRuntime, text: Result<String, Stop>) -> Result<u8, ProgramFault> {
     let mut output = io::writer(rt);
     match text {
         Ok(text) => write_output(&mut output, 0, text.as_str()),

@@ -1,3 +1,7 @@
+ghost use Rattle.std.specs.Prelude.{◌≡◌};
+ghost use Rattle.site_commands.specs.Replies.{question_of};
+ghost use Rattle.site_commands.specs.Recoveries.{question_at, next_question};
+
 use fed_types::{SiteNo, Slot};
 
 /// Whom a client asks for what.
@@ -8,4 +12,31 @@ pub struct Request<'a> {
     pub to: SiteNo,
     pub target: u16,
     pub slot: &'a Slot,
+    /// The ports of all sites, that of site 1 first: one of them may have to recover.
+    pub ports: &'a [u16],
+    /// How many questions about the slot came before.
+    pub asked: u32,
+}
+
+impl<'a> Request<'a> {
+    /// The same question where so many came before.
+    pub(crate) fn at(&self, asked: u32) -> Request<'a>
+        ensures { question_of result ≡ question_at (question_of self.now) asked }
+    {
+        Request {
+            federation: self.federation,
+            to: self.to,
+            target: self.target,
+            slot: self.slot,
+            ports: self.ports,
+            asked,
+        }
+    }
+
+    /// The next question about the same.
+    pub(crate) fn next(&self) -> Request<'a>
+        ensures { question_of result ≡ next_question (question_of self.now) }
+    {
+        self.at(self.asked.saturating_add(1))
+    }
 }

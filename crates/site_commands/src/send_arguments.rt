@@ -1,6 +1,6 @@
 //! The arguments of the command `send`.
 
-use crate::site_arguments::{members_argument, wait_argument, words_argument};
+use crate::site_arguments::{key_argument, members_argument, wait_argument, words_argument};
 use clap::{Arg, ArgMatches, Command, value_parser};
 use dgram::LONGEST_PATH;
 use fed_types::{GREATEST_SITE, LONGEST_OBJECT, SiteNo};
@@ -9,38 +9,54 @@ use std::alloc::{AllocError, Global};
 const ABOUT: &str = "Deposits a bag at a site that serves, or asks it for one";
 
 const EXAMPLE: &str =
-    "With PATH it deposits the folder of this path, which the site reads, as version V of the object
-OBJ. Without PATH it asks which bag is version V of OBJ. It prints one line, of site N:
+    "With PATH it deposits the folder of this path, which the site reads, as version
+V of the object OBJ. Without PATH it asks which bag is version V of OBJ. It
+prints one line, of site N:
   registered N OBJ V HEX       the bag of this identity is deposited
   reply N OBJ V known HEX      the bag of this identity is version V of OBJ
-  reply N OBJ V pending HEX    the site deposited this bag, and nothing is known yet
-  reply N OBJ V nothing        nothing is known yet, and the site has no deposit
-  refused N CODE               11 another bag is deposited       14 out of memory
-                               12 another bag is known           15 the site has to be restarted
+  reply N OBJ V pending HEX    the site deposited this bag, and nothing is known
+  reply N OBJ V nothing        nothing is known, and the site has no deposit
+  refused N CODE               11 another bag is deposited
+                               12 another bag is known
                                13 the site's cell failed
-                               20 + n: the folder can't be read, as `unread n` of bagpaxos check;
-                                       24 also: more bytes than --most-bytes of the site
-                               40 + n: it is no valid bag, as `invalid n` of bagpaxos check
+                               14 out of memory
+                               15 the site has to be restarted
+                               20 + n: the folder can't be read, as `unread n`
+                                       of bagpaxos check; 24 also: more bytes
+                                       than --most-bytes of the site
+                               40 + n: it is no valid bag, as `invalid n` of
+                                       bagpaxos check
   no answer                    the site doesn't answer
-or `members unread`, `members line N`, `not a member`, `socket` or `memory`, as bagpaxos site.
+or `members unread`, `members line N`, `not a member`, `key unread`,
+`key open to others`, `key line N`, `socket` or `memory`, as bagpaxos site.
 
-With --until-known it asks until the bag is known, and with PATH deposits it first: again after 20
-ms, then twice as long each time, and a second at most. After SECONDS, or where the deposit is
-refused, it prints the last line that there was.
+With --until-known it asks until the bag is known, and with PATH deposits it
+first: again after 20 ms, then twice as long each time, and a second at most.
+Once it asks each second, it also has the sites recover the version, one after
+the other: so it learns what was decided, even if the site that knew it is lost.
+After SECONDS, or if the deposit is refused, it prints the last line that there
+was.
 
-With --words standard error says in words what a line says that isn't `registered` or `reply`.
-`bagpaxos help codes` lists what each says.
+With --key what is sent has a tag by the first `clients` key of the file, and an
+answer counts only with a tag by one of them. A file with no more than one line
+`clients HEX` is enough.
 
-The exit status is 0 for `registered` and `reply`, with --until-known for `reply .. known` alone; 1
-for all else, and 2 for a mistake in the arguments.
+With --words standard error says in words what a line says that isn't
+`registered` or `reply`. `bagpaxos help codes` lists what each says.
+
+The exit status is 0 for `registered` and `reply`, with --until-known for
+`reply .. known` alone; 1 for all else; and 2 for a mistake in the arguments.
 
 Example:
-  bagpaxos send --members members --to 1 --wait 1000 --until-known 30 report 1 path/to/bag";
+  bagpaxos send --members members --to 1 --wait 1000 --until-known 30 \\
+      report 1 path/to/bag";
 
 /// What to ask of a site.
 #[derive(Clone, Copy, Debug)]
 pub struct SendTask<'a> {
     pub members: &'a str,
+    /// The path of the key file, if there is one.
+    pub key: Option<&'a str>,
     pub to: SiteNo,
     pub wait: u32,
     /// For how many seconds it asks until the bag is known.
@@ -74,6 +90,7 @@ impl SendTask<'_> {
 pub fn send_task<'a>(matches: &ArgMatches<'a>) -> Option<SendTask<'a>> {
     Some(SendTask {
         members: matches.get_str("members")?,
+        key: matches.get_str("key"),
         to: SiteNo::new(matches.get_one::<u8>("to")?).ok()?,
         wait: matches.get_one::<u32>("wait")?,
         until_known: matches.get_one::<u32>("until-known"),
@@ -94,6 +111,7 @@ pub fn send_command<'a>(alloc: Global) -> Result<Command<'a>, AllocError> {
 fn with_options<'a>(alloc: Global, command: Command<'a>) -> Result<Command<'a>, AllocError> {
     command
         .arg(members_argument(alloc))?
+        .arg(key_argument(alloc))?
         .arg(to_argument(alloc))?
         .arg(wait_argument(alloc))?
         .arg(until_argument(alloc))?
@@ -123,7 +141,7 @@ fn until_argument<'a>(alloc: Global) -> Arg<'a> {
         .long("until-known")
         .value_name("SECONDS")
         .value_parser(value_parser!(u32).range(1..))
-        .help("Ask until the bag is known, for so many seconds, 1 to 4294967295")
+        .help("Ask until it is known, 1 to 4294967295 seconds")
 }
 
 fn object_argument<'a>(alloc: Global) -> Arg<'a> {

@@ -6,6 +6,7 @@ use crate::apart_files::{NamedFile, expect_apart};
 use crate::cell_opening::cell_of;
 use crate::file_members::{expect_listed, members_at, port_of, ports_of};
 use crate::folders_below::FoldersBelow;
+use crate::key_files::site_keys_for;
 use crate::noted_ending::note_ending;
 use crate::service::{Service, open_and_serve};
 use crate::site_arguments::SiteTask;
@@ -39,11 +40,28 @@ pub fn serve_site<'a>(rt: &'a HostRuntime, task: &SiteTask<'a>) -> Result<u8, Pr
     answer
 }
 
-// Refuses a log that is the cell or the members file, before it is made or written.
+// Refuses a log that is the cell, the members file or the key file, before it is made or written.
 fn expect_log_apart(rt: &HostRuntime, task: &SiteTask<'_>, path: &str) -> Result<(), Stop> {
     let option = "--log";
     expect_apart(rt, cell_named(task), NamedFile { option, path })?;
-    expect_apart(rt, members_named(task), NamedFile { option, path })
+    expect_apart(rt, members_named(task), NamedFile { option, path })?;
+    expect_key_apart(rt, task, NamedFile { option, path })
+}
+
+// Refuses a key file that is one of the others.
+fn expect_key_apart(
+    rt: &HostRuntime,
+    task: &SiteTask<'_>,
+    other: NamedFile<'_>,
+) -> Result<(), Stop> {
+    let Some(path) = task.key else {
+        return Ok(());
+    };
+    let option = "--key";
+    match expect_apart(rt, NamedFile { option, path }, other) {
+        Err(Stop::SameFile) => Err(Stop::KeySameFile),
+        answer => answer,
+    }
 }
 
 fn cell_named<'a>(task: &SiteTask<'a>) -> NamedFile<'a> {
@@ -82,6 +100,7 @@ fn output_of<'a, 'l, 's>(
 ) -> SpokenOutput<'a, SiteOutput<'a, 'l, 's>> {
     let asked = Asked {
         members: task.members,
+        key: task.key,
         site: task.number.number(),
         cell: Some(task.cell),
         bags: task.bags,
@@ -111,6 +130,8 @@ fn equip<'a>(rt: &HostRuntime, task: &SiteTask<'a>) -> Result<Means<UdpPort, Bag
     ensures { IfOk result (λ means. means.folders.top ≡ task.now.bags) }
 {
     expect_apart(rt, cell_named(task), members_named(task))?;
+    expect_key_apart(rt, task, cell_named(task))?;
+    expect_key_apart(rt, task, members_named(task))?;
     let file = members_at(rt, task.members)?;
     if task.listed {
         expect_listed(rt.alloc(), &file)?;
@@ -118,10 +139,11 @@ fn equip<'a>(rt: &HostRuntime, task: &SiteTask<'a>) -> Result<Means<UdpPort, Bag
     let port_number = port_of(&file, task.number)?;
     let ports = ports_of(rt.alloc(), &file)?;
     let members = file.members();
+    let keys = site_keys_for(rt, task.key)?;
     let folders = folders_of(rt, task)?;
     let site = task.number;
     let cell = cell_of(rt, task, &Owner { members, site })?;
-    let port = site_socket(rt, members, site, port_number, task.waits)?;
+    let port = site_socket(rt, members, site, port_number, task.waits, keys)?;
     Ok(Means {
         members,
         ports,
@@ -160,7 +182,7 @@ fn serve_logged<'a, W: Write>(
         cell,
         port,
     } = means;
-    log.is_at(members, port.port());
+    log.is_at(members, port.port(), port.buffer(), port.key_names());
     let means = Means {
         members,
         ports,

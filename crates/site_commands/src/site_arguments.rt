@@ -9,78 +9,110 @@ const ABOUT: &str = "Serves as a site of a federation, over UDP on this machine"
 
 const EXAMPLE: &str = "The members file is a text; all sites are on 127.0.0.1:
   federation F            the number of the federation
-  site N PORT [WEIGHT]    for each of the sites 1, 2, 3 .., at most 63: its port, and its
-                          weight, 1 to 255, which is 1 where none is given
-Sites that have more than half of all weight decide. Sites and weights stay as they are as long as
-there are cells. With --listed a file is refused whose number doesn't come from its list, as one in
-which a site is missing.
-The cell is the file in which the site keeps its word; it is made where it is missing, unless
---existing is given: a site that has a cell must never be started without it.
-In each turn the site waits for one datagram, and prints a line for what it does:
-  registered N OBJ V HEX        a bag was deposited, of this identity
-  known N OBJ V HEX             the site learned which bag is version V of OBJ
-  reply N OBJ V known HEX       it was asked, and this bag is version V of OBJ
-  reply N OBJ V pending HEX     .. nothing is known yet, and this is its own deposit
-  reply N OBJ V nothing         .. nothing is known yet, and it has no deposit
-  refused N CODE                it refused a call
-  dropped N                     what came was no message for it
-In a turn in which nothing comes it may propose one of its deposits to all. After each proposal such
-turns wait twice as long as before, up to --wait-most, but 500 ms, or --wait where that is longer,
-at most while it hears sites that have more than half of all weight with it, unless their answers
-are late. A deposit that it registers, an Accept, a vote or a known bag bring the first wait back.
-However much comes, such a turn is taken once ten times --wait, 250 ms and its wait have passed
-since the last one. After a deposit such turns are taken at once, until the site may propose it; but
-not while a proposal of its own is under way. So they are where a client asks for a bag that is
-pending, a second after the last proposal, or more where answers are late.
+  site N PORT [WEIGHT]    for each of the sites 1, 2 .., at most 63: its port,
+                          and its weight, 1 to 255, or else 1
+Sites that have more than half of all weight decide. Sites and weights stay as
+they are as long as there are cells. With --listed a file is refused whose
+number doesn't come from its list, as one in which a site is missing.
+The cell is the file in which the site keeps its word. It is made if it is
+missing, unless --existing is given: a site that has a cell must never be
+started without it.
 
-With --bags a path that is absolute or has `..` in it is refused as a missing folder (21). With
---most-bytes a larger bag is refused as one of too many files (24). A folder that was refused as no
-valid bag, for a long text or for a file that can't be read isn't read again within a minute, while
-its files are the same: it is listed, and has the same answer.
+In each turn the site waits for one datagram, and prints a line for what it
+does:
+  registered N OBJ V HEX       a bag was deposited, of this identity
+  known N OBJ V HEX            it learned which bag is version V of OBJ
+  reply N OBJ V known HEX      it was asked, and this bag is version V of OBJ
+  reply N OBJ V pending HEX    .. nothing is known yet; this is its own deposit
+  reply N OBJ V nothing        .. nothing is known yet, and it has no deposit
+  refused N CODE               it refused a call
+  dropped N                    what came was no message for it
 
-With --log each line is also written to a file, which grows: after the time in UTC and the port
-from which came what it is about (`-` where nothing came). After `refused` comes what was asked for,
-and a folder that can't be read has a line of its own. The log is opened before all else, so it has
-the last line of a site that doesn't begin to serve, too; after each last line it says why in words:
-  TIME - serves site 1 of 3, federation 7, port 42001, 12 records, 3 known
+In a turn in which nothing comes it may propose one of its deposits to all.
+After each proposal such turns wait twice as long as before, up to --wait-most,
+but 500 ms, or --wait if that is longer, at most while it hears sites that have
+more than half of all weight with it, unless their answers are late. A deposit
+that it registers, an Accept, a vote or a known bag bring the first wait back.
+However much comes, such a turn is taken once ten times --wait, 250 ms and its
+wait have passed since the last one. After a deposit such turns are taken at
+once, until the site may propose it; but not while a proposal of its own is
+under way. So they are if a client asks for a bag that is pending, a second
+after the last proposal, or more if answers are late.
+
+With --key each datagram has a tag, HMAC-SHA-256, and what has no right one is
+dropped. All sites and clients then need a key file: a text with a line
+`sites HEX` and a line `clients HEX`, or two of either, of which the first is
+sent with and both are taken. A site needs both kinds, a client the second.
+Nobody but its owner may have a right to the file. bagpaxos members --new-key
+makes one.
+
+With --bags a path that is absolute or has `..` in it is refused as a missing
+folder (21). With --most-bytes a larger bag is refused as one of too many files
+(24). A folder that was refused as no valid bag, for a long text or for a file
+that can't be read isn't read again within a minute, while its files are the
+same: it is listed, and has the same answer.
+
+With --log each line is also written to a file, which grows: after the time in
+UTC and the port from which came what it is about (`-` if nothing came). After
+`refused` comes what was asked for, and a folder that can't be read has a line
+of its own. The log is opened before all else, so it has the last line of a site
+that doesn't begin to serve, too; after each last line it says why in words:
+  TIME - serves site 1 of 3, federation 7, port 42001, 12 records, 3 known, ..
   TIME 51234 refused 1 10 14 deposit OBJ V PATH
   TIME 51234 unread 1 21 deposit OBJ V PATH PLACE
   TIME - open 3
-  TIME - why: the cell is damaged; keep the file; the site is lost, and the others go on
-Where the log can't be written, or isn't a file, standard error says so once, and the site goes on.
+  TIME - why: the cell is damaged; keep the file; the site is lost, and ..
+With --key the first line ends with `, keys NAME NAME`, the names of the two
+keys that it sends with.
+If the log can't be written, or isn't a file, standard error says so once, and
+the site goes on.
 
-Of one port and one first word the log has 60 lines a minute, but each line `known`. Those after
-them are counted, and once the minute is over, or the site ends, it says how many there were. So are
-64 ports and words of a minute; later ones share one count for each word, under *:
+Of one port and one first word the log has 60 lines a minute, but each line
+`known`. Those after them are counted, and once the minute is over, or the site
+ends, it says how many there were. So are 64 ports and words of a minute; later
+ones share one count for each word, under *:
   TIME 51234 log: 12345 dropped in this minute (refused)
-With a log no line waits for who reads standard output: what can't be written at once isn't, and the
-log says how many lines there were. With --quiet nothing is written there at all.
+With a log no line waits for who reads standard output: what can't be written at
+once isn't, and the log says how many lines there were. With --quiet nothing is
+written there at all.
   TIME - output: 12345 dropped in this minute
 
-A site that has proposed its deposit and has heard no majority for ten seconds says so, once, in the
-log and with --words; and in the end that it hears one again:
+A site that has proposed its deposit and has heard no majority for ten seconds
+says so, once, in the log and with --words; and in the end that it hears one
+again:
   TIME - no majority since TIME: heard from 2
   TIME - a majority again: heard from 2, 3
 
-With --words standard error has a line after each line `refused` or `dropped`, and after the one
-that says why it stopped: in words, with names. `bagpaxos help codes` lists what each says.
+With --words standard error has a line after each line `refused` or `dropped`,
+and after the one that says why it stopped: in words, with names. `bagpaxos help
+codes` lists what each says.
 
-The exit status is 0 after the last turn; 1 where a last line says why it stopped:
+The exit status is 0 after the last turn; 1 if a last line says why it stopped:
   members unread    the members file can't be read
   members line N    line N of the members file is at fault
   members other list
-                    with --listed: the federation's number doesn't come from the file's list
+                    with --listed: the federation's number doesn't come from the
+                    file's list
   not a member      the members file has no such site
-  same file         two of --cell, --members and --log name one file, as standard error says
+  same file         two of --cell, --members and --log name one file, as
+                    standard error says
+  key unread        the key file can't be read
+  key open to others
+                    others than its owner have rights to the key file
+  key line N        line N of the key file is at fault
+  key lacks sites   the key file has no line `sites HEX`
+  key same file     --key names the file of --cell, --members or --log
   bags unread       with --bags: it isn't a folder
-  open 4            the cell's file can't be opened, read or written, or another process has it
-                    open for five seconds; with --existing, it isn't there, or its header isn't
+  open 4            the cell's file can't be opened, read or written, or another
+                    process has it open for five seconds; with --existing, it
+                    isn't there, or its header isn't
   socket            the site's port can't be had
-  open N            the cell is of another federation (1) or site (2), damaged (3), or of members
-                    with other weights (6); 5: no memory
-  stopped N         a receive failed (1), the cell failed (2), or out of memory (3)
+  open N            the cell is of another federation (1) or site (2), damaged
+                    (3), or of members with other weights (6); 5: no memory
+  stopped N         a receive failed (1), the cell failed (2), or out of memory
+                    (3)
   memory            out of memory
-or where standard output can't be written; and 2 for a mistake in the arguments.
+or if standard output can't be written; and 2 for a mistake in the arguments.
 
 Example:
   bagpaxos site --members members --number 1 --cell cell.1 --forever --wait 100";
@@ -97,6 +129,8 @@ pub struct SiteTask<'a> {
     pub members: &'a str,
     /// Whether the federation's number has to come from that file's list.
     pub listed: bool,
+    /// The path of the key file, if there is one.
+    pub key: Option<&'a str>,
     pub number: SiteNo,
     pub cell: &'a str,
     /// Whether the cell has to be there.
@@ -140,6 +174,7 @@ pub fn site_task<'a>(matches: &ArgMatches<'a>) -> Option<SiteTask<'a>> {
     Some(SiteTask {
         members: matches.get_str("members")?,
         listed: matches.get_flag("listed"),
+        key: matches.get_str("key"),
         number,
         cell: matches.get_str("cell")?,
         existing: matches.get_flag("existing"),
@@ -181,6 +216,7 @@ fn with_place<'a>(alloc: Global, command: Command<'a>) -> Result<Command<'a>, Al
     command
         .arg(members_argument(alloc))?
         .arg(listed_argument(alloc))?
+        .arg(key_argument(alloc))?
         .arg(number_argument(alloc))?
         .arg(cell_argument(alloc))?
         .arg(existing_argument(alloc))
@@ -213,14 +249,22 @@ pub fn members_argument<'a>(alloc: Global) -> Arg<'a> {
         .long("members")
         .value_name("FILE")
         .required(true)
-        .help("The members file: the port and the weight of each site")
+        .help("The members file: sites, their ports and weights")
+}
+
+/// The option of the key file.
+pub fn key_argument<'a>(alloc: Global) -> Arg<'a> {
+    Arg::new(alloc, "key")
+        .long("key")
+        .value_name("FILE")
+        .help("The keys by which each datagram has a tag")
 }
 
 fn listed_argument<'a>(alloc: Global) -> Arg<'a> {
     Arg::new(alloc, "listed")
         .long("listed")
         .action(ArgAction::SetTrue)
-        .help("Refuse a members file whose federation's number doesn't come from its list")
+        .help("Refuse a file whose number doesn't come from its list")
 }
 
 fn number_argument<'a>(alloc: Global) -> Arg<'a> {
@@ -244,14 +288,14 @@ fn existing_argument<'a>(alloc: Global) -> Arg<'a> {
     Arg::new(alloc, "existing")
         .long("existing")
         .action(ArgAction::SetTrue)
-        .help("Don't make the cell: where it or its header is missing, end with `open 4`")
+        .help("Never make the cell: if it isn't there, end: `open 4`")
 }
 
 fn bags_argument<'a>(alloc: Global) -> Arg<'a> {
     Arg::new(alloc, "bags")
         .long("bags")
         .value_name("FOLDER")
-        .help("Read clients' bags by their paths below this folder alone")
+        .help("Read clients' bags below this folder alone")
 }
 
 fn most_bytes_argument<'a>(alloc: Global) -> Arg<'a> {
@@ -259,13 +303,14 @@ fn most_bytes_argument<'a>(alloc: Global) -> Arg<'a> {
         .long("most-bytes")
         .value_name("N")
         .value_parser(value_parser!(u64))
-        .help("Refuse clients' bags with more bytes in all, before they are read")
+        .help("Refuse a bag with more bytes in all, before it is read")
 }
 
 fn log_argument<'a>(alloc: Global) -> Arg<'a> {
-    Arg::new(alloc, "log").long("log").value_name("FILE").help(
-        "Append what it prints to this file, with the time, who asked and why it ends",
-    )
+    Arg::new(alloc, "log")
+        .long("log")
+        .value_name("FILE")
+        .help("Append to this file what it prints, and when and why")
 }
 
 fn quiet_argument<'a>(alloc: Global) -> Arg<'a> {
@@ -280,7 +325,7 @@ pub(crate) fn words_argument<'a>(alloc: Global) -> Arg<'a> {
     Arg::new(alloc, "words")
         .long("words")
         .action(ArgAction::SetTrue)
-        .help("Say on standard error in words what a line with a code says")
+        .help("Say in words, on standard error, what codes say")
 }
 
 fn turns_argument<'a>(alloc: Global) -> Result<Arg<'a>, AllocError> {
@@ -307,7 +352,7 @@ pub fn wait_argument<'a>(alloc: Global) -> Arg<'a> {
         .value_name("MS")
         .required(true)
         .value_parser(value_parser!(u32).range(1..=LONGEST_WAIT))
-        .help("How many milliseconds a turn waits for a datagram, 1 to 60000")
+        .help("Milliseconds it waits for a datagram, 1 to 60000")
 }
 
 fn most_argument<'a>(alloc: Global) -> Arg<'a> {
@@ -316,5 +361,5 @@ fn most_argument<'a>(alloc: Global) -> Arg<'a> {
         .value_name("MS")
         .default_value("60000")
         .value_parser(value_parser!(u32).range(1..=MOST_WAIT))
-        .help("The most while nothing moves, --wait to 86400000")
+        .help("The most it waits, --wait to 86400000")
 }

@@ -22,6 +22,20 @@ pub enum Stop {
     NotAMember,
     /// Two of the cell, the members file and the log are one file.
     SameFile,
+    /// The key file can't be read.
+    KeyUnread,
+    /// Others than the owner of the key file have rights to it.
+    KeyOpenToOthers,
+    /// This line of the key file is the first at fault.
+    KeyLine(usize),
+    /// A site's key file has no key of messages between sites.
+    KeyLacksSites,
+    /// The key file is the cell, the members file or the log.
+    KeySameFile,
+    /// Where a key file is to be made there is a file.
+    KeyExists,
+    /// The new key file can't be written.
+    KeyUnwritten,
     /// The folder below which bags are read isn't one.
     BagsUnread,
     /// The file of the cell can't be opened.
@@ -43,6 +57,13 @@ pub fn write_stop<W: Write>(alloc: Global, output: &mut W, stop: Stop) -> Result
         Stop::OtherList => write_output(output, 1, "members other list\n"),
         Stop::NotAMember => write_output(output, 1, "not a member\n"),
         Stop::SameFile => write_output(output, 1, "same file\n"),
+        Stop::KeyUnread => write_output(output, 1, "key unread\n"),
+        Stop::KeyOpenToOthers => write_output(output, 1, "key open to others\n"),
+        Stop::KeyLine(line) => write_numbered(output, key_line(alloc, line)),
+        Stop::KeyLacksSites => write_output(output, 1, "key lacks sites\n"),
+        Stop::KeySameFile => write_output(output, 1, "key same file\n"),
+        Stop::KeyExists => write_output(output, 1, "key exists\n"),
+        Stop::KeyUnwritten => write_output(output, 1, "key unwritten\n"),
         Stop::BagsUnread => write_output(output, 1, "bags unread\n"),
         Stop::CellUnopened => write_output(output, 1, "open 4\n"),
         Stop::Socket => write_output(output, 1, "socket\n"),
@@ -66,4 +87,8 @@ pub fn write_numbered<W: Write>(
 
 fn members_line(alloc: Global, line: usize) -> Result<String, AllocError> {
     format!(in alloc; "members line {line}\n")
+}
+
+fn key_line(alloc: Global, line: usize) -> Result<String, AllocError> {
+    format!(in alloc; "key line {line}\n")
 }

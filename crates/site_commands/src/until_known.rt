@@ -30,8 +30,9 @@ const LONGEST_PAUSE: u64 = 1000;
 /// answer that there was as one line: `reply .. known ..` with status 0, any other with status 1.
 /// With a path the folder is deposited first, and again where the site then knows nothing of it. A
 /// deposit that is refused ends it at once. After each question it pauses, first for 20 ms, then
-/// for twice as long each time, and for a second at most. Where memory runs out the line is
-/// `memory`, with status 1.
+/// for twice as long each time, and for a second at most. From the seventh question on it asks a
+/// site to recover the slot after each: first the same site, and then the others in turn. Where
+/// memory runs out the line is `memory`, with status 1.
 pub fn send_until_known<P: Port, C: Clock, W: Write>(
     alloc: Global,
     clock: &C,
@@ -116,13 +117,15 @@ fn last_reply<P: Port, C: Clock>(
     let mut pauses = pauses;
     let mut last = None;
     let mut bytes = questions.first();
+    let mut question = request.at(request.asked);
     for _ in 0..u32::MAX {
-        let reply = ask(alloc, port, PortUse::Used, request, wanted, bytes)?;
+        let reply = ask(alloc, port, PortUse::Used, &question, wanted, bytes)?;
         last = or(reply, last);
         if ends(&reply) || !pauses.pause(clock) {
             return Ok(last);
         }
         bytes = questions.after(&reply);
+        question = question.next();
     }
     Ok(last)
 }

@@ -37,6 +37,7 @@ fn kind(body: &Body) -> &'static str {
         Body::Known { .. } => "known",
         Body::Deposit { .. } => "deposit",
         Body::Query => "query",
+        Body::Recover => "recover",
         Body::DepositReply { .. } | Body::QueryReply { .. } => "reply",
     }
 }
@@ -55,9 +56,11 @@ fn push_body(alloc: Global, text: &mut String, body: &Body) -> Result<(), AllocE
         Body::Accept { vote } | Body::Accepted { vote, .. } => push_vote(alloc, text, *vote),
         Body::Known { bag, .. } => push_bag(alloc, text, *bag),
         Body::Deposit { path } => push_word(text, path.as_str()),
-        Body::Ask { .. } | Body::Query | Body::DepositReply { .. } | Body::QueryReply { .. } => {
-            Ok(())
-        }
+        Body::Ask { .. }
+        | Body::Query
+        | Body::Recover
+        | Body::DepositReply { .. }
+        | Body::QueryReply { .. } => Ok(()),
     }
 }
 

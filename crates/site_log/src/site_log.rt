@@ -10,7 +10,7 @@ use fed_types::{Members, SiteNo};
 use records::{Entry, Record};
 use std::alloc::AllocError;
 use std::cell::RefCell;
-use udp_site::Turn;
+use udp_site::{Turn, WANTED_BUFFER};
 
 /// A log of a site, in a file. What can't be noted, out of memory or room, is left out: the site
 /// goes on. Of one sender and kind no more than 60 lines a minute are written; the others are
@@ -27,6 +27,10 @@ pub struct SiteLog<'a> {
 struct Place {
     members: Members,
     port: u16,
+    /// How many bytes of datagrams its port keeps, if that is known.
+    buffer: Option<u32>,
+    /// The names of the keys of its datagrams, if they have tags.
+    keys: Option<(u32, u32)>,
 }
 
 /// What the next line needs.
@@ -66,10 +70,22 @@ impl<'a> SiteLog<'a> {
         }
     }
 
-    /// The site is one of these members, and has this port.
-    pub fn is_at(&self, members: Members, port: u16) {
+    /// The site is one of these members, and has this port, which keeps so many bytes of datagrams,
+    /// and makes tags by keys of these names, if it does.
+    pub fn is_at(
+        &self,
+        members: Members,
+        port: u16,
+        buffer: Option<u32>,
+        keys: Option<(u32, u32)>,
+    ) {
         if let Ok(mut state) = self.state.try_borrow_mut() {
-            state.place = Some(Place { members, port });
+            state.place = Some(Place {
+                members,
+                port,
+                buffer,
+                keys,
+            });
         }
     }
 
@@ -273,9 +289,14 @@ impl<'a> SiteLog<'a> {
         Ok(line)
     }
 
-    // `serves site S of N, federation F, port P, R records, K known`
+    // `serves site S of N, federation F, port P, R records, K known, buffer B, keys NAME NAME`
     fn beginning(&self, place: Place, records: &[Record]) -> Result<String, AllocError> {
-        let Place { members, port } = place;
+        let Place {
+            members,
+            port,
+            buffer,
+            keys,
+        } = place;
         let mut line = self.heading(None)?;
         let site = self.number.number();
         let count = members.count();
@@ -287,6 +308,12 @@ impl<'a> SiteLog<'a> {
         let kept = records.len();
         let known = records.iter().filter(|it| is_known(it)).count();
         write!(line, "{kept} records, {known} known")?;
+        if let Some(bytes) = buffer {
+            push_buffer(&mut line, bytes)?;
+        }
+        if let Some((sites, clients)) = keys {
+            write!(line, ", keys {sites:08x} {clients:08x}")?;
+        }
         Ok(line)
     }
 
@@ -372,4 +399,17 @@ fn take(state: &mut State, turn: &Turn) {
 
 fn is_known(record: &Record) -> bool {
     matches!(record.body, Entry::Known(_))
+}
+
+// How many bytes of datagrams the system keeps, and where that is less than was asked for, the
+// command that raises its limit.
+fn push_buffer(line: &mut String, bytes: u32) -> Result<(), AllocError> {
+    write!(line, ", buffer {bytes}")?;
+    if bytes < WANTED_BUFFER {
+        write!(
+            line,
+            " (for more: sysctl net.core.rmem_max={WANTED_BUFFER})"
+        )?;
+    }
+    Ok(())
 }

@@ -112,10 +112,10 @@ impl<'a> Watch<'a> {
         let Ok(present) = Instant::now(self.rt) else {
             return Some(spell);
         };
-        if let Turn::Got(from, bytes) = turn {
-            if let Some(site) = self.member_at(*from) {
+        if let Some((from, bytes)) = said(turn) {
+            if let Some(site) = self.member_at(from) {
                 spell.hears(site, present);
-                if kind_byte(bytes.as_slice()) == KNOWN && !spell.is_said {
+                if kind_byte(bytes) == KNOWN && !spell.is_said {
                     return None;
                 }
             }
@@ -226,6 +226,21 @@ impl Spell {
 
 fn is_over(time: Duration) -> bool {
     time >= Duration::from_secs(PATIENCE)
+}
+
+// What came, and from which port. A datagram of no bytes, as which one without a right tag counts,
+// is nothing.
+fn said(turn: &Turn) -> Option<(u16, &[u8])> {
+    match turn {
+        Turn::Got(from, bytes) => {
+            if bytes.is_empty() {
+                None
+            } else {
+                Some((*from, bytes.as_slice()))
+            }
+        }
+        Turn::Idle => None,
+    }
 }
 
 // The kind's byte, or 0 where there is none.

@@ -5,6 +5,8 @@
 pub struct Asked<'a> {
     /// The path of the members file.
     pub members: &'a str,
+    /// The path of the key file, if there is one.
+    pub key: Option<&'a str>,
     /// The number of the site that serves, or that is asked.
     pub site: u8,
     /// The path of the cell, of a site that serves.

@@ -19,6 +19,7 @@ pub(crate) fn push_reason(
     }
     match line {
         "members unread" => push_file_reason(rt, text, asked.members),
+        "key unread" => push_key(rt, text, asked),
         "not a member" => push_stranger(text, asked),
         "bags unread" => push_bags(rt, text, asked),
         "no answer" => push_silence(rt, text, asked),
@@ -68,6 +69,9 @@ fn push_subject(
     if line.starts_with("members ") {
         return push_named(text, asked.members);
     }
+    if line.starts_with("key ") {
+        return push_named(text, asked.key.unwrap_or("the key file"));
+    }
     match asked.path {
         Some(path) if is_of_folder(meaning) => push_folder(text, asked, path),
         _ => Ok(()),
@@ -91,6 +95,13 @@ fn push_folder(text: &mut String, asked: &Asked<'_>, path: &str) -> Result<(), A
         write!(text, ", as site {site} reads it: ")
     } else {
         write!(text, ", as site {site} reads it from its own folder: ")
+    }
+}
+
+fn push_key(rt: &HostRuntime, text: &mut String, asked: &Asked<'_>) -> Result<(), AllocError> {
+    match asked.key {
+        Some(key) => push_file_reason(rt, text, key),
+        None => Ok(()),
     }
 }
 

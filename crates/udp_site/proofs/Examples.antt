@@ -113,6 +113,11 @@ deposited = registers rested
 pub by_the_reply : hands rested own 40000 (deposit_reply 0) ≡ deposited
 by_the_reply = refl
 
+-- the body's first byte comes after the name, which is of two bytes here
+pub of_a_longer_name : hands rested own 40000 (0x42 ∷ 0x50 ∷ 2 ∷ 32 ∷ 0 ∷ 0 ∷ 0 ∷ 0 ∷ 0 ∷ 0 ∷ 0 ∷ 7
+    ∷ 2 ∷ 2 ∷ 0x61 ∷ 0x62 ∷ 0 ∷ 0 ∷ 0 ∷ 1 ∷ 0 ∷ []) ≡ deposited
+of_a_longer_name = refl
+
 -- one that is refused changes nothing: another was deposited (11) or is known (12), the site can't
 -- take it (13 to 15), the folder can't be read (21 to 26), or has no valid bag (41 to 54)
 pub refused_is_nothing : map (λ code. hands rested own 40000 (deposit_reply code))
@@ -143,6 +148,9 @@ rests_after_them = refl
 -- what else moves something brings back the first wait alone
 pub waits_again : left (hears rested Moves) 9000 9000 ≡ 1000
 waits_again = refl
+
+pub and_rests_on : left (idles (hears rested Moves) 10000) 10000 10000 ≡ 2000
+and_rests_on = refl
 
 pub decided : left (hears rested Decides) 9000 9000 ≡ 1000
 decided = refl
@@ -206,6 +214,10 @@ alone = record (begins (record { first = 1; most = 60000; prompt = 2 }) None) {
 -- a client asks for a bag that is pending: two turns come at once, but not before a second
 abbrev questioned : Pace
 questioned = hands alone own 40000 (reply 1)
+
+-- a vote that moves the site isn't what it was asked for
+pub still_a_question : (hears questioned Decides).asked ≡ 2
+still_a_question = refl
 
 pub not_before_a_second : left questioned 300000 400000 ≡ 600000
 not_before_a_second = refl

@@ -20,7 +20,8 @@ use Rattle.site.specs.Effects.{Effect}
 use Rattle.site.specs.Sites.{OpenSite, effect}
 use Rattle.lines.specs.declared.line.Line.{Line}
 use Rattle.udp_site.specs.Traffic.{Taken, Move}
-use Rattle.udp_site.specs.Requests.{Request, Waits, Says, Deposits, Queries, Noise, request_of}
+use Rattle.udp_site.specs.Requests.{Request, Waits, Says, Deposits, Queries, Recovers, Noise}
+use Rattle.udp_site.specs.Requests.{request_of}
 use Rattle.udp_site.specs.Turns.{Serving, Done, IsCalled, members, takes_tree, proposes, idles_if}
 use Rattle.udp_site.specs.Turns.{comes_of, turn_of, tries, one_more_idle, slot_of}
 use Rattle.udp_site.specs.Rounds.{next_waiting}
@@ -100,6 +101,8 @@ module _ {C : Type 0} (device : C → Device) where
       turned_on (Deposits port slot path) (read, given, comes) =
           deposited_on old port slot read comes
       turned_on (Queries port slot) (asks, asked_so, is, same) = unchanged_on old new same
+      turned_on (Recovers slot) (result, called, refuses, is) =
+          called_on old new (calls.Recovers slot) result called
       turned_on Noise (is, same) = unchanged_on old new same
 
   -- what is settled before a turn is so after it

@@ -21,5 +21,6 @@ pub mod Examples
 pub mod ContactExamples
 pub mod LateExamples
 pub mod RoundExamples
+pub mod RecoveryExamples
 pub mod SignExamples
 pub mod Signs

@@ -20,13 +20,14 @@ use Rattle.lines.specs.declared.notice.Notice.TheVariants.{Refused, Dropped}
 use Rattle.udp_site.specs.declared.fault.ServeFault.{ServeFault}
 use Rattle.udp_site.specs.Replies.{tree_answer}
 use Rattle.udp_site.specs.Traffic.{Move}
-use Rattle.udp_site.specs.Requests.{Request, Says, request_by, request_in}
+use Rattle.udp_site.specs.Requests.{Request, Says, Recovers, request_by, request_in}
 use Rattle.lines.specs.Notices.{reply_notice}
 use Rattle.udp_site.specs.Turns.{Serving, Done, IsServing, Asks, comes_of, members}
 use Rattle.udp_site.specs.Turns.{number, asked, answer_to, query_replies, posts_of}
-use Rattle.udp_site.specs.Turns.{notices_of, deposit_replies, takes_tree}
+use Rattle.udp_site.specs.Turns.{notices_of, recovery_notices, deposit_replies, takes_tree}
 use Rattle.udp_site.specs.inner.Outcomes.{ComesTo}
 use Rattle.udp_site.proofs.Called.{could_be_called}
+use Rattle.udp_site.proofs.Proposals.{could_recover}
 
 -- the members can be asked, one after another: memory may run out for each
 pub could_ask : {C : Type 0} (ports : List ℕ) (s : Serving C) (slot : SlotName) (others : List ℕ)
@@ -85,6 +86,14 @@ module _ {C : Type 0} (device : C → Device) (ports : List ℕ)
             },
             (asks.0, asks.1, refl, refl),
           )
+      by_body bodies.Recover =
+          let call = could_recover device old m.slot serves in (
+            record {
+              posts = posts_of ports call.0;
+              notices = recovery_notices (number old) (calls.Recovers m.slot) call.0;
+            },
+            (call.0, call.1, call.2, refl),
+          )
       by_body (bodies.DepositReply from answer) =
           (record { posts = []; notices = Dropped (number old) ∷ [] }, (refl, refl))
       by_body (bodies.QueryReply from answer) =
@@ -115,6 +124,9 @@ module _ {C : Type 0} (device : C → Device) (ports : List ℕ)
       hears : comes_of device ports gives old (Says m) done next → SameRound next
       hears (result, called, is) = (called.idle, called.tried)
 
+      recovers : comes_of device ports gives old (Recovers m.slot) done next → SameRound next
+      recovers (result, called, refuses, is) = (called.idle, called.tried)
+
       reads : (slot : SlotName) (read : Result TreeFacts TreeFault)
           → takes_tree device old port slot read done next → SameRound next
       reads slot (Err fault) (is, same) = same_as same
@@ -124,6 +136,7 @@ module _ {C : Type 0} (device : C → Device) (ports : List ℕ)
           → SameRound next
       by_body (bodies.Deposit path) (read, known, takes) = reads m.slot read takes
       by_body bodies.Query (asks, were, is, same) = same_as same
+      by_body bodies.Recover comes = recovers comes
       by_body (bodies.DepositReply from answer) (is, same) = same_as same
       by_body (bodies.QueryReply from answer) (is, same) = same_as same
       by_body (bodies.Prepare ballot) comes = hears comes

@@ -15,7 +15,7 @@ use Rattle.site.specs.Calls.{Input}
 use Rattle.site_tables.specs.Contents.{deposits_of}
 use Rattle.udp_site.specs.Rounds.{next_waiting}
 use Rattle.udp_site.specs.Turns.{Serving, Done, idles, proposes_next, tries, others}
-use Rattle.udp_site.specs.Turns.{proposal_notices}
+use Rattle.udp_site.specs.Turns.{proposal_notices, recovery_notices}
 
 abbrev said : (object : ℕ) → Entry → Record
 said object body = record { slot = record { object = object ∷ []; version = 1 }; body = body }
@@ -118,3 +118,11 @@ module _ {C : Type 0} (device : C → Device) (ports : List ℕ) (s : Serving C)
 pub spent_rounds_are_not_said : (input : Input)
     → proposal_notices 2 input (Err faults.RoundsSpent) ≡ []
 spent_rounds_are_not_said input = refl
+
+-- nor, of a recovery that a client asks for, that a bag is known or there is nothing to recover
+pub known_is_not_said : (input : Input) → recovery_notices 2 input (Err faults.AlreadyKnown) ≡ []
+known_is_not_said input = refl
+
+pub nothing_is_not_said : (input : Input)
+    → recovery_notices 2 input (Err faults.NothingToRecover) ≡ []
+nothing_is_not_said input = refl

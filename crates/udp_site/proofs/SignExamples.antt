@@ -9,8 +9,8 @@ use Rattle.dgram.specs.declared.answers.DepositAnswer.{DepositAnswer}
 use Rattle.dgram.specs.declared.answers.QueryAnswer.{QueryAnswer}
 use Rattle.dgram.specs.declared.body.Body.{Body}
 use Rattle.dgram.specs.declared.body.Body.TheVariants.{Prepare, Promise, Accept, Accepted, Refused}
-use Rattle.dgram.specs.declared.body.Body.TheVariants.{Ask, Known, Deposit, Query, DepositReply}
-use Rattle.dgram.specs.declared.body.Body.TheVariants.{QueryReply}
+use Rattle.dgram.specs.declared.body.Body.TheVariants.{Ask, Known, Deposit, Query, Recover}
+use Rattle.dgram.specs.declared.body.Body.TheVariants.{DepositReply, QueryReply}
 use Rattle.site.specs.declared.answer.Reply.TheVariants as replies
 use Rattle.site.specs.declared.fault.SiteFault.{SiteFault}
 use Rattle.udp_site.specs.declared.sign.Sign.TheVariants.{Still, Moves, Decides}
@@ -44,6 +44,9 @@ module _ (site : ℕ) (ballot standing : Ballot) (vote : Vote) (bag : BagId) whe
 
   pub query_is_still : sign_by Query ≡ Still
   query_is_still = refl
+
+  pub recover_is_still : sign_by Recover ≡ Still
+  recover_is_still = refl
 
   pub deposit_reply_is_still : (answer : DepositAnswer) → sign_by (DepositReply site answer) ≡ Still
   deposit_reply_is_still answer = refl
@@ -107,8 +110,19 @@ module _ (site : ℕ) (ballot standing : Ballot) (vote : Vote) (bag : BagId) whe
         ≡ record { sign = Still; sender = Some ballot.site }
     proposing_site_is_heard = refl
 
+    pub accepting_site_is_heard : at 7001 (Accept vote)
+        ≡ record { sign = Moves; sender = Some vote.ballot.site }
+    accepting_site_is_heard = refl
+
+    pub knowing_site_is_heard : at 7001 (Known site bag)
+        ≡ record { sign = Decides; sender = Some site }
+    knowing_site_is_heard = refl
+
     pub asking_client_is_nobody : at 40000 Query ≡ record { sign = Still; sender = None }
     asking_client_is_nobody = refl
+
+    pub recovering_client_is_nobody : at 40000 Recover ≡ record { sign = Still; sender = None }
+    recovering_client_is_nobody = refl
 
     pub depositing_client_is_nobody : (path : List ℕ) → at 40000 (Deposit path)
         ≡ record { sign = Still; sender = None }

@@ -66,6 +66,7 @@ module _ (pace : Pace) (now own from federation : ℕ) (bytes : List ℕ) (are :
   own_by_body (bodies.Known from bag) isnt = stays None
   own_by_body (bodies.Deposit path) isnt = stays None
   own_by_body bodies.Query isnt = stays None
+  own_by_body bodies.Recover isnt = stays None
   own_by_body (bodies.DepositReply from answer) isnt = stays None
   own_by_body (bodies.QueryReply from answer) isnt = stays None
 
@@ -102,6 +103,7 @@ module _ (pace : Pace) (now own from federation : ℕ) (bytes : List ℕ) (are :
     by_body (bodies.Known from bag) = decides
     by_body (bodies.Deposit path) = refl
     by_body bodies.Query = refl
+    by_body bodies.Recover = refl
     by_body (bodies.DepositReply from answer) = refl
     by_body (bodies.QueryReply from answer) = refl
 

@@ -24,10 +24,10 @@ use Rattle.site.specs.Calls.{Input, reply_of}
 use Rattle.site.specs.Sites.{OpenSite, effect}
 use Rattle.lines.specs.declared.notice.Notice.{Notice}
 use Rattle.lines.specs.Notices.{notice_of, reply_notice}
-use Rattle.udp_site.specs.Requests.{Request, Waits, Says, Deposits, Queries, Noise}
+use Rattle.udp_site.specs.Requests.{Request, Waits, Says, Deposits, Queries, Recovers, Noise}
 use Rattle.udp_site.specs.Served.{or_one}
 use Rattle.udp_site.specs.Turns.{Serving, Done, IsCalled, Asks, notices_of, proposal_notices}
-use Rattle.udp_site.specs.Turns.{number, takes_tree, proposes, idles_if}
+use Rattle.udp_site.specs.Turns.{recovery_notices, number, takes_tree, proposes, idles_if}
 use Rattle.udp_site.specs.Turns.{comes_of, tries, one_more_idle, slot_of}
 use Rattle.udp_site.specs.Rounds.{next_waiting}
 
@@ -48,6 +48,14 @@ proposal_says : (site : ℕ) (input : Input) (result : Result Answer SiteFault)
     → or_one (notices_of site input result) ≡ true
 proposal_says site input (Err faults.RoundsSpent) stops = absurd (impossible stops)
 proposal_says site input result stops = stops
+
+recovery_says : (site : ℕ) (input : Input) (result : Result Answer SiteFault)
+    → or_one (recovery_notices site input result) ≡ true
+    → or_one (notices_of site input result) ≡ true
+recovery_says site input (Err faults.AlreadyKnown) stops = absurd (impossible stops)
+recovery_says site input (Err faults.NothingToRecover) stops = absurd (impossible stops)
+recovery_says site input (Err faults.RoundsSpent) stops = absurd (impossible stops)
+recovery_says site input result stops = stops
 
 -- what a query says is of the cell only where the site needs opening
 replied : (site : ℕ) (slot : SlotName) (needs_opening : Bool) (reply : Reply BagId)
@@ -147,4 +155,7 @@ module _ {C : Type 0} (device : C → Device) where
             ∙ replied (number old) slot old.site.book.needs_opening
             (reply_of slot old.site.book.records) asks.notices
             (asks_say_no ports old slot _ asks asked_so) (said done _ is stops)
+        last_needs_opening (Recovers slot) (result, called_so, refuses, is) =
+            called old new (calls.Recovers slot) result called_so
+            (recovery_says (number old) (calls.Recovers slot) result (said done _ is stops))
         last_needs_opening Noise (is, same) = absurd (impossible (said done _ is stops))

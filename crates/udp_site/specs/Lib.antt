@@ -10,5 +10,7 @@ pub mod MemoryPorts
 pub mod Contacts
 pub mod Pace
 pub mod Signs
+pub mod Recoveries
+pub mod Seals
 pub mod UdpPorts
 pub mod inner

@@ -90,9 +90,9 @@ abbrev pub awaiting : Option Contacts → Option Contacts
 awaiting None = None
 awaiting (Some contacts) = Some (awaits contacts)
 
--- The site proposes, in its last idle turn. After each proposal it waits twice as long; for answers
--- it does so where those to the proposal before were late. One is under way now, and no question is
--- open.
+-- The site proposes, in its last idle turn, or recovers, since then. After each of these it waits
+-- twice as long; for answers it does so where those to the one before were late. One is under way
+-- now, and no question is open.
 abbrev pub proposes : Pace → Pace
 proposes pace = record pace {
   wait = longer pace pace.wait;
@@ -156,10 +156,14 @@ between pace now =
     if pace.prompt == 0 || pace.under_way
     then max (wait_at pace now) (max (10 * pace.waits.first) 250) else 0
 
--- for how many microseconds no question makes a turn idle: one a second may bring a proposal, and
--- none while it waits for answers
+-- how many microseconds are between two ballots that clients bring: a second, or as long as it
+-- waits for answers
+abbrev pub pause : Pace → ℕ
+pause pace = 1000 * max 1000 pace.answer_wait
+
+-- for how many of them no question makes a turn idle
 abbrev pub pause_left : Pace → (now : ℕ) → ℕ
-pause_left pace now = 1000 * max 1000 pace.answer_wait - (now - pace.proposed_at)
+pause_left pace now = pause pace - (now - pace.proposed_at)
 
 -- for how many microseconds a turn waits still, whatever comes
 abbrev pub at_most : Pace → (now : ℕ) → ℕ

@@ -2,7 +2,7 @@
 use Rattle.std.specs.Prelude.{ℕ, ◌+◌, ◌==◌, ◌&&◌, if◌then◌else◌, Bool, List, get_or}
 use Rattle.std.specs.Prelude.{Option, Some, None}
 use Rattle.dgram.specs.Encoding.{body_from}
-use Rattle.dgram.specs.Numbers.{PREPARE, ACCEPT, ACCEPTED, DEPOSIT_REPLY, REGISTERED}
+use Rattle.dgram.specs.Numbers.{PREPARE, ACCEPT, ACCEPTED, RECOVER, DEPOSIT_REPLY, REGISTERED}
 use Rattle.dgram.specs.Numbers.{QUERY_REPLY, IS_PENDING}
 use Rattle.dgram.specs.declared.body.Body.{Body}
 use Rattle.dgram.specs.declared.body.Body.TheVariants as bodies
@@ -12,7 +12,8 @@ use Rattle.udp_site.specs.declared.sign.Sign.TheVariants.{Still, Moves, Decides}
 use Rattle.udp_site.specs.declared.sign.Signal.{Signal}
 
 -- A proposal got its promises; a vote, or a known bag; or nothing moves. What a client says moves
--- nothing, since the site may refuse it: see the replies below, which say what it did.
+-- nothing, since the site may refuse it: see the replies below, which say what it did. That a site
+-- recovers for a client shows in the Prepare that it sends to itself.
 -- Promises are none: two of five sites that are up promise each other at each proposal, and would
 -- keep their first wait, and write records, as long as there is no majority. A vote of another site
 -- is taken for the end of a proposal, though it may be the first of several that are needed: the
@@ -50,7 +51,7 @@ KIND_PLACE = 3
 abbrev pub kind_byte : List ℕ → ℕ
 kind_byte bytes = get_or bytes KIND_PLACE 0
 
--- a datagram is a Prepare, an Accept or a vote, by its kind
+-- a datagram is a Prepare, an Accept, a vote or a client's request to recover, by its kind
 abbrev pub is_prepare : List ℕ → Bool
 is_prepare bytes = kind_byte bytes == PREPARE
 
@@ -59,6 +60,9 @@ is_accept bytes = kind_byte bytes == ACCEPT
 
 abbrev pub is_vote : List ℕ → Bool
 is_vote bytes = kind_byte bytes == ACCEPTED
+
+abbrev pub is_recover : List ℕ → Bool
+is_recover bytes = kind_byte bytes == RECOVER
 
 -- the place of the byte that says how long the object's name is; before it is the sender's
 abbrev pub LENGTH_PLACE : ℕ

@@ -37,7 +37,8 @@ use Rattle.lines.specs.declared.notice.Notice.{Notice}
 use Rattle.lines.specs.declared.notice.Notice.TheVariants.{Refused, Dropped}
 use Rattle.lines.specs.Notices.{notice_of, reply_notice}
 use Rattle.udp_site.specs.Traffic.{Post, Taken}
-use Rattle.udp_site.specs.Requests.{Request, Waits, Says, Deposits, Queries, Noise, request_of}
+use Rattle.udp_site.specs.Requests.{Request, Waits, Says, Deposits, Queries, Recovers, Noise}
+use Rattle.udp_site.specs.Requests.{request_of}
 use Rattle.udp_site.specs.Replies.{deposit_answer, tree_answer, query_answer}
 use Rattle.udp_site.specs.Rounds.{next_waiting}
 
@@ -101,6 +102,14 @@ notices_of site input result = option_to_list (notice_of site input (says_of res
 abbrev pub proposal_notices : (site : ℕ) → Input → Result Answer SiteFault → List Notice
 proposal_notices site input (Err faults.RoundsSpent) = []
 proposal_notices site input result = notices_of site input result
+
+-- Of a recovery that a client asks for it says nothing where a bag is known, there is nothing to
+-- recover or no round is left: anybody may ask, again and again.
+abbrev pub recovery_notices : (site : ℕ) → Input → Result Answer SiteFault → List Notice
+recovery_notices site input (Err faults.AlreadyKnown) = []
+recovery_notices site input (Err faults.NothingToRecover) = []
+recovery_notices site input (Err faults.RoundsSpent) = []
+recovery_notices site input result = notices_of site input result
 
 -- ---- a call
 
@@ -242,6 +251,30 @@ queries ports old port slot done new =
     })
     × (new ≡ old)
 
+-- where the definitions refuse its call, a site that needs no opening refuses so, whatever memory
+-- there is
+abbrev pub Refuses : {C : Type 0} → Serving C → Input → Result Answer SiteFault → Type 0
+Refuses old input result =
+    old.site.book.needs_opening ≡ false
+    → IsRefused (effect old.site old.volatile input) result
+
+-- the site is called to begin a ballot: its Prepares are handed out, and it says this of its answer
+abbrev pub begins_ballot :
+    {C : Type 0} → (C → Device) → List ℕ → Serving C → Input
+    → (Result Answer SiteFault → List Notice) → Coming C
+begins_ballot device ports old input says done new =
+    (result : Result Answer SiteFault)
+    × IsCalled device old input result new
+    × Refuses old input result
+    × (done ≡ record { posts = posts_of ports result; notices = says result })
+
+-- a client has the site recover the slot, which has no reply
+abbrev pub recovering :
+    {C : Type 0} → (C → Device) → List ℕ → Serving C → SlotName → Coming C
+recovering device ports old slot =
+    begins_ballot device ports old (calls.Recovers slot)
+    (recovery_notices (number old) (calls.Recovers slot))
+
 -- an idle turn more
 abbrev pub one_more_idle : {C : Type 0} → Serving C → Serving C
 one_more_idle s = record s { idle = s.idle + 1 }
@@ -250,24 +283,12 @@ one_more_idle s = record s { idle = s.idle + 1 }
 abbrev pub tries : {C : Type 0} → Serving C → (place : ℕ) → Serving C
 tries s place = record s { tried = place + 1 }
 
--- where the definitions refuse its call, a site that needs no opening refuses so, whatever memory
--- there is
-abbrev pub Refuses : {C : Type 0} → Serving C → Input → Result Answer SiteFault → Type 0
-Refuses old input result =
-    old.site.book.needs_opening ≡ false
-    → IsRefused (effect old.site old.volatile input) result
-
 -- it proposes the slot's deposit
 abbrev pub proposing :
     {C : Type 0} → (C → Device) → List ℕ → Serving C → SlotName → Coming C
-proposing device ports old slot done new =
-    (result : Result Answer SiteFault)
-    × IsCalled device old (calls.Proposes slot) result new
-    × Refuses old (calls.Proposes slot) result
-    × (done ≡ record {
-      posts = posts_of ports result;
-      notices = proposal_notices (number old) (calls.Proposes slot) result;
-    })
+proposing device ports old slot =
+    begins_ballot device ports old (calls.Proposes slot)
+    (proposal_notices (number old) (calls.Proposes slot))
 
 -- it proposes the deposit at this place, if there is one
 abbrev pub proposes :
@@ -307,6 +328,7 @@ comes_of device ports gives old (Says message) = hears device ports old message
 comes_of device ports gives old (Deposits port slot path) =
     deposits device gives old port slot path
 comes_of device ports gives old (Queries port slot) = queries ports old port slot
+comes_of device ports gives old (Recovers slot) = recovering device ports old slot
 comes_of device ports gives old Noise = drops old
 
 -- what comes of a turn

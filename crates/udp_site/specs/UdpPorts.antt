@@ -2,6 +2,7 @@
 use Rattle.std.specs.Prelude.{◌≡◌, ℕ, Result, Ok, Err}
 use Rattle.udp_site.specs.declared.pace.Pace.{Pace}
 use Rattle.udp_site.specs.declared.port_fault.PortFault.{PortFault}
+use Rattle.udp_site.specs.declared.recoveries.Recoveries.{Recoveries}
 use Rattle.udp_site.specs.declared.turn.Turn.{Turn}
 use Rattle.udp_site.specs.declared.udp_port.UdpPort.{UdpPort}
 use Rattle.udp_site.specs.inner.Paced.{TurnIsPaced}
@@ -18,8 +19,14 @@ number_of port = port.number
 abbrev pub pace_of : {R : Type 0} → UdpPort R → Pace
 pace_of port = port.socket.pace
 
--- a receive changes its pace as the definitions say
+-- when it handed clients' Recovers on
+abbrev pub recoveries_of : {R : Type 0} → UdpPort R → Recoveries
+recoveries_of port = port.socket.recoveries
+
+-- a receive changes its pace as the definitions say, and hands no Recover on too early
 abbrev pub IsPaced : {R : Type 0} → (old new : UdpPort R) → Result Turn PortFault → Type 0
 IsPaced old new (Ok turn) =
-    TurnIsPaced old.federation old.number (pace_of old) (pace_of new) turn
-IsPaced old new (Err fault) = pace_of new ≡ pace_of old
+    TurnIsPaced old.federation old.number (pace_of old) (pace_of new) (recoveries_of old)
+    (recoveries_of new) turn
+IsPaced old new (Err fault) =
+    (pace_of new ≡ pace_of old) × (recoveries_of new ≡ recoveries_of old)

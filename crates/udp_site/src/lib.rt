@@ -2,7 +2,7 @@
 //! is handed out.
 //!
 //! ```
-//! found(UdpPort::bind_site(rt, members, site, number, waits))
+//! found(keys, UdpPort::bind_site(rt, members, site, number, waits))
 //! ```
 #![tactic(auto)]
 
@@ -18,9 +18,13 @@ mod port;
 mod port_fault;
 mod port_move;
 mod queries;
+mod receive_buffer;
+mod recover_requests;
+mod recoveries;
 mod replies;
 mod requests;
 mod said_lines;
+mod seals;
 mod sends;
 mod serve_loop;
 mod server;
@@ -35,6 +39,7 @@ pub use memory_port::MemoryPort;
 pub use port::Port;
 pub use port_fault::PortFault;
 pub use port_move::PortMove;
+pub use receive_buffer::WANTED_BUFFER;
 pub use serve_loop::serve;
 pub use turn::Turn;
 pub use udp_port::UdpPort;

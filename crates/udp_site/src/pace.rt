@@ -4,7 +4,7 @@ ghost use Rattle.dgram.specs.Decoded.{message_of};
 ghost use Rattle.udp_site.specs.declared.sign.Sign.{Sign};
 ghost use Rattle.udp_site.specs.Pace.{begins, longer, idles, hears, meets, listens, arrives, takes};
 ghost use Rattle.udp_site.specs.Pace.{answers_late, proposes, registers, hands, hears_quorum};
-ghost use Rattle.udp_site.specs.Pace.{wait_at, between, pause_left, at_most, left};
+ghost use Rattle.udp_site.specs.Pace.{wait_at, between, pause, pause_left, at_most, left};
 ghost use Rattle.udp_site.specs.Signs.{signal_at};
 
 use crate::contacts::Contacts;
@@ -23,7 +23,8 @@ const LEAST_BETWEEN: u64 = 250;
 /// or answers are late.
 const MOST_CONNECTED: u32 = 500;
 
-/// The least number of milliseconds between a proposal and one that a question brings.
+/// The least number of milliseconds between a proposal and one that a question brings, and between
+/// two recoveries of a version.
 const SECOND: u32 = 1000;
 
 /// How many turns are prompt at most: nothing is taken in meanwhile.
@@ -51,7 +52,7 @@ pub(crate) struct Pace {
     /// How many turns are idle at once, a second after the last proposal, since a client asked for
     /// a bag that is pending.
     pub(crate) asked: u32,
-    /// When the site proposed last.
+    /// When the turn was idle in which the site proposed last, or after which it recovered last.
     pub(crate) proposed_at: u64,
     /// Whom a site has heard; a client notes that of nobody.
     pub(crate) contacts: Option<Contacts>,
@@ -255,8 +256,16 @@ impl Pace {
     fn pause_left(&self, now: u64) -> u64
         ensures { result ≡ pause_left self.now now }
     {
-        let pause = MICROS * u64::from(SECOND.max(self.answer_wait));
-        pause.saturating_sub(now.saturating_sub(self.proposed_at))
+        self.pause()
+            .saturating_sub(now.saturating_sub(self.proposed_at))
+    }
+
+    /// How many microseconds are between two ballots that clients bring.
+    pub(crate) fn pause(&self) -> u64
+        ensures { result ≡ pause self.now }
+    {
+        let millis = u64::from(SECOND.max(self.answer_wait));
+        MICROS * millis
     }
 
     // The most milliseconds between two idle turns.

@@ -2,20 +2,26 @@
 
 ghost use Rattle.std.specs.Prelude.{◌≡◌, ◌≤◌, ℕ, length, false, IfOk, OnErr, IfSome};
 ghost use Rattle.dgram.specs.Decoded.{message_of};
-ghost use Rattle.udp_site.specs.Pace.{begins, takes, hands};
+ghost use Rattle.udp_site.specs.Pace.{begins, takes, hands, pause};
+ghost use Rattle.udp_site.specs.Recoveries.{none_handed_on, is_early, hands_on};
 ghost use Rattle.udp_site.specs.Signs.{signal_at};
-ghost use Rattle.udp_site.specs.inner.Paced.{Waited, EndsWait};
+ghost use Rattle.udp_site.specs.inner.Paced.{Waited, IsTaken, EndsWait};
 
 use crate::contacts::Contacts;
 use crate::pace::Pace;
+use crate::receive_buffer::{ask_for_buffer, buffer_of};
+use crate::recoveries::Recoveries;
+use crate::seals::handed_on;
 use crate::sign::Signal;
 use crate::waits::Waits;
 use libc::net::{POLLIN, poll};
 use libc::types::pollfd;
+use std::alloc::Global;
 use std::io::{self, ErrorKind};
 use std::net::{IpAddr, Ipv4Addr, Net, SocketAddr, UdpSocket};
 use std::os::fd::AsRawFd;
 use std::time::{Clock, Instant};
+use tags::KeyRing;
 
 /// How often a call of the system is made for one datagram that is sent.
 const MOST_TRIES: u32 = 100;
@@ -27,7 +33,10 @@ pub(crate) struct PacedSocket<R: Clock + Drop> {
     /// The moment 0 of the pace.
     made: Instant,
     socket: UdpSocket,
+    /// With keys a datagram has a tag between sockets, and none on either side of them.
+    keys: Option<KeyRing>,
     pace: Pace,
+    recoveries: Recoveries,
 }
 
 /// A datagram that was taken.
@@ -51,7 +60,8 @@ pub(crate) enum End {
 }
 
 impl<R: Clock + Drop> PacedSocket<R> {
-    /// A socket at this port, or at a free one where it is 0. A first wait of 0 is refused.
+    /// A socket at this port, or at a free one where it is 0. A first wait of 0 is refused. That of
+    /// a site, which has contacts, asks for a larger buffer than others.
     pub(crate) fn bind(
         net: &R,
         port: u16,
@@ -60,7 +70,8 @@ impl<R: Clock + Drop> PacedSocket<R> {
     ) -> io::Result<PacedSocket<R>>
     where
         R: Net + Copy,
-        ensures { IfOk result (λ socket. socket.pace ≡ begins waits contacts) }
+        ensures pace { IfOk result (λ socket. socket.pace ≡ begins waits contacts) }
+        ensures recoveries { IfOk result (λ socket. socket.recoveries ≡ none_handed_on) }
     {
         if waits.first == 0 {
             return Err(ErrorKind::InvalidInput.into());
@@ -68,12 +79,33 @@ impl<R: Clock + Drop> PacedSocket<R> {
         let socket = UdpSocket::bind(net, at(port))?;
         // Only `poll` waits: a socket's own timeout is rounded up to the kernel's tick.
         socket.set_nonblocking(true)?;
+        if contacts.is_some() {
+            ask_for_buffer(&socket);
+        }
         Ok(PacedSocket {
             clock: *net,
             made: Instant::now(net)?,
             socket,
+            keys: None,
             pace: Pace::new(waits, contacts),
+            recoveries: Recoveries::new(),
         })
+    }
+
+    /// From now on its datagrams have tags by these keys.
+    pub(crate) fn seal_with(&mut self, keys: KeyRing)
+        ensures pace { self.new.pace ≡ self.old.pace }
+        ensures recoveries { self.new.recoveries ≡ self.old.recoveries }
+    {
+        self.keys = Some(keys);
+    }
+
+    /// The names of the keys by which it makes tags, if it does.
+    pub(crate) fn key_names(&self) -> Option<(u32, u32)> {
+        match &self.keys {
+            Some(keys) => keys.names(),
+            None => None,
+        }
     }
 
     /// The number of its port.
@@ -81,13 +113,21 @@ impl<R: Clock + Drop> PacedSocket<R> {
         Ok(self.socket.local_addr()?.port())
     }
 
+    /// How many bytes of what has come it keeps, if the system says so.
+    pub(crate) fn buffer(&self) -> Option<u32> {
+        buffer_of(&self.socket)
+    }
+
     /// Waits for a datagram, for as long as the pace says, and takes it into the buffer; or the
     /// turn is idle. Where the pace says so at once, what has come stays in the socket. A datagram
-    /// from another address is passed over.
+    /// from another address is passed over, and so is a client's request to recover that comes too
+    /// early.
     pub(crate) fn take(&mut self, buffer: &mut [u8]) -> io::Result<Option<Arrival>>
-        ensures count { IfOk result (λ got. IfSome got (λ g. g.count ≤ length buffer.new)) }
+        ensures taken { IfOk result
+            (λ got. IfSome got (IsTaken self.old.pace self.old.recoveries buffer.new)) }
         ensures paced { IfOk result (Waited self.old.pace self.new.pace) }
         ensures same { OnErr result (self.new.pace ≡ self.old.pace) }
+        ensures recoveries { self.new.recoveries ≡ self.old.recoveries }
     {
         match self.wait_for(buffer)? {
             End::Taken(arrival) => Ok(Some(arrival)),
@@ -100,7 +140,7 @@ impl<R: Clock + Drop> PacedSocket<R> {
 
     // Waits for a datagram, or until nothing is left of the waits.
     fn wait_for(&self, buffer: &mut [u8]) -> io::Result<End>
-        ensures { IfOk result (EndsWait self.now.pace (length buffer.new)) }
+        ensures { IfOk result (EndsWait self.now.pace self.now.recoveries buffer.new) }
     {
         let began = self.moment()?;
         for _ in 0..u64::MAX {
@@ -109,11 +149,28 @@ impl<R: Clock + Drop> PacedSocket<R> {
             if left == 0 {
                 return Ok(End::Idle { began, now });
             }
-            if let Some((from, count)) = taken_within(&self.socket, left, buffer)? {
-                return Ok(End::Taken(Arrival { from, count, now }));
+            if let Some((from, count)) = taken_within(&self.socket, &self.keys, left, buffer)? {
+                if !self.is_early(now, &buffer[..count]) {
+                    return Ok(End::Taken(Arrival { from, count, now }));
+                }
             }
         }
         Err(ErrorKind::TimedOut.into())
+    }
+
+    // Whether this is a request to recover that comes too early.
+    fn is_early(&self, now: u64, bytes: &[u8]) -> bool
+        ensures { result ≡ is_early self.now.recoveries (pause self.now.pace) now bytes.now }
+    {
+        self.recoveries.is_early(self.pace.pause(), now, bytes)
+    }
+
+    /// What was taken at this moment is handed on to the site.
+    pub(crate) fn hands_on(&mut self, now: u64, bytes: &[u8])
+        ensures recoveries { self.new.recoveries ≡ hands_on self.old.recoveries now bytes.now }
+        ensures pace { self.new.pace ≡ self.old.pace }
+    {
+        self.recoveries.hands_on(now, bytes);
     }
 
     /// Whether what was taken may change its pace.
@@ -127,20 +184,34 @@ impl<R: Clock + Drop> PacedSocket<R> {
 
     /// From what was taken at this moment this is learned.
     pub(crate) fn learns(&mut self, now: u64, signal: Signal)
-        ensures { self.new.pace ≡ takes self.old.pace now signal }
+        ensures pace { self.new.pace ≡ takes self.old.pace now signal }
+        ensures recoveries { self.new.recoveries ≡ self.old.recoveries }
     {
         self.pace.takes(now, signal);
     }
 
     /// A datagram is handed out for a port.
     pub(crate) fn hands(&mut self, own: u16, to: u16, bytes: &[u8])
-        ensures { self.new.pace ≡ hands self.old.pace own to bytes.now }
+        ensures pace { self.new.pace ≡ hands self.old.pace own to bytes.now }
+        ensures recoveries { self.new.recoveries ≡ self.old.recoveries }
     {
         self.pace.hands(own, to, bytes);
     }
 
-    /// Sends a datagram to this port.
-    pub(crate) fn send_to(&self, port: u16, bytes: &[u8]) -> io::Result<()> {
+    /// Sends a datagram to this port, with its tag where there are keys. One for which there is no
+    /// key is refused.
+    pub(crate) fn send_to(&self, alloc: Global, port: u16, bytes: &[u8]) -> io::Result<()> {
+        let Some(keys) = &self.keys else {
+            return self.send_bytes(port, bytes);
+        };
+        match keys.sealed(alloc, bytes)? {
+            Some(sealed) => self.send_bytes(port, &sealed),
+            None => Err(ErrorKind::InvalidInput.into()),
+        }
+    }
+
+    // Sends these bytes to this port.
+    fn send_bytes(&self, port: u16, bytes: &[u8]) -> io::Result<()> {
         for _ in 0..MOST_TRIES {
             match self.socket.send_to(bytes, at(port)) {
                 Ok(_) => return Ok(()),
@@ -165,12 +236,13 @@ impl<R: Clock + Drop> PacedSocket<R> {
 /// one may be. One from another address is passed over.
 fn taken_within(
     socket: &UdpSocket,
+    keys: &Option<KeyRing>,
     micros: u64,
     buffer: &mut [u8],
 ) -> io::Result<Option<(u16, usize)>>
     ensures { IfOk result (λ got. IfSome got (λ g. g.1 ≤ length buffer.new)) }
 {
-    match taken(socket, buffer) {
+    match taken(socket, keys, buffer) {
         Ok(taken) => Ok(taken),
         Err(error) => match error.kind() {
             ErrorKind::WouldBlock => {
@@ -184,13 +256,18 @@ fn taken_within(
     }
 }
 
-/// Takes a datagram, if it comes from this machine.
-fn taken(socket: &UdpSocket, buffer: &mut [u8]) -> io::Result<Option<(u16, usize)>>
+/// Takes a datagram, if it comes from this machine: with keys what is before its tag, or no bytes
+/// where the tag isn't right.
+fn taken(
+    socket: &UdpSocket,
+    keys: &Option<KeyRing>,
+    buffer: &mut [u8],
+) -> io::Result<Option<(u16, usize)>>
     ensures { IfOk result (λ got. IfSome got (λ g. g.1 ≤ length buffer.new)) }
 {
     let (count, from) = socket.recv_from(buffer)?;
     if from.ip() == IpAddr::V4(Ipv4Addr::LOCALHOST) {
-        Ok(Some((from.port(), count)))
+        Ok(Some((from.port(), handed_on(keys, &buffer[..count]))))
     } else {
         Ok(None)
     }

@@ -16,6 +16,8 @@ pub(crate) enum Asked {
     Deposit(Slot, FolderPath),
     /// To say which bag the slot has.
     Query(Slot),
+    /// To recover the slot.
+    Recover(Slot),
     /// Nothing of a site: it is dropped.
     Nothing,
 }
@@ -28,6 +30,7 @@ pub(crate) fn asked_by(alloc: Global, federation: u64, bytes: &[u8]) -> Result<A
         Ok(Message { slot, body }) => match body {
             Body::Deposit { path } => Ok(Asked::Deposit(slot, path)),
             Body::Query => Ok(Asked::Query(slot)),
+            Body::Recover => Ok(Asked::Recover(slot)),
             Body::DepositReply { .. } | Body::QueryReply { .. } => Ok(Asked::Nothing),
             Body::Prepare { .. }
             | Body::Promise { .. }

@@ -4,12 +4,12 @@ ghost use Rattle.std.specs.Prelude.{◌≡◌, ◌∷◌, [], Some, Result, OnOk
 ghost use Rattle.bag_check.specs.declared.fault.BagFault.{BagFault};
 ghost use Rattle.fed_types.specs.declared.bag_id.BagId as bags;
 ghost use Rattle.dgram.specs.declared.message.Message as messages;
-ghost use Rattle.site.specs.Calls.{Arrives, Deposits, Proposes};
+ghost use Rattle.site.specs.Calls.{Arrives, Deposits, Proposes, Recovers};
 ghost use Rattle.fed_types.specs.Slots as slots;
 ghost use Rattle.std.specs.Option.{option_to_list};
 ghost use Rattle.lines.specs.declared.notice.Notice.TheVariants.{Refused, Dropped};
 ghost use Rattle.lines.specs.Notices.{reply_notice};
-ghost use Rattle.udp_site.specs.Turns.{notices_of, proposal_notices, says_of};
+ghost use Rattle.udp_site.specs.Turns.{notices_of, proposal_notices, recovery_notices, says_of};
 ghost use Rattle.udp_site.specs.inner.Outcomes.{Notes};
 
 use fed_types::Slot;
@@ -54,6 +54,25 @@ pub(crate) fn push_proposal(
     match answer {
         Ok(Answer { line, .. }) => push_if_some(lines, notice_of(site, None, Ok(line))),
         Err(SiteFault::RoundsSpent) => Ok(()),
+        Err(fault) => push_refused(lines, site, fault),
+    }
+}
+
+/// Says what a site says of a recovery that a client asked for: a refusal, but neither that a bag
+/// is known, nor that there is nothing to recover, nor that no round is left.
+pub(crate) fn push_recovery(
+    lines: &mut Vec<Line>,
+    site: u8,
+    answer: Result<Answer, SiteFault>,
+) -> Result<(), AllocError>
+    ensures { OnOk result ((slot : slots.SlotName)
+        → Notes lines.old.items lines.new.items (recovery_notices site (Recovers slot) answer)) }
+{
+    match answer {
+        Ok(Answer { line, .. }) => push_if_some(lines, notice_of(site, None, Ok(line))),
+        Err(SiteFault::AlreadyKnown | SiteFault::NothingToRecover | SiteFault::RoundsSpent) => {
+            Ok(())
+        }
         Err(fault) => push_refused(lines, site, fault),
     }
 }

@@ -4,7 +4,7 @@ ghost use Rattle.std.specs.Prelude.{◌≡◌, IfOk};
 ghost use Rattle.dgram.specs.Decoded.{message_of};
 ghost use Rattle.udp_site.specs.Signs.{sign_by, own_sign_by, signal_by, own_signal_by, signal_at};
 ghost use Rattle.udp_site.specs.Signs.{kind_byte, body_byte, is_prepare, is_accept, is_vote};
-ghost use Rattle.udp_site.specs.Signs.{is_registered, is_pending};
+ghost use Rattle.udp_site.specs.Signs.{is_recover, is_registered, is_pending};
 
 use dgram::{Body, DgramFault, Message, decode};
 use fed_types::SiteNo;
@@ -24,6 +24,9 @@ const ACCEPT: u8 = 3;
 
 /// A vote's kind.
 const ACCEPTED: u8 = 4;
+
+/// The kind of a client's request to recover.
+const RECOVER: u8 = 18;
 
 /// The kind of a reply to a deposit.
 const DEPOSIT_REPLY: u8 = 32;
@@ -117,6 +120,7 @@ fn sign_by(body: &Body) -> Sign
         | Body::Refused { .. }
         | Body::Ask { .. }
         | Body::Query
+        | Body::Recover
         | Body::DepositReply { .. }
         | Body::QueryReply { .. } => Sign::Still,
     }
@@ -141,6 +145,7 @@ fn own_sign_by(body: &Body) -> Sign
         | Body::Refused { .. }
         | Body::Ask { .. }
         | Body::Query
+        | Body::Recover
         | Body::DepositReply { .. }
         | Body::QueryReply { .. } => Sign::Still,
     }
@@ -165,6 +170,13 @@ pub(crate) fn is_vote(bytes: &[u8]) -> bool
     ensures { result ≡ is_vote bytes.now }
 {
     kind_byte(bytes) == ACCEPTED
+}
+
+/// Whether a datagram that came may be a client's request to recover, by its kind.
+pub(crate) fn is_recover(bytes: &[u8]) -> bool
+    ensures { result ≡ is_recover bytes.now }
+{
+    kind_byte(bytes) == RECOVER
 }
 
 /// Whether a datagram that is handed out answers a deposit: the bag is registered.

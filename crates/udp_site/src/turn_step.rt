@@ -40,6 +40,7 @@ impl<C: Cell, P: Port, F: Folders> Server<'_, '_, '_, '_, '_, C, P, F> {
             Asked::Hear(message) => self.handle_message(message),
             Asked::Deposit(slot, path) => self.handle_deposit(from, slot, &path),
             Asked::Query(slot) => self.handle_query(from, slot),
+            Asked::Recover(slot) => self.handle_recover(&slot),
             Asked::Nothing => self.drop_datagram(),
         }
     }

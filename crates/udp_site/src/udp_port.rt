@@ -10,6 +10,7 @@ use std::alloc::{AllocError, Global};
 use std::io::{self, ErrorKind};
 use std::net::Net;
 use std::time::Clock;
+use tags::KeyRing;
 
 /// The most bytes of a datagram that are read. A longer one is cut, and is then longer than any
 /// message still.
@@ -31,7 +32,8 @@ impl<R: Clock + Drop> UdpPort<R> {
     ghost use Rattle.udp_site.specs.declared.port_fault.PortFault.TheVariants.{Device};
     ghost use Rattle.udp_site.specs.Contacts.{nobody_heard};
     ghost use Rattle.udp_site.specs.Pace.{begins};
-    ghost use Rattle.udp_site.specs.UdpPorts.{failures_of, pace_of};
+    ghost use Rattle.udp_site.specs.Recoveries.{none_handed_on};
+    ghost use Rattle.udp_site.specs.UdpPorts.{failures_of, pace_of, recoveries_of};
 
     /// A client's port, of this number, or a free one where it is 0, whose pace follows the
     /// messages of a federation. It is refused with `Device` where the first wait is 0 or the
@@ -41,6 +43,7 @@ impl<R: Clock + Drop> UdpPort<R> {
         R: Net + AllocGlobal + Copy,
         ensures failures { IfOk result (λ port. failures_of port ≡ 0) }
         ensures pace { IfOk result (λ port. pace_of port ≡ begins waits None) }
+        ensures recoveries { IfOk result (λ port. recoveries_of port ≡ none_handed_on) }
     {
         UdpPort::bind_with(net, federation, port, waits, None)
     }
@@ -59,6 +62,7 @@ impl<R: Clock + Drop> UdpPort<R> {
         ensures failures { IfOk result (λ port. failures_of port ≡ 0) }
         ensures pace { IfOk result
             (λ port. pace_of port ≡ begins waits (Some (nobody_heard members site))) }
+        ensures recoveries { IfOk result (λ port. recoveries_of port ≡ none_handed_on) }
     {
         let contacts = Contacts::new(members, site);
         UdpPort::bind_with(net, members.federation(), port, waits, Some(contacts))
@@ -76,6 +80,7 @@ impl<R: Clock + Drop> UdpPort<R> {
         R: Net + AllocGlobal + Copy,
         ensures failures { IfOk result (λ port. failures_of port ≡ 0) }
         ensures pace { IfOk result (λ port. pace_of port ≡ begins waits contacts) }
+        ensures recoveries { IfOk result (λ port. recoveries_of port ≡ none_handed_on) }
     {
         match open(net, port, waits, contacts) {
             Ok((socket, number)) => Ok(UdpPort {
@@ -89,9 +94,32 @@ impl<R: Clock + Drop> UdpPort<R> {
         }
     }
 
+    /// From now on each datagram that is handed out gets a tag by these keys. One that comes with a
+    /// right tag is taken without it, and any other is one of no bytes: so it is no message, and the
+    /// pace learns nothing from it.
+    pub fn seal_with(&mut self, keys: KeyRing)
+        ensures failures { failures_of self.new ≡ failures_of self.old }
+        ensures pace { pace_of self.new ≡ pace_of self.old }
+        ensures recoveries { recoveries_of self.new ≡ recoveries_of self.old }
+    {
+        self.socket.seal_with(keys);
+    }
+
+    /// The names of the keys by which it makes tags, if it does: that of messages between sites,
+    /// and that of clients' datagrams.
+    pub fn key_names(&self) -> Option<(u32, u32)> {
+        self.socket.key_names()
+    }
+
     /// Its number.
     pub fn port(&self) -> u16 {
         self.number
+    }
+
+    /// How many bytes of datagrams the system keeps for it until they are taken, if it says so. A
+    /// site asks for 4 MiB.
+    pub fn buffer(&self) -> Option<u32> {
+        self.socket.buffer()
     }
 
     /// The fault that an error is. A failure is counted.
@@ -100,6 +128,7 @@ impl<R: Clock + Drop> UdpPort<R> {
         ensures count { result ≡ Device → failures_of self.new ≡ one_more (failures_of self.old) }
         ensures same { ¬ (result ≡ Device) → failures_of self.new ≡ failures_of self.old }
         ensures pace { pace_of self.new ≡ pace_of self.old }
+        ensures recoveries { recoveries_of self.new ≡ recoveries_of self.old }
     {
         let fault = fault_of(error);
         if fault == PortFault::Device {
@@ -115,7 +144,8 @@ impl<R: Clock + Drop> Port for UdpPort<R> {
     ghost use Rattle.udp_site.specs.declared.port_fault.PortFault.TheVariants as faults;
     ghost use Rattle.udp_site.specs.Pace.{hands};
     ghost use Rattle.udp_site.specs.Traffic.{IsReceived, IsHanded};
-    ghost use Rattle.udp_site.specs.UdpPorts.{failures_of, pace_of, number_of, IsPaced};
+    ghost use Rattle.udp_site.specs.UdpPorts.{failures_of, pace_of, recoveries_of, number_of};
+    ghost use Rattle.udp_site.specs.UdpPorts.{IsPaced};
 
     ghost failures = { failures_of };
 
@@ -137,9 +167,10 @@ impl<R: Clock + Drop> Port for UdpPort<R> {
             (failures_of self.new) result }
         ensures paced { pace_of self.new
             ≡ hands (pace_of self.old) (number_of self.old) to bytes.now }
+        ensures recoveries { recoveries_of self.new ≡ recoveries_of self.old }
     {
         self.socket.hands(self.number, to, bytes);
-        match self.socket.send_to(to, bytes) {
+        match self.socket.send_to(self.alloc, to, bytes) {
             Ok(()) => Ok(()),
             Err(error) => Err(self.fail(&error)),
         }
@@ -149,6 +180,7 @@ impl<R: Clock + Drop> Port for UdpPort<R> {
 ghost use Rattle.std.specs.Prelude.{◌≡◌, IfOk, OnOk, OnErr};
 ghost use Rattle.dgram.specs.Decoded.{message_of};
 ghost use Rattle.udp_site.specs.Pace.{begins, takes};
+ghost use Rattle.udp_site.specs.Recoveries.{none_handed_on};
 ghost use Rattle.udp_site.specs.Signs.{signal_at};
 ghost use Rattle.udp_site.specs.inner.Paced.{TurnIsPaced};
 
@@ -159,7 +191,8 @@ fn open<R: Net + Clock + Drop + Copy>(
     waits: Waits,
     contacts: Option<Contacts>,
 ) -> io::Result<(PacedSocket<R>, u16)>
-    ensures { IfOk result (λ made. made.0.pace ≡ begins waits contacts) }
+    ensures pace { IfOk result (λ made. made.0.pace ≡ begins waits contacts) }
+    ensures recoveries { IfOk result (λ made. made.0.recoveries ≡ none_handed_on) }
 {
     let socket = PacedSocket::bind(net, port, waits, contacts)?;
     let number = socket.number()?;
@@ -173,8 +206,10 @@ fn turn_at<R: Clock + Drop>(
     own: u16,
     socket: &mut PacedSocket<R>,
 ) -> io::Result<Turn>
-    ensures paced { IfOk result (TurnIsPaced federation own socket.old.pace socket.new.pace) }
+    ensures paced { IfOk result (TurnIsPaced federation own socket.old.pace socket.new.pace
+        socket.old.recoveries socket.new.recoveries) }
     ensures same { OnErr result (socket.new.pace ≡ socket.old.pace) }
+    ensures recoveries { OnErr result (socket.new.recoveries ≡ socket.old.recoveries) }
 {
     // There is room before a datagram is taken, so that none is lost for want of it.
     let mut bytes = vec![in alloc; 0; MOST_BYTES]?;
@@ -182,6 +217,7 @@ fn turn_at<R: Clock + Drop>(
         Some(Arrival { from, count, now }) => {
             bytes.truncate(count);
             learn(alloc, federation, own, socket, now, from, &bytes)?;
+            socket.hands_on(now, &bytes);
             Ok(Turn::Got(from, bytes))
         }
         None => Ok(Turn::Idle),
@@ -202,6 +238,7 @@ fn learn<R: Clock + Drop>(
     ensures learned { OnOk result (socket.new.pace ≡ takes socket.old.pace now
         (signal_at own from (message_of federation bytes.now))) }
     ensures same { OnErr result (socket.new.pace ≡ socket.old.pace) }
+    ensures recoveries { socket.new.recoveries ≡ socket.old.recoveries }
 {
     if socket.heeds(now, own, from, bytes) {
         let signal = signal_of(alloc, federation, own, from, bytes)?;

@@ -16,8 +16,8 @@ use Rattle.records.specs.SlotStates.{deposit_of, known_of}
 use Rattle.records.proofs.Bounds.{deposit_among, known_among}
 use Rattle.dgram.specs.declared.body.Body.{Body}
 use Rattle.dgram.specs.declared.body.Body.TheVariants.{Prepare, Promise, Accept, Accepted, Refused}
-use Rattle.dgram.specs.declared.body.Body.TheVariants.{Ask, Known, Deposit, Query, DepositReply}
-use Rattle.dgram.specs.declared.body.Body.TheVariants.{QueryReply}
+use Rattle.dgram.specs.declared.body.Body.TheVariants.{Ask, Known, Deposit, Query, Recover}
+use Rattle.dgram.specs.declared.body.Body.TheVariants.{DepositReply, QueryReply}
 use Rattle.dgram.specs.declared.message.Message.{Message}
 use Rattle.dgram.specs.Encoding.{body_from}
 use Rattle.dgram.specs.Heard.{bodies_of, PromiseFrom, promisers, voters_for}
@@ -386,6 +386,7 @@ module _ (q : QuorumSystem) (laws : AreQuorums q) (w : Network) (inv : Kept q w)
       known_chosen s = inv.sent _ s.is_sent
   body_deed slot (Deposit path) sent member = dropped_deed _
   body_deed slot Query sent member = dropped_deed _
+  body_deed slot Recover sent member = dropped_deed _
   body_deed slot (DepositReply k a) sent member = dropped_deed _
   body_deed slot (QueryReply k a) sent member = dropped_deed _
 

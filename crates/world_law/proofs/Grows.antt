@@ -10,8 +10,8 @@ use Rattle.records.specs.declared.entry.Entry.{Entry}
 use Rattle.records.specs.declared.entry.Entry.TheVariants as entry
 use Rattle.dgram.specs.declared.body.Body.{Body}
 use Rattle.dgram.specs.declared.body.Body.TheVariants.{Prepare, Promise, Accept, Accepted, Refused}
-use Rattle.dgram.specs.declared.body.Body.TheVariants.{Ask, Known, Deposit, Query, DepositReply}
-use Rattle.dgram.specs.declared.body.Body.TheVariants.{QueryReply}
+use Rattle.dgram.specs.declared.body.Body.TheVariants.{Ask, Known, Deposit, Query, Recover}
+use Rattle.dgram.specs.declared.body.Body.TheVariants.{DepositReply, QueryReply}
 use Rattle.dgram.specs.Heard.{promisers}
 use Rattle.proposer.specs.Proposals.{Current, gathered}
 use Rattle.proposer.specs.VolatileStates.{VolatileState}
@@ -107,6 +107,7 @@ module _ {w x : Network} (g : Grows w x) where
   says_grows q slot (Known n bag) s = chosen_grows s
   says_grows q slot (Deposit path) s = s
   says_grows q slot Query s = s
+  says_grows q slot Recover s = s
   says_grows q slot (DepositReply n answer) s = s
   says_grows q slot (QueryReply n answer) s = s
 

@@ -16,8 +16,8 @@ use Rattle.records.specs.declared.entry.Entry.TheVariants as entry
 use Rattle.records.specs.declared.record.Record.{Record}
 use Rattle.dgram.specs.declared.body.Body.{Body}
 use Rattle.dgram.specs.declared.body.Body.TheVariants.{Prepare, Promise, Accept, Accepted, Refused}
-use Rattle.dgram.specs.declared.body.Body.TheVariants.{Ask, Known, Deposit, Query, DepositReply}
-use Rattle.dgram.specs.declared.body.Body.TheVariants.{QueryReply}
+use Rattle.dgram.specs.declared.body.Body.TheVariants.{Ask, Known, Deposit, Query, Recover}
+use Rattle.dgram.specs.declared.body.Body.TheVariants.{DepositReply, QueryReply}
 use Rattle.dgram.specs.Encoding.{body_from}
 use Rattle.dgram.specs.Heard.{promisers}
 use Rattle.proposer.specs.Proposals.{Current, gathered}
@@ -244,6 +244,7 @@ module _ (q : QuorumSystem) (w : Network) (n : ℕ) (kept : Option Record) (mode
     says_new slot (Known k bag) h = h
     says_new slot (Deposit path) h = h
     says_new slot Query h = h
+    says_new slot Recover h = h
     says_new slot (DepositReply k answer) h = h
     says_new slot (QueryReply k answer) h = h
 

@@ -14,8 +14,8 @@ use Rattle.records.specs.Records.{IsEntry, AreRecords}
 use Rattle.records.specs.SlotStates.{promised_of, vote_of, deposit_of, known_of}
 use Rattle.dgram.specs.declared.body.Body.{Body}
 use Rattle.dgram.specs.declared.body.Body.TheVariants.{Prepare, Promise, Accept, Accepted, Refused}
-use Rattle.dgram.specs.declared.body.Body.TheVariants.{Ask, Known, Deposit, Query, DepositReply}
-use Rattle.dgram.specs.declared.body.Body.TheVariants.{QueryReply}
+use Rattle.dgram.specs.declared.body.Body.TheVariants.{Ask, Known, Deposit, Query, Recover}
+use Rattle.dgram.specs.declared.body.Body.TheVariants.{DepositReply, QueryReply}
 use Rattle.dgram.specs.declared.message.Message.{Message}
 use Rattle.dgram.specs.Encoding.{body_from}
 use Rattle.dgram.specs.Heard.{PromiseFrom, bodies_of, voters_for}
@@ -202,6 +202,7 @@ module _ (q : QuorumSystem) (members : MembersAreSites q) (n : ℕ) (is_site : I
       (unless_known_is slot is_slot (known_of slot records) (Some bag) is.1)
   body_is slot is_slot (Deposit path) is now heard = dropped_is
   body_is slot is_slot Query is now heard = dropped_is
+  body_is slot is_slot Recover is now heard = dropped_is
   body_is slot is_slot (DepositReply from a) is now heard = dropped_is
   body_is slot is_slot (QueryReply from a) is now heard = dropped_is
 

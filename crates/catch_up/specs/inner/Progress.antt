@@ -8,14 +8,13 @@ use Rattle.known_bags.specs.declared.known_bag.KnownBag.{KnownBag}
 use Rattle.udp_site.specs.Traffic.{Move, Grows}
 use Rattle.fed_types.specs.Slots.{SlotName}
 use Rattle.site_commands.specs.declared.reply.Wanted.TheVariants as wanted
-use Rattle.site_commands.specs.Replies.{datagram_to, first_reply}
-use Rattle.site_commands.specs.Exchanges.{Asks}
+use Rattle.site_commands.specs.Replies.{first_reply}
 use Rattle.catch_up.specs.declared.rounds.AskFault.{AskFault}
 use Rattle.catch_up.specs.declared.rounds.AskFault.TheVariants.{Memory, Output}
 use Rattle.catch_up.specs.declared.rounds.Target.{Target}
-use Rattle.catch_up.specs.Rounds.{Answer, question, bag_in, IsOneMore, open_of, AreAnswers}
+use Rattle.catch_up.specs.Rounds.{Answer, question, bag_in, AsksFor, IsOneMore, open_of, AreAnswers}
 use Rattle.catch_up.specs.Rounds.{answer_lines, is_same, same_in, left_of, AreRounds}
-use Rattle.catch_up.specs.Rounds.{AreWhole, round_lines, same_after, left_after}
+use Rattle.catch_up.specs.Rounds.{AreWhole, round_lines, same_after, left_after, last_round}
 use Rattle.catch_up.specs.Reports.{report}
 
 -- a prefix of the bytes was written
@@ -32,7 +31,7 @@ abbrev pub IsAskedFor : Target → SlotName → (before after : Option (List Mov
     → Result Answer AllocError → Type 0
 IsAskedFor asked slot before after result =
     (moves : List Move) × Grows before after moves
-    × Asks (asked.target, datagram_to (question asked slot) None) moves
+    × AsksFor asked slot moves
     × IfOk result (λ answer.
     answer ≡ bag_in (first_reply (question asked slot) wanted.ToQuery moves))
 
@@ -91,7 +90,8 @@ abbrev pub StopsInRounds : Target → List KnownBag → (before after : Option (
 StopsInRounds asked versions before after old new fault =
     (rounds : List (List Answer)) × (moves : List Move) × (others : List Move)
     × Grows before after (moves ++ others) × AreRounds asked versions rounds moves
-    × OnlyAsked asked fault others × AppendsPart old new (round_lines versions rounds)
+    × OnlyAsked (last_round asked rounds) fault others
+    × AppendsPart old new (round_lines versions rounds)
 
 -- rounds until no version is left, or time is over
 abbrev pub AreAsked : Target → (versions next : List KnownBag)
@@ -117,4 +117,5 @@ AreReported asked versions before after old new (Ok status) =
 AreReported asked versions before after old new (Err fault) =
     (rounds : List (List Answer)) × (moves : List Move) × (others : List Move)
     × Grows before after (moves ++ others) × AreRounds asked (open_of versions) rounds moves
-    × OnlyAsked asked fault others × AppendsPart old new (report versions rounds).text
+    × OnlyAsked (last_round asked rounds) fault others
+    × AppendsPart old new (report versions rounds).text

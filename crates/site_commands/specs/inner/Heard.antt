@@ -1,13 +1,16 @@
 -- What a client's port takes in.
-use Rattle.std.specs.Prelude.{◌≡◌, ⊤, ℕ, List, [], ◌∷◌, Option, Some, None, Result, IfOk}
+use Rattle.std.specs.Prelude.{◌≡◌, ⊤, ℕ, List, [], ◌∷◌, Option, Some, None, Result, Ok, Err, IfOk}
 use Rattle.std.specs.declared.alloc.AllocError.{AllocError}
-use Rattle.udp_site.specs.Traffic.{Nothing, From, Move, Took, Failed, Handed, Grows}
+use Rattle.udp_site.specs.declared.port_fault.PortFault.{PortFault}
+use Rattle.udp_site.specs.declared.port_fault.PortFault.TheVariants as faults
+use Rattle.udp_site.specs.Traffic.{Nothing, From, Post, Move, Took, Failed, Handed, Grows}
 use Rattle.dgram.specs.declared.answers.QueryAnswer.{QueryAnswer}
 use Rattle.site_commands.specs.declared.reply.ClientReply.{ClientReply}
 use Rattle.site_commands.specs.declared.reply.ClientReply.TheVariants.{ToDeposit, ToQuery}
 use Rattle.site_commands.specs.declared.reply.Wanted.{Wanted}
 use Rattle.site_commands.specs.Replies.{Question, first_reply}
-use Rattle.site_commands.specs.Exchanges.{OnlyTakes}
+use Rattle.site_commands.specs.Exchanges.{OnlyTakes, Asks}
+use Rattle.site_commands.specs.Recoveries.{recovery_of}
 
 -- no datagram is taken in or handed out
 abbrev pub BringsNone : List Move → Type 0
@@ -22,6 +25,34 @@ abbrev pub TakesOne : (before after : Option (List Move)) → Option (ℕ × Lis
 TakesOne before after (Some datagram) =
     Grows before after (Took (From datagram.0 datagram.1) ∷ [])
 TakesOne before after None = (moves : List Move) × Grows before after moves × BringsNone moves
+
+-- a datagram is handed out, if there is one
+abbrev pub handed_if : Option Post → List Move
+handed_if None = []
+handed_if (Some post) = Handed post ∷ []
+
+-- a Recover is handed out, if it is time for one, and there is memory for it
+abbrev pub IsAskedToRecover : Question → (before after : Option (List Move))
+    → Result (Unit {0}) PortFault → Type 0
+IsAskedToRecover q before after (Err faults.Memory) = Grows before after []
+IsAskedToRecover q before after result = Grows before after (handed_if (recovery_of q))
+
+-- nothing is taken in
+abbrev pub OnlyHands : List Move → Type 0
+OnlyHands [] = ⊤
+OnlyHands (Took taken ∷ moves) = ⊥
+OnlyHands (Failed ∷ moves) = ⊥
+OnlyHands (Handed post ∷ moves) = OnlyHands moves
+
+-- A question is handed out, and after it a Recover, if it is time for one. Where that fails, nothing
+-- is taken in.
+abbrev pub IsHandedOut : Question → List ℕ → (before after : Option (List Move))
+    → Result (Unit {0}) PortFault → Type 0
+IsHandedOut q bytes before after (Ok done) =
+    Grows before after (Handed (q.target, bytes) ∷ handed_if (recovery_of q))
+IsHandedOut q bytes before after (Err fault) =
+    (moves : List Move) × Grows before after moves
+    × Asks (q.target, bytes) (recovery_of q) moves × OnlyHands moves
 
 -- datagrams are taken in, and the first wanted reply is what is heard
 abbrev pub Hears : Question → Wanted → (before after : Option (List Move))

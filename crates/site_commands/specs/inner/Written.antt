@@ -7,6 +7,7 @@ use Rattle.outcomes.specs.Outcomes.{Outcome, no_memory}
 use Rattle.udp_site.specs.Traffic.{Move, Grows}
 use Rattle.site_commands.specs.Replies.{Question, datagram_to, first_reply}
 use Rattle.site_commands.specs.Exchanges.{Asks}
+use Rattle.site_commands.specs.Recoveries.{recovery_of}
 use Rattle.site_commands.specs.Answers.{outcome_of, no_answer, wanted_for}
 
 abbrev pub outcome_in : ProgramOutput → Outcome
@@ -30,6 +31,7 @@ outcome_to (Err fault) = no_memory
 abbrev pub IsAnswered : Question → (path : Option (List ℕ)) → (before after : Option (List Move))
     → Result (Option ProgramOutput) AllocError → Type 0
 IsAnswered q path before after result =
-    (moves : List Move) × Grows before after moves × Asks (q.target, datagram_to q path) moves
+    (moves : List Move) × Grows before after moves
+    × Asks (q.target, datagram_to q path) (recovery_of q) moves
     × IfOk result (λ answer. outcome_if answer
     ≡ outcome_of q (first_reply q (wanted_for path) moves))

@@ -1,18 +1,27 @@
 -- What a turn comes to for the pace of a socket.
-use Rattle.std.specs.Prelude.{◌≡◌, ◌≤◌, ℕ, Option, Some, None}
+use Rattle.std.specs.Prelude.{◌≡◌, ◌≤◌, ℕ, false, List, length, take, Option, Some, None}
 use Rattle.dgram.specs.Decoded.{message_of}
 use Rattle.udp_site.specs.declared.pace.Pace.{Pace}
+use Rattle.udp_site.specs.declared.paced_socket.Arrival.{Arrival}
 use Rattle.udp_site.specs.declared.paced_socket.End.{End}
 use Rattle.udp_site.specs.declared.paced_socket.End.TheVariants as ends
+use Rattle.udp_site.specs.declared.recoveries.Recoveries.{Recoveries}
 use Rattle.udp_site.specs.declared.turn.Turn.{Turn}
 use Rattle.udp_site.specs.declared.turn.Turn.TheVariants as turns
-use Rattle.udp_site.specs.Pace.{idles, takes, left}
+use Rattle.udp_site.specs.Pace.{idles, takes, left, pause}
+use Rattle.udp_site.specs.Recoveries.{is_early, hands_on}
 use Rattle.udp_site.specs.Signs.{signal_at}
 
--- a wait ends with a datagram that fits, or at a moment when nothing was left of it
-abbrev pub EndsWait : Pace → (room : ℕ) → End → Type 0
-EndsWait pace room (ends.Taken arrival) = arrival.count ≤ room
-EndsWait pace room (ends.Idle began now) = left pace began now ≡ 0
+-- what was taken fits into the buffer, and is no Recover that comes too early
+abbrev pub IsTaken : Pace → Recoveries → (buffer : List ℕ) → Arrival → Type 0
+IsTaken pace recoveries buffer arrival =
+    (arrival.count ≤ length buffer)
+    × (is_early recoveries (pause pace) arrival.now (take arrival.count buffer) ≡ false)
+
+-- a wait ends with such a datagram, or at a moment when nothing was left of it
+abbrev pub EndsWait : Pace → Recoveries → (buffer : List ℕ) → End → Type 0
+EndsWait pace recoveries buffer (ends.Taken arrival) = IsTaken pace recoveries buffer arrival
+EndsWait pace recoveries buffer (ends.Idle began now) = left pace began now ≡ 0
 
 -- a turn was idle at a moment when it had nothing left to wait
 abbrev pub IsIdled : (old new : Pace) → Type 0
@@ -23,8 +32,12 @@ abbrev pub Waited : {T : Type 0} → (old new : Pace) → Option T → Type 0
 Waited old new None = IsIdled old new
 Waited old new (Some taken) = new ≡ old
 
--- a turn was idle, or took a datagram at a moment, from which the pace learns
-abbrev pub TurnIsPaced : (federation own : ℕ) → (old new : Pace) → Turn → Type 0
-TurnIsPaced federation own old new turns.Idle = IsIdled old new
-TurnIsPaced federation own old new (turns.Got from bytes) =
+-- A turn was idle, or took a datagram at a moment, from which the pace learns. A Recover is taken
+-- only where it doesn't come too early, and later ones are early by it.
+abbrev pub TurnIsPaced : (federation own : ℕ) → (old new : Pace) → (before after : Recoveries) → Turn
+    → Type 0
+TurnIsPaced federation own old new before after turns.Idle = IsIdled old new × (after ≡ before)
+TurnIsPaced federation own old new before after (turns.Got from bytes) =
     (now : ℕ) × (new ≡ takes old now (signal_at own from (message_of federation bytes.items)))
+    × (is_early before (pause old) now bytes.items ≡ false)
+    × (after ≡ hands_on before now bytes.items)

@@ -5,22 +5,29 @@ use Rattle.site_commands.specs.declared.reply.ClientReply.{ClientReply}
 use Rattle.site_commands.specs.Replies.{question_of}
 use Rattle.site_commands.specs.Exchanges.{IsAsked}
 use Rattle.site_commands.specs.inner.Heard.{Hears}
-use Rattle.site_commands.proofs.Heard.{asks_then, hears_more, err_if_ok}
+use Rattle.site_commands.proofs.Heard.{asks_then, asks_no_more, hears_more, err_if_ok}
 use Rattle.site_commands.proofs.exchange.ask.Given.{Over}
 use Rattle.site_commands.proofs.exchange.ask.Goals.{In-Ok}
 use Rattle.site_commands.proofs.exchange.ask.Goals as goal
 
--- what is heard after the datagram was sent is what is asked
+-- what is heard after the datagrams were sent is what is asked
 asked : (g : Over) (c : In-Ok g) (after : Option (List Move))
     → (result : Result (Option ClientReply) AllocError)
-    → Hears (question_of c.args.request.now) c.args.wanted (g.P.Port.traffic c.send.new.self)
-    after result
+    → Hears (question_of c.args.request.now) c.args.wanted
+    (g.P.Port.traffic c.hand_out.new.port) after result
     → IsAsked (question_of c.args.request.now) c.args.wanted c.args.bytes.now
     (g.P.Port.traffic c.args.port.now) after result
 asked g c after =
-    asks_then (question_of c.args.request.now) c.args.wanted c.args.bytes.now
-    (g.P.Port.traffic c.args.port.now) (g.P.Port.traffic c.send.new.self) after
-    c.in-Ok.ensures.handed
+    asks_then (question_of c.args.request.now) c.args.bytes.now c.args.wanted
+    (g.P.Port.traffic c.args.port.now) (g.P.Port.traffic c.hand_out.new.port) after
+    c.in-Ok.ensures
+
+-- not all were sent
+pub returns-in-Err : goal.returns-in-Err
+returns-in-Err g c =
+    asks_no_more (question_of c.args.request.now) c.args.bytes.now c.args.wanted
+    (g.P.Port.traffic c.args.port.now) (g.P.Port.traffic c.hand_out.new.port) c.in-Err.field-0
+    c.in-Err.ensures
 
 pub returns-in_default : goal.returns-in_default
 returns-in_default g c =
@@ -36,7 +43,7 @@ returns-in_err-reply g c =
 
 pub returns-in-None-Used : goal.returns-in-None-Used
 returns-in-None-Used g c =
-    let sent = g.P.Port.traffic c.send.new.self in
+    let sent = g.P.Port.traffic c.hand_out.new.port in
     let idle = g.P.Port.traffic c.receive_reply.new.port in
     let after = g.P.Port.traffic c.receive_reply-in-None-Used.new.port in
     asked g (goal.at.returns-in-None-Used g c).In-Ok after c.receive_reply-in-None-Used.result

@@ -1,22 +1,31 @@
 use Rattle.std.proofs.Common.{sym}
 use Rattle.site_commands.specs.Replies.{question_of}
-use Rattle.site_commands.proofs.Repeated.{then_last, then_more, then_stopped}
+use Rattle.site_commands.proofs.Repeated.{at_first, then_last, then_more, then_stopped}
 use Rattle.site_commands.proofs.until_known.last_reply.Goals as goal
+
+pub loop-init : goal.loop-init
+loop-init g c path kind are =
+    at_first (question_of c.args.request.now) path (g.P.Port.traffic c.args.port.now)
+    (question_of c.at-question.result) c.first-bytes.result.now c.at-question.ensures
+    (c.first-bytes.ensures (question_of c.args.request.now) path are)
 
 pub loop-preserved : goal.loop-preserved
 loop-preserved g c path kind are =
     then_more (question_of c.args.request.now) path (g.P.Port.traffic c.args.port.now)
     (g.P.Port.traffic c.loop.port) (g.P.Port.traffic c.ask.new.port) c.loop.last
-    c.loop.bytes.now (c.loop.invariant path kind are) c.in_ok-reply.reply c.args.wanted kind
+    (question_of c.loop.question) c.loop.bytes.now (c.loop.invariant path kind are)
+    c.in_ok-reply.reply c.args.wanted kind
     c.in_ok-reply.ensures
-    c.or-last.result c.after-bytes.result.now c.or-last.ensures (sym c.if-ends.ensures)
+    c.or-last.result (question_of c.next-question.result) c.after-bytes.result.now
+    c.or-last.ensures (sym c.if-ends.ensures) c.next-question.ensures
     (c.after-bytes.ensures (question_of c.args.request.now) path are)
 
 pub returns-then-ends : goal.returns-then-ends
 returns-then-ends g c path kind are =
     then_last (question_of c.args.request.now) path (g.P.Port.traffic c.args.port.now)
     (g.P.Port.traffic c.loop.port) (g.P.Port.traffic c.ask.new.port) c.loop.last
-    c.loop.bytes.now (c.loop.invariant path kind are) c.in_ok-reply.reply c.args.wanted kind
+    (question_of c.loop.question) c.loop.bytes.now (c.loop.invariant path kind are)
+    c.in_ok-reply.reply c.args.wanted kind
     c.in_ok-reply.ensures
     c.or-last.result c.or-last.ensures
 
@@ -24,5 +33,5 @@ pub returns-in_err-reply : goal.returns-in_err-reply
 returns-in_err-reply g c path kind are =
     then_stopped (question_of c.args.request.now) path (g.P.Port.traffic c.args.port.now)
     (g.P.Port.traffic c.loop.port) (g.P.Port.traffic c.ask.new.port) c.loop.last
-    c.loop.bytes.now c.in_err-reply.field-0.0 c.from_residual.result
+    (question_of c.loop.question) c.loop.bytes.now c.in_err-reply.field-0.0 c.from_residual.result
     (c.loop.invariant path kind are) c.args.wanted c.in_err-reply.ensures c.from_residual.ensures.0

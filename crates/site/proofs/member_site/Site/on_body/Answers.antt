@@ -11,8 +11,11 @@ returns-in-Deposit g c =
       | inr more ↦ elim more [
         | inl w ↦ subst IsRequest (sym w) tt
         | inr rest ↦ elim rest [
-          | inl w ↦ subst IsRequest (sym w.2) tt
-          | inr w ↦ subst IsRequest (sym w.2) tt
+          | inl w ↦ subst IsRequest (sym w) tt
+          | inr replies ↦ elim replies [
+            | inl w ↦ subst IsRequest (sym w.2) tt
+            | inr w ↦ subst IsRequest (sym w.2) tt
+          ]
         ]
       ]
     ])

@@ -2,7 +2,7 @@ use Rattle.std.proofs.Common.{◌≡◌, ℕ, List, subst}
 use Rattle.dgram.specs.Decoded.{message_of}
 use Rattle.udp_site.specs.declared.requests.Asked.{Asked}
 use Rattle.udp_site.specs.declared.requests.Asked.TheVariants as asks
-use Rattle.udp_site.specs.Requests.{Says, Deposits, Queries, Noise}
+use Rattle.udp_site.specs.Requests.{Says, Deposits, Queries, Recovers, Noise}
 use Rattle.udp_site.specs.Traffic.{From, all_handed}
 use Rattle.udp_site.specs.Turns.{Serving, members, turn_of}
 use Rattle.udp_site.specs.inner.Asked.{IsAsked}
@@ -66,6 +66,21 @@ returns-in-Query-clause-comes g c old there serves =
     (asked c.args.from) (g.P.Port.traffic was.port.now) (g.P.Port.traffic left.port.now)
     was.lines.now.items left.lines.now.items left.site.now c.handle_query.result
     (c.handle_query.ensures.comes old there serves)
+
+pub returns-in-Recover-clause-comes : goal.returns-in-Recover-clause-comes
+returns-in-Recover-clause-comes g c old there serves =
+    let was = c.args.self.now in
+    let left = c.handle_recover.new.self in
+    let asked = asked_of old c.federation.result c.args.bytes.now c.in_ok-message.field-0
+    (asks.Recover c.in-Recover.slot)
+    (same_federation old was.site.now there c.members.result c.federation.result
+    c.federation.ensures c.members.ensures) c.in-Recover.is c.in_ok-message.ensures in
+    by_request g.C.Cell.device was.ports.now
+    (g.F.Folders.gives was.folders.now) old c.args.from
+    (message_of (members old).federation c.args.bytes.now) (Recovers c.in-Recover.slot)
+    (asked c.args.from) (g.P.Port.traffic was.port.now) (g.P.Port.traffic left.port.now)
+    was.lines.now.items left.lines.now.items left.site.now c.handle_recover.result
+    (c.handle_recover.ensures.comes old there serves)
 
 pub returns-in-Nothing-clause-comes : goal.returns-in-Nothing-clause-comes
 returns-in-Nothing-clause-comes g c old there serves =

@@ -1,0 +1,13 @@
+pub mod Words
+pub mod Reached
+pub mod Bytes
+pub mod Moving
+pub mod Says
+pub mod Turning
+pub mod Replaying
+pub mod Reaching
+pub mod Answered
+pub mod Rows
+pub mod TapeJournals
+pub mod TapeTurns
+pub mod OverTapes
