@@ -1,0 +1,3 @@
+pub mod HandedOn
+pub mod WithKeys
+pub mod Forged
