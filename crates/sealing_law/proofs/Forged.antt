@@ -38,8 +38,8 @@ three_sites_agree_with_keys ring site client bag a_site a_client request =
     let agree = three_sites_agree bag request in
     record {
       history = agree.history;
-      happens = histories_may_have_keys device three (ring ∷ []) ring site client agree.history
-          (here refl) a_site a_client agree.happens;
+      happens = histories_may_have_keys device three (ring ∷ []) ring site client new_federation
+          agree.history (here refl) a_site a_client agree.happens;
       one = agree.one;
       two = agree.two;
       three = agree.three;
@@ -62,14 +62,14 @@ module _ (text tag key other : List ℕ) (long : length tag ≡ tag_len)
           long,
         )
 
-    same_text : text ≡ other
+    pub same_text : text ≡ other
     same_text =
         sym (take-append_seam text tag)
         ∙ ap (λ bytes. take (length text) bytes) e
         ∙ ap (λ n. take n (sealed key other)) lengths
         ∙ take-append_seam other (tag_by key other)
 
-    same_tag : tag ≡ tag_by key other
+    pub same_tag : tag ≡ tag_by key other
     same_tag =
         sym (drop-append_seam text tag)
         ∙ ap (λ bytes. drop (length text) bytes) e
@@ -81,7 +81,8 @@ none_yet : (h : Happening Disk) → May device three new_federation h
     → (step_of h ≡ None) × ((after new_federation h).handed ≡ [])
 unfolding new_federation
 none_yet (Turns n step handed written) (old, (has, serves), takes, on) = absurd (cc serves)
-none_yet (Fails n step handed written records) (old, (has, serves), takes, on, left) = absurd (cc serves)
+none_yet (Fails n step handed written records) (old, (has, serves), takes, on, left) =
+    absurd (cc serves)
 none_yet (Dies n step records) (old, (has, serves), takes, left) = absurd (cc serves)
 none_yet (Ends n records) (old, (has, serves), left) = absurd (cc serves)
 none_yet (Renews n) (old, (has, serves)) = absurd (cc serves)
@@ -141,7 +142,8 @@ module _ (ring : Ring) (bag : BagId) (tag : List ℕ) (request : Request three.f
 
     hears : (f : Federation Disk) → IsHandedOn three (ring ∷ []) f.handed dropped.noise.turn.took
     hears f =
-        subst (λ (turn : Turned). IsHandedOn three (ring ∷ []) f.handed turn.took) (sym dropped.noise_is)
+        subst (λ (turn : Turned). IsHandedOn three (ring ∷ []) f.handed turn.took)
+        (sym dropped.noise_is)
         (ring, here refl, forged, fits, believed f.handed, sym nothing)
 
     pub drops_a_forgery : DropsAForgery ring bag tag

@@ -64,7 +64,7 @@ digest_fits h (suc n) =
     joined (digest_bytes h n) (to_be_bytes w32 (slice_index h n)) (digest_fits h n)
     (of_number 4 (slice_index h n))
 
-tag_fits : (key text : List ℕ) → AreBytes (tag_by key text)
+pub tag_fits : (key text : List ℕ) → AreBytes (tag_by key text)
 unfolding tag_by sha256
 tag_fits key text = each_is _ (digest_fits _ 8)
 

@@ -31,20 +31,6 @@ module _ {C : Type 0} (device : C → Device) (members : Membership) (rings : Li
   all_may f (h ∷ history) ((handed, may), all) =
       (may (comes f (step_of h) handed), all_may (after f h) history all)
 
-  pub with_keys_are_histories : WithKeysAreHistories device members rings
-  with_keys_are_histories history all = all_may new_federation history all
-
-  pub reports_agree_with_keys : ReportsAgree device members
-      → ReportsAgreeWithKeys device members rings
-  reports_agree_with_keys agree history g h slot u v is all =
-      agree history g h slot u v is (with_keys_are_histories history all)
-
-  pub turns_with_keys_may_happen : TurnsMayHappen device members
-      → TurnsWithKeysMayHappen device members rings
-  turns_with_keys_may_happen may_happen history n old next ports gives turn is all serving handed =
-      may_happen history n old next ports gives turn is (with_keys_are_histories history all)
-      serving (handed_on_may_come members rings _ turn.took handed)
-
   -- what was taken in could come
   came : (f : Federation C) (h : Happening C) → May device members f h
       → IfSome (step_of h) (λ s. MayCome members f.handed s.1.turn.took)
@@ -75,6 +61,26 @@ module _ {C : Type 0} (device : C → Device) (members : Membership) (rings : Li
         all_with_keys (after f h) history all,
       )
 
-  pub histories_may_have_keys : HistoriesMayHaveKeys device members rings
-  histories_may_have_keys ring site client history has_ring a_site a_client all =
-      all_with_keys ring site client has_ring a_site a_client new_federation history all
+-- ---- the laws
+
+module _ {C : Type 0} (device : C → Device) where
+  pub with_keys_are_histories : WithKeysAreHistories device
+  with_keys_are_histories members rings f history all = all_may device members rings f history all
+
+  pub histories_may_have_keys : HistoriesMayHaveKeys device
+  histories_may_have_keys members rings ring site client f history has_ring a_site a_client all =
+      all_with_keys device members rings ring site client has_ring a_site a_client f history all
+
+  pub reports_agree_with_keys : ((members : Membership) → ReportsAgree device members)
+      → ReportsAgreeWithKeys device
+  reports_agree_with_keys agree members rings history g h slot u v is all =
+      agree members history g h slot u v is
+      (with_keys_are_histories members rings new_federation history all)
+
+  pub turns_with_keys_may_happen : ((members : Membership) → TurnsMayHappen device members)
+      → TurnsWithKeysMayHappen device
+  turns_with_keys_may_happen may_happen members rings history n old next ports gives turn is all
+      serving handed =
+      may_happen members history n old next ports gives turn is
+      (with_keys_are_histories members rings new_federation history all) serving
+      (handed_on_may_come members rings _ turn.took handed)

@@ -9,8 +9,8 @@ use Rattle.serving_law.specs.Rules.{MayCome, May}
 use Rattle.sealing_law.specs.Sealing.{IsHandedOn}
 
 module _ {C : Type 0} (device : C → Device) (members : Membership) (rings : List Ring) where
-  -- By all rules but the one on the network it may happen: it may where what it takes in may come.
-  -- For that rule stands that a port with keys handed it on.
+  -- What it takes in is handed on by a port with keys. And by all other rules it may happen: it
+  -- may, if what it takes in may come.
   abbrev pub MayWithKeys : Federation C → Happening C → Type 0
   MayWithKeys f h =
       IfSome (step_of h) (λ s. IsHandedOn members rings f.handed s.1.turn.took)

@@ -12,11 +12,11 @@ use Rattle.tags.specs.Rings.{Ring}
 use Rattle.udp_site.specs.Served.{Turned}
 use Rattle.udp_site.specs.Traffic.{Post, Taken}
 use Rattle.udp_site.specs.Turns.{Serving, turn_of}
-use Rattle.serving_law.specs.Federations.{Happening, new_federation, after_all}
+use Rattle.serving_law.specs.Federations.{Federation, Happening, new_federation, after_all}
 use Rattle.serving_law.specs.Laws.{IsStep}
 use Rattle.serving_law.specs.Reports.{Reports}
-use Rattle.serving_law.specs.Rules.{MayCome, IsServing, IsHistory}
-use Rattle.sealing_law.specs.Histories.{IsHistoryWithKeys}
+use Rattle.serving_law.specs.Rules.{MayCome, MayAll, IsServing}
+use Rattle.sealing_law.specs.Histories.{MayAllWithKeys, IsHistoryWithKeys}
 use Rattle.sealing_law.specs.Sealing.{IsHandedOn}
 
 -- what a port with keys hands on is something that may come: no message between sites is forged
@@ -25,24 +25,27 @@ HandedOnMayCome =
     (members : Membership) (rings : List Ring) (handed : List Post) (taken : Taken)
     → IsHandedOn members rings handed taken → MayCome members handed taken
 
-module _ {C : Type 0} (device : C → Device) (members : Membership) (rings : List Ring) where
-  -- what happens to sites with keys is a history, so all that is promised of histories holds
+module _ {C : Type 0} (device : C → Device) where
+  -- What happens to sites with keys, from wherever they go on, may happen by all rules. So it is a
+  -- history, and all that is promised of histories holds.
   abbrev pub WithKeysAreHistories : Type 0
   WithKeysAreHistories =
-      (history : List (Happening C))
-      → IsHistoryWithKeys device members rings history → IsHistory device members history
+      (members : Membership) (rings : List Ring) (f : Federation C) (history : List (Happening C))
+      → MayAllWithKeys device members rings f history → MayAll device members f history
 
-  -- and each history may happen to sites with keys, if these are keys of sites and of clients
+  -- and each history may happen to sites with keys, if a ring has a key of sites and one of clients
   abbrev pub HistoriesMayHaveKeys : Type 0
   HistoriesMayHaveKeys =
-      (ring : Ring) (site client : List ℕ) (history : List (Happening C))
+      (members : Membership) (rings : List Ring) (ring : Ring) (site client : List ℕ)
+      (f : Federation C) (history : List (Happening C))
       → Has ring rings → Has site ring.sites → Has client ring.clients
-      → IsHistory device members history → IsHistoryWithKeys device members rings history
+      → MayAll device members f history → MayAllWithKeys device members rings f history
 
   -- agreement: no two reports, of any members at any times, name different bags for one slot
   abbrev pub ReportsAgreeWithKeys : Type 0
   ReportsAgreeWithKeys =
-      (history : List (Happening C)) (g h : Happening C) (slot : SlotName) (u v : BagId)
+      (members : Membership) (rings : List Ring) (history : List (Happening C))
+      (g h : Happening C) (slot : SlotName) (u v : BagId)
       → IsMembership members → IsHistoryWithKeys device members rings history
       → Has g history → Has h history
       → Reports members.federation g slot u → Reports members.federation h slot v
@@ -52,7 +55,8 @@ module _ {C : Type 0} (device : C → Device) (members : Membership) (rings : Li
   -- on what it took
   abbrev pub TurnsWithKeysMayHappen : Type 0
   TurnsWithKeysMayHappen =
-      (history : List (Happening C)) (n : ℕ) (old next : Serving C) (ports : List ℕ)
+      (members : Membership) (rings : List Ring) (history : List (Happening C)) (n : ℕ)
+      (old next : Serving C) (ports : List ℕ)
       (gives : Option (List ℕ → Result TreeFacts TreeFault)) (turn : Turned)
       → IsMembership members → IsHistoryWithKeys device members rings history
       → IsServing device members (after_all new_federation history) n old

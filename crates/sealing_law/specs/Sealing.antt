@@ -11,10 +11,10 @@ use Rattle.udp_site.specs.Traffic.{Post, Taken, Nothing, From}
 use Rattle.serving_law.specs.Rules.{AreBytes, IsOfMember, WereHanded}
 
 module _ (members : Membership) where
-  -- Only sites seal. Where these bytes are a datagram with its tag behind it, by a key of the sites,
-  -- and the datagram says something to a site in the name of a member, a member handed it out. This
-  -- is what is left to believe: that nobody else has such a key, and that nobody makes the tag
-  -- without one. It demands nothing where a datagram is a client's, or another federation's.
+  -- Only sites seal. If these bytes are a datagram with its tag behind it, by a key of the sites,
+  -- and the datagram says something to a site in the name of a member, then a member handed it out
+  -- before. This is what is left to believe: that nobody else has such a key, and that nobody makes
+  -- a tag without one. Nothing is believed of a client's datagram, or of another federation's.
   abbrev pub OnlySitesSeal :
       Ring → (handed : List Post) → (port : ℕ) → (bytes : List ℕ) → Type 0
   OnlySitesSeal ring handed port bytes =
@@ -24,7 +24,7 @@ module _ (members : Membership) where
       → IsOfMember members message → WereHanded handed datagram
 
   -- What a port hands on to its site: nothing; or what it makes of bytes that came, whoever sent
-  -- them. Its keys are one of these rings: sites may have several, while their keys are changed.
+  -- them. Its keys are one of these rings: there are several where the sites change their keys.
   abbrev pub IsHandedOn : (rings : List Ring) → (handed : List Post) → Taken → Type 0
   IsHandedOn rings handed Nothing = ⊤
   IsHandedOn rings handed (From port datagram) =

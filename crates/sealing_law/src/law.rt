@@ -1,6 +1,3 @@
-ghost use Rattle.std.specs.Prelude.{List};
-ghost use Rattle.fed_types.specs.Sites.{Membership};
-ghost use Rattle.tags.specs.Rings.{Ring};
 ghost use Rattle.sealing_law.specs.Laws.{HandedOnMayCome, WithKeysAreHistories};
 ghost use Rattle.sealing_law.specs.Laws.{HistoriesMayHaveKeys, ReportsAgreeWithKeys};
 ghost use Rattle.sealing_law.specs.Laws.{TurnsWithKeysMayHappen};
@@ -17,17 +14,17 @@ pub fn handed_on_may_come()
 
 /// What happens to sites with keys is a history; and each history may happen to sites with keys.
 pub fn histories_with_keys<C: Cell>()
-    ensures are { (members : Membership) (rings : List Ring) → WithKeysAreHistories C.device members rings }
-    ensures all { (members : Membership) (rings : List Ring) → HistoriesMayHaveKeys C.device members rings }
+    ensures are { WithKeysAreHistories C.device }
+    ensures all { HistoriesMayHaveKeys C.device }
 {}
 
 /// No two reports of sites that serve with keys name different bags for one slot.
 pub fn reports_agree_with_keys<C: Cell>()
-    ensures { (members : Membership) (rings : List Ring) → ReportsAgreeWithKeys C.device members rings }
+    ensures { ReportsAgreeWithKeys C.device }
 {}
 
 /// Each turn that `udp_site::serve` tells of may happen in such a history, of what a port with keys
 /// handed on.
 pub fn turns_with_keys_may_happen<C: Cell>()
-    ensures { (members : Membership) (rings : List Ring) → TurnsWithKeysMayHappen C.device members rings }
+    ensures { TurnsWithKeysMayHappen C.device }
 {}

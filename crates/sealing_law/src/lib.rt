@@ -1,6 +1,7 @@
-//! What is promised of sites that serve with keys: the premise on the network of `serving_law`, that
-//! nobody forges a message between sites, follows from less. Only sites make tags by their keys.
-//! The definitions stand in specs/; a function here does nothing, and its contract is a law.
+//! What is promised of sites that serve with keys. The laws of `serving_law` have a premise on the
+//! network: nobody forges a message between sites. With keys it follows from less: only sites make
+//! tags by their keys. The definitions stand in specs/; a function here does nothing, and its
+//! contract is a law.
 #![tactic(auto)]
 
 mod examples;
