@@ -151,6 +151,7 @@ module _ (ring : Ring) (bag : BagId) (tag : List ℕ) (request : Request three.f
     drops_a_forgery = record {
       start = dropped.start;
       step = dropped.noise;
+      unsent = (none_yet dropped.start dropped.happens.0).1;
       believed = believed [];
       nothing = nothing;
       dropped = dropped.noise_is;

@@ -12,7 +12,7 @@ use Rattle.serving_law.specs.Disks.{Disk, device}
 use Rattle.serving_law.specs.Examples.{Request}
 use Rattle.serving_law.specs.ExamplesAgreed.{three, a, PrintsKnown}
 use Rattle.serving_law.specs.ExamplesShown.{drops}
-use Rattle.serving_law.specs.Federations.{Step, Happening, Turns}
+use Rattle.serving_law.specs.Federations.{Step, Happening, Turns, new_federation, after}
 use Rattle.serving_law.specs.Rules.{AreBytes}
 use Rattle.sealing_law.specs.Histories.{IsHistoryWithKeys}
 use Rattle.sealing_law.specs.Sealing.{OnlySitesSeal}
@@ -52,6 +52,7 @@ pub record IsNoTag (ring : Ring) (datagram tag : List ℕ) : Type 0 where
 pub record DropsAForgery (ring : Ring) (bag : BagId) (tag : List ℕ) : Type 0 where
   pub start : Happening Disk
   pub step : Step Disk
+  pub unsent : (after new_federation start).handed ≡ []
   pub believed : OnlySitesSeal three ring [] 0 (says_known bag ++ tag)
   pub nothing : handed_on (Some ring) (says_known bag ++ tag) ≡ []
   pub dropped : step.turn ≡ drops []
