@@ -1,4 +1,4 @@
--- Three sites agree by sealed messages, and a forged one is dropped.
+-- Three sites agree by sealed messages, sealed votes count, and a forged message is dropped.
 use Rattle.std.proofs.Common.{◌≡◌, ◌-◌, true, ℕ, List, [], ◌∷◌, ◌++◌, length, take, drop, Option}
 use Rattle.std.proofs.Common.{Some, None, refl, sym, ap, ◌∙◌, subst, arith, length-append}
 use Rattle.std.proofs.Math.Seq.{take-append_seam, drop-append_seam}
@@ -9,25 +9,26 @@ use Rattle.fields.specs.Encoding.{slot_bytes}
 use Rattle.dgram.specs.declared.body.Body.TheVariants.{Known}
 use Rattle.tags.specs.Hmac.{tag_len, tag_by}
 use Rattle.tags.specs.Tags.{sealed, text_in}
-use Rattle.tags.specs.Rings.{Ring, is_between_sites, opened_by}
-use Rattle.tags.proofs.SealLemmas.{tag_length}
+use Rattle.tags.specs.Rings.{Ring, is_between_sites, keys_for, sealed_by, opened_by}
+use Rattle.tags.proofs.SealLemmas.{tag_length, opened_from_sealed}
 use Rattle.udp_site.specs.Requests.{request_in}
 use Rattle.udp_site.specs.Seals.{handed_on}
 use Rattle.udp_site.specs.Served.{Turned}
-use Rattle.udp_site.specs.Traffic.{Post}
+use Rattle.udp_site.specs.Traffic.{Post, From}
 use Rattle.serving_law.specs.Disks.{Disk, device}
 use Rattle.serving_law.specs.Examples.{Request}
-use Rattle.serving_law.specs.ExamplesAgreed.{three, a}
+use Rattle.serving_law.specs.ExamplesAgreed.{three, a, says_vote}
 use Rattle.serving_law.specs.ExamplesShown.{DropsBoth}
 use Rattle.serving_law.specs.Federations.{Federation, new_federation, Happening, after}
 use Rattle.serving_law.specs.Federations.{Turns, Fails, Dies, Ends, Renews, Starts}
 use Rattle.serving_law.specs.Reports.{step_of}
 use Rattle.serving_law.specs.Rules.{AreBytes, May, MayAll}
 use Rattle.serving_law.proofs.DatagramBytes.{Bytes, of_bag, of_message, of_number}
-use Rattle.serving_law.proofs.Agreed.{three_sites_agree}
+use Rattle.serving_law.proofs.Agreed.{three_sites_agree, a_repeated_vote}
 use Rattle.serving_law.proofs.Shown.{noise_is_dropped}
 use Rattle.sealing_law.specs.Examples.{ThreeSitesAgreeWithKeys, says_known, IsNoTag}
 use Rattle.sealing_law.specs.Examples.{DropsAForgery, AForgedKnownIsDropped}
+use Rattle.sealing_law.specs.Examples.{two_keys, opened_vote, ASealedVoteCounts}
 use Rattle.sealing_law.specs.Histories.{MayAllWithKeys}
 use Rattle.sealing_law.specs.Sealing.{OnlySitesSeal, IsHandedOn}
 use Rattle.sealing_law.proofs.HandedOn.{opened_is, appended, by_a_site, no_message}
@@ -43,6 +44,34 @@ three_sites_agree_with_keys ring site client bag a_site a_client request =
       one = agree.one;
       two = agree.two;
       three = agree.three;
+    }
+
+-- ---- sealed votes
+
+module _ (site client : List ℕ) (bag : BagId) where
+  vote_sealed : (from : ℕ) → sealed_by (two_keys site client) (says_vote 3 from bag).1
+      ≡ Some (sealed site (says_vote 3 from bag).1)
+  unfolding sealed_by keys_for is_between_sites
+  vote_sealed from = refl
+
+  vote_opened : (from : ℕ) → opened_vote site client from bag ≡ (says_vote 3 from bag).1
+  vote_opened from =
+      ap (λ o. unwrap_or o [])
+      (opened_from_sealed (two_keys site client) (says_vote 3 from bag).1
+      (sealed site (says_vote 3 from bag).1) (vote_sealed from))
+
+pub a_sealed_vote_counts : ASealedVoteCounts
+a_sealed_vote_counts site client bag request =
+    let votes = a_repeated_vote bag request in
+    record {
+      votes = votes;
+      happens = histories_may_have_keys device three (two_keys site client ∷ [])
+          (two_keys site client) site client new_federation
+          (votes.before ++ Turns 3 votes.first 0 0 ∷ Turns 3 votes.again 0 0
+          ∷ Turns 3 votes.other 0 1 ∷ Turns 3 votes.late 0 0 ∷ [])
+          (here refl) (here refl) (here refl) votes.happens;
+      one = votes.one ∙ ap (λ d. From 0 d) (sym (vote_opened site client bag 1));
+      two = votes.two ∙ ap (λ d. From 0 d) (sym (vote_opened site client bag 2));
     }
 
 -- ---- a forged message

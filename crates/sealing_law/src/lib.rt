@@ -7,7 +7,7 @@
 mod examples;
 mod law;
 
-pub use examples::{a_forged_known_is_dropped, three_sites_agree_with_keys};
+pub use examples::{a_forged_known_is_dropped, a_sealed_vote_counts, three_sites_agree_with_keys};
 pub use law::{
     handed_on_may_come, histories_with_keys, reports_agree_with_keys, turns_with_keys_may_happen,
 };
