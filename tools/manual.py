@@ -4,7 +4,8 @@ import subprocess
 
 SECTION = re.compile(r"(Commands|Arguments|Options):\n((?:  .*\n)+)\n?")
 # The values of these options and arguments are files, or folders; of others nothing is known.
-FILES, FOLDERS = ("<FILE>", "[FILE]", "<CELL>", "<PICTURE>"), ("<FOLDER>", "[PATH]")
+FILES = "<FILE>", "[FILE]", "<CELL>", "<PICTURE>"
+FOLDERS = "<FOLDER>", "[FOLDER]", "[PATH]"
 
 
 class Help:

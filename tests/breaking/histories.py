@@ -256,7 +256,7 @@ class History:
             f"Prepare({number},{n})", f"Round({number})", "None", "refl",
         )
         self.say(
-            f"  comes{k} : turn_of device ports (Some no_folders) (serves {n} {old}) Nothing\n"
+            f"  comes{k} : turn_of device addresses (Some no_folders) (serves {n} {old}) Nothing\n"
             f"      (proposed c{k}).turn.done (next_of c{k})\n"
             "  unfolding next_waiting deposits_of known_of same_slot\n"
             f"  comes{k} = proposes c{k} right{k}\n"

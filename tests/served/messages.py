@@ -85,6 +85,27 @@ FOR_NOBODY = {
 }
 
 
+def of_each_kind(site, bag, object="a"):
+    """A message of each kind that this site may send, of version 1 of the object."""
+    vote = ballot(5, site) + bag
+    bodies = {
+        PREPARE: ballot(5, site),
+        PROMISE: ballot(5, 1) + b"\0",
+        ACCEPT: vote,
+        ACCEPTED: vote,
+        REFUSED: ballot(5, 1) + ballot(6, site),
+        ASK: b"",
+        KNOWN: bag,
+    }
+    return [Message(kind, site, object, 1, body) for kind, body in bodies.items()]
+
+
+def of_clients(path, object="a"):
+    """A message of each kind that a client may send, of version 1 of the object."""
+    asked = [Message(kind, 0, object, 1) for kind in (QUERY, RECOVER)]
+    return [*asked, deposit(object, 1, path)]
+
+
 def deposit(object, version, path):
     """A client's deposit of the folder of this path."""
     path = str(path).encode()

@@ -44,6 +44,22 @@ class Spoilt:
         groups = [it for it in self.drawn.iter(f"{SVG}g") if len(it) > 2]
         return [it[2] for it in groups if ("b" in classes(it[1])) == is_broken]
 
+    def again(self):
+        """The names of the sites where they are named a second time, if it isn't the last."""
+        names = self.of_class("name")
+        second = sorted({int(it.get("y")) for it in names})[1:-1][0]
+        return [it for it in names if int(it.get("y")) == second]
+
+    def recolour(self, one, other):
+        """The classes of one bag's colour get another one's; or they aren't there."""
+        style = self.drawn.find(f"{SVG}style")
+        found = re.findall(rf"\.s{other}\{{stroke:([^}}]+)\}}", style.text) if other else ()
+        classes_of = rf"\.s{one}\{{stroke:[^}}]+\}}.*\n"
+        made = f".s{one}{{stroke:{found[-1]}}}.f{one}{{fill:{found[-1]};color:{found[-1]}}}\n" if (
+            found) else ""
+        head, dark, tail = style.text.rpartition("@media")
+        style.text = head + dark + re.sub(classes_of, made, tail)
+
     def marks(self, shape):
         """The marks of a shape, the first ones first; that of the legend comes last."""
         return [it for it in self.drawn if shape in (it.get("d") or "")]
@@ -74,10 +90,21 @@ def reworded(one, other):
 
 def recoloured(element):
     """Another colour than the one it has."""
-    turned = lambda it: {"a": "b", "p": "r", "r": "p"}.get(it, "a")
-    words = [it[0] + turned(it[1]) if re.fullmatch("[sf][a-hpr]", it) else it for it in
+    turned = lambda it: {"1": "2", "p": "r", "r": "p"}.get(it, "1")
+    words = [it[0] + turned(it[1:]) if re.fullmatch(r"[sf](\d+|[pr])", it) else it for it in
              classes(element)]
     element.set("class", " ".join(words))
+
+
+def whole(label):
+    title = label[0]
+    label.text = title.text
+    label.remove(title)
+
+
+def untitled(label):
+    label.text = label[0].tail
+    label.remove(label[0])
 
 
 def to_sender(spoilt):
@@ -142,6 +169,15 @@ MISTAKES = {
     "a known bag since another row": lambda it: moved(it.of_class("knows")[0], 1, -ASIDE),
     "the legend's words exchanged": lambda it: reworded(it.of_class("g")[0], it.of_class("g")[3]),
     "the legend's bags exchanged": lambda it: reworded(it.of_class("g")[8], it.of_class("g")[9]),
+    "a box that is too narrow": lambda it: put(it.of_class("box")[0], "width", -ASIDE - 60),
+    "a box elsewhere": lambda it: put(it.of_class("box")[-1], "x", 2 * ASIDE),
+    "no box": lambda it: it.drawn.remove(it.of_class("box")[0]),
+    "long words as they are": lambda it: whole([one for one in it.labels() if len(one)][0]),
+    "long words without a title": lambda it: untitled([one for one in it.labels() if len(one)][0]),
+    "the sites not named again": lambda it: [it.drawn.remove(one) for one in it.again()],
+    "the sites named in a row": lambda it: [put(one, "y", 30) for one in it.again()],
+    "two bags of one colour": lambda it: it.recolour("2", "1"),
+    "no colour on a dark sheet": lambda it: it.recolour("2", ""),
     "a broken one's words exchanged": lambda it: exchanged(
         *[one for one in it.drawn.iter(f"{SVG}text") if one.get("dy") == "4" and not {"g", "n"} &
           set(classes(one))][:2], "y"),

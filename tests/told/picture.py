@@ -8,8 +8,10 @@ from typing import NamedTuple
 SVG = "{http://www.w3.org/2000/svg}"
 # How far from a column an arrow may end; and how far from the middle of its row a stop may stand.
 NEAR, ROW = 12, 26
-# How wide a letter is at least, and how many of words beside an event there is room for.
-LETTER, LETTERS = 6, 60
+# How wide a letter is at least, and how many of words beside an event are seen.
+LETTER, LETTERS = 5, 60
+# Sites are named again after about so many rows' height; and so far from any row, at least.
+SCREENFUL, ASIDE = 25 * 26, 18
 MARKS = {
     "deposit recorded": "deposit",
     "round recorded": "round",
@@ -57,8 +59,19 @@ class Way(NamedTuple):
 
 
 def colour_of(tree):
-    """The letter of a bag's colour; that of what names none."""
-    return "abcdefgh"[(tree - 1) % 8] if tree else "p"
+    """What ends the classes of a bag's colour; of what names none."""
+    return str(tree) if tree else "p"
+
+
+def seen_of(words):
+    """What is seen of words: all, or an ellipsis in place of their end."""
+    return words if len(words) <= LETTERS else f"{words[: LETTERS - 1]}…"
+
+
+def words_of(text):
+    """What is seen of a text's words, and all of them."""
+    title = text.find(f"{SVG}title")
+    return (text.text, text.text) if title is None else (title.tail, title.text)
 
 
 # ---- the words beside events
@@ -138,7 +151,7 @@ class Labels:
 
 def end_of_words(words):
     """Where words end that begin beside a place; to the left, where they stand there."""
-    wide = LETTER * min(len(words.text), LETTERS)
+    wide = LETTER * len(words_of(words)[0])
     beside = int(words.get("dx", 0))
     return int(words.get("x")) + beside + (-wide if "l" in classes(words) else wide)
 
@@ -163,8 +176,8 @@ def numbers(text):
 
 
 def letter(element, prefix):
-    """The letter of an element's colour: of `sa` or `fa`."""
-    found = [it[1] for it in classes(element) if re.fullmatch(prefix + "[a-hpr]", it)]
+    """The colour in an element's class: `1` of `s1` or `f1`."""
+    found = [it[1:] for it in classes(element) if re.fullmatch(prefix + r"(\d+|[pr])", it)]
     claim(len(found) <= 1, f"two colours: {element.attrib}")
     return found[0] if found else ""
 
@@ -213,26 +226,41 @@ class Picture:
         self.check_repeats()
         self.check_stub_words()
         self.check_inside()
+        self.check_colours()
 
     # ---- columns and rows
 
     def check_names(self):
-        """Each site is named above its column and below it, with its weight where these differ."""
-        self.columns, heights = {}, set()
-        names = [it for it in self.texts if classes(it) == ["name"]]
-        same("names of columns", len(names), 2 * len(self.run.weights))
-        for name in names:
+        """Each site is named above its column and below it, and each screenful between, with its
+        weight where these differ."""
+        self.columns, heights = {}, {}
+        for name in [it for it in self.texts if classes(it) == ["name"]]:
             site = int(re.match(r"site (\d+)", name.text)[1])
             weight = f", weight {self.run.weights[site - 1]}" if self.words.has_weights else ""
             same("the name of a site", name.text, f"site {site}{weight}")
             x, y = int(name.get("x")), int(name.get("y"))
-            heights.add(y)
-            same(f"the two names of site {site}", x, self.columns.setdefault(site, x))
+            heights.setdefault(y, []).append(site)
+            same(f"the names of site {site}", x, self.columns.setdefault(site, x))
         same("sites", list(self.columns), list(range(1, len(self.run.weights) + 1)))
         columns = list(self.columns.values())
         claim(columns == sorted(set(columns)), f"columns from left to right: {columns}")
-        same("two rows of names", len(heights), 2)
-        self.top, self.bottom = sorted(heights)
+        for y, sites in heights.items():
+            same(f"the sites named at {y}", sites, list(self.columns))
+        self.names = sorted(heights)
+        claim(len(self.names) > 1, "one row of names")
+        self.top, self.bottom = self.names[0], self.names[-1]
+
+    def check_screenfuls(self):
+        """The sites are named again before a row if they were named a screenful above it, and nowhere
+        else; no row is where they are named."""
+        below = [self.top + 56, *(it + 30 for it in self.names[1:-1])]
+        for one, name in zip(below, self.names[1:-1]):
+            claim(name - 16 - one >= SCREENFUL, f"names at {name}, too early")
+            claim(all(abs(it - name - 14) > ASIDE for it in self.rows.values()),
+                  f"names at {name}, where a row is")
+        for row in self.rows.values():
+            named = max(it for it in below if it < row)
+            claim(row - ROW - named < SCREENFUL, f"no names before the row {row}")
 
     def check_labels(self):
         """The words beside each event, in its site's column, one row below the other."""
@@ -242,7 +270,7 @@ class Picture:
         last = self.top
         for (place, event), label in zip(events, labels):
             what = f"line {event.line}, the words of an event"
-            same(what, "".join(label.itertext()), self.labels.text(event))
+            self.check_words(what, label, self.labels.text(event))
             same(f"{what}: column", int(label.get("x")), self.columns[event.site])
             same(f"{what}: colour", letter(label, "f"), self.labels.colour(event))
             same(f"{what}: side", ("l" in classes(label)), label.get("dx") == "-13")
@@ -250,6 +278,21 @@ class Picture:
             claim(last < row < self.bottom, f"{what}: row {row} below {last}")
             self.rows[place], last = row, row
         self.last = last
+        self.check_screenfuls()
+
+    def check_words(self, what, label, wanted):
+        """The words of a label, of which a title has what isn't seen; behind it is a box."""
+        same(f"{what}: seen", words_of(label), (seen_of(wanted), wanted))
+        same(f"{what}: a title", label.find(f"{SVG}title") is None, len(wanted) <= LETTERS)
+        box = self.elements[self.elements.index(label) - 1]
+        same(f"{what}: a box", (box.tag, classes(box)), (f"{SVG}rect", ["box"]))
+        begin, end = sorted([int(label.get("x")) + int(label.get("dx", 0)), end_of_words(label)])
+        x, y, wide, high = (int(box.get(it)) for it in ("x", "y", "width", "height"))
+        line = int(label.get("y")) + int(label.get("dy"))
+        claim(x <= begin and end <= x + wide, f"{what}: a box from {x} to {x + wide}")
+        claim(y <= line - 10 and line + 3 <= y + high, f"{what}: a box from {y} to {y + high}")
+        over = [it for it in self.columns.values() if x < it < x + wide]
+        claim(not over and 0 <= x and x + wide <= self.wide, f"{what}: its box is over a column")
 
     def check_lines(self):
         """The numbers of the schedule's lines, each in the row of its first event."""
@@ -326,8 +369,8 @@ class Picture:
         """The mark of each event's record, and of what came of it."""
         at = max(it for it, one in enumerate(self.elements) if one.tag == f"{SVG}g" or
                  classes(one) == ["name"])
-        first = self.elements.index(next((it for it in self.texts if it.get("dx") in
-                                          ("13", "-13") or classes(it) == ["n"]), self.texts[-1]))
+        first = next((self.elements.index(it) for it in self.texts if it.get("dx") in
+                      ("13", "-13") or classes(it) == ["n"]), self.marked)
         marks = [it for it in self.elements[at + 1 : first] if it.tag != f"{SVG}g"]
         wanted = list(self.marks())
         for mark in wanted:
@@ -449,15 +492,15 @@ class Picture:
 
     def check_stub_words(self):
         """The words of each datagram that was never delivered, beyond the end of its arrow."""
-        labels = [it for it in self.texts if it.get("dy") == "4" and set(classes(it)) & set(
-            f"f{it}" for it in "abcdefghpr")]
+        labels = [it for it in self.texts if it.get("dy") == "4" and letter(it, "f")]
         sent = [it for it in self.run.datagrams if it.number not in self.run.passages]
-        same("words of broken arrows", [it.text for it in labels],
+        same("words of broken arrows", [words_of(it)[1] for it in labels],
              [f"#{it.number} {self.words.message(it)}" for it in sent])
         arrows = {it.get("id"): it for it in self.elements if it.tag == f"{SVG}g"}
         for label, it in zip(labels, sent):
             path = arrows[f"datagram-{it.number}"].find(f"{SVG}path[@class]")
             way, what = way_of(path), f"the words of #{it.number}"
+            self.check_words(what, label, f"#{it.number} {self.words.message(it)}")
             same(f"{what}: row", int(label.get("y")), way.end[1])
             same(f"{what}: colour", letter(label, "f"), way.colour)
             is_left = way.end[0] < way.begin[0]
@@ -484,3 +527,18 @@ class Picture:
             elif "g" in classes(words):
                 is_inside = end_of_words(words) <= self.wide
                 claim(is_inside, f"words that end outside of the picture: {words.text}")
+
+    def check_colours(self):
+        """Each bag has a colour of its own, on a light sheet and on a dark one, and so have refusals
+        and what names no bag; nothing else has a colour."""
+        style = self.drawn.find(f"{SVG}style").text
+        light, dark = style.split("@media (prefers-color-scheme:dark){")
+        drawn = [letter(it, "[sf]") for it in self.elements if it.tag != f"{SVG}g"]
+        drawn += [letter(it, "[sf]") for it in self.drawn.iter(f"{SVG}path")]
+        for sheet in (light, dark):
+            found = re.findall(r"\.s(\d+|[pr])\{stroke:([^}]+)\}\.f\1\{fill:\2;color:\2\}", sheet)
+            claim(set(drawn) - {""} <= {it for it, _ in found}, f"colours of {found}")
+            trees = dict.fromkeys(it.tree for it in self.run.events if it.tree)
+            same("colours", [it for it, _ in found], ["p", "r", *map(str, trees)])
+            same("two of one colour", len({it for _, it in found}), len(found))
+        claim(".sheet,.box" in light and ".sheet,.box" in dark, "a sheet that is neither")

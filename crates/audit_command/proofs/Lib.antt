@@ -4,3 +4,4 @@ pub mod Joined
 pub mod SplitRecords
 pub mod TakenBytes
 pub mod WrittenAnswers
+pub mod Conflicts

@@ -1,5 +1,6 @@
 -- Read in this order: Files (what reading gives), CellReadings (what each cell is worth), Versions
--- (what is found of each version), Lines (the text of both), Audits (what the command answers).
+-- (what is found of each version), Lines (the text of both), Audits (what the command answers),
+-- Conflicts (what it says of two bags of one version).
 -- Words has what is said of a cell that isn't read.
 -- inner/ is for private contracts and proofs.
 pub mod Files
@@ -7,5 +8,6 @@ pub mod CellReadings
 pub mod Versions
 pub mod Lines
 pub mod Audits
+pub mod Conflicts
 pub mod Words
 pub mod inner

@@ -20,6 +20,7 @@ mod finding_lines;
 mod gathered;
 mod in_use_line;
 mod last_records;
+mod law;
 mod standing;
 mod version;
 
@@ -27,3 +28,4 @@ pub use arguments::{AuditTask, audit_command, audit_task};
 pub use cell_files::CellFiles;
 pub use cells_audit::audit_on;
 pub use command::print_audit;
+pub use law::conflicts_are_said;

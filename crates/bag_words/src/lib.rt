@@ -2,7 +2,7 @@
 //! are, what was wanted and what was found, and what is no fault but worth knowing.
 //!
 //! ```
-//! let are_named = task.paths.len() != 1;
+//! let are_named = task.named || task.paths.len() != 1;
 //! SpokenFolders::new(rt, task.words, are_named, folders)
 //! ```
 #![tactic(auto)]

@@ -19,7 +19,8 @@ const ABOUT: &str = "Several repositories, each with copies of one collection, a
 version of an object, with no master site.";
 
 const EXAMPLE: &str =
-    "`bagpaxos help codes` lists what it prints by a number or a word, and what each says.
+    "`bagpaxos help codes` lists what it prints by a number or a word, and what each
+says.
 
 Example:
   bagpaxos run < examples/first.schedule";
@@ -57,8 +58,8 @@ pub enum Task<'a> {
 pub fn task_of(alloc: Global, words: &[String]) -> Result<Option<Task<'_>>, Error> {
     let matches = matches_of(alloc, words)?;
     let task = task_in(alloc, &matches)?;
-    match mistake_in(&task) {
-        Some(mistake) => Err(refusal(alloc, mistake)?),
+    match mistake_in(alloc, &task)? {
+        Some(mistake) => Err(refusal(alloc, mistake.as_str())?),
         None => Ok(task),
     }
 }
@@ -68,12 +69,19 @@ fn matches_of<'a>(alloc: Global, words: &'a [String]) -> Result<ArgMatches<'a>, 
 }
 
 // What clap doesn't see of a mistake.
-fn mistake_in(task: &Option<Task>) -> Option<&'static str> {
+fn mistake_in(alloc: Global, task: &Option<Task>) -> Result<Option<String>, AllocError> {
     match task {
-        Some(Task::Send(send)) => send.mistake(),
-        Some(Task::Site(site)) => site.mistake(),
-        Some(Task::Members(members)) => members.mistake(),
-        _ => None,
+        Some(Task::Send(send)) => text_of(alloc, send.mistake()),
+        Some(Task::Site(site)) => text_of(alloc, site.mistake(alloc)?),
+        Some(Task::Members(members)) => members.mistake(alloc),
+        _ => Ok(None),
+    }
+}
+
+fn text_of(alloc: Global, mistake: Option<&str>) -> Result<Option<String>, AllocError> {
+    match mistake {
+        Some(mistake) => Ok(Some(String::from_str(alloc, mistake)?)),
+        None => Ok(None),
     }
 }
 

@@ -4,7 +4,13 @@ use crate::arguments::task_of;
 use clap::Error;
 use clap::error::ErrorKind;
 use code_words::push_name;
+use folder_checks::push_escaped_bytes;
 use std::alloc::{AllocError, Global};
+use std::env::Env;
+use std::str;
+
+/// As many bytes as Linux lets an argument have.
+const LONGEST_ARGUMENT: usize = 131_072;
 
 /// Says on standard error what is wrong with these words; the first is the program's own name.
 /// Invisible characters in them are written by numbers, as in all other words: otherwise a word
@@ -20,6 +26,26 @@ pub fn say_mistake(rt: &HostRuntime, words: &[String]) -> Result<(), AllocError>
             Ok(())
         }
     }
+}
+
+/// Says which argument it is that isn't UTF-8: its number, and its bytes, escaped as a path in a
+/// line is.
+pub fn say_unreadable(rt: &HostRuntime) -> Result<(), AllocError> {
+    let mut room = Vec::new(rt.alloc());
+    room.resize(LONGEST_ARGUMENT, 0)?;
+    for number in 1..usize::MAX {
+        let Ok(length) = rt.arg(number, room.as_mut_slice()) else {
+            return Ok(());
+        };
+        let word = room.get(..length).unwrap_or(&[]);
+        if str::from_utf8(word).is_err() {
+            let mut text = String::new(rt.alloc());
+            push_escaped_bytes(&mut text, word)?;
+            let _ = eprintln!(rt; "it is argument {number}: {text}");
+            return Ok(());
+        }
+    }
+    Ok(())
 }
 
 fn say(rt: &HostRuntime, error: &Error) -> Result<(), AllocError> {

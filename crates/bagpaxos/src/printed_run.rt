@@ -5,6 +5,7 @@ use crate::run_on::run_on;
 use crate::schedule_fault::say_schedule_fault;
 use code_words::push_name;
 use outcomes::{ProgramFault, ReadFault, read_all, write_all, write_output};
+use run_page::page_of;
 use run_picture::picture_of;
 use run_story::{Story, tell};
 use run_words::words_of;
@@ -95,13 +96,13 @@ fn show(rt: &HostRuntime, task: &RunTask<'_>, story: &Story) -> Result<u8, Alloc
         let _ = rt.eprint(words.as_str());
     }
     match task.drawing {
-        Some(path) => draw(rt, story, path),
+        Some(path) => draw(rt, task, story, path),
         None => Ok(0),
     }
 }
 
-fn draw(rt: &HostRuntime, story: &Story, path: &str) -> Result<u8, AllocError> {
-    let picture = picture_of(rt.alloc(), story)?;
+fn draw(rt: &HostRuntime, task: &RunTask<'_>, story: &Story, path: &str) -> Result<u8, AllocError> {
+    let picture = drawing_of(rt, task, story, path)?;
     match fs::write(rt, path, picture.as_str()) {
         Ok(()) => Ok(0),
         Err(error) => {
@@ -111,4 +112,17 @@ fn draw(rt: &HostRuntime, story: &Story, path: &str) -> Result<u8, AllocError> {
             Ok(1)
         }
     }
+}
+
+// A page of steps, if the file's name says that it is HTML.
+fn drawing_of(
+    rt: &HostRuntime,
+    task: &RunTask<'_>,
+    story: &Story,
+    path: &str,
+) -> Result<String, AllocError> {
+    if path.ends_with(".html") {
+        return page_of(rt.alloc(), story, task.options);
+    }
+    picture_of(rt.alloc(), story)
 }

@@ -38,7 +38,10 @@ With `--words` standard error says, once the lines are printed, what each
 command did, with its own line below it, and which datagrams were never
 delivered; or, if the text is no schedule, what is wrong with its first line at
 fault. With `--draw` a picture of the run is written to a file, in place of what
-is there: one column per site, time downwards, one arrow per datagram.
+is there: one column per site, time downwards, one arrow per datagram. If the
+file's name ends in `.html`, it is a page for a browser, in which you step
+through the run: after each event it shows what each site has on record, and
+which datagrams are under way.
 
 The exit status is 0; 1 if the text is no schedule (`schedule line N`), memory
 runs out (`memory`), the schedule can't be read (`input unread`), or standard
@@ -54,7 +57,7 @@ pub(crate) struct RunTask<'a> {
     pub(crate) options: Options,
     /// What happens is said in words.
     pub(crate) words: bool,
-    /// The path of the picture.
+    /// The path of the picture, or of the page.
     pub(crate) drawing: Option<&'a str>,
     /// The path of the schedule; none for standard input.
     pub(crate) file: Option<&'a str>,
@@ -114,7 +117,7 @@ fn draw_argument<'a>(alloc: Global) -> Arg<'a> {
     Arg::new(alloc, "draw")
         .long("draw")
         .value_name("PICTURE")
-        .help("Write a picture of the run to this file, as SVG")
+        .help("Write a picture of the run to this file, as SVG or HTML")
 }
 
 fn file_argument<'a>(alloc: Global) -> Arg<'a> {

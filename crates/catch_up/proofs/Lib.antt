@@ -1,4 +1,5 @@
 pub mod Parts
+pub mod Paces
 pub mod Questions
 pub mod Versions
 pub mod OneVersion

@@ -2,12 +2,13 @@
 use Rattle.std.proofs.Common.{◌≡◌, ℕ, ◌+◌, ◌≤◌, Bool, true, false, not, cond, List, [], ◌∷◌, ◌++◌}
 use Rattle.std.proofs.Common.{length}
 use Rattle.std.proofs.Common.{Option, Some, None, Result, Ok, Err, refl, sym, ap, subst, ◌∙◌}
+use Rattle.std.proofs.Common.{inl, inr}
 use Rattle.std.proofs.Common.{append_assoc, append-nil}
 use Rattle.std.proofs.Common.{arith}
 use Rattle.std.proofs.KnownBytes.{Appends-nil, Appends-trans}
 use Rattle.std.proofs.lemmas.List.{length-append}
 use Rattle.std.proofs.lemmas.List.Filters.{length-filter_both}
-use Rattle.std.specs.Prelude.{IsErrAnd}
+use Rattle.std.specs.Prelude.{IsErrAnd, ◌≢◌, ◌⊎◌}
 use Rattle.std.specs.Io.KnownBytes.{Appends}
 use Rattle.known_bags.specs.declared.known_bag.KnownBag.{KnownBag}
 use Rattle.udp_site.specs.Traffic.{Move, Grows}
@@ -19,7 +20,11 @@ use Rattle.catch_up.specs.Rounds.{left_by, left_of, AreRounds, AreWhole, round_l
 use Rattle.catch_up.specs.Rounds.{left_after, next_round, round_after, last_round, open_of}
 use Rattle.catch_up.specs.inner.Progress.{GoesOn, StopsIn, GoesOnRounds, StopsInRounds}
 use Rattle.catch_up.specs.inner.Progress.{AppendsPart, OnlyAsked, IsRound, AreAsked}
+use Rattle.catch_up.specs.Times.{Beat, LeaveSome, most_rounds}
+use Rattle.catch_up.specs.inner.Progress.{IsNext}
 use Rattle.catch_up.proofs.Parts.{then_part}
+use Rattle.catch_up.proofs.Paces.{no_length, leave_then, ArePausesOf, IsAwaited, last_of, most_of}
+use Rattle.catch_up.proofs.Paces.{stops_in}
 
 -- ---- some versions, and others
 
@@ -227,6 +232,12 @@ same_after_bound vs [] = omega arith
 same_after_bound vs (bs ∷ rounds) =
     omega (arith, same_bound vs bs, same_after_bound (left_of vs bs) rounds)
 
+-- something is left for another round
+some_left : {L : Type 0} (rounds : List (List Answer)) → (length rounds ≡ 0) ⊎ L
+    → (rounds ≡ []) ⊎ L
+some_left rounds (inl none) = inl (no_length rounds none)
+some_left rounds (inr some) = inr some
+
 module _ (asked : Target) (vs : List KnownBag) where
   pub no_rounds : (a : Option (List Move)) (o : Option (List ℕ))
       → GoesOnRounds asked vs a a o o []
@@ -247,12 +258,15 @@ module _ (asked : Target) (vs : List KnownBag) where
             lines lines_more),
       )
 
-  pub stops_in_round : (a b c : Option (List Move)) (o n p : Option (List ℕ))
-      (rounds : List (List Answer)) (fault : AskFault) → GoesOnRounds asked vs a b o n rounds
+  -- the time isn't over between rounds, and each of them but the last leaves some
+  pub stops_in_round : (s : ℕ) (t u : Option (List Beat)) (a b c : Option (List Move))
+      (o n p : Option (List ℕ)) (rounds : List (List Answer)) (fault : AskFault)
+      → GoesOnRounds asked vs a b o n rounds
       → StopsIn (round_after asked rounds) (left_after vs rounds) b c n p fault
-      → StopsInRounds asked vs a c o p fault
-  stops_in_round a b c o n p rounds fault (moves, grows, are, whole, lines)
-      (us, some, others, more, are_more, only, part) = (
+      → LeaveSome vs rounds → IsAwaited s (left_after vs rounds) (length rounds) t u
+      → StopsInRounds s asked vs t u a c o p fault
+  stops_in_round s t u a b c o n p rounds fault (moves, grows, are, whole, lines)
+      (us, some, others, more, are_more, only, part) leave (paused, next) = (
         rounds ++ us ∷ [],
         moves ++ some,
         others,
@@ -263,6 +277,8 @@ module _ (asked : Target) (vs : List KnownBag) where
         subst (λ (l : List ℕ). AppendsPart o p l) (sym (round_lines_then vs rounds us))
             (then_part o n p (round_lines vs rounds) (answer_lines (left_after vs rounds) us) lines
             part),
+        stops_in s vs (rounds ++ us ∷ []) t u (length rounds) (length-append rounds (us ∷ []))
+            (leave_then vs rounds us leave (some_left rounds next)) paused,
       )
 
 -- ---- the rounds so far
@@ -275,18 +291,27 @@ RoundsSoFar asked at old now before after written next same count =
     (rounds : List (List Answer)) × (length rounds ≡ count) × (at ≡ round_after asked rounds)
     × GoesOnRounds asked (open_of old) before after written next rounds
     × (open_of now ≡ left_after (open_of old) rounds)
-    × (same ≡ same_after (open_of old) rounds)
+    × (same ≡ same_after (open_of old) rounds) × LeaveSome (open_of old) rounds
 
 module _ (asked : Target) (old : List KnownBag) (a : Option (List Move)) (o : Option (List ℕ)) where
   pub at_first_round : (at : Target) → at ≡ asked → RoundsSoFar asked at old old a a o o 0 0
-  at_first_round at here = ([], refl, here, no_rounds asked (open_of old) a o, refl, refl)
+  at_first_round at here = ([], refl, here, no_rounds asked (open_of old) a o, refl, refl, tt)
+
+  -- what is left by the rounds is what isn't known
+  still_left : (now : List KnownBag) (count : ℕ) (rounds : List (List Answer))
+      → length rounds ≡ count → open_of now ≡ left_after (open_of old) rounds
+      → (count ≡ 0) ⊎ (open_of now ≢ [])
+      → (length rounds ≡ 0) ⊎ (left_after (open_of old) rounds ≢ [])
+  still_left now count rounds so_many kept (inl none) = inl (so_many ∙ none)
+  still_left now count rounds so_many kept (inr some) = inr (λ none. some (kept ∙ none))
 
   pub then_round : (at : Target) (now next : List KnownBag) (b c : Option (List Move))
-      (n p : Option (List ℕ)) (same count more : ℕ) → RoundsSoFar asked at old now a b o n same count
-      → IsRound at now next b c n p (Ok more)
+      (n p : Option (List ℕ)) (same count more : ℕ)
+      → RoundsSoFar asked at old now a b o n same count
+      → (count ≡ 0) ⊎ (open_of now ≢ []) → IsRound at now next b c n p (Ok more)
       → RoundsSoFar asked (next_round at) old next a c o p (same + more) (count + 1)
-  then_round at now next b c n p same count more (rounds, so_many, here, gone, kept, is)
-      (answers, goes, left, counted) = (
+  then_round at now next b c n p same count more
+      (rounds, so_many, here, gone, kept, is, leave) some (answers, goes, left, counted) = (
         rounds ++ answers ∷ [],
         length-append rounds (answers ∷ []) ∙ ap (λ (k : ℕ). k + 1) so_many,
         ap next_round here ∙ sym (round_then asked rounds answers),
@@ -299,37 +324,68 @@ module _ (asked : Target) (old : List KnownBag) (a : Option (List Move)) (o : Op
             (counted ∙ ap (λ (vs : List KnownBag). same_in vs answers) kept)
             ∙ (ap (λ (k : ℕ). k + same_in (left_after (open_of old) rounds) answers) is
             ∙ sym (same_after_then (open_of old) rounds answers)),
+        leave_then (open_of old) rounds answers leave
+            (some_left rounds (still_left now count rounds so_many kept some)),
       )
 
-  pub stops_at_round : (at : Target) (now next : List KnownBag) (b c : Option (List Move))
-      (n p : Option (List ℕ)) (same count : ℕ) (fault : AskFault)
-      → RoundsSoFar asked at old now a b o n same count
-      → IsRound at now next b c n p (Err fault)
-      → StopsInRounds asked (open_of old) a c o p fault
-  stops_at_round at now next b c n p same count fault (rounds, so_many, here, gone, kept, is)
-      stops =
-      stops_in_round asked (open_of old) a b c o n p rounds fault gone
+  pub stops_at_round : (s : ℕ) (t u : Option (List Beat)) (at : Target)
+      (now next : List KnownBag) (b c : Option (List Move)) (n p : Option (List ℕ))
+      (same count : ℕ) (fault : AskFault) → RoundsSoFar asked at old now a b o n same count
+      → IsAwaited s (open_of now) count t u → IsRound at now next b c n p (Err fault)
+      → StopsInRounds s asked (open_of old) t u a c o p fault
+  stops_at_round s t u at now next b c n p same count fault
+      (rounds, so_many, here, gone, kept, is, leave) awaited stops =
+      stops_in_round asked (open_of old) s t u a b c o n p rounds fault gone
       (subst (λ (t : Target). StopsIn t (left_after (open_of old) rounds) b c n p fault) here
       (subst (λ (vs : List KnownBag). StopsIn at vs b c n p fault) kept stops))
+      leave
+      (subst (λ (k : ℕ). IsAwaited s (left_after (open_of old) rounds) k t u) (sym so_many)
+      (subst (λ (vs : List KnownBag). IsAwaited s vs count t u) kept awaited))
 
   -- no more are the same than there are
   pub same_at_most : (at : Target) (now : List KnownBag) (b : Option (List Move))
       (n : Option (List ℕ)) (same count : ℕ) → RoundsSoFar asked at old now a b o n same count
       → same ≤ length old
-  same_at_most at now b n same count (rounds, so_many, here, gone, kept, is) =
+  same_at_most at now b n same count (rounds, so_many, here, gone, kept, is, leave) =
       omega (arith, is, same_after_bound (open_of old) rounds, open_at_most old)
 
-  pub asked_all : (at : Target) (now : List KnownBag) (b : Option (List Move))
-      (n : Option (List ℕ)) (same count : ℕ) → 1 ≤ count → length now ≡ length old
-      → RoundsSoFar asked at old now a b o n same count
-      → AreAsked asked old now a b o n (Ok same)
-  asked_all at now b n same count some as_long (rounds, so_many, here, gone, kept, is) =
-      (rounds, omega arith, gone, kept, as_long, is)
+  -- there is no other round
+  pub asked_all : (s : ℕ) (t u v : Option (List Beat)) (at : Target) (now : List KnownBag)
+      (b : Option (List Move)) (n : Option (List ℕ)) (same count : ℕ) → length now ≡ length old
+      → RoundsSoFar asked at old now a b o n same count → ArePausesOf s count t u
+      → IsNext s (open_of now) count u v false → AreAsked s asked old now t v a b o n (Ok same)
+  asked_all s t u v at now b n same count as_long
+      (rounds, so_many, here, gone, kept, is, leave) paused ended = (
+        rounds,
+        omega (arith, ended.0),
+        gone,
+        kept,
+        as_long,
+        is,
+        last_of s (open_of old) rounds t (open_of now) u v count so_many kept leave paused ended,
+      )
+
+  pub asked_most : (s : ℕ) (t u : Option (List Beat)) (at : Target) (now : List KnownBag)
+      (b : Option (List Move)) (n : Option (List ℕ)) (same count : ℕ) → count ≡ most_rounds
+      → length now ≡ length old → RoundsSoFar asked at old now a b o n same count
+      → ArePausesOf s count t u → AreAsked s asked old now t u a b o n (Ok same)
+  asked_most s t u at now b n same count most as_long
+      (rounds, so_many, here, gone, kept, is, leave) paused = (
+        rounds,
+        omega arith,
+        gone,
+        kept,
+        as_long,
+        is,
+        most_of s (open_of old) rounds t u count so_many most leave paused,
+      )
 
   -- why it was asked in no more rounds
-  pub ends_rounds : (now : List KnownBag) (b : Option (List Move)) (n : Option (List ℕ))
-      (result : Result ℕ AskFault) (fault : AskFault) → IsErrAnd result (λ e. e ≡ fault)
-      → StopsInRounds asked (open_of old) a b o n fault → AreAsked asked old now a b o n result
-  ends_rounds now b n (Ok same) fault is stops = absurd is
-  ends_rounds now b n (Err e) fault is stops =
-      subst (λ (f : AskFault). StopsInRounds asked (open_of old) a b o n f) (sym is) stops
+  pub ends_rounds : (s : ℕ) (t u : Option (List Beat)) (now : List KnownBag)
+      (b : Option (List Move)) (n : Option (List ℕ)) (result : Result ℕ AskFault)
+      (fault : AskFault) → IsErrAnd result (λ e. e ≡ fault)
+      → StopsInRounds s asked (open_of old) t u a b o n fault
+      → AreAsked s asked old now t u a b o n result
+  ends_rounds s t u now b n (Ok same) fault is stops = absurd is
+  ends_rounds s t u now b n (Err e) fault is stops =
+      subst (λ (f : AskFault). StopsInRounds s asked (open_of old) t u a b o n f) (sym is) stops

@@ -20,6 +20,8 @@ use Rattle.catch_up.specs.declared.rounds.Target.{Target}
 use Rattle.catch_up.specs.Lines.{open_line, count_line}
 use Rattle.catch_up.specs.Rounds.{open_of, round_lines, same_after, left_after, last_round}
 use Rattle.catch_up.specs.Reports.{open_lines, status_of, report, cut_short, IsCaughtUp}
+use Rattle.catch_up.specs.Times.{Beat}
+use Rattle.catch_up.proofs.Paces.{not_to_the_end, to_the_end}
 use Rattle.catch_up.specs.inner.Progress.{AppendsPart, StopsInRounds, AreAsked, AreReported}
 use Rattle.catch_up.proofs.Parts.{part_of_both, then_part}
 use Rattle.catch_up.proofs.Versions.{open_both}
@@ -84,75 +86,86 @@ module _ (vs : List KnownBag) (place : ℕ) (d : KnownBag) (within : place < len
 
 -- ---- the report
 
-module _ (asked : Target) (old : List KnownBag) (a b : Option (List Move)) (o : Option (List ℕ))
-  where
-    pub stops_in_rounds : (n : Option (List ℕ)) (result : Result ℕ AskFault) (fault : AskFault)
-        → IsErrAnd result (λ e. e ≡ fault) → StopsInRounds asked (open_of old) a b o n fault
-        → AreReported asked old a b o n result
-    stops_in_rounds n (Ok status) fault is stops = absurd is
-    stops_in_rounds n (Err e) fault is (rounds, moves, others, grows, are, only, part) =
-        subst (λ (f : AskFault). AreReported asked old a b o n (Err f)) (sym is)
-        (rounds, moves, others, grows, are, only, part_of_both o n _ _ part)
+module _ (s : ℕ) (asked : Target) (old : List KnownBag) (t u : Option (List Beat))
+    (a b : Option (List Move)) (o : Option (List ℕ)) where
+  pub stops_in_rounds : (n : Option (List ℕ)) (result : Result ℕ AskFault) (fault : AskFault)
+      → IsErrAnd result (λ e. e ≡ fault) → StopsInRounds s asked (open_of old) t u a b o n fault
+      → AreReported s asked old t u a b o n result
+  stops_in_rounds n (Ok status) fault is stops = absurd is
+  stops_in_rounds n (Err e) fault is (rounds, moves, others, grows, are, only, part, paced) =
+      subst (λ (f : AskFault). AreReported s asked old t u a b o n (Err f)) (sym is) (
+        rounds,
+        moves,
+        others,
+        grows,
+        are,
+        only,
+        part_of_both o n _ _ part,
+        not_to_the_end s (open_of old) rounds t u paced,
+      )
 
-    module _ (now : List KnownBag) (n : Option (List ℕ)) (same : ℕ)
-        (done : AreAsked asked old now a b o n (Ok same)) where
-      -- after all rounds
-      stops_after : (p : Option (List ℕ)) (fault : AskFault)
-          → AppendsPart n p (open_lines (open_of now) ++ count_line same (length now))
-          → AreReported asked old a b o p (Err fault)
-      stops_after p fault part = go done
-        where
-          go : AreAsked asked old now a b o n (Ok same) → AreReported asked old a b o p (Err fault)
-          go (rounds, some, (moves, grows, are, whole, lines), kept, count, is) = (
-            rounds,
-            moves,
-            [],
-            subst (Grows a b) (sym (append-nil moves)) grows,
-            are,
-            only_answers (last_round asked rounds) fault,
-            then_part o n p (round_lines (open_of old) rounds) _ lines
-                (subst (AppendsPart n p)
-                (ap (λ (vs : List KnownBag). open_lines vs ++ count_line same (length now)) kept
-                ∙ (ap (λ (k : ℕ). open_lines (left_after (open_of old) rounds)
-                ++ count_line k (length now)) is
-                ∙ ap (λ (k : ℕ). open_lines (left_after (open_of old) rounds)
-                ++ count_line (same_after (open_of old) rounds) k) count)) part),
-          )
+  module _ (now : List KnownBag) (n : Option (List ℕ)) (same : ℕ)
+      (done : AreAsked s asked old now t u a b o n (Ok same)) where
+    -- after all rounds
+    stops_after : (p : Option (List ℕ)) (fault : AskFault)
+        → AppendsPart n p (open_lines (open_of now) ++ count_line same (length now))
+        → AreReported s asked old t u a b o p (Err fault)
+    stops_after p fault part = go done
+      where
+        go : AreAsked s asked old now t u a b o n (Ok same)
+            → AreReported s asked old t u a b o p (Err fault)
+        go (rounds, some, (moves, grows, are, whole, lines), kept, count, is, paced) = (
+          rounds,
+          moves,
+          [],
+          subst (Grows a b) (sym (append-nil moves)) grows,
+          are,
+          only_answers (last_round asked rounds) fault,
+          then_part o n p (round_lines (open_of old) rounds) _ lines
+              (subst (AppendsPart n p)
+              (ap (λ (vs : List KnownBag). open_lines vs ++ count_line same (length now)) kept
+              ∙ (ap (λ (k : ℕ). open_lines (left_after (open_of old) rounds)
+              ++ count_line k (length now)) is
+              ∙ ap (λ (k : ℕ). open_lines (left_after (open_of old) rounds)
+              ++ count_line (same_after (open_of old) rounds) k) count)) part),
+          to_the_end s (open_of old) rounds t u paced,
+        )
 
-      pub stops_in_open : (p : Option (List ℕ)) (result : Result ℕ AskFault) (fault : AskFault)
-          → IsErrAnd result (λ e. e ≡ fault) → AppendsPart n p (open_lines (open_of now))
-          → AreReported asked old a b o p result
-      stops_in_open p (Ok status) fault is part = absurd is
-      stops_in_open p (Err e) fault is part = stops_after p e (part_of_both n p _ _ part)
+    pub stops_in_open : (p : Option (List ℕ)) (result : Result ℕ AskFault) (fault : AskFault)
+        → IsErrAnd result (λ e. e ≡ fault) → AppendsPart n p (open_lines (open_of now))
+        → AreReported s asked old t u a b o p result
+    stops_in_open p (Ok status) fault is part = absurd is
+    stops_in_open p (Err e) fault is part = stops_after p e (part_of_both n p _ _ part)
 
-      pub all_written : (p q : Option (List ℕ)) → Appends n p (open_lines (open_of now))
-          → (result : Result ℕ AskFault)
-          → IfOk result (λ status. status ≡ status_of same (length now))
-          → OnOk result (Appends p q (count_line same (length now)))
-          → OnErr result (AppendsPart p q (count_line same (length now)))
-          → AreReported asked old a b o q result
-      all_written p q lines (Err fault) status ok err =
-          stops_after q fault (then_part n p q _ _ lines err)
-      all_written p q lines (Ok given) status ok err = go done
-        where
-          go : AreAsked asked old now a b o n (Ok same) → AreReported asked old a b o q (Ok given)
-          go (rounds, some, (moves, grows, are, whole, before), kept, count, is) = (
-            rounds,
-            moves,
-            grows,
-            are,
-            (some, whole),
-            status ∙ (ap (λ (k : ℕ). status_of k (length now)) is
-                ∙ ap (status_of (same_after (open_of old) rounds)) count),
-            Appends-trans o n q (round_lines (open_of old) rounds) _ before
-                (subst (Appends n q)
-                (ap (λ (vs : List KnownBag). open_lines vs ++ count_line same (length now)) kept
-                ∙ (ap (λ (k : ℕ). open_lines (left_after (open_of old) rounds)
-                ++ count_line k (length now)) is
-                ∙ ap (λ (k : ℕ). open_lines (left_after (open_of old) rounds)
-                ++ count_line (same_after (open_of old) rounds) k) count))
-                (Appends-trans n p q _ _ lines ok)),
-          )
+    pub all_written : (p q : Option (List ℕ)) → Appends n p (open_lines (open_of now))
+        → (result : Result ℕ AskFault)
+        → IfOk result (λ status. status ≡ status_of same (length now))
+        → OnOk result (Appends p q (count_line same (length now)))
+        → OnErr result (AppendsPart p q (count_line same (length now)))
+        → AreReported s asked old t u a b o q result
+    all_written p q lines (Err fault) status ok err =
+        stops_after q fault (then_part n p q _ _ lines err)
+    all_written p q lines (Ok given) status ok err = go done
+      where
+        go : AreAsked s asked old now t u a b o n (Ok same)
+            → AreReported s asked old t u a b o q (Ok given)
+        go (rounds, some, (moves, grows, are, whole, before), kept, count, is, paced) = (
+          rounds,
+          moves,
+          grows,
+          are,
+          (some, whole, paced),
+          status ∙ (ap (λ (k : ℕ). status_of k (length now)) is
+              ∙ ap (status_of (same_after (open_of old) rounds)) count),
+          Appends-trans o n q (round_lines (open_of old) rounds) _ before
+              (subst (Appends n q)
+              (ap (λ (vs : List KnownBag). open_lines vs ++ count_line same (length now)) kept
+              ∙ (ap (λ (k : ℕ). open_lines (left_after (open_of old) rounds)
+              ++ count_line k (length now)) is
+              ∙ ap (λ (k : ℕ). open_lines (left_after (open_of old) rounds)
+              ++ count_line (same_after (open_of old) rounds) k) count))
+              (Appends-trans n p q _ _ lines ok)),
+        )
 
 -- part of a text, of whatever fault
 pub of_part : {T : Type 0} (result : Result T AskFault) (a b : Option (List ℕ)) (x y : List ℕ)
@@ -175,40 +188,41 @@ output_is fault is = cc
 
 -- ---- what the command ends with
 
-module _ (asked : Target) (vs : List KnownBag) (a b : Option (List Move)) (o n : Option (List ℕ))
-  where
-    pub ended : (status : ℕ) → AreReported asked vs a b o n (Ok status)
-        → IsCaughtUp asked vs a b o n (Ok status)
-    ended status (rounds, moves, grows, are, whole, is, lines) =
-        inl (rounds, moves, grows, are, whole, (is, lines))
+module _ (s : ℕ) (asked : Target) (vs : List KnownBag) (t u : Option (List Beat))
+    (a b : Option (List Move)) (o n : Option (List ℕ)) where
+  pub ended : (status : ℕ) → AreReported s asked vs t u a b o n (Ok status)
+      → IsCaughtUp s asked vs t u a b o n (Ok status)
+  ended status (rounds, moves, grows, are, whole, is, lines) =
+      inl (rounds, moves, grows, are, whole, tt, (is, lines))
 
-    pub output_failed : AreReported asked vs a b o n (Err Output)
-        → IsCaughtUp asked vs a b o n (Err faults.Output)
-    output_failed (rounds, moves, others, grows, are, only, part) =
-        inl (
-          rounds,
-          moves,
-          subst (Grows a b)
-              (ap (λ (l : List Move). moves ++ l) only ∙ append-nil moves) grows,
-          are,
-          tt,
-          (refl, part),
-        )
+  pub output_failed : AreReported s asked vs t u a b o n (Err Output)
+      → IsCaughtUp s asked vs t u a b o n (Err faults.Output)
+  output_failed (rounds, moves, others, grows, are, only, part, paced) =
+      inl (
+        rounds,
+        moves,
+        subst (Grows a b)
+            (ap (λ (l : List Move). moves ++ l) only ∙ append-nil moves) grows,
+        are,
+        tt,
+        paced,
+        (refl, part),
+      )
 
-    pub memory_ran_out : (p : Option (List ℕ)) (result : Result ℕ ProgramFault)
-        → AreReported asked vs a b o n (Err Memory)
-        → IfOk result (λ given. (given ≡ 1) × Appends n p no_memory.text)
-        → OnErr result ((result ≡ Err faults.Output)
-        × ((k : ℕ) × Appends n p (take k no_memory.text)))
-        → IsCaughtUp asked vs a b o p result
-    memory_ran_out p result (rounds, moves, others, grows, are, only, (count, part)) ok err =
-        inr (rounds, moves, others, grows, are, only, (count, go result ok err))
-      where
-        go : (r : Result ℕ ProgramFault)
-            → IfOk r (λ given. (given ≡ 1) × Appends n p no_memory.text)
-            → OnErr r ((r ≡ Err faults.Output)
-            × ((k : ℕ) × Appends n p (take k no_memory.text)))
-            → IsWritten o p r (cut_short count (report vs rounds))
-        go (Ok status) ok err = (ok.0, Appends-trans o n p _ no_memory.text part ok.1)
-        go (Err fault) ok err =
-            (output_is fault err.0, then_part o n p _ no_memory.text part err.1)
+  pub memory_ran_out : (p : Option (List ℕ)) (result : Result ℕ ProgramFault)
+      → AreReported s asked vs t u a b o n (Err Memory)
+      → IfOk result (λ given. (given ≡ 1) × Appends n p no_memory.text)
+      → OnErr result ((result ≡ Err faults.Output)
+      × ((k : ℕ) × Appends n p (take k no_memory.text)))
+      → IsCaughtUp s asked vs t u a b o p result
+  memory_ran_out p result (rounds, moves, others, grows, are, only, (count, part), paced) ok err =
+      inr (rounds, moves, others, grows, are, only, paced, (count, go result ok err))
+    where
+      go : (r : Result ℕ ProgramFault)
+          → IfOk r (λ given. (given ≡ 1) × Appends n p no_memory.text)
+          → OnErr r ((r ≡ Err faults.Output)
+          × ((k : ℕ) × Appends n p (take k no_memory.text)))
+          → IsWritten o p r (cut_short count (report vs rounds))
+      go (Ok status) ok err = (ok.0, Appends-trans o n p _ no_memory.text part ok.1)
+      go (Err fault) ok err =
+          (output_is fault err.0, then_part o n p _ no_memory.text part err.1)

@@ -1,6 +1,6 @@
 -- What is written of the rounds in which a site is asked.
 use Rattle.std.specs.Prelude.{◌⊎◌, ℕ, ◌==◌, ◌≤◌, if◌then◌else◌, List, ◌++◌, length, take}
-use Rattle.std.specs.Prelude.{Option, Result, OnOk}
+use Rattle.std.specs.Prelude.{Option, Result, OnOk, OnErr}
 use Rattle.std.specs.List.{flat_map}
 use Rattle.known_bags.specs.declared.known_bag.KnownBag.{KnownBag}
 use Rattle.outcomes.specs.declared.fault.ProgramFault.{ProgramFault}
@@ -11,6 +11,7 @@ use Rattle.catch_up.specs.declared.rounds.Target.{Target}
 use Rattle.catch_up.specs.Lines.{open_line, count_line}
 use Rattle.catch_up.specs.Rounds.{Answer, open_of, AreRounds, AreWhole, round_lines, same_after}
 use Rattle.catch_up.specs.Rounds.{left_after, last_round, IsOneMore}
+use Rattle.catch_up.specs.Times.{Beat, AreAllRounds, AreSoManyRounds}
 
 -- a line for each version that is left
 unfoldable pub open_lines : List KnownBag → List ℕ
@@ -40,28 +41,35 @@ cut_short n outcome = record {
   text = take n outcome.text ++ no_memory.text;
 }
 
--- The site is asked in one round or more, each of them whole, and the report of its answers is
--- written; or the output fails, after a prefix of the report of the answers until then.
-abbrev pub IsReported : Target → List KnownBag → (before after : Option (List Move))
+-- The site is asked in one round or more, each of them whole, until nothing is left or the time is
+-- over, and the report of its answers is written; or the output fails, after a prefix of the report
+-- of the answers until then.
+abbrev pub IsReported : (seconds : ℕ) → Target → List KnownBag
+    → (since until : Option (List Beat)) → (before after : Option (List Move))
     → (old new : Option (List ℕ)) → Result ℕ ProgramFault → Type 0
-IsReported asked versions before after old new result =
+IsReported seconds asked versions since until before after old new result =
     (rounds : List (List Answer)) × (moves : List Move) × Grows before after moves
     × AreRounds asked (open_of versions) rounds moves
-    × OnOk result ((1 ≤ length rounds) × AreWhole (open_of versions) rounds)
+    × OnOk result ((1 ≤ length rounds) × AreWhole (open_of versions) rounds
+    × AreAllRounds seconds (open_of versions) rounds since until)
+    × OnErr result (AreSoManyRounds seconds (open_of versions) rounds since until)
     × IsWritten old new result (report versions rounds)
 
 -- Memory runs out, while the site is asked for one more version or the next line is made: a prefix
 -- of the report of the answers until then is written, and the line `memory`.
-abbrev pub IsCutShort : Target → List KnownBag → (before after : Option (List Move))
+abbrev pub IsCutShort : (seconds : ℕ) → Target → List KnownBag
+    → (since until : Option (List Beat)) → (before after : Option (List Move))
     → (old new : Option (List ℕ)) → Result ℕ ProgramFault → Type 0
-IsCutShort asked versions before after old new result =
+IsCutShort seconds asked versions since until before after old new result =
     (rounds : List (List Answer)) × (moves : List Move) × (others : List Move)
     × Grows before after (moves ++ others)
     × AreRounds asked (open_of versions) rounds moves × IsOneMore (last_round asked rounds) others
+    × AreSoManyRounds seconds (open_of versions) rounds since until
     × ((n : ℕ) × IsWritten old new result (cut_short n (report versions rounds)))
 
-abbrev pub IsCaughtUp : Target → List KnownBag → (before after : Option (List Move))
+abbrev pub IsCaughtUp : (seconds : ℕ) → Target → List KnownBag
+    → (since until : Option (List Beat)) → (before after : Option (List Move))
     → (old new : Option (List ℕ)) → Result ℕ ProgramFault → Type 0
-IsCaughtUp asked versions before after old new result =
-    IsReported asked versions before after old new result
-    ⊎ IsCutShort asked versions before after old new result
+IsCaughtUp seconds asked versions since until before after old new result =
+    IsReported seconds asked versions since until before after old new result
+    ⊎ IsCutShort seconds asked versions since until before after old new result

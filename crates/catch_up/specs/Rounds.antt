@@ -25,7 +25,7 @@ question asked slot = record {
   to = asked.to;
   target = asked.target;
   slot = slot;
-  ports = asked.ports.now;
+  addresses = asked.addresses.now;
   asked = asked.round;
 }
 
@@ -43,8 +43,8 @@ bag_in None = None
 bag_in (Some (ToDeposit answer)) = None
 bag_in (Some (ToQuery answer)) = bag_by answer
 
--- The site is asked for the slot's bag, in each round once; so the round is how many questions about
--- it came before. After enough of them each question brings a Recover.
+-- The site is asked for the slot's bag, in each round once; so the round is how many questions
+-- about it came before. After enough of them each question brings a Recover.
 abbrev pub AsksFor : Target → SlotName → List Move → Type 0
 AsksFor asked slot moves =
     Asks (asked.target, datagram_to (question asked slot) None) (recovery_of (question asked slot))

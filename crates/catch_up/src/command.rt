@@ -1,15 +1,18 @@
 //! The command `catch-up`.
 
 use crate::arguments::CatchUpTask;
+use crate::clock_timer::ClockTimer;
 use crate::rounds::{Target, catch_up_on};
+use addresses::Address;
 use counted_writes::CountedWriter;
 use known_bags::{KnownBag, push_source, write_fault};
 use outcomes::ProgramFault;
-use site_commands::{Stop, keys_for, members_at, port_of, ports_of, socket, write_stop};
+use site_commands::{
+    Stop, address_of, addresses_of, client_socket, keys_for, members_at, write_stop,
+};
 use std::io;
 use std::io::Write;
-use tags::KeyRing;
-use udp_site::Waits;
+use udp_site::{UdpPort, Waits};
 
 /// Asks as the arguments say. The lines are written to standard output.
 pub fn catch_up_site(rt: &HostRuntime, task: &CatchUpTask<'_>) -> Result<u8, ProgramFault> {
@@ -27,24 +30,26 @@ pub fn catch_up_site(rt: &HostRuntime, task: &CatchUpTask<'_>) -> Result<u8, Pro
     }
 }
 
-/// The federation, the port of the site that is asked, those of all sites, and the keys, if there
-/// are some.
+/// The federation, the address of the site that is asked, those of all sites, and the socket from
+/// which it is asked.
 #[derive(Drop)]
 struct Sites {
     federation: u64,
-    target: u16,
-    ports: Vec<u16>,
-    keys: Option<KeyRing>,
+    target: Address,
+    addresses: Vec<Address>,
+    port: UdpPort,
 }
 
 fn asked_by(rt: &HostRuntime, task: &CatchUpTask<'_>) -> Result<Sites, Stop> {
     let members = members_at(rt, task.members)?;
-    let target = port_of(&members, task.to)?;
+    let target = address_of(&members, task.to)?;
+    let addresses = addresses_of(rt.alloc(), &members)?;
+    let keys = keys_for(rt, task.key)?;
     Ok(Sites {
         federation: members.members().federation(),
         target,
-        ports: ports_of(rt.alloc(), &members)?,
-        keys: keys_for(rt, task.key)?,
+        addresses,
+        port: client_socket(rt, &members, target, Waits::always(task.wait), keys)?,
     })
 }
 
@@ -53,27 +58,31 @@ fn ask_all<W: Write + Drop>(
     task: &CatchUpTask<'_>,
     sites: Sites,
     versions: &mut Vec<KnownBag>,
-    mut output: W,
+    output: W,
 ) -> Result<u8, ProgramFault> {
     let Sites {
         federation,
         target,
-        ports,
-        keys,
+        addresses,
+        mut port,
     } = sites;
     let asked = Target {
         federation,
         to: task.to,
         target,
-        ports: &ports,
+        addresses: &addresses,
         round: 0,
     };
-    match socket(rt, federation, 0, Waits::always(task.wait), keys) {
-        Ok(mut port) => {
-            let alloc = rt.alloc();
-            let output = &mut CountedWriter::new(output);
-            catch_up_on(alloc, rt, &mut port, &asked, versions, task.seconds, output)
-        }
-        Err(stop) => write_stop(rt.alloc(), &mut output, stop),
-    }
+    let alloc = rt.alloc();
+    let timer = &mut ClockTimer::new(rt);
+    let output = &mut CountedWriter::new(output);
+    catch_up_on(
+        alloc,
+        timer,
+        &mut port,
+        &asked,
+        versions,
+        task.seconds,
+        output,
+    )
 }

@@ -6,10 +6,14 @@
 #![tactic(auto)]
 
 mod arguments;
+mod clock_timer;
 mod command;
+mod next_round;
 mod progress;
 mod rounds;
+mod timer;
 
 pub use arguments::{CatchUpTask, catch_up_command, catch_up_task};
 pub use command::catch_up_site;
 pub use rounds::{Target, catch_up_on};
+pub use timer::Timer;

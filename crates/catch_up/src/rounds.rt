@@ -11,7 +11,10 @@ ghost use Rattle.catch_up.specs.inner.Progress.{AppendsPart, IsAskedFor, IsAsked
 ghost use Rattle.catch_up.specs.inner.Progress.{AreAsked, AreReported};
 ghost use Rattle.catch_up.specs.declared.rounds.AskFault.TheVariants.{Memory, Output};
 
+use crate::next_round::awaits_round;
 use crate::progress::{count_line, known_line, open_line};
+use crate::timer::Timer;
+use addresses::Address;
 use counted_writes::{CountedWrite, write_output};
 use dgram::QueryAnswer;
 use fed_types::{BagId, SiteNo};
@@ -19,14 +22,7 @@ use known_bags::KnownBag;
 use outcomes::ProgramFault;
 use site_commands::{Request, ask_for_bag};
 use std::alloc::{AllocError, Global};
-use std::thread;
-use std::time::{Clock, Duration, Instant};
 use udp_site::Port;
-
-/// How many milliseconds are between two rounds of questions at first, and at most.
-const FIRST_PAUSE: u64 = 20;
-
-const LONGEST_PAUSE: u64 = 1000;
 
 /// The site that is asked.
 #[derive(Clone, Copy)]
@@ -34,9 +30,9 @@ pub struct Target<'a> {
     pub federation: u64,
     pub to: SiteNo,
     /// Its port.
-    pub target: u16,
-    /// The ports of all sites, that of site 1 first.
-    pub ports: &'a [u16],
+    pub target: Address,
+    /// The addresses of all sites, that of site 1 first.
+    pub addresses: &'a [Address],
     /// In how many rounds it was asked before.
     pub round: u32,
 }
@@ -50,7 +46,7 @@ impl<'a> Target<'a> {
             federation: self.federation,
             to: self.to,
             target: self.target,
-            ports: self.ports,
+            addresses: self.addresses,
             round,
         }
     }
@@ -80,27 +76,29 @@ impl From<AllocError> for AskFault {
     }
 }
 
-/// Asks for each version, again and again for so many seconds at most, and writes a line for each
-/// as soon as the site knows it; then one for each that is left, and how many of how many it knows
-/// as the sources do. From the seventh question about a version on a site is asked to recover it
-/// after each: first the same site, and then the others in turn. The status is 0 where the site
-/// knows all. Where memory runs out, the line `memory` follows what was written, and
-/// the status is 1.
-pub fn catch_up_on<P: Port, C: Clock, W: CountedWrite>(
+/// Asks for each version, again and again until the site knows all or so many seconds have passed,
+/// and writes a line for each as soon as the site knows it; then one for each that is left, and how
+/// many of how many it knows as the sources do. Between two rounds there is a pause: 2 ms, then
+/// twice as long each time, and a second at most. From the tenth question about a version on a
+/// site is asked to recover it after each: first the same site, and then the others in turn. The
+/// status is 0 where the site knows all. Where memory runs out, the line `memory` follows what was
+/// written, and the status is 1.
+pub fn catch_up_on<P: Port, T: Timer, W: CountedWrite>(
     alloc: Global,
-    clock: &C,
+    timer: &mut T,
     port: &mut P,
     asked: &Target<'_>,
     versions: &mut [KnownBag],
     seconds: u32,
     output: &mut W,
 ) -> Result<u8, ProgramFault>
-    ensures told { IsCaughtUp asked.now versions.old (P.traffic port.old) (P.traffic port.new)
-        (W.contents output.old) (W.contents output.new) result }
+    ensures told { IsCaughtUp seconds asked.now versions.old (T.beats timer.old)
+        (T.beats timer.new) (P.traffic port.old) (P.traffic port.new) (W.contents output.old)
+        (W.contents output.new) result }
     ensures cause { HasCause ProgramFault.Output (W.failures output.old) (W.failures output.new)
         result }
 {
-    match report_on(alloc, clock, port, asked, versions, seconds, output) {
+    match report_on(alloc, timer, port, asked, versions, seconds, output) {
         Ok(status) => Ok(status),
         Err(AskFault::Memory) => write_output(output, 1, "memory\n"),
         Err(AskFault::Output) => Err(ProgramFault::Output),
@@ -108,62 +106,50 @@ pub fn catch_up_on<P: Port, C: Clock, W: CountedWrite>(
 }
 
 // Asks, and writes the lines.
-fn report_on<P: Port, C: Clock, W: CountedWrite>(
+fn report_on<P: Port, T: Timer, W: CountedWrite>(
     alloc: Global,
-    clock: &C,
+    timer: &mut T,
     port: &mut P,
     asked: &Target<'_>,
     versions: &mut [KnownBag],
     seconds: u32,
     output: &mut W,
 ) -> Result<u8, AskFault>
-    ensures asked { AreReported asked.now versions.old (P.traffic port.old) (P.traffic port.new)
-        (W.contents output.old) (W.contents output.new) result }
+    ensures asked { AreReported seconds asked.now versions.old (T.beats timer.old)
+        (T.beats timer.new) (P.traffic port.old) (P.traffic port.new) (W.contents output.old)
+        (W.contents output.new) result }
     ensures cause { HasCause Output (W.failures output.old) (W.failures output.new) result }
 {
-    let same = ask_rounds(alloc, clock, port, asked, versions, seconds, output)?;
+    let same = ask_rounds(alloc, timer, port, asked, versions, seconds, output)?;
     write_open(alloc, versions, output)?;
     write_count(alloc, same, versions.len(), output)
 }
 
 // Asks in rounds, and gives how many the site knows as the sources do.
-fn ask_rounds<P: Port, C: Clock, W: CountedWrite>(
+fn ask_rounds<P: Port, T: Timer, W: CountedWrite>(
     alloc: Global,
-    clock: &C,
+    timer: &mut T,
     port: &mut P,
     asked: &Target<'_>,
     versions: &mut [KnownBag],
     seconds: u32,
     output: &mut W,
 ) -> Result<usize, AskFault>
-    ensures asked { AreAsked asked.now versions.old versions.new (P.traffic port.old)
-        (P.traffic port.new) (W.contents output.old) (W.contents output.new) result }
+    ensures asked { AreAsked seconds asked.now versions.old versions.new (T.beats timer.old)
+        (T.beats timer.new) (P.traffic port.old) (P.traffic port.new) (W.contents output.old)
+        (W.contents output.new) result }
     ensures cause { HasCause Output (W.failures output.old) (W.failures output.new) result }
 {
     let mut same = 0usize;
-    let mut millis = FIRST_PAUSE;
-    let start = Instant::now(clock).ok();
     let mut round = asked.at(asked.round);
-    for _ in 0..u32::MAX {
-        same += ask_round(alloc, port, &round, versions, output)?;
-        if versions.iter().all(|it| it.is_found) || is_over(clock, start, seconds) {
+    for count in 0..u32::MAX {
+        if !awaits_round(timer, versions, seconds, count) {
             return Ok(same);
         }
-        thread::sleep(clock, Duration::from_millis(millis));
-        millis = millis.saturating_mul(2).min(LONGEST_PAUSE);
+        same += ask_round(alloc, port, &round, versions, output)?;
         round = round.next();
     }
     Ok(same)
-}
-
-fn is_over<C: Clock>(clock: &C, start: Option<Instant>, seconds: u32) -> bool {
-    match start {
-        Some(start) => match start.elapsed(clock) {
-            Ok(elapsed) => Duration::from_secs(u64::from(seconds)) <= elapsed,
-            Err(_) => true,
-        },
-        None => true,
-    }
 }
 
 // Asks once for each that isn't known, and gives how many the site now knows as the sources do.
@@ -246,7 +232,7 @@ fn known_bag<P: Port>(
         to: asked.to,
         target: asked.target,
         slot: &version.slot,
-        ports: asked.ports,
+        addresses: asked.addresses,
         asked: asked.round,
     };
     match ask_for_bag(alloc, port, &request)? {

@@ -1,2 +1,5 @@
 pub mod Names
 pub mod Meanings
+pub mod Codes
+pub mod Rows
+pub mod Lines

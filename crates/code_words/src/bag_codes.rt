@@ -1,8 +1,12 @@
 //! The codes of folders that are no valid bags, or can't be read.
 
-ghost use Rattle.std.specs.Prelude.{◌≤◌, ◌↔◌, IsSome};
+ghost use Rattle.std.specs.Prelude.{◌≡◌, ◌≤◌, ◌↔◌, IsSome, option_map};
+ghost use Rattle.std.specs.Option.{option_copied};
+ghost use Rattle.code_words.specs.Codes.{invalid_codes, unread_codes};
+ghost use Rattle.code_words.specs.Rows.{row, code_of};
 
 use crate::meaning::Meaning;
+use crate::row::row;
 
 /// What `invalid N` says, N from 1 on.
 pub static INVALID: [Meaning; 15] = [
@@ -124,14 +128,16 @@ pub static UNREAD: [Meaning; 7] = [
 
 /// What `invalid` with this number says, if there is such a number.
 pub fn invalid(number: u8) -> Option<&'static Meaning>
-    ensures { IsSome result ↔ ((1 ≤ number) × (number ≤ 15)) }
+    ensures code { option_map code_of (option_copied result) ≡ row invalid_codes number }
+    ensures is { IsSome result ↔ ((1 ≤ number) × (number ≤ 15)) }
 {
-    INVALID.get(usize::from(number).checked_sub(1)?)
+    row(INVALID.as_slice(), number)
 }
 
 /// What `unread` with this number says, if there is such a number.
 pub fn unread(number: u8) -> Option<&'static Meaning>
-    ensures { IsSome result ↔ ((1 ≤ number) × (number ≤ 7)) }
+    ensures code { option_map code_of (option_copied result) ≡ row unread_codes number }
+    ensures is { IsSome result ↔ ((1 ≤ number) × (number ≤ 7)) }
 {
-    UNREAD.get(usize::from(number).checked_sub(1)?)
+    row(UNREAD.as_slice(), number)
 }

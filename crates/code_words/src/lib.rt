@@ -12,11 +12,13 @@
 
 mod bag_codes;
 mod cell_codes;
+mod code_of_line;
 mod meaning;
 mod name;
 mod of_line;
 mod other_codes;
 mod refusal_codes;
+mod row;
 mod schedule_codes;
 mod table;
 

@@ -2,8 +2,8 @@
 
 use crate::meaning::Meaning;
 
-/// The number of the first of them.
-pub(crate) const FIRST_REFUSAL: usize = 10;
+/// The number before the first of them.
+pub(crate) const BEFORE_REFUSED: u8 = 9;
 
 /// What `refused S N` says, for N from 10 on. For `refused S 10 N` a fault of the bag says more.
 pub static REFUSED: [Meaning; 10] = [

@@ -1,3 +1,4 @@
 pub mod Verdicts
 pub mod Explanations
 pub mod Reports
+pub mod Names

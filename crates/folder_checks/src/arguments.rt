@@ -1,5 +1,6 @@
 //! The arguments of the command `check`.
 
+use crate::folder_list::FolderList;
 use crate::report::Report;
 use clap::{Arg, ArgAction, ArgMatches, Command};
 use std::alloc::{AllocError, Global};
@@ -47,6 +48,12 @@ number of the fault and where it is, a space as %20:
 
 Of several folders, each of these lines but `memory` has the folder before it:
   path/to/bag invalid 14
+With --named, --from or --from0 that is so of one folder too.
+
+--from FILE checks the folders that FILE lists, one a line, and --from0 FILE
+those that zero bytes end, as `find -print0` writes them; `-` is standard input.
+All bytes up to the end are the name, a CR too. A name of no bytes, and one that
+isn't UTF-8, is `unread 1`. If FILE can't be read, the only line is `open 4`.
 
 With --words standard error says in words what is wrong, of all that can be
 read, with names as they are: digests beside those that are listed, names that
@@ -56,7 +63,10 @@ codes` lists what each number says.
 With --progress lines on standard error say how far it is:
   1000 of 2500 files, 4096000 of 10240000 bytes, 300 MB/s
 On a terminal it is one line, also without --progress, which is renewed once a
-second at most; with --quiet there is none.
+second at most; with --quiet there is none. With --named, --from or --from0
+there is a line a second at most, which begins with the bag, and how much of all
+bags is done:
+  bag 12 of 500, 2 %, 40 min left: 7 of 9 files, 4096 of 9216 bytes, 300 MB/s
 
 With --registered FILE, a site's cell or a list that `ledger` printed, lines
 there say which of the known bags the folders are, once all are checked:
@@ -75,14 +85,20 @@ Examples:
   bagpaxos check --explain path/to/bag
   bagpaxos check --progress path/to/bag
   bagpaxos check path/to/bag path/to/another
-  bagpaxos check --registered cell.1 bags/*";
+  bagpaxos check --registered cell.1 bags/*
+  find bags -mindepth 1 -maxdepth 1 -print0 | bagpaxos check --from0 -
+  printf '%s\\0' bags/* | xargs -0 -n 100 -P 4 bagpaxos check --named";
 
 /// Folders to check.
 #[derive(Debug, Drop)]
 pub struct CheckTask<'a> {
-    /// Their paths, one or more.
+    /// Their paths: one or more, or none if there is a list.
     pub paths: Vec<&'a str>,
     pub report: Report,
+    /// Whether each line has the folder before it, of one folder too.
+    pub named: bool,
+    /// The list that names the folders, if none of them are arguments.
+    pub list: Option<FolderList<'a>>,
     /// Whether to say in words what is wrong.
     pub words: bool,
     /// Whether to say how far it is.
@@ -111,6 +127,8 @@ pub fn check_task<'a>(
     Ok(CheckTask {
         paths,
         report,
+        named: matches.get_flag("named"),
+        list: list_in(matches),
         words: matches.get_flag("words"),
         progress: matches.get_flag("progress"),
         quiet: matches.get_flag("quiet"),
@@ -118,12 +136,18 @@ pub fn check_task<'a>(
     })
 }
 
+fn list_in<'a>(matches: &ArgMatches<'a>) -> Option<FolderList<'a>> {
+    if let Some(path) = matches.get_str("from") {
+        return Some(FolderList { path, end: b'\n' });
+    }
+    match matches.get_str("from0") {
+        Some(path) => Some(FolderList { path, end: 0 }),
+        None => None,
+    }
+}
+
 /// The command, with its help.
 pub fn check_command<'a>(alloc: Global) -> Result<Command<'a>, AllocError> {
-    let folders = Arg::new(alloc, "FOLDER")
-        .required(true)
-        .num_args(1..)
-        .help("The bags' folders");
     let explain = Arg::new(alloc, "explain")
         .long("explain")
         .action(ArgAction::SetTrue)
@@ -141,7 +165,46 @@ pub fn check_command<'a>(alloc: Global) -> Result<Command<'a>, AllocError> {
         .after_help(EXAMPLE);
     let command = with_flags(command, explain, words_argument(alloc))?;
     let command = with_flags(command, progress, quiet_argument(alloc)?)?;
-    command.arg(registered)?.arg(folders)
+    let command = with_flags(command, named_argument(alloc)?, list_argument(alloc)?)?;
+    let command = with_flags(command, list0_argument(alloc)?, registered)?;
+    command.arg(folders_argument(alloc)?)
+}
+
+fn named_argument<'a>(alloc: Global) -> Result<Arg<'a>, AllocError> {
+    Arg::new(alloc, "named")
+        .long("named")
+        .action(ArgAction::SetTrue)
+        .help("Begin each line with its folder, of one folder too")
+        .conflicts_with("registered")
+}
+
+fn list_argument<'a>(alloc: Global) -> Result<Arg<'a>, AllocError> {
+    let list = Arg::new(alloc, "from")
+        .long("from")
+        .value_name("FILE")
+        .help("Check the folders that FILE lists, one a line");
+    alone(list)?.conflicts_with("from0")
+}
+
+fn list0_argument<'a>(alloc: Global) -> Result<Arg<'a>, AllocError> {
+    let list = Arg::new(alloc, "from0")
+        .long("from0")
+        .value_name("FILE")
+        .help("The same, each ended by a zero byte");
+    alone(list)
+}
+
+// A list, which names all folders.
+fn alone<'a>(list: Arg<'a>) -> Result<Arg<'a>, AllocError> {
+    list.conflicts_with("FOLDER")?.conflicts_with("registered")
+}
+
+fn folders_argument<'a>(alloc: Global) -> Result<Arg<'a>, AllocError> {
+    Arg::new(alloc, "FOLDER")
+        .num_args(1..)
+        .help("The bags' folders")
+        .required_unless_present("from")?
+        .required_unless_present("from0")
 }
 
 fn words_argument<'a>(alloc: Global) -> Arg<'a> {

@@ -2,19 +2,100 @@
 
 use crate::all_folders::check_all_on;
 use crate::arguments::CheckTask;
+use crate::folder_list::{FolderList, list_bytes, names_in};
+use crate::named_folders::check_names_on;
 use crate::progress::{Progress, Saying};
 use crate::report::Report;
+use crate::tallied_folders::TalliedFolders;
+use crate::tally::Tally;
 use bag_folders::{DiskFolders, Folders};
 use bag_words::SpokenFolders;
-use counted_writes::{CountedWriter, write_output};
-use outcomes::ProgramFault;
-use std::alloc::AllocError;
-use std::io;
+use counted_writes::{CountedWrite, CountedWriter, write_output};
+use outcomes::{ProgramFault, ReadFault};
+use std::alloc::{AllocError, Global};
 use std::io::{IsTerminal, Stderr};
+use std::time::Instant;
+use std::{io, str};
 
 /// Checks as the arguments say. It writes the lines to standard output, and its progress to
 /// standard error.
 pub fn check_folders(rt: &HostRuntime, task: &CheckTask<'_>) -> Result<u8, ProgramFault> {
+    match task.list {
+        Some(list) => check_listed(rt, task, list),
+        None if task.named => check_named(rt, task),
+        None => check_given(rt, task),
+    }
+}
+
+// Checks the folders of a list. If that can't be read, a line says so.
+fn check_listed(
+    rt: &HostRuntime,
+    task: &CheckTask<'_>,
+    list: FolderList<'_>,
+) -> Result<u8, ProgramFault> {
+    let mut output = CountedWriter::new(io::writer(rt));
+    let bytes = match list_bytes(rt, list) {
+        Ok(bytes) => bytes,
+        Err(ReadFault::Input) => return write_output(&mut output, 1, "open 4\n"),
+        Err(ReadFault::Memory) => return write_output(&mut output, 1, "memory\n"),
+    };
+    match names_in(rt.alloc(), bytes.as_slice(), list.end) {
+        Ok(names) => check_names(rt, task, names.as_slice(), &mut output),
+        Err(AllocError) => write_output(&mut output, 1, "memory\n"),
+    }
+}
+
+// Checks the folders that the arguments name, each with its name.
+fn check_named(rt: &HostRuntime, task: &CheckTask<'_>) -> Result<u8, ProgramFault> {
+    let mut output = CountedWriter::new(io::writer(rt));
+    match names_of(rt.alloc(), task.paths.as_slice()) {
+        Ok(names) => check_names(rt, task, names.as_slice(), &mut output),
+        Err(AllocError) => write_output(&mut output, 1, "memory\n"),
+    }
+}
+
+fn names_of<'a>(alloc: Global, paths: &[&'a str]) -> Result<Vec<&'a [u8]>, AllocError> {
+    let mut names = Vec::new(alloc);
+    for path in paths {
+        names.push(path.as_bytes())?;
+    }
+    Ok(names)
+}
+
+fn check_names<W: CountedWrite>(
+    rt: &HostRuntime,
+    task: &CheckTask<'_>,
+    names: &[&[u8]],
+    output: &mut W,
+) -> Result<u8, ProgramFault> {
+    let folders = TalliedFolders::new(rt, are_all_wanted(task), tally(rt, task, names));
+    let mut folders = spoken_folders(rt, task, folders);
+    let answer = check_names_on(rt.alloc(), &mut folders, names, task.report, output);
+    folders.folders().end();
+    folders.say();
+    answer
+}
+
+// What is said of these folders while they are read. One whose name isn't UTF-8 isn't read.
+fn tally(rt: &HostRuntime, task: &CheckTask<'_>, names: &[&[u8]]) -> Tally {
+    let mut folders: u64 = 0;
+    for name in names {
+        if str::from_utf8(name).is_ok() {
+            folders = folders.saturating_add(1);
+        }
+    }
+    Tally {
+        folder: 0,
+        folders,
+        saying: saying(rt, task),
+        stays: !task.words && !rt.stdout().is_terminal(),
+        start: Instant::now(rt).ok(),
+        said: None,
+        is_shown: false,
+    }
+}
+
+fn check_given(rt: &HostRuntime, task: &CheckTask<'_>) -> Result<u8, ProgramFault> {
     let mut output = CountedWriter::new(io::writer(rt));
     match watched_folders(rt, task) {
         Ok(folders) => {
@@ -35,7 +116,7 @@ pub fn spoken_folders<'a, F: Folders>(
     task: &CheckTask<'_>,
     folders: F,
 ) -> SpokenFolders<'a, F> {
-    let are_named = task.paths.len() != 1;
+    let are_named = task.named || task.paths.len() != 1;
     SpokenFolders::new(rt, task.words, are_named, folders)
 }
 
@@ -45,22 +126,30 @@ pub fn watched_folders(
     rt: &HostRuntime,
     task: &CheckTask<'_>,
 ) -> Result<DiskFolders<HostRuntime, Progress<HostRuntime, Stderr>>, AllocError> {
-    let errors = rt.stderr();
-    let saying = if task.quiet {
+    let watcher = Progress::new(rt.alloc(), rt.clone()?, rt.stderr(), saying(rt, task));
+    let folders = DiskFolders::watched(rt.clone()?, watcher);
+    if are_all_wanted(task) {
+        Ok(folders.with_all_digests())
+    } else {
+        Ok(folders)
+    }
+}
+
+// When progress is reported.
+fn saying(rt: &HostRuntime, task: &CheckTask<'_>) -> Saying {
+    if task.quiet {
         Saying::Never
-    } else if errors.is_terminal() {
+    } else if rt.stderr().is_terminal() {
         Saying::Line
     } else if task.progress {
         Saying::All
     } else {
         Saying::Never
-    };
-    let watcher = Progress::new(rt.alloc(), rt.clone()?, errors, saying);
-    let folders = DiskFolders::watched(rt.clone()?, watcher);
-    // Everything that is wrong is reported if that is asked for, including wrong digests.
-    if task.words || task.report == Report::Explained {
-        Ok(folders.with_all_digests())
-    } else {
-        Ok(folders)
     }
+}
+
+// Whether all digests are wanted: everything that is wrong is reported if that is asked for,
+// including wrong digests.
+fn are_all_wanted(task: &CheckTask<'_>) -> bool {
+    task.words || task.report == Report::Explained
 }

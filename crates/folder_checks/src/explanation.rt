@@ -74,8 +74,12 @@ pub(crate) fn answer_on<F: Folders>(
     }
 }
 
-// The line of the place where a folder can't be read, if there is one.
-fn place_line(alloc: Global, fault: TreeFault, place: Option<&str>) -> Result<String, AllocError>
+/// The line of the place where a folder can't be read, if there is one.
+pub(crate) fn place_line(
+    alloc: Global,
+    fault: TreeFault,
+    place: Option<&str>,
+) -> Result<String, AllocError>
     ensures { IfOk result
         (λ line. string_bytes line ≡ unread_line fault (option_copied place.entry)) }
 {
@@ -111,8 +115,12 @@ fn verdict_of(alloc: Global, facts: &Facts) -> Verdict
     }
 }
 
-// A verdict's status, and its line with these after it.
-fn with_lines(alloc: Global, verdict: Verdict, lines: &str) -> Result<ProgramOutput, AllocError>
+/// A verdict's status, and its line with these after it.
+pub(crate) fn with_lines(
+    alloc: Global,
+    verdict: Verdict,
+    lines: &str,
+) -> Result<ProgramOutput, AllocError>
     ensures status { IfOk result
         (λ answer. answer.status ≡ (outcome_with verdict lines.now).status) }
     ensures text { IfOk result

@@ -73,9 +73,9 @@ fn check_named_on<F: Folders, W: CountedWrite>(
 
 /// An exit status, and the bytes to write.
 #[derive(Drop)]
-struct NamedAnswer {
-    status: u8,
-    text: Vec<u8>,
+pub(crate) struct NamedAnswer {
+    pub status: u8,
+    pub text: Vec<u8>,
 }
 
 // The answer for one of several folders.

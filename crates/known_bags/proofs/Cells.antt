@@ -1,5 +1,5 @@
 -- What the bytes of a cell give.
-use Rattle.std.proofs.Common.{◌≡◌, ℕ, List, [], ◌++◌, Result, Ok, Err, true, refl, sym, subst}
+use Rattle.std.proofs.Common.{◌≡◌, ℕ, List, [], Result, Ok, Err, true, refl, sym, subst}
 use Rattle.std.proofs.Common.{append-nil, inl, inr}
 use Rattle.ledger.specs.declared.contents.Contents.{Contents}
 use Rattle.ledger.specs.declared.ending.Ending.{Ending}

@@ -70,3 +70,15 @@ HasOtherLine text number =
     (1 ≤ number) × (number ≤ length (lines text))
     × (are_lines (take (number - 1) (lines text)) ≡ true)
     × (is_line (get_or (lines text) (number - 1) []) ≡ false)
+
+-- ---- of a damaged cell
+
+-- `damaged N`, with which `ledger` ends the list of a damaged cell: in it stands what comes before
+-- the damage
+abbrev pub says_damage : List (List ℕ) → Bool
+says_damage [] = false
+says_damage (first ∷ words) = bytes_eq first (codes "damaged")
+
+-- a line says so
+abbrev pub is_of_damage : List ℕ → Bool
+is_of_damage text = list_any (λ line. says_damage (words_of line)) (lines text)

@@ -15,8 +15,10 @@
 mod fault_lines;
 mod known_bag;
 mod known_lines;
+mod law;
 mod sources;
 
 pub use fault_lines::write_fault;
 pub use known_bag::KnownBag;
+pub use law::lists_of_damaged_cells_know_nothing;
 pub use sources::{SourceFault, push_known, push_source, source_bytes};

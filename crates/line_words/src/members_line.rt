@@ -1,10 +1,13 @@
 //! What is wrong with a line of a members file.
 
 use crate::kind::Kind;
-use crate::schedule_command::{push_comment_words, push_first_fault, push_wrong};
+use crate::place_pair::push_pair_words;
+use crate::place_word::push_place_words;
+use crate::schedule_command::{push_comment_words, push_first_fault, push_missing, push_wrong};
 use crate::schedule_line::push_tab_words;
 use crate::text_lines::line_at;
 use crate::word_text::push_found;
+use members_file::Place;
 use std::alloc::{AllocError, Global};
 use words::{parse_number, split_words};
 
@@ -66,10 +69,12 @@ fn push_argument_words(
     number: usize,
     arguments: &[&[u8]],
 ) -> Result<(), AllocError> {
-    if push_first_fault(alloc, text, &[Kind::Number, Kind::Port], arguments)? {
+    if push_first_fault(alloc, text, &[Kind::Number], arguments)? {
         return Ok(());
     }
     match arguments {
+        [_] => push_missing(text, Kind::Port),
+        [_, place, ..] if Place::parse(alloc, place)?.is_none() => push_place_words(text, place),
         [_, _, weight, ..] if !Kind::Weight.takes(alloc, weight)? => {
             push_wrong(text, Kind::Weight, weight)?;
             push_comment_words(text, &[*weight])
@@ -79,19 +84,19 @@ fn push_argument_words(
             text.push_str(" is too much")?;
             push_comment_words(text, left)
         }
-        [site, port, ..] => push_order_words(alloc, text, file, number, site, port),
+        [site, place, ..] => push_order_words(alloc, text, file, number, site, place),
         _ => Ok(()),
     }
 }
 
-// Appends that the site isn't the next, or that its port is another's.
+// Appends that the site isn't the next, or that its place doesn't go with another's.
 fn push_order_words(
     alloc: Global,
     text: &mut String,
     file: &[u8],
     number: usize,
     site: &[u8],
-    port: &[u8],
+    place: &[u8],
 ) -> Result<(), AllocError> {
     let next = number.saturating_sub(1);
     if next > 63 {
@@ -103,23 +108,25 @@ fn push_order_words(
             "the sites are numbered from 1 on, one after the other"
         );
     }
+    let Some(place) = Place::parse(alloc, place)? else {
+        return Ok(());
+    };
     for earlier in 2..number {
-        if has_port(alloc, line_at(file, earlier), port)? {
-            let owner = earlier.saturating_sub(1);
-            return write!(
-                text,
-                "that is the port of site {owner}, and each has its own"
-            );
+        if let Some(other) = place_in(alloc, line_at(file, earlier))? {
+            let site = earlier.saturating_sub(1);
+            if push_pair_words(text, site, &other, &place)? {
+                return Ok(());
+            }
         }
     }
     Ok(())
 }
 
-// Whether the line of a site names this port.
-fn has_port(alloc: Global, line: &[u8], port: &[u8]) -> Result<bool, AllocError> {
+// The place that the line of a site names.
+fn place_in(alloc: Global, line: &[u8]) -> Result<Option<Place>, AllocError> {
     let words = split_words(alloc, line)?;
-    Ok(match words.get(2) {
-        Some(other) => parse_number(1, 65535, other) == parse_number(1, 65535, port),
-        None => false,
-    })
+    match words.get(2) {
+        Some(word) => Place::parse(alloc, word),
+        None => Ok(None),
+    }
 }

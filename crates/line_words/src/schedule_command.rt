@@ -86,7 +86,8 @@ pub(crate) fn push_first_fault(
     Ok(false)
 }
 
-fn push_missing(text: &mut String, kind: Kind) -> Result<(), AllocError> {
+/// Appends that a word of this kind is missing, and which there are.
+pub(crate) fn push_missing(text: &mut String, kind: Kind) -> Result<(), AllocError> {
     let name = kind.name();
     let range = kind.range();
     write!(text, "{name} is missing, {range}")

@@ -6,11 +6,11 @@ use Rattle.std.specs.Str.Lines.{lines}
 use Rattle.std.proofs.lemmas.Bool.{eqb-true}
 use Rattle.words.specs.Words.{words_of}
 use Rattle.members_file.specs.declared.listed_site.ListedSite.{ListedSite}
-use Rattle.members_file.specs.Files.{AreDistinct, AreSites}
+use Rattle.members_file.specs.Files.{AreTogether, AreSites}
 use Rattle.members_file.specs.Files.{are_blank}
 use Rattle.members_file.specs.Lines.{site_in}
 use Rattle.members_file.specs.inner.Sites.{HasSites, next_site}
-use Rattle.members_file.proofs.DistinctLemmas.{AreDistinct-front}
+use Rattle.members_file.proofs.TogetherLemmas.{AreTogether-front}
 use Rattle.members_file.proofs.SiteLemmas.{AreSites-no_more}
 use Rattle.members_file.proofs.SiteLemmas.{AreSitesFrom-same, Parts-from}
 
@@ -53,7 +53,7 @@ one_line_more front back line sites are =
       parts.first,
       (
         parts.are_first,
-        AreDistinct-front parts.first parts.later (subst AreDistinct parts.is all.1),
+        AreTogether-front parts.first parts.later (subst AreTogether parts.is all.1),
       ),
     )
 

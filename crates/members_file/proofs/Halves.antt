@@ -1,5 +1,5 @@
 -- The halves of a new federation's number.
-use Rattle.std.proofs.Common.{◌≡◌, ℕ, zero, suc, ◌<◌, true, List, ◌++◌, take}
+use Rattle.std.proofs.Common.{not, ◌&&◌, ◌≡◌, ℕ, zero, suc, ◌<◌, true, List, ◌++◌, take}
 use Rattle.std.proofs.Common.{drop, length, refl, sym, ap, ◌∙◌, arith, get_or, ◌||◌, ◌/◌, Bool}
 use Rattle.std.proofs.Common.{inl, inr}
 use Rattle.std.proofs.lemmas.Bool.Decides.{nat_tests}
@@ -12,7 +12,7 @@ use Rattle.std.proofs.lemmas.List.Elements.{All-get_or}
 use Rattle.std.proofs.lemmas.Nat.{mod_below, be_bytes_8}
 use Rattle.sha2.specs.Sha256.{digest_bytes, final_hash, initial_hash_256, sha256}
 use Rattle.sha2.proofs.Facts256.{length-sha256}
-use Rattle.members_file.specs.Files.{MembersFile, weights_of}
+use Rattle.members_file.specs.Files.{MembersFile, names_addresses, weights_of}
 use Rattle.members_file.specs.Numbers.{AreFourBytes, new_number, upper_half, lower_half, weighed}
 use Rattle.members_file.specs.Numbers.{is_listed, old_number}
 
@@ -89,6 +89,6 @@ unfolding is_listed
 new_is_listed random file four is =
     let weights = weights_of file.sites in
     same_number file.federation (new_number (upper_half file.federation) weights)
-    (file.federation == old_number file.sites)
+    (not (names_addresses file.sites) && file.federation == old_number file.sites)
     (is ∙ ap (λ (upper : List ℕ). new_number upper weights)
     (sym (ap upper_half is ∙ upper_is random weights four)))

@@ -1,4 +1,4 @@
-pub mod DistinctLemmas
+pub mod TogetherLemmas
 pub mod EndLemmas
 pub mod Halves
 pub mod LawLemmas

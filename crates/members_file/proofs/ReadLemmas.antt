@@ -17,7 +17,7 @@ use Rattle.members_file.specs.Limits.{most_sites}
 use Rattle.members_file.specs.Lines.{federation_in}
 use Rattle.members_file.specs.inner.Sites.{BeginsSites, HasSites, next_site}
 use Rattle.members_file.proofs.SiteLemmas.{AreSites-more, AreSites-no_more, AreSitesFrom-length}
-use Rattle.members_file.proofs.SiteLemmas.{AreSitesFrom-most, AreSitesFrom-ports}
+use Rattle.members_file.proofs.SiteLemmas.{AreSitesFrom-most, AreSitesFrom-places}
 use Rattle.members_file.proofs.SiteLemmas.{AreSitesFrom-weights}
 use Rattle.members_file.proofs.EndLemmas.{same_lines}
 
@@ -26,7 +26,7 @@ pub BeginsSites-none : (all : List (List ℕ)) → BeginsSites all [] all
 BeginsSites-none all = record {
   named = [];
   is = refl;
-  sites = (tt, λ i j d below within same. absurd (omega arith));
+  sites = (tt, λ i j d below within. absurd (omega arith));
 }
 
 -- the next line is of the next site
@@ -82,9 +82,9 @@ pub AreListed-read : (all : List (List ℕ)) (sites : List ListedSite) (rest : L
 AreListed-read all sites rest has some = record {
   some = some;
   most = HasSites-most all sites rest has;
-  ports = AreSitesFrom-ports 1 has.named sites has.sites.0;
+  places = AreSitesFrom-places 1 has.named sites has.sites.0;
   weights = AreSitesFrom-weights 1 has.named sites has.sites.0;
-  distinct = has.sites.1;
+  together = has.sites.1;
 }
 
 -- members can have the weights of one site or more

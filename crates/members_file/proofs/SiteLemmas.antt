@@ -1,5 +1,5 @@
 -- The lines of sites, one after another.
-use Rattle.std.proofs.Common.{◌≡◌, ℕ, ◌+◌, ◌≤◌, ◌&&◌, Bool, cond, true, false, not, eqb}
+use Rattle.std.proofs.Common.{◌≡◌, ℕ, ◌+◌, ◌≤◌, ◌&&◌, Bool, cond, true, false, eqb}
 use Rattle.std.proofs.Common.{List, [], ◌∷◌, ◌++◌, length, All, Option, Some, None, refl, sym}
 use Rattle.std.proofs.Common.{ap, ◌∙◌, subst, arith}
 use Rattle.std.specs.Prelude.{codes}
@@ -13,11 +13,16 @@ use Rattle.words.specs.Words.{◌>>=◌, number_in, words_of}
 use Rattle.words.proofs.GrammarLemmas.{IsNumeral-number_in}
 use Rattle.words.proofs.StepLemmas.{bind_some}
 use Rattle.members_file.specs.declared.listed_site.ListedSite.{ListedSite}
-use Rattle.members_file.specs.Files.{AreDistinct, AreSites, AreSitesFrom}
+use Rattle.members_file.specs.Files.{AreTogether, AreSites, AreSitesFrom}
 use Rattle.members_file.specs.Limits.{most_sites, greatest_port}
 use Rattle.members_file.specs.Lines.{listed, site_in, weight_in}
-use Rattle.members_file.specs.inner.Sites.{if_next, is_taken, next_site}
-use Rattle.members_file.proofs.DistinctLemmas.{AreDistinct-more, AreDistinct-last}
+use Rattle.members_file.specs.declared.place.Place.{Place}
+use Rattle.members_file.specs.declared.place.Place.TheVariants as place
+use Rattle.members_file.specs.Places.{IsPlace, place_in, place_of}
+use Rattle.addresses.specs.Texts.{address_in}
+use Rattle.addresses.proofs.TextLemmas.{reads}
+use Rattle.members_file.specs.inner.Sites.{fits, if_next, next_site}
+use Rattle.members_file.proofs.TogetherLemmas.{AreTogether-more, AreTogether-last}
 
 -- the range of a weight
 weight_in-range : (words : List (List ℕ)) (w : ℕ) → weight_in words ≡ Some w → IsWeight w
@@ -30,21 +35,39 @@ weight_in-range (word ∷ []) w is =
 weight_in-range (a ∷ b ∷ more) w is = absurd (cc is)
 
 -- a site's number and the site
-abbrev pair_of : ℕ → ℕ → ℕ → Option (ℕ × ListedSite)
-pair_of n port weight = Some (n, listed port weight)
+abbrev pair_of : ℕ → Place → ℕ → Option (ℕ × ListedSite)
+pair_of n place weight = Some (n, listed place weight)
 
 -- the same, with the weight by its words
-abbrev with_weight : List (List ℕ) → ℕ → ℕ → Option (ℕ × ListedSite)
-with_weight words n port = weight_in words >>= pair_of n port
+abbrev with_weight : List (List ℕ) → ℕ → Place → Option (ℕ × ListedSite)
+with_weight words n place = weight_in words >>= pair_of n place
 
--- the same, with the port by its word
-abbrev with_port : List ℕ → List (List ℕ) → ℕ → Option (ℕ × ListedSite)
-with_port word words n = number_in 1 greatest_port word >>= with_weight words n
+-- the same, with the place by its word
+abbrev with_place : List ℕ → List (List ℕ) → ℕ → Option (ℕ × ListedSite)
+with_place word words n = place_in word >>= with_weight words n
+
+-- what is true of a place that a word names
+IsPlace-place_in : (word : List ℕ) (p : Place) → place_in word ≡ Some p → IsPlace p
+unfolding place_in
+IsPlace-place_in word p is =
+    go (number_in 1 greatest_port word) refl (address_in word) refl is
+  where
+    go : (port : Option ℕ) → number_in 1 greatest_port word ≡ port
+        → (address : Option ℕ) → address_in word ≡ address
+        → place_of port address ≡ Some p → IsPlace p
+    go (Some port) number address other is =
+        let of_port = IsNumeral-number_in 1 greatest_port word port number in
+        subst IsPlace (same_Some (place.Port port) p is) (of_port.1, of_port.2)
+    go None number (Some a) address is =
+        let of_text = reads word a in
+        let text = of_text.1 address in
+        subst IsPlace (same_Some (place.Address a) p is) (text.in_range, text.listable)
+    go None number None address is = absurd (cc is)
 
 -- the ranges of what a site's line says
 pub record InRange (n : ℕ) (site : ListedSite) : Type 0 where
   pub number : n ≤ most_sites
-  pub port : (1 ≤ site.port) × (site.port ≤ greatest_port)
+  pub place : IsPlace site.place
   pub weight : IsWeight site.weight
 
 pub site_in-range : (words : List (List ℕ)) (n : ℕ) (s : ListedSite)
@@ -53,26 +76,25 @@ unfolding site_in
 site_in-range [] n s is = absurd (cc is)
 site_in-range (a ∷ []) n s is = absurd (cc is)
 site_in-range (a ∷ b ∷ []) n s is = absurd (cc is)
-site_in-range (name ∷ site ∷ port ∷ weight) n s is =
+site_in-range (name ∷ site ∷ place ∷ weight) n s is =
     go (bytes_eq name (codes "site")) refl is
   where
     go : (test : Bool) → bytes_eq name (codes "site") ≡ test
-        → cond test (number_in 1 most_sites site >>= with_port port weight) None ≡ Some (n, s)
+        → cond test (number_in 1 most_sites site >>= with_place place weight) None ≡ Some (n, s)
         → InRange n s
     go false named found = absurd (cc found)
     go true named found =
-        let a = bind_some (number_in 1 most_sites site) (with_port port weight) (n, s) found in
-        let p = bind_some (number_in 1 greatest_port port) (with_weight weight a.0) (n, s) a.2 in
+        let a = bind_some (number_in 1 most_sites site) (with_place place weight) (n, s) found in
+        let p = bind_some (place_in place) (with_weight weight a.0) (n, s) a.2 in
         let w = bind_some (weight_in weight) (pair_of a.0 p.0) (n, s) p.2 in
         let pairs = same_Some (a.0, listed p.0 w.0) (n, s) w.2 in
         let same_site : a.0 ≡ n = ap (λ (x : ℕ × ListedSite). x.0) pairs in
-        let same_port : p.0 ≡ s.port = ap (λ (x : ℕ × ListedSite). x.1.port) pairs in
+        let same_place : p.0 ≡ s.place = ap (λ (x : ℕ × ListedSite). x.1.place) pairs in
         let same_weight : w.0 ≡ s.weight = ap (λ (x : ℕ × ListedSite). x.1.weight) pairs in
         let of_site = IsNumeral-number_in 1 most_sites site a.0 a.1 in
-        let of_port = IsNumeral-number_in 1 greatest_port port p.0 p.1 in
         record {
           number = omega (arith, same_site, of_site.2);
-          port = (omega (arith, same_port, of_port.1), omega (arith, same_port, of_port.2));
+          place = subst IsPlace same_place (IsPlace-place_in place p.0 p.1);
           weight = subst IsWeight same_weight (weight_in-range weight w.0 w.1);
         }
 
@@ -96,15 +118,15 @@ AreSitesFrom-most n (line ∷ lines) (site ∷ sites) are most =
     omega (arith, AreSitesFrom-most (n + 1) lines sites are.1 (omega (arith, here.number)))
 
 -- each in its ranges
-pub AreSitesFrom-ports : (n : ℕ) (lines : List (List ℕ)) (sites : List ListedSite)
-    → AreSitesFrom n lines sites → All (λ s. (1 ≤ s.port) × (s.port ≤ greatest_port)) sites
-AreSitesFrom-ports n [] [] are = All-nil (λ s. (1 ≤ s.port) × (s.port ≤ greatest_port))
-AreSitesFrom-ports n [] (site ∷ sites) are = absurd are
-AreSitesFrom-ports n (line ∷ lines) [] are = absurd are
-AreSitesFrom-ports n (line ∷ lines) (site ∷ sites) are =
+pub AreSitesFrom-places : (n : ℕ) (lines : List (List ℕ)) (sites : List ListedSite)
+    → AreSitesFrom n lines sites → All (λ s. IsPlace s.place) sites
+AreSitesFrom-places n [] [] are = All-nil (λ s. IsPlace s.place)
+AreSitesFrom-places n [] (site ∷ sites) are = absurd are
+AreSitesFrom-places n (line ∷ lines) [] are = absurd are
+AreSitesFrom-places n (line ∷ lines) (site ∷ sites) are =
     let here = site_in-range (words_of line) n site are.0 in
-    All-cons (λ s. (1 ≤ s.port) × (s.port ≤ greatest_port)) site sites here.port
-    (AreSitesFrom-ports (n + 1) lines sites are.1)
+    All-cons (λ s. IsPlace s.place) site sites here.place
+    (AreSitesFrom-places (n + 1) lines sites are.1)
 
 pub AreSitesFrom-weights : (n : ℕ) (lines : List (List ℕ)) (sites : List ListedSite)
     → AreSitesFrom n lines sites → All (λ s. IsWeight s.weight) sites
@@ -205,24 +227,24 @@ AreSites-more lines sites line site are is =
     let found =
     bind_some (site_in (words_of line)) (λ (s : ℕ × ListedSite). if_next sites s.0 s.1) site is in
     go found.0.0 found.0.1 found.1 (eqb found.0.0 (length sites + 1)) refl
-    (is_taken sites found.0.1.port) refl found.2
+    (fits sites found.0.1.place) refl found.2
   where
     go : (n : ℕ) (s : ListedSite) → site_in (words_of line) ≡ Some (n, s)
         → (next : Bool) → eqb n (length sites + 1) ≡ next
-        → (twice : Bool) → is_taken sites s.port ≡ twice
-        → cond (next && not twice) (Some s) None ≡ Some site
+        → (fit : Bool) → fits sites s.place ≡ fit
+        → cond (next && fit) (Some s) None ≡ Some site
         → AreSites (lines ++ line ∷ []) (sites ++ site ∷ [])
-    go n s says false next twice has found = absurd (cc found)
-    go n s says true next true has found = absurd (cc found)
-    go n s says true next false has found =
+    go n s says false next fit has found = absurd (cc found)
+    go n s says true next false has found = absurd (cc found)
+    go n s says true next true has found =
         let same : s ≡ site = same_Some s site found in
         let place : n ≡ 1 + length sites = omega (arith, eqb-true n (length sites + 1) next) in (
           AreSitesFrom-more 1 lines sites line site are.0
               (says ∙ ap (λ (x : ℕ × ListedSite). Some x)
               (ap (λ (k : ℕ). (k, s)) place
               ∙ ap (λ (x : ListedSite). (1 + length sites, x)) same)),
-          AreDistinct-more sites site are.1
-              (subst (λ (x : ListedSite). is_taken sites x.port ≡ false) same has),
+          AreTogether-more sites site are.1
+              (subst (λ (x : ListedSite). fits sites x.place ≡ true) same has),
         )
 
 -- any other line doesn't
@@ -237,12 +259,14 @@ AreSites-no_more lines sites line more are none also =
     next.2 in
     let place : eqb (1 + length sites) (length sites + 1) ≡ true =
     eq-eqb (1 + length sites) (length sites + 1) (omega arith) in
-    go next.0 (is_taken sites next.0.port) refl
-    (ap (λ (t : Bool). cond (t && not (is_taken sites next.0.port)) (Some next.0) None)
+    go next.0
+    (ap (λ (t : Bool). cond (t && fits sites next.0.place) (Some next.0) None)
     (sym place) ∙ sym says ∙ none)
-    (subst AreDistinct next.1 also.1)
+    (AreTogether-last sites next.0 (subst AreTogether next.1 also.1))
   where
-    go : (site : ListedSite) (twice : Bool) → is_taken sites site.port ≡ twice
-        → cond (not twice) (Some site) None ≡ None → AreDistinct (sites ++ site ∷ []) → ⊥
-    go site true has found distinct = AreDistinct-last sites site distinct has
-    go site false has found distinct = absurd (cc found)
+    go : (site : ListedSite) → cond (fits sites site.place) (Some site) None ≡ None
+        → fits sites site.place ≡ true → ⊥
+    go site found fit =
+        let none : Some site ≡ None =
+        ap (λ (t : Bool). cond t (Some site) None) (sym fit) ∙ found in
+        absurd (cc none)

@@ -3,15 +3,16 @@
 -- aren't UTF-8 are in a line at fault.
 use Rattle.std.specs.Prelude.{◌≡◌, ◌≢◌, ℕ, ◌+◌, ◌≤◌, ◌==◌, Bool, true, ⊤}
 use Rattle.std.specs.Prelude.{List, [], ◌∷◌, ◌++◌, length, map, All, Some}
-use Rattle.std.specs.List.{AllPairs, list_all}
+use Rattle.std.specs.List.{AllPairs, list_all, list_any}
 use Rattle.std.specs.Str.Lines.{lines}
 use Rattle.fed_types.specs.Sites.{IsWeight, Membership, membership_of}
 use Rattle.words.specs.Words.{words_of}
 use Rattle.members_file.specs.declared.listed_site.ListedSite.{ListedSite}
-use Rattle.members_file.specs.Limits.{most_sites, greatest_port}
+use Rattle.members_file.specs.Limits.{most_sites}
+use Rattle.members_file.specs.Places.{GoTogether, IsPlace, address_at, is_address}
 use Rattle.members_file.specs.Lines.{federation_in, site_in}
 
--- what a members file says: the number of the federation, and the port and the weight of each site,
+-- what a members file says: the number of the federation, and the place and the weight of each site,
 -- site 1 first
 pub record MembersFile : Type 0 where
   pub federation : ℕ
@@ -21,9 +22,9 @@ pub record MembersFile : Type 0 where
 abbrev pub named_by : ℕ → List ListedSite → MembersFile
 named_by federation sites = record { federation = federation; sites = sites }
 
--- the ports of sites, and their weights
-abbrev pub ports_of : List ListedSite → List ℕ
-ports_of sites = map (λ s. s.port) sites
+-- the addresses of sites, and their weights
+abbrev pub addresses_of : List ListedSite → List ℕ
+addresses_of sites = map (λ s. address_at s.place) sites
 
 abbrev pub weights_of : List ListedSite → List ℕ
 weights_of sites = map (λ s. s.weight) sites
@@ -32,20 +33,24 @@ weights_of sites = map (λ s. s.weight) sites
 abbrev pub members_named : MembersFile → Membership
 members_named file = membership_of file.federation (weights_of file.sites)
 
--- the lines are those of the sites n, n + 1 and so on, each with its port and its weight
+-- whether sites have addresses; else they have ports of this machine
+abbrev pub names_addresses : List ListedSite → Bool
+names_addresses sites = list_any (λ s. is_address s.place) sites
+
+-- the lines are those of the sites n, n + 1 and so on, each with its place and its weight
 abbrev pub AreSitesFrom : ℕ → List (List ℕ) → List ListedSite → Type 0
 AreSitesFrom n [] [] = ⊤
 AreSitesFrom n (line ∷ lines) (site ∷ sites) =
     (site_in (words_of line) ≡ Some (n, site)) × AreSitesFrom (n + 1) lines sites
 AreSitesFrom n lines sites = ⊥
 
--- no two of them have the same port
-abbrev pub AreDistinct : List ListedSite → Type 0
-AreDistinct sites = AllPairs (λ a b. a.port ≢ b.port) sites
+-- all of them are written in one way, and no two have the same address
+abbrev pub AreTogether : List ListedSite → Type 0
+AreTogether sites = AllPairs (λ a b. GoTogether a.place b.place) sites
 
--- the lines are those of the sites 1, 2, 3 and so on, no port twice
+-- the lines are those of the sites 1, 2, 3 and so on, which may stand in one file
 abbrev pub AreSites : List (List ℕ) → List ListedSite → Type 0
-AreSites lines sites = AreSitesFrom 1 lines sites × AreDistinct sites
+AreSites lines sites = AreSitesFrom 1 lines sites × AreTogether sites
 
 -- the lines have no words
 abbrev pub are_blank : List (List ℕ) → Bool
@@ -84,6 +89,6 @@ pub data HasFault : List ℕ → ℕ → Type 0 where
 pub record AreListed (sites : List ListedSite) : Type 0 where
   pub some : 1 ≤ length sites
   pub most : length sites ≤ most_sites
-  pub ports : All (λ s. (1 ≤ s.port) × (s.port ≤ greatest_port)) sites
+  pub places : All (λ s. IsPlace s.place) sites
   pub weights : All (λ s. IsWeight s.weight) sites
-  pub distinct : AreDistinct sites
+  pub together : AreTogether sites

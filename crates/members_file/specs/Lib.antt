@@ -1,4 +1,5 @@
 pub mod Limits
+pub mod Places
 pub mod Lines
 pub mod Files
 pub mod Faults

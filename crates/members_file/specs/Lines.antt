@@ -4,7 +4,9 @@ use Rattle.std.specs.Str.{bytes_eq}
 use Rattle.fed_types.specs.Limits.{greatest_federation, greatest_weight}
 use Rattle.words.specs.Words.{◌>>=◌, number_in}
 use Rattle.members_file.specs.declared.listed_site.ListedSite.{ListedSite}
-use Rattle.members_file.specs.Limits.{most_sites, greatest_port}
+use Rattle.members_file.specs.declared.place.Place.{Place}
+use Rattle.members_file.specs.Limits.{most_sites}
+use Rattle.members_file.specs.Places.{place_in}
 
 -- F, of `federation F`
 unfoldable pub federation_in : List (List ℕ) → Option ℕ
@@ -20,18 +22,22 @@ weight_in [] = Some 1
 weight_in (weight ∷ []) = number_in 1 greatest_weight weight
 weight_in words = None
 
--- the site of this port and this weight
-abbrev pub listed : ℕ → ℕ → ListedSite
-listed port weight = record { port = port; weight = weight }
+-- the site of this place and this weight
+abbrev pub listed : Place → ℕ → ListedSite
+listed place weight = record { place = place; weight = weight }
 
--- N, and PORT with the weight, of `site N PORT` or `site N PORT WEIGHT`
+-- a site's number and the site, if there are its number, its place and its weight
+abbrev pub site_of : Option ℕ → Option Place → Option ℕ → Option (ℕ × ListedSite)
+site_of number place weight = do
+  n ← number
+  p ← place
+  w ← weight
+  Some (n, listed p w)
+
+-- N, and PLACE with the weight, of `site N PLACE` or `site N PLACE WEIGHT`
 unfoldable pub site_in : List (List ℕ) → Option (ℕ × ListedSite)
-site_in (name ∷ site ∷ port ∷ weight) =
+site_in (name ∷ site ∷ place ∷ weight) =
     if bytes_eq name (codes "site")
-    then (do
-      n ← number_in 1 most_sites site
-      p ← number_in 1 greatest_port port
-      w ← weight_in weight
-      Some (n, listed p w))
+    then site_of (number_in 1 most_sites site) (place_in place) (weight_in weight)
     else None
 site_in words = None

@@ -3,20 +3,21 @@ use Rattle.std.specs.Prelude.{ℕ, ◌+◌, ◌==◌, List, [], ◌∷◌, ◌++
 use Rattle.std.specs.Fmt.{decimal}
 use Rattle.members_file.specs.declared.listed_site.ListedSite.{ListedSite}
 use Rattle.members_file.specs.declared.text.Weights.{Weights}
+use Rattle.members_file.specs.Places.{place_text}
 use Rattle.members_file.specs.declared.text.Weights.TheVariants.{All, Greater}
 
 -- `federation F`
 abbrev pub federation_line : ℕ → List ℕ
 federation_line federation = codes "federation " ++ decimal federation ++ 10 ∷ []
 
--- `site N PORT WEIGHT`
+-- `site N PLACE WEIGHT`
 abbrev pub whole_line : ℕ → ListedSite → List ℕ
 whole_line n site =
-    codes "site " ++ decimal n ++ 32 ∷ decimal site.port ++ 32 ∷ decimal site.weight ++ 10 ∷ []
+    codes "site " ++ decimal n ++ 32 ∷ place_text site.place ++ 32 ∷ decimal site.weight ++ 10 ∷ []
 
--- `site N PORT`
+-- `site N PLACE`
 abbrev pub short_line : ℕ → ListedSite → List ℕ
-short_line n site = codes "site " ++ decimal n ++ 32 ∷ decimal site.port ++ 10 ∷ []
+short_line n site = codes "site " ++ decimal n ++ 32 ∷ place_text site.place ++ 10 ∷ []
 
 -- the line of site n, with its weight, or only where that is over 1
 abbrev pub line_of : Weights → ℕ → ListedSite → List ℕ

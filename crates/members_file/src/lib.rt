@@ -1,4 +1,4 @@
-//! The members file: the number of a federation, and the port and the weight of each of its sites.
+//! The members file: the number of a federation, and the place and the weight of each of its sites.
 //!
 //! ```
 //! let Ok(members) = read_members(rt.alloc(), bytes.as_slice()) else {
@@ -6,7 +6,7 @@
 //! };
 //! let place = usize::from(asked.site).checked_sub(1)?;
 //! match members.sites().get(place) {
-//!     Some(site) => Some(site.port),
+//!     Some(site) => Some(site.place),
 //!     None => None,
 //! }
 //! ```
@@ -19,6 +19,7 @@ mod member_sites;
 mod members_fault;
 mod new_federation;
 mod number;
+mod place;
 mod read;
 mod text;
 
@@ -28,4 +29,5 @@ pub use member_sites::MemberSites;
 pub use members_fault::MembersFault;
 pub use new_federation::new_list;
 pub use number::{digest_of, is_listed};
+pub use place::{Place, PlaceKind};
 pub use read::read_members;

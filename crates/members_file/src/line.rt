@@ -1,9 +1,11 @@
-ghost use Rattle.std.specs.Prelude.{◌≡◌, map, IfOk};
+ghost use Rattle.std.specs.Prelude.{◌≡◌, ◌≤◌, map, IfOk, IfSome};
 ghost use Rattle.words.specs.Words.{words_of};
-ghost use Rattle.members_file.specs.Lines.{federation_in, site_in, weight_in};
-ghost use Rattle.members_file.specs.inner.Sites.{is_taken, next_site};
+ghost use Rattle.members_file.specs.Limits.{most_sites};
+ghost use Rattle.members_file.specs.Lines.{federation_in, site_in, site_of, weight_in};
+ghost use Rattle.members_file.specs.inner.Sites.{fits, goes_with, next_site};
 
 use crate::listed_site::ListedSite;
+use crate::place::Place;
 use fed_types::{GREATEST_WEIGHT, MOST_MEMBERS};
 use std::alloc::{AllocError, Global};
 use words::{parse_number, split_words};
@@ -22,24 +24,41 @@ pub(crate) fn parse_federation(words: &[&[u8]]) -> Option<u64>
     parse_number(0, u64::MAX, federation)
 }
 
-// The number of a site, and what the words `site N PORT` or `site N PORT WEIGHT` say of it.
+// The number of a site, and what the words `site N PLACE` or `site N PLACE WEIGHT` say of it.
 #[tactic(auto, unfolding(crate::specs::Lines::site_in))]
-fn parse_site(words: &[&[u8]]) -> Option<(usize, ListedSite)>
-    ensures { result ≡ site_in (map (λ word. word.now) words.now) }
+fn parse_site(alloc: Global, words: &[&[u8]]) -> Result<Option<(usize, ListedSite)>, AllocError>
+    ensures { IfOk result (λ site. site ≡ site_in (map (λ word. word.now) words.now)) }
 {
-    let [name, site, port, weight @ ..] = words else {
-        return None;
+    let [name, site, place, weight @ ..] = words else {
+        return Ok(None);
     };
     if *name != b"site".as_slice() {
-        return None;
+        return Ok(None);
     }
-    let site = parse_number(1, u64::from(MOST_MEMBERS), site)?;
-    let port = parse_number(1, u64::from(u16::MAX), port)? as u16;
-    let weight = parse_weight(weight)?;
-    Some((site as usize, ListedSite { port, weight }))
+    let place = Place::parse(alloc, place)?;
+    Ok(site_of(
+        parse_number(1, u64::from(MOST_MEMBERS), site),
+        place,
+        parse_weight(weight),
+    ))
 }
 
-// The weight, by the words after the port; 1 where there are none.
+// A site's number and the site, where all of it could be read.
+fn site_of(
+    number: Option<u64>,
+    place: Option<Place>,
+    weight: Option<u8>,
+) -> Option<(usize, ListedSite)>
+    requires { IfSome number (λ n. n ≤ most_sites) }
+    ensures { result ≡ site_of number place weight }
+{
+    let number = number? as usize;
+    let place = place?;
+    let weight = weight?;
+    Some((number, ListedSite { place, weight }))
+}
+
+// The weight, by the words after the place; 1 where there are none.
 #[tactic(auto, unfolding(crate::specs::Lines::weight_in))]
 fn parse_weight(words: &[&[u8]]) -> Option<u8>
     ensures { result ≡ weight_in (map (λ word. word.now) words.now) }
@@ -53,22 +72,33 @@ fn parse_weight(words: &[&[u8]]) -> Option<u8>
 
 // The next site, after these, by the words of its line.
 #[tactic(auto, unfolding(crate::specs::inner::Sites::next_site))]
-fn parse_next(words: &[&[u8]], sites: &[ListedSite]) -> Option<ListedSite>
-    ensures { result ≡ next_site sites.now (map (λ word. word.now) words.now) }
+fn parse_next(
+    alloc: Global,
+    words: &[&[u8]],
+    sites: &[ListedSite],
+) -> Result<Option<ListedSite>, AllocError>
+    ensures { IfOk result (λ site. site ≡ next_site sites.now (map (λ word. word.now) words.now)) }
 {
-    let (number, site) = parse_site(words)?;
-    if number == sites.len() + 1 && !is_taken(sites, site.port) {
-        Some(site)
-    } else {
-        None
+    match parse_site(alloc, words)? {
+        Some((number, site)) if number == sites.len() + 1 && fits(sites, &site.place) => {
+            Ok(Some(site))
+        }
+        _ => Ok(None),
     }
 }
 
-// Whether one of the sites has this port.
-fn is_taken(sites: &[ListedSite], port: u16) -> bool
-    ensures { result ≡ is_taken sites.now port }
+// Whether a site at this place may stand beside each of these.
+fn fits(sites: &[ListedSite], place: &Place) -> bool
+    ensures { result ≡ fits sites.now place.now }
 {
-    sites.iter().any(|site| site.port == port)
+    sites.iter().all(|site| goes_with(&site.place, place))
+}
+
+// Whether a file may have sites at both places: they are of one kind, and not one address.
+fn goes_with(first: &Place, second: &Place) -> bool
+    ensures { result ≡ goes_with first.now second.now }
+{
+    first.kind() == second.kind() && first.address() != second.address()
 }
 
 /// The next site, after these, if the line names it.
@@ -80,5 +110,5 @@ pub(crate) fn next_site(
     ensures { IfOk result (λ site. site ≡ next_site sites.now (words_of line.now)) }
 {
     let words = split_words(alloc, line)?;
-    Ok(parse_next(&words, sites))
+    parse_next(alloc, &words, sites)
 }

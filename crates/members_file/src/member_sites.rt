@@ -1,12 +1,15 @@
 ghost use Rattle.std.specs.Prelude.{◌≡◌, IfOk};
-ghost use Rattle.members_file.specs.Files.{AreListed, members_named, named_by, ports_of};
+ghost use Rattle.members_file.specs.Files.{AreListed, addresses_of, members_named, named_by};
+ghost use Rattle.members_file.specs.Files.{names_addresses};
 
 use crate::listed_site::ListedSite;
+use crate::place::PlaceKind;
+use addresses::Address;
 use fed_types::Members;
 use std::alloc::{AllocError, Global};
 use std::marker::Model;
 
-/// The members of a federation, and the port of each. A clause sees a `MembersFile`.
+/// The members of a federation, and the place of each. A clause sees a `MembersFile`.
 #[derive(Debug, Drop)]
 pub struct MemberSites {
     members: Members,
@@ -43,7 +46,8 @@ impl MemberSites {
         self.members
     }
 
-    /// What the file says of each site, of site n at place n - 1. No two have the same port.
+    /// What the file says of each site, of site n at place n - 1. No two have the same address, and
+    /// all are named in one way: by ports, or by addresses of one family.
     pub fn sites(&self) -> &[ListedSite]
         ensures value { result.now ≡ self.now.sites }
         ensures in_range { AreListed result.now }
@@ -51,10 +55,26 @@ impl MemberSites {
         self.sites.as_slice()
     }
 
-    /// The port of each site, that of site n at place n - 1.
-    pub fn ports(&self, alloc: Global) -> Result<Vec<u16>, AllocError>
-        ensures { IfOk result (λ ports. ports.items ≡ ports_of self.now.sites) }
+    /// The address of each site, that of site n at place n - 1. A port is one of 127.0.0.1.
+    pub fn addresses(&self, alloc: Global) -> Result<Vec<Address>, AllocError>
+        ensures { IfOk result (λ addresses. addresses.items ≡ addresses_of self.now.sites) }
     {
-        self.sites.iter().map(|site| site.port).collect(alloc)
+        self.sites.iter().map(|site| site.address()).collect(alloc)
     }
+
+    /// Whether the file has addresses; else it has ports of this machine.
+    pub fn names_addresses(&self) -> bool
+        ensures { result ≡ names_addresses self.now.sites }
+    {
+        names_addresses(self.sites.as_slice())
+    }
+}
+
+/// Whether sites have addresses; else they have ports of this machine.
+pub(crate) fn names_addresses(sites: &[ListedSite]) -> bool
+    ensures { result ≡ names_addresses sites.now }
+{
+    sites
+        .iter()
+        .any(|site| site.place.kind() != PlaceKind::Port)
 }

@@ -40,15 +40,18 @@ fn weighed(alloc: Global, upper: [u8; 4], sites: &[ListedSite]) -> Result<Vec<u8
     Ok(bytes)
 }
 
-/// Whether the federation's number comes from its list, by the rule of new members files or by the
-/// earlier rule.
+/// Whether the federation's number comes from its list, by the rule of new members files; or, where
+/// the file has ports alone, by the earlier rule.
 #[tactic(auto, unfolding(crate::specs::Numbers::is_listed))]
 pub fn is_listed(alloc: Global, file: &MemberSites) -> Result<bool, AllocError>
     ensures { IfOk result (λ listed. listed ≡ is_listed file.now) }
 {
     let federation = file.members().federation();
     let number = number_of(alloc, upper_half(federation), file.sites())?;
-    Ok(federation == number || federation == old_number(alloc, file.sites())?)
+    if federation == number {
+        return Ok(true);
+    }
+    Ok(!file.names_addresses() && federation == old_number(alloc, file.sites())?)
 }
 
 // The upper half of a federation's number.

@@ -68,9 +68,9 @@ fn push_site(
 ) -> Result<(), AllocError>
     ensures { Pushes result text.old text.new (line_of weights number site) }
 {
-    let ListedSite { port, weight } = site;
+    let ListedSite { place, weight } = site;
     match weights {
-        Weights::Greater if weight == 1 => write!(text, "site {number} {port}\n"),
-        _ => write!(text, "site {number} {port} {weight}\n"),
+        Weights::Greater if weight == 1 => write!(text, "site {number} {place}\n"),
+        _ => write!(text, "site {number} {place} {weight}\n"),
     }
 }

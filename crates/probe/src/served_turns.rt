@@ -11,6 +11,7 @@
 use crate::example::{FEDERATION, site};
 use crate::fault::Fault;
 use crate::proposing_memory::mark;
+use addresses::Address;
 use bag_folders::MemoryFolders;
 use bag_tree::{Tree, TreeFault};
 use cell_device::MemoryCell;
@@ -94,6 +95,7 @@ impl Bench {
             Some((from, digits)) => {
                 let from = from.parse::<u16>().or(Err(Fault::Script))?;
                 let bytes = hex::decode(self.alloc, digits)?;
+                let from = Address::on_this_machine(from);
                 Ok(self.port.bring(from, bytes.as_slice())?)
             }
             None if line == "idle" => Ok(self.port.idle()?),
@@ -107,7 +109,7 @@ impl Bench {
             &mut self.site,
             &mut self.port,
             &mut self.folders,
-            &[SITE_PORT],
+            &[Address::on_this_machine(SITE_PORT)],
             turns,
             &mut self.lines,
         )
@@ -144,7 +146,7 @@ fn push_move(alloc: Global, text: &mut String, done: &PortMove) -> Result<(), Fa
         PortMove::Took(_) => Ok(text.push_str("turn\n")?),
         PortMove::Handed(to, bytes) => {
             let digits = hex::encode(alloc, bytes)?;
-            Ok(write!(text, "{to} {digits}\n")?)
+            Ok(write!(text, "{} {digits}\n", to.port())?)
         }
         PortMove::Failed => Err(Fault::Wrong),
     }

@@ -61,10 +61,10 @@ all_posts posts =
 module _ {C : Type 0} (device : C → Device) (members : Membership)
     (counts_now : CountsNow device) (only_now : OnlyNow device)
     (tells : (c : C) → IsSome (device c).image) (n : ℕ) (has : Has n (members_of members))
-    (ports : List ℕ) (gives : Option (List ℕ → Result TreeFacts TreeFault))
+    (addresses : List ℕ) (gives : Option (List ℕ → Result TreeFacts TreeFault))
   where
     abbrev rule : Rule C
-    rule = turn_of device ports gives
+    rule = turn_of device addresses gives
 
     -- An account from here on, until the member is down: these whole turns, and then perhaps one
     -- that may be shown in part, of which these moves were made and this text was written.
@@ -72,8 +72,8 @@ module _ {C : Type 0} (device : C → Device) (members : Membership)
         (turns : List Turned) (moves : List Move) (text : List ℕ) : Type 0 where
       whole : List (Happening C)
       end : List (Happening C)
-      are_whole : (h : Happening C) → Has h whole → IsWhole n ports gives h
-      is_end : IsEnd n ports gives part left end
+      are_whole : (h : Happening C) → Has h whole → IsWhole n addresses gives h
+      is_end : IsEnd n addresses gives part left end
       turns_are : turns_of whole ≡ turns
       is : IsAccount device members m (whole ++ end)
       ends : after_account m (whole ++ end) ≡ Down left
@@ -81,11 +81,11 @@ module _ {C : Type 0} (device : C → Device) (members : Membership)
       text_is : lines_of (whole ++ end) ≡ flat_map text_of turns ++ text
 
     -- one whole happening more, before others
-    both_whole : (h : Happening C) (whole : List (Happening C)) → IsWhole n ports gives h
-        → ((k : Happening C) → Has k whole → IsWhole n ports gives k)
-        → (k : Happening C) → Has k (h ∷ whole) → IsWhole n ports gives k
+    both_whole : (h : Happening C) (whole : List (Happening C)) → IsWhole n addresses gives h
+        → ((k : Happening C) → Has k whole → IsWhole n addresses gives k)
+        → (k : Happening C) → Has k (h ∷ whole) → IsWhole n addresses gives k
     both_whole h whole is are k (here e) =
-        subst (λ (j : Happening C). IsWhole n ports gives j) e is
+        subst (λ (j : Happening C). IsWhole n addresses gives j) e is
     both_whole h whole is are k (there among) = are k among
 
     -- ---- the end
@@ -126,13 +126,13 @@ module _ {C : Type 0} (device : C → Device) (members : Membership)
     -- ---- turns
 
     module _ (old next : Serving C) (turn : Turned)
-        (came : turn_of device ports gives old turn.took turn.done next) where
-      folders : HasFolders device ports gives old next turn.done
+        (came : turn_of device addresses gives old turn.took turn.done next) where
+      folders : HasFolders device addresses gives old next turn.done
           (request_of (turns.members old).federation turn.took)
-      folders = with_folders device ports old next turn.done gives _ came
+      folders = with_folders device addresses old next turn.done gives _ came
 
       abbrev step : Step C
-      step = record { ports = ports; folders = folders.0; turn = turn; next = next }
+      step = record { addresses = addresses; folders = folders.0; turn = turn; next = next }
 
       turn_may : (handed written : ℕ) → needs device next ≡ false
           → MayHappenTo device members (Serves old) (Turns n step handed written)
@@ -215,7 +215,7 @@ module _ {C : Type 0} (device : C → Device) (members : Membership)
           is = (
             fails_may handed written left shut
                 (recovers_since old next left
-                (follows device ports gives old next turn came).later recovers),
+                (follows device addresses gives old next turn came).later recovers),
             tt,
           );
           ends = refl;
@@ -244,7 +244,7 @@ module _ {C : Type 0} (device : C → Device) (members : Membership)
         (rest (subst (λ (s : Serving C). needs device s ≡ false) leads opened))
     turns_more part (turn ∷ those) start mid left turns moves text opened
         (next, came, not_last, leads) rest =
-        let still = (follows device ports gives start next turn came).opened opened not_last in
+        let still = (follows device addresses gives start next turn came).opened opened not_last in
         turn_more start next turn came part left (those ++ turns) moves text still
         (turns_more part those next mid left turns moves text still leads rest)
 
@@ -255,7 +255,7 @@ module _ {C : Type 0} (device : C → Device) (members : Membership)
         subst (λ (s : Serving C). needs device s ≡ false) leads opened
     still_open (turn ∷ those) start mid opened (next, came, not_last, leads) =
         still_open those next mid
-        ((follows device ports gives start next turn came).opened opened not_last) leads
+        ((follows device addresses gives start next turn came).opened opened not_last) leads
 
     -- its idle turns are counted anew
     renews : (part : Option Showing) (s : Serving C) (left : List Record)
@@ -329,7 +329,8 @@ module _ {C : Type 0} (device : C → Device) (members : Membership)
               (turns_more part those start mid left (first ++ more) a.moves a.text opened leads
               (λ still. renews part mid left (first ++ more) a.moves a.text a.rest));
           seen =
-              subst (λ (ts : List Turned). Shows before after ts (a.moves ++ last_moves result) a.text)
+              subst (λ (ts : List Turned). Shows before after ts (a.moves ++ last_moves result)
+              a.text)
               (sym (append_assoc those first more))
               (shows_more before between after those (first ++ more) (a.moves ++ last_moves result)
               a.text shows a.seen);
@@ -404,7 +405,7 @@ module _ {C : Type 0} (device : C → Device) (members : Membership)
         → (before after : Outside) (start mid end : Serving C) (those : List Turned)
         (turn : Turned) (handed written : ℕ) (left : List Record) → needs device start ≡ false
         → Recovers end end left → Leads rule start those mid
-        → turn_of device ports gives mid turn.took turn.done end
+        → turn_of device addresses gives mid turn.took turn.done end
         → Shows before after those (first_of turn handed) (take written (text_of turn))
         → Account (Serves start) left (Err fault)
         (Some (record { turn = turn; handed = handed; written = written })) [] those before after
@@ -515,7 +516,7 @@ module _ {C : Type 0} (device : C → Device) (members : Membership)
       unfolding after_account
       ends = a.rest.ends
 
-      is_of : IsOfProcess n ports gives cell process.site process.served.calls
+      is_of : IsOfProcess n addresses gives cell process.site process.served.calls
           (turns_ended process.served) (part_ended process.served) left account
       is_of = record {
         whole = a.rest.whole;
@@ -558,7 +559,7 @@ module _ {C : Type 0} (device : C → Device) (members : Membership)
       is_account : (account : List (Happening C))
           × IsAccount device members (Down records) account
           × (after_account (Down records) account ≡ Down left)
-          × IsOfProcess n ports gives cell process.site process.served.calls
+          × IsOfProcess n addresses gives cell process.site process.served.calls
           (turns_ended process.served) (part_ended process.served) left account
           × IsSeen before after process.served.result answer account
       is_account = (account, account_is, ends, is_of, is_seen)
@@ -574,8 +575,9 @@ module _ {C : Type 0} (device : C → Device) (members : Membership)
     (counts_now : CountsNow device) (only_now : OnlyNow device)
   where
     pub processes_have_accounts : ProcessesHaveAccounts device members
-    processes_have_accounts n ports gives how cell before after answer records left tells reads
+    processes_have_accounts n addresses gives how cell before after answer records left tells reads
         process recovers =
         is_account device members counts_now only_now tells n
-        ((is_in_decides (members_of members) n).0 process.member) ports gives how cell before after
+        ((is_in_decides (members_of members) n).0 process.member) addresses gives how cell before
+        after
         answer records left reads process recovers

@@ -111,7 +111,7 @@ module _ {C : Type 0} (device : C → Device) where
   device_is_last says last result done is e =
       ap or_one is ∙ subst (λ (r : Result Answer SiteFault). or_one (says r) ≡ true) (sym e) last
 
-  module _ (ports : List ℕ) (gives : Option (List ℕ → Result TreeFacts TreeFault))
+  module _ (addresses : List ℕ) (gives : Option (List ℕ → Result TreeFacts TreeFault))
       (old next : Serving C) (done : Done) where
     abbrev last : Bool
     last = or_one done.notices
@@ -123,7 +123,7 @@ module _ {C : Type 0} (device : C → Device) where
     notices d e = ap (λ (d : Done). d.notices) e
 
     proposed : (s : Serving C) → (place : Option ℕ) (slot : Option SlotName)
-        → proposes device ports s place slot done next → Follows s next last
+        → proposes device addresses s place slot done next → Follows s next last
     proposed s None None (done_is, e) = same s (nothing s last) e
     proposed s None (Some slot) (done_is, e) = same s (nothing s last) e
     proposed s (Some place) None (done_is, e) = same s (nothing s last) e
@@ -133,7 +133,7 @@ module _ {C : Type 0} (device : C → Device) where
         (notices _ done_is)) in
         record { later = f.later; opened = f.opened }
 
-    idled : (t : Bool) → idles_if t device ports (one_more_idle old) done next
+    idled : (t : Bool) → idles_if t device addresses (one_more_idle old) done next
         → Follows old next last
     idled true t =
         let f = proposed (one_more_idle old)
@@ -152,7 +152,7 @@ module _ {C : Type 0} (device : C → Device) where
         (device_is_last (notices_of (number old) (calls.Deposits slot (check_of facts))) refl result
         done (notices _ done_is))
 
-    came : (r : Request) → comes_of device ports gives old r done next → Follows old next last
+    came : (r : Request) → comes_of device addresses gives old r done next → Follows old next last
     came Waits t = idled ((old.idle + 1) % number old == 0) t
     came (Says message) (result, c, done_is) =
         called old next (calls.Arrives (Some message)) result last c
@@ -166,10 +166,10 @@ module _ {C : Type 0} (device : C → Device) where
         (notices _ done_is))
     came Noise (done_is, e) = same old (nothing old last) e
 
-  pub follows : (ports : List ℕ) (gives : Option (List ℕ → Result TreeFacts TreeFault))
+  pub follows : (addresses : List ℕ) (gives : Option (List ℕ → Result TreeFacts TreeFault))
       (old next : Serving C) (turn : Turned)
-      → turn_of device ports gives old turn.took turn.done next
+      → turn_of device addresses gives old turn.took turn.done next
       → Follows old next (is_the_last turn)
-  follows ports gives old next turn t =
-      came ports gives old next turn.done
+  follows addresses gives old next turn t =
+      came addresses gives old next turn.done
       (request_of (turns.members old).federation turn.took) t

@@ -29,8 +29,8 @@ module _ (members : Membership) (slot : SlotName) (bag : BagId)
   abbrev pub all_done : Outside
   all_done =
       outside
-      (Some (Took (From request.port request.bytes)
-      ∷ Handed (reply_to members.federation request.port slot bag) ∷ []))
+      (Some (Took (From request.address request.bytes)
+      ∷ Handed (reply_to members.federation request.address slot bag) ∷ []))
       (Some (notice_text (Registered 1 slot bag)))
 
   -- The process has served, and its disk recovers to the record of the deposit.

@@ -92,7 +92,8 @@ module _ {C : Type 0} (rule : Rule C) (before after : Outside) (start end : Serv
   part_unwritten (inr within) =
       Some (record { turn = within.1.2; handed = within.0; written = 0 })
 
-  -- what is shown of the last turn of a call that this fault ended, unless all of its turns are whole
+  -- what is shown of the last turn of a call that this fault ended, unless all of its turns are
+  -- whole
   abbrev pub part_of : (wanted : ℕ) (fault : ServeFault)
       → served.Serves rule before after start end wanted turns (Err fault) → Option Showing
   part_of wanted faults.Port serves = None
@@ -131,11 +132,11 @@ part_ended {rule = rule} {how = how} {before = before} {start = start} s =
     part_then rule (turns_in how) (most_calls how) before s.ended start s.end s.calls s.result
     s.serves
 
-module _ {C : Type 0} (n : ℕ) (ports : List ℕ)
+module _ {C : Type 0} (n : ℕ) (addresses : List ℕ)
     (gives : Option (List ℕ → Result TreeFacts TreeFault)) where
-  -- its ports are these, and its folders give what it is known that they give
+  -- its addresses are these, and its folders give what it is known that they give
   abbrev pub IsWith : Step C → Type 0
-  IsWith step = (step.ports ≡ ports) × IfSome gives (λ answer. step.folders ≡ answer)
+  IsWith step = (step.addresses ≡ addresses) × IfSome gives (λ answer. step.folders ≡ answer)
 
   -- A turn of this member that is whole: each datagram was handed out, and each byte written. Or
   -- the member serves anew.
@@ -194,17 +195,18 @@ module _ {C : Type 0} (device : C → Device) (members : Membership) where
   -- the writer were given.
   abbrev pub ProcessesHaveAccounts : Type 0
   ProcessesHaveAccounts =
-      (n : ℕ) (ports : List ℕ) (gives : Option (List ℕ → Result TreeFacts TreeFault)) (how : Turns)
+      (n : ℕ) (addresses : List ℕ) (gives : Option (List ℕ → Result TreeFacts TreeFault)) (how :
+      Turns)
       (cell : C) (before after : Outside) (answer : Result ℕ ProgramFault)
       (records left : List Record)
       → TellTheirBytes device
       → ReadGives (owner_of device members n) (device cell) records
-      → (process : HasServed device (turn_of device ports gives) (owner_of device members n) how
+      → (process : HasServed device (turn_of device addresses gives) (owner_of device members n) how
       cell before after answer)
       → MayRecoverTo (owner_of device members n) (device_of device members process.served.end)
       (device_of device members process.served.end) left
       → (account : List (Happening C)) × IsAccount device members (Down records) account
       × (after_account (Down records) account ≡ Down left)
-      × IsOfProcess n ports gives cell process.site process.served.calls
+      × IsOfProcess n addresses gives cell process.site process.served.calls
       (turns_ended process.served) (part_ended process.served) left account
       × IsSeen before after process.served.result answer account

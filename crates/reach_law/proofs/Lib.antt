@@ -17,3 +17,4 @@ pub mod TwoProposals
 pub mod Arriving
 pub mod ThreeSites
 pub mod InTurn
+pub mod OfTwo

@@ -1,5 +1,5 @@
 -- Which deposit a site that serves proposes, in those of its idle turns in which it proposes.
-use Rattle.std.specs.Prelude.{ℕ, suc, ◌≡◌, ◌<◌, ◌+◌, List, true, Some}
+use Rattle.std.specs.Prelude.{ℕ, suc, ◌≡◌, ◌<◌, ◌+◌, ◌⊎◌, List, true, Some}
 use Rattle.records.specs.declared.record.Record.{Record}
 use Rattle.udp_site.specs.Rounds.{waits, next_waiting}
 
@@ -20,3 +20,9 @@ abbrev pub IsProposedInTurn :
     (records : ℕ → List Record) → (tried : ℕ → ℕ) → (place most : ℕ) → Type 0
 IsProposedInTurn records tried place most =
     (turn : ℕ) × (turn < most) × (next_waiting (records turn) (tried turn) ≡ Some place)
+
+-- the first of these turns proposes it, or the second
+abbrev pub IsNextOrAfter : (records : ℕ → List Record) → (tried : ℕ → ℕ) → (place : ℕ) → Type 0
+IsNextOrAfter records tried place =
+    (next_waiting (records 0) (tried 0) ≡ Some place)
+    ⊎ (next_waiting (records 1) (tried 1) ≡ Some place)

@@ -11,7 +11,7 @@ ghost use Rattle.reach_law.specs.Running.{AreMembers, RoundsAreLeft, CanDecide, 
 ghost use Rattle.reach_law.specs.Reach.{IsWithinReach, HaveNothing, StaysUnknown};
 ghost use Rattle.reach_law.specs.Undisturbed.{CanPropose, CanOutbid, AllArrive, in_the_end};
 ghost use Rattle.reach_law.specs.Undisturbed.{Knows, AllKnow, KnowsOrCanOutbid};
-ghost use Rattle.reach_law.specs.InTurn.{AreProposingTurns, Waits, IsProposedInTurn};
+ghost use Rattle.reach_law.specs.InTurn.{AreProposingTurns, Waits, IsProposedInTurn, IsNextOrAfter};
 
 // A function here does nothing: its contract is the law, for any quorums that meet and grow.
 
@@ -100,4 +100,11 @@ pub fn each_deposit_has_its_turn()
     ensures { (records : ℕ → List Record) (tried : ℕ → ℕ) (place most : ℕ)
         → AreProposingTurns records tried → Waits records place most
         → IsProposedInTurn records tried place most }
+{}
+
+/// So each of two has the first or the second of these turns.
+pub fn each_of_two_has_its_turn()
+    ensures { (records : ℕ → List Record) (tried : ℕ → ℕ) (place : ℕ)
+        → AreProposingTurns records tried → Waits records place 2
+        → IsNextOrAfter records tried place }
 {}

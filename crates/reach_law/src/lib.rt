@@ -10,6 +10,6 @@ mod law;
 pub use examples::a_ballot_may_be_undisturbed;
 pub use law::{
     a_decision_is_within_reach, an_undisturbed_ballot_is_decided, an_undisturbed_proposal_outbids,
-    each_deposit_has_its_turn, no_decision_without_a_vote_or_a_deposit, rounds_are_left,
-    two_undisturbed_proposals_decide, what_is_chosen_is_within_reach,
+    each_deposit_has_its_turn, each_of_two_has_its_turn, no_decision_without_a_vote_or_a_deposit,
+    rounds_are_left, two_undisturbed_proposals_decide, what_is_chosen_is_within_reach,
 };

@@ -72,7 +72,7 @@ slot_fits = (omega arith, (omega arith, of_number 4 1))
 
 request : Request 7 a bag
 request = record {
-  port = 9;
+  address = 9;
   path = 102 ∷ [];
   bytes = datagram_of 7 asks;
   are_bytes =

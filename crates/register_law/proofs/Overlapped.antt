@@ -38,7 +38,7 @@ module _ (bag : BagId) (request : Request 7 a bag) where
   promising = turns bag request Asked2 1 0
 
   abbrev answer : Post
-  answer = reply_to 7 request.port a bag
+  answer = reply_to 7 request.address a bag
 
   abbrev prepare : (site : ℕ) → Post
   prepare site = (site, datagram_of 7 (m (Prepare ballot)))

@@ -22,7 +22,7 @@ use Rattle.serving_law.specs.Rules.{MayAll, IsHistory}
 
 -- ---- how they begin
 
--- a datagram that was sent, for the port of its site, whichever that is
+-- a datagram that was sent, for the address of its site, whichever that is
 abbrev pub datagram_for : (federation : ℕ) → Send → Post
 datagram_for federation d = (d.to, datagram_of federation d.message)
 

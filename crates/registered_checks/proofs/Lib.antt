@@ -3,3 +3,4 @@ pub mod Compared
 pub mod Agreed
 pub mod Paths
 pub mod Listed
+pub mod Said

@@ -1,11 +1,11 @@
 -- What a check against a list comes to, or against a cell.
-use Rattle.std.specs.Prelude.{◌⊎◌, ℕ, List, [], Option, IfSome}
+use Rattle.std.specs.Prelude.{◌⊎◌, ℕ, List, [], Option, IfSome, Result, Ok, Err}
 use Rattle.folder_checks.specs.declared.report.Report.{Report}
 use Rattle.known_bags.specs.declared.known_bag.KnownBag.{KnownBag}
 use Rattle.known_bags.specs.declared.sources.SourceFault.{SourceFault}
 use Rattle.known_bags.specs.Faults.{fault_outcome}
 use Rattle.known_bags.specs.Sources.{Knows, IsNoSource}
-use Rattle.outcomes.specs.Outcomes.{Outcome}
+use Rattle.outcomes.specs.Outcomes.{Outcome, no_memory}
 use Rattle.registered_checks.specs.Held.{Given}
 use Rattle.registered_checks.specs.Checks.{ComparesOn, ComparesFirst}
 
@@ -25,3 +25,11 @@ AnswersFirst source report given place paths P =
     ((known : List KnownBag) × Knows source known
     × IfSome given (λ gives. ComparesFirst report gives place paths P))
     ⊎ ((fault : SourceFault) × IsNoSource source fault × P (fault_outcome fault))
+
+-- A source was read, and there are folders: the first of these. Else no folder is checked, and the
+-- second holds of what is written: why the source couldn't be read, or that memory ran out.
+abbrev pub WhereOpened : {S F E : Type 0} → Result S SourceFault → Result F E
+    → (S → F → Type 0) → (Outcome → Type 0) → Type 0
+WhereOpened (Ok source) (Ok folders) P Q = P source folders
+WhereOpened (Ok source) (Err e) P Q = Q no_memory
+WhereOpened (Err fault) folders P Q = Q (fault_outcome fault) ⊎ Q no_memory

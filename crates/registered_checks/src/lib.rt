@@ -17,10 +17,14 @@ mod known_checks;
 mod list_checks;
 mod noted_folders;
 mod notes;
+mod said_checks;
+mod source_checks;
 
-pub use command::{check_registered, say_on};
+pub use command::check_registered;
 pub use comparison_lines::comparison_text;
 pub use equality::are_equal;
 pub use held_bag::HeldBag;
 pub use known_checks::{Checked, check_known_on};
 pub use list_checks::check_list_on;
+pub use said_checks::{Says, check_and_say_on, say_on};
+pub use source_checks::check_source_on;

@@ -5,6 +5,7 @@ use crate::labels::message_of;
 use crate::layout::BEYOND;
 use crate::marks::CROSS;
 use crate::paint::{PLAIN, of_datagram};
+use crate::seen_words::{push_box, push_seen};
 use crate::shape::{push_shape, push_words};
 use crate::sides::{Side, beside, side_to};
 use run_story::{Datagram, Deed, Passage};
@@ -170,8 +171,10 @@ impl Canvas<'_> {
         };
         let x = beside(self.layout.column(datagram.from), BEYOND, side);
         let end = self.layout.stub(number);
+        let words = message_of(self.alloc, self.story, number, datagram)?;
+        push_box(text, words.as_str(), x, end.saturating_add(4), side)?;
         push_shape(text, shape, of_datagram(datagram), &[x, end])?;
-        self.push_words(text, number, datagram)?;
+        push_seen(text, words.as_str())?;
         text.push_str("</text>\n")
     }
 }

@@ -1,8 +1,9 @@
 use crate::layout::Layout;
 use crate::marks::{outcome_mark, record_mark};
 use crate::paint::{PLAIN, of_event, of_tree};
-use crate::shape::{push_shape, push_words};
-use crate::sides::{Side, side_of};
+use crate::seen_words::{push_box, push_seen};
+use crate::shape::push_shape;
+use crate::sides::{Side, beside, side_of};
 use run_story::{Deed, Event, Story};
 use std::alloc::{AllocError, Global};
 
@@ -67,13 +68,21 @@ impl Canvas<'_> {
         if row == 0 {
             return Ok(());
         }
-        let shape = match side_of(self.story, event) {
+        let side = side_of(self.story, event);
+        let shape = match side {
             Side::Left => "<text class='l f$c' x='$0' y='$1' dx='-13' dy='-5'>",
             Side::Right => "<text class='f$c' x='$0' y='$1' dx='13' dy='-5'>",
         };
         let x = self.layout.column(event.site);
+        push_box(
+            text,
+            label,
+            beside(x, 13, side),
+            row.saturating_sub(5),
+            side,
+        )?;
         push_shape(text, shape, of_event(self.story, event), &[x, row])?;
-        push_words(text, label)?;
+        push_seen(text, label)?;
         text.push_str("</text>\n")
     }
 }

@@ -1,6 +1,7 @@
 //! Where everything is, in units of the picture.
 
 use crate::labels::message_of;
+use crate::seen_words::width_of;
 use crate::sides::{Side, side_of, side_to};
 use lines::Reason;
 use run_story::{Datagram, Deed, Event, Outcome, Passage, Story};
@@ -12,6 +13,10 @@ const TOP: usize = 84;
 const ROW: usize = 26;
 /// The height of a datagram that was never delivered, below the event that sent it.
 const STUB: usize = 18;
+/// The height of the sites' names between rows, and after how much they are named again.
+const NAMES: usize = 46;
+
+const SCREENFUL: usize = 25 * ROW;
 /// Room for the numbers of the schedule's lines.
 const GUTTER: usize = 56;
 /// How far columns are apart at least, and how wide the margins are.
@@ -32,6 +37,10 @@ pub(crate) struct Layout {
     rows: Vec<usize>,
     // For each datagram, where it ends if it was never delivered.
     stubs: Vec<usize>,
+    // Where the sites are named again.
+    names: Vec<usize>,
+    // Where they were named last.
+    named: usize,
     /// The last row.
     pub(crate) bottom: usize,
 }
@@ -49,12 +58,14 @@ impl Layout {
             right: LEAST_MARGIN,
             rows: Vec::new(alloc),
             stubs: Vec::new(alloc),
+            names: Vec::new(alloc),
+            named: TOP,
             bottom: TOP,
         };
         for (event, label) in story.events.iter().zip(labels.iter()) {
             layout.add_row(event)?;
             layout.add_stubs(alloc, story, event)?;
-            layout.allow(story, event, room_for(label.len()));
+            layout.allow(story, event, room_for(label.as_str()));
         }
         Ok(layout)
     }
@@ -65,8 +76,20 @@ impl Layout {
             self.rows.push(0)?;
             return Ok(());
         }
+        self.add_names()?;
         self.bottom = self.bottom.saturating_add(ROW);
         self.rows.push(self.bottom)?;
+        Ok(())
+    }
+
+    // Names the sites again, if that was a screenful ago.
+    fn add_names(&mut self) -> Result<(), AllocError> {
+        if self.bottom.saturating_sub(self.named) < SCREENFUL {
+            return Ok(());
+        }
+        self.names.push(self.bottom.saturating_add(16))?;
+        self.bottom = self.bottom.saturating_add(NAMES);
+        self.named = self.bottom;
         Ok(())
     }
 
@@ -78,7 +101,7 @@ impl Layout {
                 let number = before.saturating_add(1);
                 if let Some(datagram) = story.datagram(number) {
                     let words = message_of(alloc, story, number, datagram)?;
-                    self.allow_stub(story, datagram, room_beyond(words.len()));
+                    self.allow_stub(story, datagram, room_beyond(words.as_str()));
                 }
             }
             self.stubs.push(self.bottom)?;
@@ -124,6 +147,17 @@ impl Layout {
         self.rows.get(place).copied().unwrap_or(0)
     }
 
+    /// Where the sites are named between rows.
+    pub(crate) fn names(&self) -> &[usize] {
+        self.names.as_slice()
+    }
+
+    /// The rows of all events.
+    pub(crate) fn into_rows(self) -> Vec<usize> {
+        let Layout { rows, .. } = self;
+        rows
+    }
+
     /// Where the datagram of this number breaks off, if it does.
     pub(crate) fn stub(&self, number: usize) -> usize {
         self.stubs.get(number.wrapping_sub(1)).copied().unwrap_or(0)
@@ -140,12 +174,12 @@ fn is_drawn(event: &Event) -> bool {
     }
 }
 
-// How much room words of this many bytes take; at most 60 of them are seen.
-fn room_for(bytes: usize) -> usize {
-    (bytes.min(60).saturating_mul(13) / 2).saturating_add(36)
+// How much room words take beside their column.
+fn room_for(words: &str) -> usize {
+    width_of(words).saturating_add(36)
 }
 
 // The same beyond an arrow that breaks off.
-fn room_beyond(bytes: usize) -> usize {
-    (bytes.min(60).saturating_mul(13) / 2).saturating_add(BEYOND)
+fn room_beyond(words: &str) -> usize {
+    width_of(words).saturating_add(BEYOND + 10)
 }

@@ -1,7 +1,7 @@
 //! What marks, lines and colours mean.
 
 use crate::marks::{DEPOSIT, KNOWN, PROMISE, ROUND, START, VOTE};
-use crate::paint::{PLAIN, of_tree};
+use crate::paint::{Colour, PLAIN, of_tree};
 use crate::shape::push_shape;
 use run_story::Story;
 use std::alloc::{AllocError, Global};
@@ -87,7 +87,7 @@ impl Legend {
         text: &mut String,
         entry: usize,
         shape: &str,
-        colour: char,
+        colour: Colour,
     ) -> Result<(), AllocError> {
         let place = self.place(entry);
         push_shape(text, shape, colour, &place)?;

@@ -2,7 +2,10 @@
 //! datagram.
 //!
 //! ```
-//! let picture = picture_of(rt.alloc(), story)?;
+//! if path.ends_with(".html") {
+//!     return page_of(rt.alloc(), story, task.options);
+//! }
+//! picture_of(rt.alloc(), story)
 //! ```
 #![tactic(auto)]
 
@@ -15,7 +18,8 @@ mod legend;
 mod marks;
 mod page;
 mod paint;
+mod seen_words;
 mod shape;
 mod sides;
 
-pub use page::picture_of;
+pub use page::{picture_of, rows_of};

@@ -1,12 +1,13 @@
 //! Shapes with blanks, and text.
 
+use crate::paint::{Colour, push_colour};
 use std::alloc::AllocError;
 
-/// Appends a shape: `$0` to `$9` are numbers among those given, and `$c` is the letter of a colour.
+/// Appends a shape: `$0` to `$9` are numbers among those given, and `$c` is a colour.
 pub(crate) fn push_shape(
     text: &mut String,
     shape: &str,
-    colour: char,
+    colour: Colour,
     numbers: &[usize],
 ) -> Result<(), AllocError> {
     let mut is_blank = false;
@@ -26,11 +27,11 @@ pub(crate) fn push_shape(
 fn push_blank(
     text: &mut String,
     blank: char,
-    colour: char,
+    colour: Colour,
     numbers: &[usize],
 ) -> Result<(), AllocError> {
     let Some(digit) = blank.to_digit(10) else {
-        return text.push(colour);
+        return push_colour(text, colour);
     };
     match numbers.get(digit as usize) {
         Some(number) => write!(text, "{number}"),

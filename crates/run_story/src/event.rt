@@ -70,6 +70,9 @@ pub struct Event {
     pub sent_after: usize,
     /// What the record says that is in the site's cell since.
     pub record: Option<Entry>,
+    /// The place of that record's slot among those of the story. After a failure it may be another
+    /// one than the event's.
+    pub record_slot: Option<usize>,
     /// The site's device had failed before it: the record belongs to the call that failed.
     pub was_unopened: bool,
     /// The tree of the bag that its record or its line names, 0 if they name none.

@@ -39,6 +39,8 @@ pub(crate) struct Notes {
 struct Recorded {
     count: usize,
     last: Option<Entry>,
+    // The place of its slot.
+    slot: Option<usize>,
 }
 
 impl Notes {
@@ -219,9 +221,10 @@ impl Notes {
         let place = usize::from(event.site).wrapping_sub(1);
         event.was_unopened = self.note_failure(place, event.outcome);
         if let Some(station) = federation.stations().get(place) {
-            let recorded = recorded_at(self.alloc, self.members, station)?;
+            let recorded = recorded_at(self.alloc, self.members, &self.slots, station)?;
             if self.has_grown(place, recorded.count) {
                 event.record = recorded.last;
+                event.record_slot = recorded.slot;
                 if let Some(entry) = &recorded.last {
                     event.tree = tree_of(federation.seen(), bag_on(entry));
                 }
@@ -266,33 +269,49 @@ fn tree_of(seen: &SeenBags, bag: Option<BagId>) -> u32 {
 
 // What the station's site has on record, wherever it is. If its device has failed, the cell may
 // have one record more.
-fn recorded_at(alloc: Global, members: Members, station: &Station) -> Result<Recorded, AllocError> {
+fn recorded_at(
+    alloc: Global,
+    members: Members,
+    slots: &ListedRows<usize>,
+    station: &Station,
+) -> Result<Recorded, AllocError> {
     match station.run_state() {
-        RunState::Running(site) => Ok(recorded_among(site.records())),
+        RunState::Running(site) => Ok(recorded_among(slots, site.records())),
         RunState::AtRest(cell) => {
             let owner = Owner {
                 members,
                 site: station.number(),
             };
-            recorded_in(alloc, &owner, cell.bytes())
+            recorded_in(alloc, &owner, slots, cell.bytes())
         }
     }
 }
 
-fn recorded_in(alloc: Global, owner: &Owner, bytes: &[u8]) -> Result<Recorded, AllocError> {
+fn recorded_in(
+    alloc: Global,
+    owner: &Owner,
+    slots: &ListedRows<usize>,
+    bytes: &[u8],
+) -> Result<Recorded, AllocError> {
     match read_journal(alloc, owner, bytes) {
-        Ok(journal) => Ok(recorded_among(journal.records.as_slice())),
+        Ok(journal) => Ok(recorded_among(slots, journal.records.as_slice())),
         // A cell that keeps records causes no other fault.
         Err(_) => Err(AllocError),
     }
 }
 
-fn recorded_among(records: &[Record]) -> Recorded {
-    Recorded {
-        count: records.len(),
-        last: match records.last() {
-            Some(record) => Some(record.body),
-            None => None,
+fn recorded_among(slots: &ListedRows<usize>, records: &[Record]) -> Recorded {
+    let count = records.len();
+    match records.last() {
+        Some(record) => Recorded {
+            count,
+            last: Some(record.body),
+            slot: slots.get(&record.slot).copied(),
+        },
+        None => Recorded {
+            count,
+            last: None,
+            slot: None,
         },
     }
 }

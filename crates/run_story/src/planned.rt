@@ -44,6 +44,7 @@ pub(crate) fn event_at(line: usize, deed: Deed, site: u8) -> Event {
         sent_before: 0,
         sent_after: 0,
         record: None,
+        record_slot: None,
         was_unopened: false,
         tree: 0,
     }

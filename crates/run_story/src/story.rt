@@ -1,6 +1,6 @@
 use crate::datagram::Datagram;
 use crate::event::{Deed, Event, Outcome};
-use fed_types::{Ballot, Members};
+use fed_types::{Ballot, Members, Slot};
 use lines::{Line, Reason};
 use sim_tables::Datagrams;
 use slot_table::ListedRows;
@@ -43,6 +43,11 @@ impl Story {
     /// The datagram of this number, counted from 1.
     pub fn datagram(&self, number: usize) -> Option<&Datagram> {
         self.datagrams.get(number)
+    }
+
+    /// The versions that it is about, in the order in which they came first.
+    pub fn versions(&self) -> &[Slot] {
+        self.slots.slots()
     }
 
     /// How many were sent.

@@ -15,4 +15,4 @@ mod sends;
 mod skips;
 mod stops;
 
-pub use run_text::words_of;
+pub use run_text::{is_told, push_event, words_of};

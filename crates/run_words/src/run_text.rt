@@ -17,6 +17,7 @@ pub fn words_of(alloc: Global, story: &Story, options: Options) -> Result<String
     for (place, event) in story.events.iter().enumerate() {
         if is_told(event) {
             push_event(&mut text, story, place, event)?;
+            text.push('\n')?;
             push_said(alloc, &mut text, story, event, options)?;
         }
     }
@@ -37,15 +38,17 @@ fn push_heading(text: &mut String, story: &Story) -> Result<(), AllocError> {
     }
 }
 
-// A tree that is declared or filled makes words only if a line is printed.
-fn is_told(event: &Event) -> bool {
+/// Whether words are made of an event: of a tree that is declared or filled only if a line is
+/// printed.
+pub fn is_told(event: &Event) -> bool {
     match event.deed {
         Deed::Tree => event.said.is_some(),
         _ => true,
     }
 }
 
-fn push_event(
+/// Appends the words of the event at a place, in one line, without its end.
+pub fn push_event(
     text: &mut String,
     story: &Story,
     place: usize,
@@ -55,8 +58,7 @@ fn push_event(
     push_all(text, &scene, &[command(event), fate(event)])?;
     push_what(text, &scene)?;
     scene.datagram = story.first_sent(event);
-    push_sends(text, &scene)?;
-    text.push('\n')
+    push_sends(text, &scene)
 }
 
 // What came of the event, and what is on record since.

@@ -79,8 +79,8 @@ module _ {C : Type 0} (device : C → Device) where
 
   pub turns_with_keys_may_happen : ((members : Membership) → TurnsMayHappen device members)
       → TurnsWithKeysMayHappen device
-  turns_with_keys_may_happen may_happen members rings history n old next ports gives turn is all
+  turns_with_keys_may_happen may_happen members rings history n old next addresses gives turn is all
       serving handed =
-      may_happen members history n old next ports gives turn is
+      may_happen members history n old next addresses gives turn is
       (with_keys_are_histories members rings new_federation history all) serving
       (handed_on_may_come members rings _ turn.took handed)

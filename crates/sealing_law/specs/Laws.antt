@@ -56,10 +56,10 @@ module _ {C : Type 0} (device : C → Device) where
   abbrev pub TurnsWithKeysMayHappen : Type 0
   TurnsWithKeysMayHappen =
       (members : Membership) (rings : List Ring) (history : List (Happening C)) (n : ℕ)
-      (old next : Serving C) (ports : List ℕ)
+      (old next : Serving C) (addresses : List ℕ)
       (gives : Option (List ℕ → Result TreeFacts TreeFault)) (turn : Turned)
       → IsMembership members → IsHistoryWithKeys device members rings history
       → IsServing device members (after_all new_federation history) n old
       → IsHandedOn members rings (after_all new_federation history).handed turn.took
-      → turn_of device ports gives old turn.took turn.done next
-      → IsStep device members history old next ports gives turn
+      → turn_of device addresses gives old turn.took turn.done next
+      → IsStep device members history old next addresses gives turn

@@ -16,18 +16,18 @@ module _ (members : Membership) where
   -- before. This is what is left to believe: that nobody else has such a key, and that nobody makes
   -- a tag without one. Nothing is believed of a client's datagram, or of another federation's.
   abbrev pub OnlySitesSeal :
-      Ring → (handed : List Post) → (port : ℕ) → (bytes : List ℕ) → Type 0
-  OnlySitesSeal ring handed port bytes =
+      Ring → (handed : List Post) → (address : ℕ) → (bytes : List ℕ) → Type 0
+  OnlySitesSeal ring handed address bytes =
       (key datagram : List ℕ) (message : Message)
       → Has key ring.sites → bytes ≡ sealed key datagram
-      → request_of members.federation (From port datagram) ≡ Says message
+      → request_of members.federation (From address datagram) ≡ Says message
       → IsOfMember members message → WereHanded handed datagram
 
   -- What a port hands on to its site: nothing; or what it makes of bytes that came, whoever sent
   -- them. Its keys are one of these rings: there are several where the sites change their keys.
   abbrev pub IsHandedOn : (rings : List Ring) → (handed : List Post) → Taken → Type 0
   IsHandedOn rings handed Nothing = ⊤
-  IsHandedOn rings handed (From port datagram) =
+  IsHandedOn rings handed (From address datagram) =
       (ring : Ring) × Has ring rings
-      × (bytes : List ℕ) × AreBytes bytes × OnlySitesSeal ring handed port bytes
+      × (bytes : List ℕ) × AreBytes bytes × OnlySitesSeal ring handed address bytes
       × (datagram ≡ handed_on (Some ring) bytes)

@@ -43,7 +43,7 @@ use Rattle.serving_law.specs.Rules.{MayAll}
 use Rattle.serving_law.proofs.Answers.{AreMessages, seals, answer_of}
 use Rattle.serving_law.proofs.DiskCalls.{owner, serving, called, no_folders}
 use Rattle.serving_law.proofs.DiskJournals.{says}
-use Rattle.serving_law.proofs.Agreement.{three_are, ports, step_of, may_turn, takes, serves}
+use Rattle.serving_law.proofs.Agreement.{three_are, addresses, step_of, may_turn, takes, serves}
 use Rattle.serving_law.specs.Examples.{Request}
 use Rattle.serving_law.specs.ExamplesAgreed.{three, a, ballot, Agree, DiesVoting, says_vote}
 use Rattle.serving_law.specs.ExamplesAgreed.{CountsOnce, ThreeSitesAgree, KilledInAVote}
@@ -121,22 +121,22 @@ module _ (bag : BagId) (request : Request 7 a bag) where
 
   abbrev deposit_done : Done
   deposit_done = record {
-    posts = deposit_replies 7 1 request.port a (deposit_answer (Ok deposit_answer_is));
+    posts = deposit_replies 7 1 request.address a (deposit_answer (Ok deposit_answer_is));
     notices = notices_of 1 (calls.Deposits a (check_of request.facts)) (Ok deposit_answer_is);
   }
 
   abbrev pub deposit_step : Step Disk
   deposit_step = record {
-    ports = ports;
+    addresses = addresses;
     folders = λ path. Ok request.facts;
-    turn = record { took = From request.port request.bytes; done = deposit_done };
+    turn = record { took = From request.address request.bytes; done = deposit_done };
     next = has_deposit;
   }
 
-  pub deposits : turn_of device ports (Some deposit_step.folders) asked
-      (From request.port request.bytes) deposit_done has_deposit
+  pub deposits : turn_of device addresses (Some deposit_step.folders) asked
+      (From request.address request.bytes) deposit_done has_deposit
   deposits =
-      subst (λ (q : requests.Request). comes_of device ports (Some deposit_step.folders) asked q
+      subst (λ (q : requests.Request). comes_of device addresses (Some deposit_step.folders) asked q
       deposit_done has_deposit) (sym request.asked) (
         Ok request.facts,
         refl,
@@ -187,13 +187,13 @@ module _ (bag : BagId) (request : Request 7 a bag) where
 
   abbrev propose_done : Done
   propose_done = record {
-    posts = posts_of ports (Ok prepare_answer);
+    posts = posts_of addresses (Ok prepare_answer);
     notices = proposal_notices 1 (calls.Proposes a) (Ok prepare_answer);
   }
 
   abbrev pub propose_step : Step Disk
   propose_step = record {
-    ports = ports;
+    addresses = addresses;
     folders = no_folders;
     turn = record { took = Nothing; done = propose_done };
     next = has_proposed;
@@ -202,11 +202,13 @@ module _ (bag : BagId) (request : Request 7 a bag) where
   not_refused : (fault : SiteFault) → preparing.says ≡ Err fault → ⊥
   not_refused fault e = absurd (cc e)
 
-  pub proposes : turn_of device ports (Some no_folders) has_deposit Nothing propose_done has_proposed
+  pub proposes : turn_of device addresses (Some no_folders) has_deposit Nothing propose_done
+      has_proposed
   unfolding next_waiting deposits_of known_of same_slot
   proposes = (
     Ok prepare_answer,
-    called three three_are 1 (r (deposited bag) ∷ []) (is_d bag request, tt) (tables a three 1 none_heard)
+    called three three_are 1 (r (deposited bag) ∷ []) (is_d bag request, tt) (tables a three 1
+        none_heard)
         (tables a three 1 none_promised) (volatile_of [] None) 1 1 (calls.Proposes a)
         preparing None proposes_it refl (is_r bag request) three_prepares (omega arith)
         nothing prepared_stands,
@@ -252,7 +254,7 @@ module _ (bag : BagId) (request : Request 7 a bag) where
   )
     where
       other : {message : Message}
-          → requests.Deposits request.port a request.path ≡ requests.Says message → ⊥
+          → requests.Deposits request.address a request.path ≡ requests.Says message → ⊥
       other e = cc
 
   pub is_idle : (f : Federation Disk) (later : List (Happening Disk))
@@ -403,7 +405,8 @@ module _ (bag : BagId) (request : Request 7 a bag) where
       × DiesVoting bag (r (promised bag) ∷ r (voted bag) ∷ [])
   killed = (
     dies (r (promised bag) ∷ []) (p, tt) 2 (omega arith) (omega arith) refl,
-    dies (r (promised bag) ∷ r (voted bag) ∷ []) (p, (is_v bag request, tt)) 3 (omega arith) (omega arith) refl,
+    dies (r (promised bag) ∷ r (voted bag) ∷ []) (p, (is_v bag request, tt)) 3 (omega arith) (omega
+        arith) refl,
   )
     where
       p : IsRecord (r (promised bag))

@@ -43,18 +43,19 @@ module _ (bag : BagId) (request : Request 7 a bag) where
   abbrev v : Vote
   v = vote bag
 
-  pub come : MayCome three [] (From request.port request.bytes)
+  pub come : MayCome three [] (From request.address request.bytes)
   come = (request.are_bytes, λ message e is. absurd (other (sym request.asked ∙ e)))
     where
       other : {message : Message}
-          → requests.Deposits request.port a request.path ≡ requests.Says message → ⊥
+          → requests.Deposits request.address a request.path ≡ requests.Says message → ⊥
       other e = cc
 
   -- ---- what is written and sent is well-formed
 
   pub is_slot : IsSlot a
   is_slot =
-      deposit_is_slot three [] (From request.port request.bytes) come request.port a request.path
+      deposit_is_slot three [] (From request.address request.bytes) come request.address a
+      request.path
       request.asked
 
   pub is_bag : IsBag bag

@@ -42,8 +42,8 @@ pub three_are : IsMembership three
 three_are = (omega arith, ((omega arith, omega arith), each_weight))
 
 -- the port of a site is its number
-abbrev pub ports : List ℕ
-ports = 1 ∷ 2 ∷ 3 ∷ []
+abbrev pub addresses : List ℕ
+addresses = 1 ∷ 2 ∷ 3 ∷ []
 
 abbrev pub m : Body → Message
 m body = record { slot = a; body = body }
@@ -101,7 +101,7 @@ abbrev pub answer_in : Hearing → Answer
 answer_in h = answer_of h.line (seals 7 h.sends h.ms) h.few
 
 abbrev pub step_of : Hearing → Step Disk
-step_of h = heard_step three three_are h.n ports (m h.body) (answer_in h) (next_of h)
+step_of h = heard_step three three_are h.n addresses (m h.body) (answer_in h) (next_of h)
 
 -- the rules say that it comes to this
 abbrev pub Answers : Hearing → Type 0
@@ -130,7 +130,7 @@ module _ (h : Hearing) (fits : Fits h) (answers : Answers h) (stands : Stands h)
   takes = record {
     may_come = (fits.fits, λ message e is. (port, handed));
     comes =
-        hears three three_are h.n ports (records_of a h.old.es) (tables a three h.n h.old.rows)
+        hears three three_are h.n addresses (records_of a h.old.es) (tables a three h.n h.old.rows)
         (volatile_of h.old.bs h.old.current) h.old.turns h.old.turns (next_of h) (m h.body) fits.is
         fits.says (answer_in h)
         (called three three_are h.n (records_of a h.old.es) fits.are

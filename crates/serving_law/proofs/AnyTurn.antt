@@ -126,11 +126,11 @@ module _ {C : Type 0} (device : C → Device) (members : Membership) (s : Scene 
           (turning.laws device members s)
           w inv n (Arrives (Some message)) (Ok (Some site_lines.Dropped)) (reports_plain _ refl))
 
-  hears_ends : (idle tried : ℕ) (ports : List ℕ) (message : Message)
+  hears_ends : (idle tried : ℕ) (addresses : List ℕ) (message : Message)
       → (IsOfMember members message → WasSent w message.slot message.body) → IsMessage message
       → (D : May) (done : Done) (new : Serving C)
-      → hears device ports (at idle tried) message done new → Ends done new D
-  hears_ends idle tried ports message sent is D done new (result, called, done_is) =
+      → hears device addresses (at idle tried) message done new → Ends done new D
+  hears_ends idle tried addresses message sent is D done new (result, called, done_is) =
       subst (λ (d : Done). Ends d new D) (sym done_is)
       (turning.speaks_ends device members s idle tried (Arrives (Some message))
       (arrives_deed message sent)
@@ -140,7 +140,7 @@ module _ {C : Type 0} (device : C → Device) (members : Membership) (s : Scene 
       (turning.is_site device members s)
       (w.sites n).records (formed.records n) volatile (formed.heard n)
       (Arrives (Some message)) is)
-      D (λ slot bag none. absurd none) result new called ports
+      D (λ slot bag none. absurd none) result new called addresses
       (notices_of n (Arrives (Some message)) result) (λ notice h. h)
       (λ e. subst (λ (r : Result Answer SiteFault).
       or_one (notices_of n (Arrives (Some message)) r) ≡ true) (sym e) refl))
@@ -178,42 +178,43 @@ module _ {C : Type 0} (device : C → Device) (members : Membership) (s : Scene 
           by_slot (all_has IsRecord (w.sites n).records (formed.records n)
           (deposit_among slot (w.sites n).records bag e)).0
 
-  proposes_ends : (idle tried : ℕ) (ports : List ℕ) (D : May) (done : Done) (new : Serving C)
+  proposes_ends : (idle tried : ℕ) (addresses : List ℕ) (D : May) (done : Done) (new : Serving C)
       (place : Option ℕ) (slot : Option SlotName)
-      → proposes device ports (at idle tried) place slot done new → Ends done new D
-  proposes_ends idle tried ports D done new None None (done_is, same) =
+      → proposes device addresses (at idle tried) place slot done new → Ends done new D
+  proposes_ends idle tried addresses D done new None None (done_is, same) =
       idle_ends idle tried D done new done_is same
-  proposes_ends idle tried ports D done new None (Some slot) (done_is, same) =
+  proposes_ends idle tried addresses D done new None (Some slot) (done_is, same) =
       idle_ends idle tried D done new done_is same
-  proposes_ends idle tried ports D done new (Some place) None (done_is, same) =
+  proposes_ends idle tried addresses D done new (Some place) None (done_is, same) =
       idle_ends idle tried D done new done_is same
-  proposes_ends idle tried ports D done new (Some place) (Some slot)
+  proposes_ends idle tried addresses D done new (Some place) (Some slot)
       (result, called, refuses, done_is) =
       subst (λ (d : Done). Ends d new D) (sym done_is)
       (turning.speaks_ends device members s idle (place + 1) (Proposes slot)
       (propose_deed q
       (turning.laws device members s)
       w inv n slot)
-      (propose_formed slot) D (λ s bag none. absurd none) result new called ports
+      (propose_formed slot) D (λ s bag none. absurd none) result new called addresses
       (proposal_notices n (Proposes slot) result) (proposal_among n (Proposes slot) result)
       (λ e. subst (λ (r : Result Answer SiteFault).
       or_one (proposal_notices n (Proposes slot) r) ≡ true) (sym e) refl))
 
-  if_ends : (idle tried : ℕ) (ports : List ℕ) (D : May) (done : Done) (new : Serving C) (t : Bool)
-      → idles_if t device ports (at idle tried) done new → Ends done new D
-  if_ends idle tried ports D done new true t =
-      proposes_ends idle tried ports D done new
+  if_ends : (idle tried : ℕ) (addresses : List ℕ) (D : May) (done : Done) (new : Serving C) (t :
+      Bool)
+      → idles_if t device addresses (at idle tried) done new → Ends done new D
+  if_ends idle tried addresses D done new true t =
+      proposes_ends idle tried addresses D done new
       (next_waiting (w.sites n).records tried)
       (slot_of (w.sites n).records (next_waiting (w.sites n).records tried)) t
-  if_ends idle tried ports D done new false (done_is, same) =
+  if_ends idle tried addresses D done new false (done_is, same) =
       idle_ends idle tried D done new done_is same
 
   -- ---- a recovery
 
-  recovers_ends : (idle tried : ℕ) (ports : List ℕ) (slot : SlotName) → IsSlot slot → (D : May)
-      (done : Done) (new : Serving C) → recovering device ports (at idle tried) slot done new
+  recovers_ends : (idle tried : ℕ) (addresses : List ℕ) (slot : SlotName) → IsSlot slot → (D : May)
+      (done : Done) (new : Serving C) → recovering device addresses (at idle tried) slot done new
       → Ends done new D
-  recovers_ends idle tried ports slot is_slot D done new (result, called, refuses, done_is) =
+  recovers_ends idle tried addresses slot is_slot D done new (result, called, refuses, done_is) =
       subst (λ (d : Done). Ends d new D) (sym done_is)
       (turning.speaks_ends device members s idle tried (calls.Recovers slot)
       (recover_deed q
@@ -225,7 +226,7 @@ module _ {C : Type 0} (device : C → Device) (members : Membership) (s : Scene 
       (turning.is_site device members s)
       (w.sites n).records (formed.records n) volatile (formed.heard n)
       (calls.Recovers slot) is_slot)
-      D (λ s bag none. absurd none) result new called ports
+      D (λ s bag none. absurd none) result new called addresses
       (recovery_notices n (calls.Recovers slot) result)
       (recovery_among n (calls.Recovers slot) result)
       (λ e. subst (λ (r : Result Answer SiteFault).
@@ -236,7 +237,7 @@ module _ {C : Type 0} (device : C → Device) (members : Membership) (s : Scene 
   module _ (handed : List Post)
       (means : (port : ℕ) (bytes : List ℕ) → Has (port, bytes) handed
       → Means device members w bytes)
-      (ports : List ℕ) (folders : List ℕ → Result TreeFacts TreeFault) (took : Taken)
+      (addresses : List ℕ) (folders : List ℕ → Result TreeFacts TreeFault) (took : Taken)
       (may : MayCome members handed took) (idle tried : ℕ) (done : Done)
       (new : Serving C) where
     abbrev D : May
@@ -249,7 +250,7 @@ module _ {C : Type 0} (device : C → Device) (members : Membership) (s : Scene 
         tree_ends device members s
         slot (deposit_is_slot members handed took may port slot path e) idle tried port read D
         (λ facts bag is checked. record {
-          port = port;
+          address = port;
           path = path;
           asked = e;
           facts = facts;
@@ -264,19 +265,21 @@ module _ {C : Type 0} (device : C → Device) (members : Membership) (s : Scene 
             subst (λ (r : Result TreeFacts TreeFault). IsOrMemory r (folders path)) is g
 
     by_request : (r : Request) → request_of members.federation took ≡ r
-        → comes_of device ports (Some folders) (at idle tried) r done new → Ends done new D
+        → comes_of device addresses (Some folders) (at idle tried) r done new → Ends done new D
     by_request Waits e t =
-        if_ends (idle + 1) tried ports D done new ((idle + 1) % n == 0) t
+        if_ends (idle + 1) tried addresses D done new ((idle + 1) % n == 0) t
     by_request (Says message) e t =
-        hears_ends idle tried ports message
+        hears_ends idle tried addresses message
         (says_was_sent members handed device w formed means took may message e)
         (says_is_message members handed took may message e) D done new t
     by_request (Deposits port slot path) e t = deposit_ends port slot path e t
     by_request (Queries port slot) e t =
         query_ends device members s
-        idle tried slot (query_is_slot members handed took may port slot e) ports port D done new t
+        idle tried slot (query_is_slot members handed took may port slot e) addresses port D done
+        new t
     by_request (Recovers slot) e t =
-        recovers_ends idle tried ports slot (recover_is_slot members handed took may slot e) D done
+        recovers_ends idle tried addresses slot (recover_is_slot members handed took may slot e) D
+        done
         new t
     by_request Noise e (done_is, same) =
         subst (λ (d : Done). Ends d new D) (sym done_is)
@@ -285,6 +288,6 @@ module _ {C : Type 0} (device : C → Device) (members : Membership) (s : Scene 
         (λ notice h. subst (IsNotice device members w w) (has_one h)
         (turning.dropped_is device members s w)))
 
-    pub turn_ends : comes_of device ports (Some folders) (at idle tried)
+    pub turn_ends : comes_of device addresses (Some folders) (at idle tried)
         (request_of members.federation took) done new → Ends done new D
     turn_ends t = by_request (request_of members.federation took) refl t

@@ -232,10 +232,10 @@ module _ {C : Type 0} (device : C → Device) (members : Membership) (s : Scene 
 
       pub ok_posts : (answer : Answer)
           → map handed_out answer.sends.items ≡ map (datagram members.federation) e.sends
-          → (ports : List ℕ) (port : ℕ) (bytes : List ℕ)
-          → Has (port, bytes) (posts_of ports (Ok answer)) → IsSent device members called bytes
-      ok_posts answer given ports port bytes h =
-          let at = has_flat_map (outgoing_posts ports) (port, bytes) answer.sends.items h in
+          → (addresses : List ℕ) (port : ℕ) (bytes : List ℕ)
+          → Has (port, bytes) (posts_of addresses (Ok answer)) → IsSent device members called bytes
+      ok_posts answer given addresses port bytes h =
+          let at = has_flat_map (outgoing_posts addresses) (port, bytes) answer.sends.items h in
           let to = has_map (λ (p : ℕ). (p, at.0.bytes.items)) _ at.2 in
           let among = subst (λ ps. Has (handed_out at.0) ps) given
           (map_has handed_out at.1) in

@@ -113,36 +113,37 @@ module _ (members : Membership) (is_membership : IsMembership members) (slot : S
     abbrev pub done : Done
     done = record {
       posts =
-          deposit_replies members.federation 1 request.port slot (deposit_answer (Ok answer));
+          deposit_replies members.federation 1 request.address slot (deposit_answer (Ok answer));
       notices = notices_of 1 (calls.Deposits slot (check_of request.facts)) (Ok answer);
     }
 
     abbrev pub step : Step Disk
     step = record {
-      ports = [];
+      addresses = [];
       folders = λ path. Ok request.facts;
-      turn = record { took = From request.port request.bytes; done = done };
+      turn = record { took = From request.address request.bytes; done = done };
       next = new;
     }
 
-    pub come : MayCome members [] (From request.port request.bytes)
+    pub come : MayCome members [] (From request.address request.bytes)
     come = (
       request.are_bytes,
       λ message e is. absurd (other (sym request.asked ∙ e)),
     )
       where
         other : {message : Message}
-            → requests.Deposits request.port slot request.path ≡ requests.Says message → ⊥
+            → requests.Deposits request.address slot request.path ≡ requests.Says message → ⊥
         other e = cc
 
     pub is_record : IsRecord r
     is_record = (
-      deposit_is_slot members [] (From request.port request.bytes) come request.port slot
+      deposit_is_slot members [] (From request.address request.bytes) come request.address slot
           request.path request.asked,
       checked_is request.facts bag request.checked,
     )
 
-    pub comes : turn_of device [] (Some step.folders) old (From request.port request.bytes) done new
+    pub comes : turn_of device [] (Some step.folders) old (From request.address request.bytes) done
+        new
     comes =
         subst (λ (q : requests.Request).
         comes_of device [] (Some step.folders) old q done new)

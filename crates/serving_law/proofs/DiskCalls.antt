@@ -107,29 +107,29 @@ module _ (members : Membership) (is_membership : IsMembership members) (n : ℕ)
   from_site m = From 0 (datagram_of members.federation m)
 
   abbrev pub heard_done : List ℕ → Message → Answer → Done
-  heard_done ports m answer = record {
-    posts = posts_of ports (Ok answer);
+  heard_done addresses m answer = record {
+    posts = posts_of addresses (Ok answer);
     notices = notices_of n (calls.Arrives (Some m)) (Ok answer);
   }
 
   abbrev pub heard_step : List ℕ → Message → Answer → Serving Disk → Step Disk
-  heard_step ports m answer next = record {
-    ports = ports;
+  heard_step addresses m answer next = record {
+    addresses = addresses;
     folders = no_folders;
-    turn = record { took = from_site m; done = heard_done ports m answer };
+    turn = record { took = from_site m; done = heard_done addresses m answer };
     next = next;
   }
 
-  pub hears : (ports : List ℕ) (records : List Record) (tables : Contents)
+  pub hears : (addresses : List ℕ) (records : List Record) (tables : Contents)
       (volatile : VolatileState)
       (idle tried : ℕ) (next : Serving Disk) (m : Message) → IsMessage m
       → requests.request_by 0 m m.body ≡ requests.Says m → (answer : Answer)
       → IsCalled device (serving records tables volatile idle tried) (calls.Arrives (Some m))
       (Ok answer) next
-      → turn_of device ports (Some no_folders) (serving records tables volatile idle tried)
-      (from_site m) (heard_done ports m answer) next
-  hears ports records tables volatile idle tried next m is says answer call =
-      subst (λ (q : requests.Request). comes_of device ports (Some no_folders)
-      (serving records tables volatile idle tried) q (heard_done ports m answer) next)
+      → turn_of device addresses (Some no_folders) (serving records tables volatile idle tried)
+      (from_site m) (heard_done addresses m answer) next
+  hears addresses records tables volatile idle tried next m is says answer call =
+      subst (λ (q : requests.Request). comes_of device addresses (Some no_folders)
+      (serving records tables volatile idle tried) q (heard_done addresses m answer) next)
       (sym (ap (requests.request_in 0) (message_of-again members.federation m is) ∙ says))
       (Ok answer, call, refl)

@@ -128,20 +128,21 @@ module _ (members : Membership) (is_membership : IsMembership members) (slot : S
   abbrev done : Done
   done = record {
     posts =
-        deposit_replies members.federation 1 request.port slot
+        deposit_replies members.federation 1 request.address slot
         (deposit_answer (Err faults.Device));
     notices = notices_of 1 (calls.Deposits slot (check_of request.facts)) (Err faults.Device);
   }
 
   abbrev step : Step WornDisk
   step = record {
-    ports = [];
+    addresses = [];
     folders = λ path. Ok request.facts;
-    turn = record { took = From request.port request.bytes; done = done };
+    turn = record { took = From request.address request.bytes; done = done };
     next = new;
   }
 
-  comes : turn_of worn_device [] (Some step.folders) old (From request.port request.bytes) done new
+  comes : turn_of worn_device [] (Some step.folders) old (From request.address request.bytes) done
+      new
   comes =
       subst (λ (q : requests.Request).
       comes_of worn_device [] (Some step.folders) old q done new)
@@ -151,7 +152,7 @@ module _ (members : Membership) (is_membership : IsMembership members) (slot : S
 
   has_failed : (records : List Record) → AreRecords records → (k : ℕ) → 1 ≤ k → k ≤ 2
       → journal owner records ≡ bytes_at (Holds owner (its ∷ [])) k
-      → HasFailed members slot bag request.port records
+      → HasFailed members slot bag request.address records
   unfolding MayAll new_federation
   has_failed records are k from to is = record {
     start = Starts 1 (whole Blank) (site_of (whole (Holds owner [])) [] false);
@@ -202,8 +203,8 @@ module _ (members : Membership) (is_membership : IsMembership members) (slot : S
     has = refl;
   }
 
-  pub both : HasFailed members slot bag request.port []
-      × HasFailed members slot bag request.port (recorded slot bag ∷ [])
+  pub both : HasFailed members slot bag request.address []
+      × HasFailed members slot bag request.address (recorded slot bag ∷ [])
   both = (
     has_failed [] tt 1 (omega arith) (omega arith) refl,
     has_failed (its ∷ []) (is_record members is_membership slot bag request, tt) 2 (omega arith)

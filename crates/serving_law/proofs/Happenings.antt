@@ -180,7 +180,7 @@ module _ {C : Type 0} (device : C → Device) (members : Membership)
           → IsSiteBody message.body ⊎ SaysRightly device members w x message
       told message t =
           told_as t.bytes message t.reads
-          (posts t.port t.bytes (has_take handed turn.done.posts t.handed))
+          (posts t.address t.bytes (has_take handed turn.done.posts t.handed))
 
       told_chosen : (slot : SlotName) (body : Body)
           → IsTold federation showing (record { slot = slot; body = body }) → (bag : BagId)
@@ -372,7 +372,7 @@ module _ {C : Type 0} (device : C → Device) (members : Membership)
         member = n;
         step = step;
         takes = takes;
-        port = a.port;
+        address = a.address;
         path = a.path;
         asked = a.asked;
         facts = a.facts;
@@ -401,9 +401,9 @@ module _ {C : Type 0} (device : C → Device) (members : Membership)
         came : (step : Step C) → Takes device members f old step
             → Came step.turn.done step.next (Deposited step)
         came step t =
-            turn_ends device members (scene n member old is) f.handed stands.handed step.ports
+            turn_ends device members (scene n member old is) f.handed stands.handed step.addresses
             step.folders step.turn.took t.may_come old.idle old.tried step.turn.done step.next
-            (subst (λ (v : Serving C). turn_of device step.ports (Some step.folders) v
+            (subst (λ (v : Serving C). turn_of device step.addresses (Some step.folders) v
             step.turn.took step.turn.done step.next)
             (is_serving device members n old (w.sites n) is) t.comes)
 
@@ -616,18 +616,18 @@ module _ {C : Type 0} (device : C → Device) (members : Membership)
           opened
 
 -- some folders give what was read: those that are known, where they are
-abbrev pub HasFolders : {C : Type 0} → (C → Device) → (ports : List ℕ)
+abbrev pub HasFolders : {C : Type 0} → (C → Device) → (addresses : List ℕ)
     → Option (List ℕ → Result TreeFacts TreeFault) → (old next : Serving C) → Done → Request
     → Type 0
-HasFolders device ports gives old next done r =
+HasFolders device addresses gives old next done r =
     (folders : List ℕ → Result TreeFacts TreeFault)
     × IfSome gives (λ answer. folders ≡ answer)
-    × comes_of device ports (Some folders) old r done next
+    × comes_of device addresses (Some folders) old r done next
 
-module _ {C : Type 0} (device : C → Device) (ports : List ℕ) (old next : Serving C)
+module _ {C : Type 0} (device : C → Device) (addresses : List ℕ) (old next : Serving C)
     (done : Done) where
-  unknown_folders : (r : Request) → comes_of device ports None old r done next
-      → HasFolders device ports None old next done r
+  unknown_folders : (r : Request) → comes_of device addresses None old r done next
+      → HasFolders device addresses None old next done r
   unknown_folders Waits t = (λ path. Err trees.Memory, tt, t)
   unknown_folders (Says message) t = (λ path. Err trees.Memory, tt, t)
   unknown_folders (Deposits port slot path) (read, given, tree) =
@@ -642,7 +642,7 @@ module _ {C : Type 0} (device : C → Device) (ports : List ℕ) (old next : Ser
   unknown_folders Noise t = (λ path. Err trees.Memory, tt, t)
 
   pub with_folders : (gives : Option (List ℕ → Result TreeFacts TreeFault)) (r : Request)
-      → comes_of device ports gives old r done next
-      → HasFolders device ports gives old next done r
+      → comes_of device addresses gives old r done next
+      → HasFolders device addresses gives old next done r
   with_folders (Some answer) r t = (answer, refl, t)
   with_folders None r t = unknown_folders r t

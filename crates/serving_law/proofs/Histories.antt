@@ -226,14 +226,14 @@ module _ {C : Type 0} (device : C → Device) (members : Membership)
           }
         ]
 
-    taken : (history : List (Happening C)) (n : ℕ) (old next : Serving C) (ports : List ℕ)
+    taken : (history : List (Happening C)) (n : ℕ) (old next : Serving C) (addresses : List ℕ)
         (gives : Option (List ℕ → Result TreeFacts TreeFault)) (turn : Turned)
         → MayAll device members new_federation history
         → IsServing device members (after_all new_federation history) n old
         → MayCome members (after_all new_federation history).handed turn.took
-        → turn_of device ports gives old turn.took turn.done next
-        → IsStep device members history old next ports gives turn
-    taken history n old next ports gives turn may serving come comes = (
+        → turn_of device addresses gives old turn.took turn.done next
+        → IsStep device members history old next addresses gives turn
+    taken history n old next addresses gives turn may serving come comes = (
       step,
       refl,
       refl,
@@ -251,12 +251,12 @@ module _ {C : Type 0} (device : C → Device) (members : Membership)
         l : Led new_federation history new_network
         l = from_new history may
 
-        folders : HasFolders device ports gives old next turn.done
+        folders : HasFolders device addresses gives old next turn.done
             (request_of (turns.members old).federation turn.took)
-        folders = with_folders device ports old next turn.done gives _ comes
+        folders = with_folders device addresses old next turn.done gives _ comes
 
         step : Step C
-        step = record { ports = ports; folders = folders.0; turn = turn; next = next }
+        step = record { addresses = addresses; folders = folders.0; turn = turn; next = next }
 
         takes : Takes device members (after_all new_federation history) old step
         takes = record { may_come = come; comes = folders.2 }
@@ -306,8 +306,9 @@ module _ {C : Type 0} (device : C → Device) (members : Membership)
         deposited device members is only_now before later h slot bag may r
 
     pub turns_may_happen : TurnsMayHappen device members
-    turns_may_happen history n old next ports gives turn is may serving come comes =
-        taken device members is only_now history n old next ports gives turn may serving come comes
+    turns_may_happen history n old next addresses gives turn is may serving come comes =
+        taken device members is only_now history n old next addresses gives turn may serving come
+        comes
 
     pub registered_stays : RegisteredStays device members
     registered_stays before later h n slot bag is may r =

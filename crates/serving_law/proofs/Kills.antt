@@ -18,7 +18,7 @@ module _ (members : Membership) (is_membership : IsMembership members) (slot : S
   killed : (records : List Record) → AreRecords records → (k : ℕ) → 1 ≤ k → k ≤ 2
       → journal (owner members is_membership 1) records
       ≡ bytes_at (Holds (owner members is_membership 1) (recorded slot bag ∷ [])) k
-      → WasKilled members slot bag request.port records
+      → WasKilled members slot bag request.address records
   unfolding new_federation after_all
   killed records are k from to is = record {
     before = before members is_membership slot bag request;
@@ -29,8 +29,8 @@ module _ (members : Membership) (is_membership : IsMembership members) (slot : S
     nothing = refl;
   }
 
-  pub both : WasKilled members slot bag request.port []
-      × WasKilled members slot bag request.port (recorded slot bag ∷ [])
+  pub both : WasKilled members slot bag request.address []
+      × WasKilled members slot bag request.address (recorded slot bag ∷ [])
   both = (
     killed [] tt 1 (omega arith) (omega arith) refl,
     killed (recorded slot bag ∷ []) (is_record members is_membership slot bag request, tt) 2

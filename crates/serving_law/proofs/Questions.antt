@@ -144,37 +144,37 @@ module _ {C : Type 0} (device : C → Device) (members : Membership) (s : Scene 
     question =
         datagram_of members.federation (record { slot = slot; body = Ask n })
 
-    asks_posts : (ports all : List ℕ) (done : Done) → Asks ports old slot all done
+    asks_posts : (addresses all : List ℕ) (done : Done) → Asks addresses old slot all done
         → (port : ℕ) (bytes : List ℕ) → Has (port, bytes) done.posts
         → (k : ℕ) × Has k all × (bytes ≡ question)
-    asks_posts ports [] done t port bytes h =
+    asks_posts addresses [] done t port bytes h =
         absurd (has_none (subst (λ (d : Done). Has (port, bytes) d.posts) t h))
-    asks_posts ports (k ∷ all) done (rest, asks, inl e) port bytes h =
-        elim (has_cases (posts_to ports k question) rest.posts
+    asks_posts addresses (k ∷ all) done (rest, asks, inl e) port bytes h =
+        elim (has_cases (posts_to addresses k question) rest.posts
         (subst (λ (d : Done). Has (port, bytes) d.posts) e h)) [
           | inl first ↦
               let to = has_map (λ (p : ℕ). (p, question)) _ first in
               (k, here refl, ap (λ (p : ℕ × List ℕ). p.1) (sym to.2))
           | inr later ↦
-              let found = asks_posts ports all rest asks port bytes later in
+              let found = asks_posts addresses all rest asks port bytes later in
               (found.0, there found.1, found.2)
         ]
-    asks_posts ports (k ∷ all) done (rest, asks, inr e) port bytes h =
-        let found = asks_posts ports all rest asks port bytes
+    asks_posts addresses (k ∷ all) done (rest, asks, inr e) port bytes h =
+        let found = asks_posts addresses all rest asks port bytes
         (subst (λ (d : Done). Has (port, bytes) d.posts) e h) in
         (found.0, there found.1, found.2)
 
-    asks_notices : (ports all : List ℕ) (done : Done) → Asks ports old slot all done
+    asks_notices : (addresses all : List ℕ) (done : Done) → Asks addresses old slot all done
         → (notice : Notice) → Has notice done.notices → Refused n faults.Memory ≡ notice
-    asks_notices ports [] done t notice h =
+    asks_notices addresses [] done t notice h =
         absurd (has_none (subst (λ (d : Done). Has notice d.notices) t h))
-    asks_notices ports (k ∷ all) done (rest, asks, inl e) notice h =
-        asks_notices ports all rest asks notice (subst (λ (d : Done). Has notice d.notices) e h)
-    asks_notices ports (k ∷ all) done (rest, asks, inr e) notice h =
+    asks_notices addresses (k ∷ all) done (rest, asks, inl e) notice h =
+        asks_notices addresses all rest asks notice (subst (λ (d : Done). Has notice d.notices) e h)
+    asks_notices addresses (k ∷ all) done (rest, asks, inr e) notice h =
         elim (has_cases (Refused n faults.Memory ∷ []) rest.notices
         (subst (λ (d : Done). Has notice d.notices) e h)) [
           | inl first ↦ has_one first
-          | inr later ↦ asks_notices ports all rest asks notice later
+          | inr later ↦ asks_notices addresses all rest asks notice later
         ]
 
     -- ---- the reply
@@ -234,10 +234,10 @@ module _ {C : Type 0} (device : C → Device) (members : Membership) (s : Scene 
 
     -- ---- the turn
 
-    pub query_ends : (ports : List ℕ) (port : ℕ) (D : May) (done : Done) (new : Serving C)
-        → queries ports old port slot done new
+    pub query_ends : (addresses : List ℕ) (port : ℕ) (D : May) (done : Done) (new : Serving C)
+        → queries addresses old port slot done new
         → turning.Ends device members s done new D
-    query_ends ports port D done new (asks, asks_are, done_is, same) =
+    query_ends addresses port D done new (asks, asks_are, done_is, same) =
         subst (λ (v : Serving C). turning.Ends device members s done v D) (sym same) (record {
           goes = λ opened. record {
             x = asking all;
@@ -249,7 +249,7 @@ module _ {C : Type 0} (device : C → Device) (members : Membership) (s : Scene 
                       reply_post (asking all) bytes
                       (ap (λ (p : ℕ × List ℕ). p.1) (has_one first))
                   | inr later ↦
-                      let found = asks_posts ports all asks asks_are to bytes later in
+                      let found = asks_posts addresses all asks asks_are to bytes later in
                       inl (sent found.0 found.1 bytes found.2)
                 ];
             notices = λ notice h.
@@ -260,7 +260,7 @@ module _ {C : Type 0} (device : C → Device) (members : Membership) (s : Scene 
                       (reply_notice (asking all))
                   | inr later ↦
                       subst (IsNotice device members w (asking all))
-                      (asks_notices ports all asks asks_are notice later)
+                      (asks_notices addresses all asks asks_are notice later)
                       (turning.refused_is device members s (asking all) faults.Memory)
                 ];
           };

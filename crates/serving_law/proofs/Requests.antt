@@ -31,89 +31,89 @@ use Rattle.serving_law.proofs.Networks.{IsReplyBody, Means}
 -- a deposit that is asked for: its folder, as it is read, is a valid bag
 pub record IsAsked (federation : ℕ) (folders : List ℕ → Result TreeFacts TreeFault) (took : Taken)
     (slot : SlotName) (bag : BagId) : Type 0 where
-  pub port : ℕ
+  pub address : ℕ
   pub path : List ℕ
-  pub asked : request_of federation took ≡ Deposits port slot path
+  pub asked : request_of federation took ≡ Deposits address slot path
   pub facts : TreeFacts
   pub read : folders path ≡ Ok facts
   pub checked : check_of facts ≡ Ok bag
 
 -- ---- a message, by what it asks
 
-says_message : (port : ℕ) (m : Message) (body : Body) (message : Message)
-    → request_by port m body ≡ Says message → m ≡ message
-says_message port m (Prepare ballot) message e = cc
-says_message port m (Promise from ballot prior) message e = cc
-says_message port m (Accept vote) message e = cc
-says_message port m (Accepted from vote) message e = cc
-says_message port m (Refused from asked standing) message e = cc
-says_message port m (Ask from) message e = cc
-says_message port m (Known from bag) message e = cc
-says_message port m (bodies.Deposit path) message e = absurd (cc e)
-says_message port m Query message e = absurd (cc e)
-says_message port m Recover message e = absurd (cc e)
-says_message port m (DepositReply from answer) message e = absurd (cc e)
-says_message port m (QueryReply from answer) message e = absurd (cc e)
+says_message : (address : ℕ) (m : Message) (body : Body) (message : Message)
+    → request_by address m body ≡ Says message → m ≡ message
+says_message address m (Prepare ballot) message e = cc
+says_message address m (Promise from ballot prior) message e = cc
+says_message address m (Accept vote) message e = cc
+says_message address m (Accepted from vote) message e = cc
+says_message address m (Refused from asked standing) message e = cc
+says_message address m (Ask from) message e = cc
+says_message address m (Known from bag) message e = cc
+says_message address m (bodies.Deposit path) message e = absurd (cc e)
+says_message address m Query message e = absurd (cc e)
+says_message address m Recover message e = absurd (cc e)
+says_message address m (DepositReply from answer) message e = absurd (cc e)
+says_message address m (QueryReply from answer) message e = absurd (cc e)
 
-deposit_slot : (port : ℕ) (m : Message) (body : Body) (at : ℕ) (slot : SlotName) (path : List ℕ)
-    → request_by port m body ≡ Deposits at slot path → m.slot ≡ slot
-deposit_slot port m (Prepare ballot) at slot path e = absurd (cc e)
-deposit_slot port m (Promise from ballot prior) at slot path e = absurd (cc e)
-deposit_slot port m (Accept vote) at slot path e = absurd (cc e)
-deposit_slot port m (Accepted from vote) at slot path e = absurd (cc e)
-deposit_slot port m (Refused from asked standing) at slot path e = absurd (cc e)
-deposit_slot port m (Ask from) at slot path e = absurd (cc e)
-deposit_slot port m (Known from bag) at slot path e = absurd (cc e)
-deposit_slot port m (bodies.Deposit to) at slot path e = cc
-deposit_slot port m Query at slot path e = absurd (cc e)
-deposit_slot port m Recover at slot path e = absurd (cc e)
-deposit_slot port m (DepositReply from answer) at slot path e = absurd (cc e)
-deposit_slot port m (QueryReply from answer) at slot path e = absurd (cc e)
+deposit_slot : (address : ℕ) (m : Message) (body : Body) (at : ℕ) (slot : SlotName) (path : List ℕ)
+    → request_by address m body ≡ Deposits at slot path → m.slot ≡ slot
+deposit_slot address m (Prepare ballot) at slot path e = absurd (cc e)
+deposit_slot address m (Promise from ballot prior) at slot path e = absurd (cc e)
+deposit_slot address m (Accept vote) at slot path e = absurd (cc e)
+deposit_slot address m (Accepted from vote) at slot path e = absurd (cc e)
+deposit_slot address m (Refused from asked standing) at slot path e = absurd (cc e)
+deposit_slot address m (Ask from) at slot path e = absurd (cc e)
+deposit_slot address m (Known from bag) at slot path e = absurd (cc e)
+deposit_slot address m (bodies.Deposit to) at slot path e = cc
+deposit_slot address m Query at slot path e = absurd (cc e)
+deposit_slot address m Recover at slot path e = absurd (cc e)
+deposit_slot address m (DepositReply from answer) at slot path e = absurd (cc e)
+deposit_slot address m (QueryReply from answer) at slot path e = absurd (cc e)
 
-query_slot : (port : ℕ) (m : Message) (body : Body) (at : ℕ) (slot : SlotName)
-    → request_by port m body ≡ Queries at slot → m.slot ≡ slot
-query_slot port m (Prepare ballot) at slot e = absurd (cc e)
-query_slot port m (Promise from ballot prior) at slot e = absurd (cc e)
-query_slot port m (Accept vote) at slot e = absurd (cc e)
-query_slot port m (Accepted from vote) at slot e = absurd (cc e)
-query_slot port m (Refused from asked standing) at slot e = absurd (cc e)
-query_slot port m (Ask from) at slot e = absurd (cc e)
-query_slot port m (Known from bag) at slot e = absurd (cc e)
-query_slot port m (bodies.Deposit to) at slot e = absurd (cc e)
-query_slot port m Query at slot e = cc
-query_slot port m Recover at slot e = absurd (cc e)
-query_slot port m (DepositReply from answer) at slot e = absurd (cc e)
-query_slot port m (QueryReply from answer) at slot e = absurd (cc e)
+query_slot : (address : ℕ) (m : Message) (body : Body) (at : ℕ) (slot : SlotName)
+    → request_by address m body ≡ Queries at slot → m.slot ≡ slot
+query_slot address m (Prepare ballot) at slot e = absurd (cc e)
+query_slot address m (Promise from ballot prior) at slot e = absurd (cc e)
+query_slot address m (Accept vote) at slot e = absurd (cc e)
+query_slot address m (Accepted from vote) at slot e = absurd (cc e)
+query_slot address m (Refused from asked standing) at slot e = absurd (cc e)
+query_slot address m (Ask from) at slot e = absurd (cc e)
+query_slot address m (Known from bag) at slot e = absurd (cc e)
+query_slot address m (bodies.Deposit to) at slot e = absurd (cc e)
+query_slot address m Query at slot e = cc
+query_slot address m Recover at slot e = absurd (cc e)
+query_slot address m (DepositReply from answer) at slot e = absurd (cc e)
+query_slot address m (QueryReply from answer) at slot e = absurd (cc e)
 
-recover_slot : (port : ℕ) (m : Message) (body : Body) (slot : SlotName)
-    → request_by port m body ≡ Recovers slot → m.slot ≡ slot
-recover_slot port m (Prepare ballot) slot e = absurd (cc e)
-recover_slot port m (Promise from ballot prior) slot e = absurd (cc e)
-recover_slot port m (Accept vote) slot e = absurd (cc e)
-recover_slot port m (Accepted from vote) slot e = absurd (cc e)
-recover_slot port m (Refused from asked standing) slot e = absurd (cc e)
-recover_slot port m (Ask from) slot e = absurd (cc e)
-recover_slot port m (Known from bag) slot e = absurd (cc e)
-recover_slot port m (bodies.Deposit to) slot e = absurd (cc e)
-recover_slot port m Query slot e = absurd (cc e)
-recover_slot port m Recover slot e = cc
-recover_slot port m (DepositReply from answer) slot e = absurd (cc e)
-recover_slot port m (QueryReply from answer) slot e = absurd (cc e)
+recover_slot : (address : ℕ) (m : Message) (body : Body) (slot : SlotName)
+    → request_by address m body ≡ Recovers slot → m.slot ≡ slot
+recover_slot address m (Prepare ballot) slot e = absurd (cc e)
+recover_slot address m (Promise from ballot prior) slot e = absurd (cc e)
+recover_slot address m (Accept vote) slot e = absurd (cc e)
+recover_slot address m (Accepted from vote) slot e = absurd (cc e)
+recover_slot address m (Refused from asked standing) slot e = absurd (cc e)
+recover_slot address m (Ask from) slot e = absurd (cc e)
+recover_slot address m (Known from bag) slot e = absurd (cc e)
+recover_slot address m (bodies.Deposit to) slot e = absurd (cc e)
+recover_slot address m Query slot e = absurd (cc e)
+recover_slot address m Recover slot e = cc
+recover_slot address m (DepositReply from answer) slot e = absurd (cc e)
+recover_slot address m (QueryReply from answer) slot e = absurd (cc e)
 
-reply_says_nothing : (port : ℕ) (m : Message) (body : Body) (message : Message)
-    → IsReplyBody body → request_by port m body ≡ Says message → ⊥
-reply_says_nothing port m (DepositReply from answer) message is e = cc
-reply_says_nothing port m (QueryReply from answer) message is e = cc
-reply_says_nothing port m (Prepare ballot) message is e = absurd is
-reply_says_nothing port m (Promise from ballot prior) message is e = absurd is
-reply_says_nothing port m (Accept vote) message is e = absurd is
-reply_says_nothing port m (Accepted from vote) message is e = absurd is
-reply_says_nothing port m (Refused from asked standing) message is e = absurd is
-reply_says_nothing port m (Ask from) message is e = absurd is
-reply_says_nothing port m (Known from bag) message is e = absurd is
-reply_says_nothing port m (bodies.Deposit path) message is e = absurd is
-reply_says_nothing port m Query message is e = absurd is
-reply_says_nothing port m Recover message is e = absurd is
+reply_says_nothing : (address : ℕ) (m : Message) (body : Body) (message : Message)
+    → IsReplyBody body → request_by address m body ≡ Says message → ⊥
+reply_says_nothing address m (DepositReply from answer) message is e = cc
+reply_says_nothing address m (QueryReply from answer) message is e = cc
+reply_says_nothing address m (Prepare ballot) message is e = absurd is
+reply_says_nothing address m (Promise from ballot prior) message is e = absurd is
+reply_says_nothing address m (Accept vote) message is e = absurd is
+reply_says_nothing address m (Accepted from vote) message is e = absurd is
+reply_says_nothing address m (Refused from asked standing) message is e = absurd is
+reply_says_nothing address m (Ask from) message is e = absurd is
+reply_says_nothing address m (Known from bag) message is e = absurd is
+reply_says_nothing address m (bodies.Deposit path) message is e = absurd is
+reply_says_nothing address m Query message is e = absurd is
+reply_says_nothing address m Recover message is e = absurd is
 
 -- ---- bytes that come
 
@@ -121,30 +121,30 @@ module _ (members : Membership) (handed : List Post) where
   abbrev federation : ℕ
   federation = members.federation
 
-  pub deposit_is_slot : (took : Taken) → MayCome members handed took → (port : ℕ)
-      (slot : SlotName) (path : List ℕ) → request_of federation took ≡ Deposits port slot path
+  pub deposit_is_slot : (took : Taken) → MayCome members handed took → (address : ℕ)
+      (slot : SlotName) (path : List ℕ) → request_of federation took ≡ Deposits address slot path
       → IsSlot slot
-  deposit_is_slot Nothing may port slot path e = absurd (cc e)
-  deposit_is_slot (From from bytes) may port slot path e =
+  deposit_is_slot Nothing may address slot path e = absurd (cc e)
+  deposit_is_slot (From from bytes) may address slot path e =
       go (message_of federation bytes) refl e
     where
       go : (o : Option Message) → message_of federation bytes ≡ o
-          → request_in from o ≡ Deposits port slot path → IsSlot slot
+          → request_in from o ≡ Deposits address slot path → IsSlot slot
       go None f g = absurd (cc g)
       go (Some m) f g =
-          subst IsSlot (deposit_slot from m m.body port slot path g)
+          subst IsSlot (deposit_slot from m m.body address slot path g)
           (message_of-found federation bytes m may.0 f).0.0
 
-  pub query_is_slot : (took : Taken) → MayCome members handed took → (port : ℕ)
-      (slot : SlotName) → request_of federation took ≡ Queries port slot → IsSlot slot
-  query_is_slot Nothing may port slot e = absurd (cc e)
-  query_is_slot (From from bytes) may port slot e = go (message_of federation bytes) refl e
+  pub query_is_slot : (took : Taken) → MayCome members handed took → (address : ℕ)
+      (slot : SlotName) → request_of federation took ≡ Queries address slot → IsSlot slot
+  query_is_slot Nothing may address slot e = absurd (cc e)
+  query_is_slot (From from bytes) may address slot e = go (message_of federation bytes) refl e
     where
       go : (o : Option Message) → message_of federation bytes ≡ o
-          → request_in from o ≡ Queries port slot → IsSlot slot
+          → request_in from o ≡ Queries address slot → IsSlot slot
       go None f g = absurd (cc g)
       go (Some m) f g =
-          subst IsSlot (query_slot from m m.body port slot g)
+          subst IsSlot (query_slot from m m.body address slot g)
           (message_of-found federation bytes m may.0 f).0.0
 
   pub recover_is_slot : (took : Taken) → MayCome members handed took → (slot : SlotName)
@@ -174,7 +174,7 @@ module _ (members : Membership) (handed : List Post) where
   -- a message in the name of a member was sent
 
   module _ {C : Type 0} (device : C → Device) (w : Network) (formed : IsWellFormed w)
-      (means : (port : ℕ) (bytes : List ℕ) → Has (port, bytes) handed
+      (means : (address : ℕ) (bytes : List ℕ) → Has (address, bytes) handed
       → Means device members w bytes) where
     abbrev pub IsHeard : Message → Type 0
     IsHeard message = WasSent w message.slot message.body

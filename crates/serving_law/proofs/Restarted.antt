@@ -171,7 +171,7 @@ module _ (bag : BagId) (request : Request 7 a bag) where
   registers : Registers 7 (hands_out (deposit_step bag request)) 1 a bag
   registers =
       (replies_are_reports 7 (deposit_step bag request) a bag (is_slot bag request)
-      (is_bag bag request)).registered (request.port, [], refl)
+      (is_bag bag request)).registered (request.address, [], refl)
 
   printed : Prints (turns bag request Hears12 0 1) (Learned 1 a bag)
   printed = prints bag request 1 (step_of (hears bag request Hears12)) refl

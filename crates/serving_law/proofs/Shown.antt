@@ -63,7 +63,7 @@ told : (federation : ℕ) (step : Step Disk) (slot : SlotName) (body : Body)
     → IsTold federation (record { turn = step.turn; handed = 1; written = 0 })
     (record { slot = slot; body = body })
 told federation step slot body is (port, rest, posts_are) = record {
-  port = port;
+  address = port;
   bytes = datagram_of federation (record { slot = slot; body = body });
   handed =
       subst (λ (posts : List Post).
@@ -159,7 +159,7 @@ module _ (bytes : List ℕ) (bag : BagId) (fits : AreBytes bytes)
   -- ---- no message
 
   abbrev noise_step : Step Disk
-  noise_step = record { ports = []; folders = no_folders; turn = drops bytes; next = site }
+  noise_step = record { addresses = []; folders = no_folders; turn = drops bytes; next = site }
 
   is_noise : (message : Message) → requests.Noise ≡ requests.Says message → ⊥
   is_noise message e = cc

@@ -246,17 +246,17 @@ module _ {C : Type 0} (device : C → Device) (members : Membership) (s : Scene 
 
         -- where what is handed out is the call's datagrams
         pub speaks_ends : (result : Result Answer SiteFault) (new : Serving C)
-            → IsCalled device old input result new → (ports : List ℕ) (notices : List Notice)
+            → IsCalled device old input result new → (addresses : List ℕ) (notices : List Notice)
             → ((notice : Notice) → Has notice notices → Has notice (notices_of n input result))
             → (result ≡ Err faults.Device → or_one notices ≡ true)
-            → Ends (record { posts = posts_of ports result; notices = notices }) new D
-        speaks_ends (Ok answer) new c ports notices among said =
+            → Ends (record { posts = posts_of addresses result; notices = notices }) new D
+        speaks_ends (Ok answer) new c addresses notices among said =
             ok_ends answer new c _
             (λ x same port bytes h. subst (λ (x : Network). IsPost device members w x bytes)
             (sym same)
             (inl (calling.ok_posts device members s idle tried
-            input deed is answer (c.answered refl).gives.1 ports port bytes h)))
+            input deed is answer (c.answered refl).gives.1 addresses port bytes h)))
             among
-        speaks_ends (Err fault) new c ports notices among said =
+        speaks_ends (Err fault) new c addresses notices among said =
             err_ends fault new c _ (λ x port bytes h. absurd (has_none h)) among
             (λ e. said (ap Err e))

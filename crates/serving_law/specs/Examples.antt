@@ -32,30 +32,30 @@ recorded slot bag = record { slot = slot; body = entry.Deposit bag }
 
 -- a request to deposit a folder, which is this valid bag
 pub record Request (federation : ℕ) (slot : SlotName) (bag : BagId) : Type 0 where
-  pub port : ℕ
+  pub address : ℕ
   pub path : List ℕ
   pub bytes : List ℕ
   pub are_bytes : AreBytes bytes
-  pub asked : request_of federation (From port bytes) ≡ Deposits port slot path
+  pub asked : request_of federation (From address bytes) ≡ Deposits address slot path
   pub facts : TreeFacts
   pub checked : check_of facts ≡ Ok bag
 
 -- the reply of site 1
-abbrev pub reply_to : (federation : ℕ) → (port : ℕ) → SlotName → BagId → Post
-reply_to federation port slot bag = (
-  port,
+abbrev pub reply_to : (federation : ℕ) → (address : ℕ) → SlotName → BagId → Post
+reply_to federation address slot bag = (
+  address,
   datagram_of federation
       (record { slot = slot; body = DepositReply 1 (deposit.Registered bag) }),
 )
 
 -- It is killed in the call, of which it would have replied that the bag is registered; its cell
 -- recovers to these records, and nothing was handed out.
-pub record WasKilled (members : Membership) (slot : SlotName) (bag : BagId) (port : ℕ)
+pub record WasKilled (members : Membership) (slot : SlotName) (bag : BagId) (address : ℕ)
     (records : List Record) : Type 0 where
   pub before : List (Happening Disk)
   pub step : Step Disk
   pub happens : IsHistory device members (before ++ Dies 1 step records ∷ [])
-  pub would_reply : Has (reply_to members.federation port slot bag) step.turn.done.posts
+  pub would_reply : Has (reply_to members.federation address slot bag) step.turn.done.posts
   pub down : (after_all new_federation (before ++ Dies 1 step records ∷ [])).members 1
       ≡ Down records
   pub nothing : (after_all new_federation (before ++ Dies 1 step records ∷ [])).handed ≡ []
@@ -64,8 +64,8 @@ abbrev pub KilledInADeposit : Type 0
 KilledInADeposit =
     (members : Membership) (slot : SlotName) (bag : BagId)
     (request : Request members.federation slot bag) → IsMembership members
-    → WasKilled members slot bag request.port []
-    × WasKilled members slot bag request.port (recorded slot bag ∷ [])
+    → WasKilled members slot bag request.address []
+    × WasKilled members slot bag request.address (recorded slot bag ∷ [])
 
 -- ---- a forged message
 
@@ -81,7 +81,7 @@ pub record IsFooled (members : Membership) (slot : SlotName) (bag : BagId) : Typ
   pub step : Step Disk
   pub forged : step.turn.took
       ≡ From 0 (datagram_of members.federation (record { slot = slot; body = Known 2 bag }))
-  pub comes : turn_of device step.ports (Some step.folders) old step.turn.took step.turn.done
+  pub comes : turn_of device step.addresses (Some step.folders) old step.turn.took step.turn.done
       step.next
   pub goes_on : step.next.site.book.needs_opening ≡ false
   pub says : step.turn.done.notices ≡ Learned 1 slot bag ∷ []

@@ -62,7 +62,7 @@ ThreeSitesAgree = (bag : BagId) → Request three.federation a bag → Agree bag
 abbrev pub on_record : Entry → Record
 on_record said = record { slot = a; body = said }
 
--- the datagram to a site, which has the port of its number, that says what a site has voted for
+-- the datagram to a site, which has the address of its number, that says what a site has voted for
 abbrev pub says_vote : (to from : ℕ) → BagId → Post
 says_vote to from bag =
     (to, datagram_of three.federation (record { slot = a; body = Accepted from (vote bag) }))

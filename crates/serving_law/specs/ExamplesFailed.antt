@@ -44,7 +44,7 @@ pub record WornAreLikeCells : Type 0 where
 
 -- Site 1 is started; its device fails as it records the deposit, and it has handed out that reply;
 -- its cell recovers to these records; and it is started again, with just these.
-pub record HasFailed (members : Membership) (slot : SlotName) (bag : BagId) (port : ℕ)
+pub record HasFailed (members : Membership) (slot : SlotName) (bag : BagId) (address : ℕ)
     (records : List Record) : Type 0 where
   pub start : Happening WornDisk
   pub step : Step WornDisk
@@ -54,7 +54,7 @@ pub record HasFailed (members : Membership) (slot : SlotName) (bag : BagId) (por
       (start ∷ Fails 1 step 1 0 records ∷ Starts 1 cell site ∷ [])
   pub replies : step.turn.done.posts
       ≡ (
-        port,
+        address,
         datagram_of members.federation
             (record { slot = slot; body = DepositReply 1 deposit.Device }),
       )
@@ -65,5 +65,5 @@ pub record FailsInADeposit : Type 0 where
   pub like_cells : WornAreLikeCells
   pub fails : (members : Membership) (slot : SlotName) (bag : BagId)
       (request : Request members.federation slot bag) → IsMembership members
-      → HasFailed members slot bag request.port []
-      × HasFailed members slot bag request.port (recorded slot bag ∷ [])
+      → HasFailed members slot bag request.address []
+      × HasFailed members slot bag request.address (recorded slot bag ∷ [])

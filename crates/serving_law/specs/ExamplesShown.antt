@@ -30,12 +30,12 @@ use Rattle.serving_law.specs.Reports.{Reports, Registers, SaysKnown, OnRecord, I
 abbrev pub hands_out : Step Disk → Happening Disk
 hands_out step = Turns 1 step 1 0
 
--- it is this one, for some port
+-- it is this one, for some address
 abbrev pub Replies : (federation : ℕ) → Step Disk → SlotName → Body → Type 0
 Replies federation step slot body =
-    (port : ℕ) × (rest : List (ℕ × List ℕ))
+    (address : ℕ) × (rest : List (ℕ × List ℕ))
     × (step.turn.done.posts
-    ≡ (port, datagram_of federation (record { slot = slot; body = body })) ∷ rest)
+    ≡ (address, datagram_of federation (record { slot = slot; body = body })) ∷ rest)
 
 -- A client is told by it which bag is known: in reply to a query; or to a deposit, as another one.
 -- Or it is told that its deposit is registered.
@@ -62,8 +62,9 @@ RepliesAreReports =
 abbrev pub DepositsAreValid : Type 0
 DepositsAreValid =
     (federation : ℕ) (f : Federation Disk) (n : ℕ) (step : Step Disk) (handed written : ℕ)
-    (port : ℕ) (path : List ℕ) (facts : TreeFacts) (slot : SlotName) (bag : BagId)
-    → request_of federation step.turn.took ≡ Deposits port slot path → step.folders path ≡ Ok facts
+    (address : ℕ) (path : List ℕ) (facts : TreeFacts) (slot : SlotName) (bag : BagId)
+    → request_of federation step.turn.took ≡ Deposits address slot path
+    → step.folders path ≡ Ok facts
     → IsDeposit federation f (Turns n step handed written) slot bag
     → IsValid facts × (bag ≡ identity_of facts)
     × OnRecord (after f (Turns n step handed written)) n slot bag

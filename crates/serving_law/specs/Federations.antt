@@ -19,8 +19,8 @@ pub data Member (C : Type 0) : Type 0 where
   Down : List Record → Member C
 
 -- Each member by its number: numbers that are no member's are there too, and stay down. And every
--- datagram that any of them ever handed out, with the port that it was for. None is taken away: it
--- may come once, often or never, at any time and to anyone.
+-- datagram that any of them ever handed out, with the address that it was for. None is taken away:
+-- it may come once, often or never, at any time and to anyone.
 pub record Federation (C : Type 0) : Type 0 where
   pub members : ℕ → Member C
   pub handed : List Post
@@ -31,10 +31,10 @@ new_federation = record { members = λ n. Down []; handed = [] }
 
 -- ---- what happens
 
--- A turn: the ports of the sites, as the member was told them; what a read of each folder gives
+-- A turn: the addresses of the sites, as the member was told them; what a read of each folder gives
 -- then; what came, and what comes of it; and what is between turns then.
 pub record Step (C : Type 0) : Type 0 where
-  pub ports : List ℕ
+  pub addresses : List ℕ
   pub folders : List ℕ → Result TreeFacts TreeFault
   pub turn : Turned
   pub next : Serving C

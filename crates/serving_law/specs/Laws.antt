@@ -26,13 +26,14 @@ pub record WasDeposited {C : Type 0} (federation : ℕ) (history : List (Happeni
   pub is : IsDeposit federation (after_all new_federation before) happening slot bag
 
 module _ {C : Type 0} (device : C → Device) (members : Membership) where
-  -- The turn is one that may happen, with these ports, and with what it is known that folders give,
+  -- The turn is one that may happen, with these addresses, and with what it is known that folders
+  -- give,
   -- or, where that isn't known, some folders. It goes on only where its site needs no opening, and
   -- its site represents what it has heard, as `serve` asks of one that begins.
   abbrev pub IsStep : List (Happening C) → (old next : Serving C) → List ℕ
       → Option (List ℕ → Result TreeFacts TreeFault) → Turned → Type 0
-  IsStep history old next ports gives turn =
-      (step : Step C) × (step.turn ≡ turn) × (step.next ≡ next) × (step.ports ≡ ports)
+  IsStep history old next addresses gives turn =
+      (step : Step C) × (step.turn ≡ turn) × (step.next ≡ next) × (step.addresses ≡ addresses)
       × IfSome gives (λ answer. step.folders ≡ answer)
       × Takes device members (after_all new_federation history) old step
       × (is_the_last turn ≡ false → next.site.book.needs_opening ≡ false)
@@ -43,13 +44,13 @@ module _ {C : Type 0} (device : C → Device) (members : Membership) where
   -- `Turns` or `Fails`; and after them the site may be called again, which is `Renews`.
   abbrev pub TurnsMayHappen : Type 0
   TurnsMayHappen =
-      (history : List (Happening C)) (n : ℕ) (old next : Serving C) (ports : List ℕ)
+      (history : List (Happening C)) (n : ℕ) (old next : Serving C) (addresses : List ℕ)
       (gives : Option (List ℕ → Result TreeFacts TreeFault)) (turn : Turned)
       → IsMembership members → IsHistory device members history
       → IsServing device members (after_all new_federation history) n old
       → MayCome members (after_all new_federation history).handed turn.took
-      → turn_of device ports gives old turn.took turn.done next
-      → IsStep history old next ports gives turn
+      → turn_of device addresses gives old turn.took turn.done next
+      → IsStep history old next addresses gives turn
 
   -- agreement: no two reports, of any members at any times, name different bags for one slot
   abbrev pub ReportsAgree : Type 0

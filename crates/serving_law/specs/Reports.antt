@@ -53,9 +53,9 @@ pub record IsPrinted (s : Showing) (notice : Notice) : Type 0 where
 
 -- a datagram that was handed out is this message's, as who receives it reads it
 pub record IsTold (federation : ℕ) (s : Showing) (message : Message) : Type 0 where
-  pub port : ℕ
+  pub address : ℕ
   pub bytes : List ℕ
-  pub handed : Has (port, bytes) (take s.handed s.turn.done.posts)
+  pub handed : Has (address, bytes) (take s.handed s.turn.done.posts)
   pub reads : message_of federation bytes ≡ Some message
 
 -- it is shown in a happening
@@ -138,9 +138,9 @@ pub record IsDeposit {C : Type 0} (federation : ℕ) (f : Federation C) (h : Hap
   pub member : ℕ
   pub step : Step C
   pub takes : step_of h ≡ Some (member, step)
-  pub port : ℕ
+  pub address : ℕ
   pub path : List ℕ
-  pub asked : request_of federation step.turn.took ≡ Deposits port slot path
+  pub asked : request_of federation step.turn.took ≡ Deposits address slot path
   pub facts : TreeFacts
   pub read : step.folders path ≡ Ok facts
   pub valid : IsValid facts

@@ -23,23 +23,23 @@ use Rattle.serving_law.specs.Federations.{Turns, Fails, Dies, Ends, Renews, Star
 abbrev pub AreBytes : List ℕ → Type 0
 AreBytes bytes = (place : ℕ) → get_or bytes place 0 < 256
 
--- these very bytes were handed out, for some port
+-- these very bytes were handed out, for some address
 abbrev pub WereHanded : List Post → List ℕ → Type 0
-WereHanded handed bytes = (port : ℕ) × Has (port, bytes) handed
+WereHanded handed bytes = (address : ℕ) × Has (address, bytes) handed
 
 -- the message is in the name of a member
 abbrev pub IsOfMember : Membership → Message → Type 0
 IsOfMember members message =
     (n : ℕ) × (body_from message.body ≡ Some n) × Has n (members_of members)
 
--- What may come, to any member and from any port: nothing; or any bytes, but that what one site
+-- What may come, to any member and from any address: nothing; or any bytes, but that what one site
 -- says to another, in the name of a member, was handed out before by a member. So no such message
 -- is forged or altered. One in the name of a site that is no member may come at any time.
 abbrev pub MayCome : Membership → (handed : List Post) → Taken → Type 0
 MayCome members handed Nothing = ⊤
-MayCome members handed (From port bytes) =
+MayCome members handed (From address bytes) =
     AreBytes bytes
-    × ((message : Message) → request_of members.federation (From port bytes) ≡ Says message
+    × ((message : Message) → request_of members.federation (From address bytes) ≡ Says message
     → IsOfMember members message → WereHanded handed bytes)
 
 -- ---- cells
@@ -79,7 +79,8 @@ module _ {C : Type 0} (device : C → Device) (members : Membership) where
   pub record Takes (f : Federation C) (old : Serving C) (step : Step C) : Type 0 where
     pub may_come : MayCome members f.handed step.turn.took
     pub comes :
-        turn_of device step.ports (Some step.folders) old step.turn.took step.turn.done step.next
+        turn_of device step.addresses (Some step.folders) old step.turn.took step.turn.done
+        step.next
 
   -- After a turn that isn't the last its site needs no opening. A process that ends within a turn,
   -- or after one in which its cell failed it, leaves what a crash may have left at a moment since

@@ -12,9 +12,9 @@ use Rattle.serving_reach_law.specs.Laws.{WhatIsWithinReachComesAbout}
 use Rattle.serving_reach_law.specs.Reach.{Agree, AgreeIn}
 use Rattle.serving_reach_law.proofs.Reached.{one_more}
 
-module _ {C : Type 0} (device : C → Device) (members : Membership) (ports : List ℕ)
+module _ {C : Type 0} (device : C → Device) (members : Membership) (addresses : List ℕ)
     (running : List ℕ) (slot : SlotName)
-    (answered : AreAnswered device members ports running slot) (history : List (Happening C))
+    (answered : AreAnswered device members addresses running slot) (history : List (Happening C))
     (before : ℕ) where
   -- a history leads to it
   record IsReached (f : Federation C) : Type 0 where
@@ -36,20 +36,20 @@ module _ {C : Type 0} (device : C → Device) (members : Membership) (ports : Li
 
   -- something does it
   abbrev CanBeDone : Act → Federation C → Type 0
-  CanBeDone act f = (h : Happening C) × May device members f h × Does ports act h
+  CanBeDone act f = (h : Happening C) × May device members f h × Does addresses act h
 
   can_be_done : (f : Federation C) (act : Act) → IsReached f
-      → MayDo members ports running slot before f act → CanBeDone act f
+      → MayDo members addresses running slot before f act → CanBeDone act f
   can_be_done f act r =
       subst (λ (f : Federation C).
-      MayDo members ports running slot before f act → CanBeDone act f) r.is
+      MayDo members addresses running slot before f act → CanBeDone act f) r.is
       (λ may. answered r.all before act r.may may)
 
   record Comes (most : ℕ) (f : Federation C) : Type 0 where
     acts : List Act
     later : List (Happening C)
     few : length acts ≤ most
-    done : AreDone device members ports running slot before f acts later
+    done : AreDone device members addresses running slot before f acts later
     agree : Agree members.federation history running slot (after_all f later)
 
   none : (most : ℕ) (f : Federation C) → Agree members.federation history running slot f
@@ -59,8 +59,8 @@ module _ {C : Type 0} (device : C → Device) (members : Membership) (ports : Li
       record { acts = []; later = []; few = omega arith; done = tt; agree = agree }
 
   first : (most : ℕ) (f : Federation C) (act : Act) (h : Happening C)
-      → MayDo members ports running slot before f act → May device members f h
-      → Does ports act h → Comes most (after f h) → Comes (suc most) f
+      → MayDo members addresses running slot before f act → May device members f h
+      → Does addresses act h → Comes most (after f h) → Comes (suc most) f
   unfolding after_all AreDone
   first most f act h may happens does rest = record {
     acts = act ∷ rest.acts;
@@ -71,7 +71,7 @@ module _ {C : Type 0} (device : C → Device) (members : Membership) (ports : Li
   }
 
   comes : (most : ℕ) (f : Federation C) → IsReached f
-      → AgreeIn device members ports history running slot before most f → Comes most f
+      → AgreeIn device members addresses history running slot before most f → Comes most f
   unfolding AgreeIn
   comes zero f r agree = none zero f agree
   comes (suc most) f r (inl agree) = none (suc most) f agree
@@ -82,9 +82,9 @@ module _ {C : Type 0} (device : C → Device) (members : Membership) (ports : Li
 
 module _ {C : Type 0} (device : C → Device) (members : Membership) where
   pub comes_about : WhatIsWithinReachComesAbout device members
-  comes_about ports running history slot answered may within =
+  comes_about addresses running history slot answered may within =
       let c =
-      comes device members ports running slot answered history
+      comes device members addresses running slot answered history
       (length (after_all new_federation history).handed)
       (10 * length running + 2) (after_all new_federation history)
       (record { all = history; may = may; is = refl }) within in

@@ -34,13 +34,13 @@ use Rattle.serving_reach_law.proofs.Words.{drop_left}
 abbrev pub a_site : List Record → Mode → SiteState
 a_site records mode = record { records = records; mode = mode }
 
-module _ {C : Type 0} (members : Membership) (ports : List ℕ) (before : ℕ) where
+module _ {C : Type 0} (members : Membership) (addresses : List ℕ) (before : ℕ) where
   -- these bytes were handed out since, for the member that the message is sent to
   pub record Out (f : Federation C) (d : Send) : Type 0 where
     pub is : IsMessage d.message
     pub speaks : IsSiteBody d.message.body
     pub handed : Has d.to (members_of members)
-        → IsFor members ports (drop before f.handed) d.to
+        → IsFor members addresses (drop before f.handed) d.to
         (datagram_of members.federation d.message)
 
   pub record Mirrors (f : Federation C) (w : Network) : Type 0 where

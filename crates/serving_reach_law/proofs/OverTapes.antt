@@ -34,7 +34,8 @@ use Rattle.serving_reach_law.proofs.Rows.{IsSupported}
 use Rattle.serving_reach_law.proofs.TapeJournals.{only_now, with_journal, a_book, opens}
 use Rattle.serving_reach_law.proofs.TapeTurns.{Turn, hears_turn, recovers_turn, queries_turn}
 
-module _ (members : Membership) (ports running : List ℕ) (are : AreRunning members ports running)
+module _ (members : Membership) (addresses running : List ℕ) (are : AreRunning members addresses
+    running)
     (history : List (Happening Tape)) (may : IsHistory device members history) where
   abbrev f : Federation Tape
   f = after_all new_federation history
@@ -45,7 +46,7 @@ module _ (members : Membership) (ports running : List ℕ) (are : AreRunning mem
   -- something does it
   abbrev CanBeDone : acts.Act → Type 0
   CanBeDone act =
-      (h : Happening Tape) × May device members f h × Does ports act h
+      (h : Happening Tape) × May device members f h × Does addresses act h
 
   -- ---- a member is started
 
@@ -124,19 +125,19 @@ module _ (members : Membership) (ports running : List ℕ) (are : AreRunning mem
 
       turn_for : (slot : SlotName) (took : Taken) → MayCome members f.handed took
           → (bytes : List ℕ) (r : Request) → request_of members.federation took ≡ r
-          → IsOf members ports f.handed n slot bytes r → Turn ports canonical r
+          → IsOf members addresses f.handed n slot bytes r → Turn addresses canonical r
       turn_for slot took may_come bytes (requests.Says m) e for =
-          hears_turn members are.membership ports n member site.records
+          hears_turn members are.membership addresses n member site.records
           (walk.stands.formed.records n) (volatile_in site.mode) (walk.stands.formed.heard n)
           supported old.site.book.cell served.recovers old.site.tables old.idle old.tried m
           (says_is_message members f.handed took may_come m e)
       turn_for slot took may_come bytes (requests.Queries port s) e for =
-          queries_turn members are.membership ports n member site.records
+          queries_turn members are.membership addresses n member site.records
           (walk.stands.formed.records n) (volatile_in site.mode) (walk.stands.formed.heard n)
           supported old.site.book.cell served.recovers old.site.tables old.idle old.tried s
           (query_is_slot members f.handed took may_come port s e) port
       turn_for slot took may_come bytes (requests.Recovers s) e for =
-          recovers_turn members are.membership ports n member site.records
+          recovers_turn members are.membership addresses n member site.records
           (walk.stands.formed.records n) (volatile_in site.mode) (walk.stands.formed.heard n)
           supported old.site.book.cell served.recovers old.site.tables old.idle old.tried s
           (recover_is_slot members f.handed took may_come s e)
@@ -145,7 +146,7 @@ module _ (members : Membership) (ports running : List ℕ) (are : AreRunning mem
       turn_for slot took may_come bytes requests.Noise e for = absurd for
 
       done_by : (took : Taken) → MayCome members f.handed took
-          → Turn ports canonical (request_of members.federation took)
+          → Turn addresses canonical (request_of members.federation took)
           → CanBeDone (acts.Take n took)
       done_by took may_come t = (
         Turns n step (length t.done.posts) (length (text_of step.turn)),
@@ -156,7 +157,7 @@ module _ (members : Membership) (ports running : List ℕ) (are : AreRunning mem
             may_come = may_come;
             comes =
                 subst (λ (v : Serving Tape).
-                turn_of device ports (Some no_folders) v took t.done t.next)
+                turn_of device addresses (Some no_folders) v took t.done t.next)
                 (sym (is_serving device members n old site served)) t.comes;
           },
           t.opened,
@@ -173,14 +174,14 @@ module _ (members : Membership) (ports running : List ℕ) (are : AreRunning mem
         where
           step : Step Tape
           step = record {
-            ports = ports;
+            addresses = addresses;
             folders = no_folders;
             turn = record { took = took; done = t.done };
             next = t.next;
           }
 
       takes : (slot : SlotName) (took : Taken) → MayCome members f.handed took
-          → Comes members ports f.handed n slot took → CanBeDone (acts.Take n took)
+          → Comes members addresses f.handed n slot took → CanBeDone (acts.Take n took)
       takes slot Nothing may_come comes = absurd comes
       takes slot (From port bytes) may_come comes =
           done_by (From port bytes) may_come
@@ -188,10 +189,11 @@ module _ (members : Membership) (ports running : List ℕ) (are : AreRunning mem
           (request_of members.federation (From port bytes)) refl comes)
 
 -- what comes of a part of what was handed out comes of all
-module _ (members : Membership) (ports : List ℕ) (before : ℕ) (posts : List Post) (n : ℕ)
+module _ (members : Membership) (addresses : List ℕ) (before : ℕ) (posts : List Post) (n : ℕ)
     (slot : SlotName) where
-  of_all : (bytes : List ℕ) (r : Request) → IsOf members ports (drop before posts) n slot bytes r
-      → IsOf members ports posts n slot bytes r
+  of_all : (bytes : List ℕ) (r : Request) → IsOf members addresses (drop before posts) n slot bytes
+      r
+      → IsOf members addresses posts n slot bytes r
   of_all bytes (requests.Says message) a = (a.0, a.1, has_drop before posts a.2)
   of_all bytes (requests.Queries port asked) a = a
   of_all bytes (requests.Recovers asked) a = a
@@ -199,23 +201,24 @@ module _ (members : Membership) (ports : List ℕ) (before : ℕ) (posts : List 
   of_all bytes requests.Waits a = a
   of_all bytes requests.Noise a = a
 
-  comes_of_all : (took : Taken) → Comes members ports (drop before posts) n slot took
-      → Comes members ports posts n slot took
+  comes_of_all : (took : Taken) → Comes members addresses (drop before posts) n slot took
+      → Comes members addresses posts n slot took
   comes_of_all Nothing a = a
   comes_of_all (From port bytes) a =
       of_all bytes (request_of members.federation (From port bytes)) a
 
 pub tapes_answer : TapesAnswer
-tapes_answer members ports running slot are history before (acts.Start n) may
+tapes_answer members addresses running slot are history before (acts.Start n) may
     (runs, (records, down)) =
-    starts members ports running are history may n runs records down
-tapes_answer members ports running slot are history before (acts.Take n took) may
+    starts members addresses running are history may n runs records down
+tapes_answer members addresses running slot are history before (acts.Take n took) may
     (runs, (old, serves), may_come, comes) =
-    takes members ports running are history may n runs old serves slot took may_come
-    (comes_of_all members ports before (after_all new_federation history).handed n slot took comes)
+    takes members addresses running are history may n runs old serves slot took may_come
+    (comes_of_all members addresses before (after_all new_federation history).handed n slot took
+    comes)
 
 pub a_decision_comes_about : ADecisionComesAbout
-a_decision_comes_about members ports running history slot are may can =
-    comes_about device members ports running history slot
-    (tapes_answer members ports running slot are) may
-    (a_decision device members only_now ports running history slot are may can)
+a_decision_comes_about members addresses running history slot are may can =
+    comes_about device members addresses running history slot
+    (tapes_answer members addresses running slot are) may
+    (a_decision device members only_now addresses running history slot are may can)

@@ -70,8 +70,8 @@ module _ (slot : SlotName) (records : List Record) (are : AreRecords records) wh
       of_entry (entry.Deposit bag.0) (deposit_among slot records bag.0 bag.1)
 
 module _ {C : Type 0} (device : C → Device) (members : Membership) (only_now : OnlyNow device)
-    (ports running : List ℕ) (history : List (Happening C)) (slot : SlotName)
-    (are : AreRunning members ports running) (may : IsHistory device members history)
+    (addresses running : List ℕ) (history : List (Happening C)) (slot : SlotName)
+    (are : AreRunning members addresses running) (may : IsHistory device members history)
   where
     abbrev q : QuorumSystem
     q = quorums_of members
@@ -152,7 +152,7 @@ module _ {C : Type 0} (device : C → Device) (members : Membership) (only_now :
       l : Leads q running slot 0 (network_of f) (10 * length running + 2)
       l = leads q laws running slot are.are_members are.quorum (network_of f) can
 
-      begins : Mirrors members ports before f (network_of f)
+      begins : Mirrors members addresses before f (network_of f)
       begins = record {
         sites = λ n. refl;
         within = omega arith;
@@ -160,7 +160,7 @@ module _ {C : Type 0} (device : C → Device) (members : Membership) (only_now :
       }
 
       ends_known : (g : Federation C)
-          → Mirrors members ports before g (run q (network_of f) l.events) → (n : ℕ)
+          → Mirrors members addresses before g (run q (network_of f) l.events) → (n : ℕ)
           → Has n running
           → (bag : BagId) × (known_of slot (records_of (g.members n)) ≡ Some bag)
       ends_known g m n h =
@@ -173,9 +173,9 @@ module _ {C : Type 0} (device : C → Device) (members : Membership) (only_now :
                 ∙ bag.1,
           )
 
-      within_reach : IsWithinReach device members ports history running slot
+      within_reach : IsWithinReach device members addresses history running slot
       within_reach =
-          replay device members are.membership only_now ports are.have_ports running
+          replay device members are.membership only_now addresses are.have_ports running
           are.are_members slot (slot_of can) before base.x history l.events
           (10 * length running + 2) f begins_at (network_of f) begins l.calm l.brought l.few
           (λ g r m. agree g r (λ n h. ends_known g m n h))
@@ -184,7 +184,7 @@ module _ {C : Type 0} (device : C → Device) (members : Membership) (only_now :
 
     chosen_within_reach : (bag : BagId) → IsChosen q (network_of f) slot bag
         → HaveRounds device members history running slot
-        → IsWithinReach device members ports history running slot
+        → IsWithinReach device members addresses history running slot
     chosen_within_reach bag chosen rounds =
         let voter = laws.meet running chosen.chosen.voters are.quorum chosen.chosen.quorum in
         within_reach (record {
@@ -215,18 +215,20 @@ module _ {C : Type 0} (device : C → Device) (members : Membership) (only_now :
 module _ {C : Type 0} (device : C → Device) (members : Membership) (only_now : OnlyNow device)
   where
     pub a_decision : ADecisionIsWithinReach device members
-    a_decision ports running history slot are may can =
-        within_reach device members only_now ports running history slot are may can
+    a_decision addresses running history slot are may can =
+        within_reach device members only_now addresses running history slot are may can
 
     pub what_is_chosen : WhatIsChosenIsWithinReach device members
-    what_is_chosen ports running history slot bag are may chosen rounds =
-        chosen_within_reach device members only_now ports running history slot are may bag chosen
+    what_is_chosen addresses running history slot bag are may chosen rounds =
+        chosen_within_reach device members only_now addresses running history slot are may bag
+        chosen
         rounds
 
     pub what_is_reported : WhatIsReportedIsWithinReach device members
-    what_is_reported ports running history slot bag h are may has reports rounds =
-        chosen_within_reach device members only_now ports running history slot are may bag
-        (chosen_there device members only_now ports running history slot are may bag
-        ((base device members only_now ports running history slot are may).reports h has slot bag
+    what_is_reported addresses running history slot bag h are may has reports rounds =
+        chosen_within_reach device members only_now addresses running history slot are may bag
+        (chosen_there device members only_now addresses running history slot are may bag
+        ((base device members only_now addresses running history slot are may).reports h has slot
+        bag
         reports))
         rounds

@@ -17,8 +17,8 @@ use Rattle.serving_reach_law.proofs.Reached.{Reached, reached_next}
 use Rattle.serving_reach_law.proofs.Turning.{replayed}
 
 module _ {C : Type 0} (device : C → Device) (members : Membership)
-    (is_membership : IsMembership members) (only_now : OnlyNow device) (ports : List ℕ)
-    (have_ports : HavePorts members ports) (running : List ℕ)
+    (is_membership : IsMembership members) (only_now : OnlyNow device) (addresses : List ℕ)
+    (have_ports : HavePorts members addresses) (running : List ℕ)
     (are_members : AreMembers (quorums_of members) running) (slot : SlotName)
     (is_slot : IsSlot slot) (before : ℕ) (since : Network) (history : List (Happening C))
   where
@@ -29,7 +29,7 @@ module _ {C : Type 0} (device : C → Device) (members : Membership)
     At f = Reached device members is_membership only_now since f
 
     abbrev In : ℕ → Federation C → Type 0
-    In most f = AgreeIn device members ports history running slot before most f
+    In most f = AgreeIn device members addresses history running slot before most f
 
     at_once : (most : ℕ) (f : Federation C) → Agree members.federation history running slot f
         → In most f
@@ -46,16 +46,17 @@ module _ {C : Type 0} (device : C → Device) (members : Membership)
         inr (act, may, λ h happens does. in_more most (after f h) (each h happens does))
 
     pub replay : (events : List Event) (most : ℕ) (f : Federation C) → At f → (w : Network)
-        → Mirrors members ports before f w → reach.AreCalm q running slot 0 w events
+        → Mirrors members addresses before f w → reach.AreCalm q running slot 0 w events
         → AreBrought q slot w events → length events ≤ most
-        → ((g : Federation C) → At g → Mirrors members ports before g (run q w events)
+        → ((g : Federation C) → At g → Mirrors members addresses before g (run q w events)
         → Agree members.federation history running slot g)
         → In most f
     unfolding run reach.AreCalm AreBrought AgreeIn
     replay [] most f r w m calm brought few agree = at_once most f (agree f r m)
     replay (e ∷ events) zero f r w m calm brought few agree = absurd (omega (arith, few))
     replay (e ∷ events) (suc most) f r w m calm brought few agree =
-        elim (replayed device members is_membership only_now ports have_ports running are_members
+        elim (replayed device members is_membership only_now addresses have_ports running
+        are_members
         slot is_slot before since e f r w m calm.0 brought.0) [
           | inl still ↦
               in_more most f

@@ -183,15 +183,15 @@ supported_begun records volatile slot b is = record {
 -- ---- a member that serves
 
 -- a turn in which it takes this in, and nothing fails
-pub record Turn (ports : List ℕ) (old : Serving Tape) (r : Request) : Type 0 where
+pub record Turn (addresses : List ℕ) (old : Serving Tape) (r : Request) : Type 0 where
   pub done : Done
   pub next : Serving Tape
-  pub comes : comes_of device ports (Some no_folders) old r done next
+  pub comes : comes_of device addresses (Some no_folders) old r done next
   pub not_the_last : or_one done.notices ≡ false
   pub has_memory : (k : ℕ) → Has (Refused k faults.Memory) done.notices → ⊥
   pub opened : next.site.book.needs_opening ≡ false
 
-module _ (members : Membership) (is_membership : IsMembership members) (ports : List ℕ) (n : ℕ)
+module _ (members : Membership) (is_membership : IsMembership members) (addresses : List ℕ) (n : ℕ)
     (member : Has n (members_of members)) (records : List Record) (are : AreRecords records)
     (volatile : VolatileState) (heard : AreMessages volatile.heard)
     (is : IsSupported records volatile) (cell : Tape)
@@ -305,13 +305,13 @@ module _ (members : Membership) (is_membership : IsMembership members) (ports : 
           | inr still ↦ subst (λ (v : VolatileState). IsSupported records v) (sym still) is
         ])
 
-    pub hears_turn : Turn ports old (requests.Says m)
+    pub hears_turn : Turn addresses old (requests.Says m)
     hears_turn =
         let plain = arrival_plain q n records volatile m in
         record {
           done = record {
             posts =
-                posts_of ports
+                posts_of addresses
                 (Ok (answer (Arrives (Some m)) hearing refl plain.line plain.says hearing_formed
                 plain.few hearing_supported));
             notices =
@@ -347,12 +347,12 @@ module _ (members : Membership) (is_membership : IsMembership members) (ports : 
     begun b = begins_ballot q slot b volatile
 
     begun_turn : (b : BallotNumber) → effect_at (Recovers slot) ≡ begun b
-        → Turn ports old (requests.Recovers slot)
+        → Turn addresses old (requests.Recovers slot)
     begun_turn b same =
         record {
           done = record {
             posts =
-                posts_of ports
+                posts_of addresses
                 (Ok (answer (Recovers slot) (begun b) same None refl formed few then));
             notices = [];
           };
@@ -393,7 +393,7 @@ module _ (members : Membership) (is_membership : IsMembership members) (ports : 
     refused_turn : (fault : SiteFault) → effect_at (Recovers slot) ≡ refuses fault volatile
         → Gives old.site as_before.site volatile (refuses fault volatile) (Err fault)
         → recovery_notices n (Recovers slot) (Err fault) ≡ []
-        → Turn ports old (requests.Recovers slot)
+        → Turn addresses old (requests.Recovers slot)
     refused_turn fault same gives silent =
         record {
           done = record { posts = []; notices = recovery_notices n (Recovers slot) (Err fault) };
@@ -426,7 +426,7 @@ module _ (members : Membership) (is_membership : IsMembership members) (ports : 
     represented : Represents as_before.site volatile
     represented = (nothing, represents members n records volatile is)
 
-    pub recovers_turn : Turn ports old (requests.Recovers slot)
+    pub recovers_turn : Turn addresses old (requests.Recovers slot)
     unfolding on_recover
     recovers_turn =
         by_known (known_of slot records)
@@ -435,7 +435,7 @@ module _ (members : Membership) (is_membership : IsMembership members) (ports : 
       where
         by_known : (known : Option BagId) (has : Bool) (next : Option BallotNumber)
             → effect_at (Recovers slot) ≡ recovers_if q slot known has next volatile
-            → Turn ports old (requests.Recovers slot)
+            → Turn addresses old (requests.Recovers slot)
         by_known (Some bag) has next same =
             refused_turn faults.AlreadyKnown same (refl, represented) refl
         by_known None false next same =
@@ -452,11 +452,11 @@ module _ (members : Membership) (is_membership : IsMembership members) (ports : 
     abbrev asks_of : List ℕ → Done
     asks_of [] = record { posts = []; notices = [] }
     asks_of (k ∷ all) = record {
-      posts = posts_to ports k question ++ (asks_of all).posts;
+      posts = posts_to addresses k question ++ (asks_of all).posts;
       notices = (asks_of all).notices;
     }
 
-    asks_are : (all : List ℕ) → Asks ports old slot all (asks_of all)
+    asks_are : (all : List ℕ) → Asks addresses old slot all (asks_of all)
     asks_are [] = refl
     asks_are (k ∷ all) = (asks_of all, asks_are all, inl refl)
 
@@ -470,7 +470,7 @@ module _ (members : Membership) (is_membership : IsMembership members) (ports : 
     not_refused : (k : ℕ) → Has (Refused k faults.Memory) (reply ∷ []) → ⊥
     not_refused k h = absurd (cc (has_one h))
 
-    pub queries_turn : (port : ℕ) → Turn ports old (requests.Queries port slot)
+    pub queries_turn : (port : ℕ) → Turn addresses old (requests.Queries port slot)
     queries_turn port =
         let all = asked old (answer_to old slot) in
         record {

@@ -97,11 +97,12 @@ records_after device (Some r) answer old new (inl p) = absurd (cc p.0)
 records_after device (Some r) answer old new (inr c) = c.committed.0
 
 -- a message is among what a turn hands out
-record Posted (members : Membership) (ports : List ℕ) (posts : List Post) (d : Send) : Type 0 where
-  is : IsMessage d.message
-  speaks : IsSiteBody d.message.body
-  posted : Has d.to (members_of members)
-      → IsFor members ports posts d.to (datagram_of members.federation d.message)
+record Posted (members : Membership) (addresses : List ℕ) (posts : List Post) (d : Send) : Type 0
+  where
+    is : IsMessage d.message
+    speaks : IsSiteBody d.message.body
+    posted : Has d.to (members_of members)
+        → IsFor members addresses posts d.to (datagram_of members.federation d.message)
 
 -- what a recovery comes to: a ballot, or a refusal
 recover_cases : (q : QuorumSystem) (slot : SlotName) (known : Option BagId) (has : Bool)
@@ -116,8 +117,8 @@ recover_cases q slot None true None volatile = inr (faults.RoundsSpent, refl)
 recover_cases q slot None true (Some b) volatile = inl (b, refl)
 
 module _ {C : Type 0} (device : C → Device) (members : Membership)
-    (is_membership : IsMembership members) (only_now : OnlyNow device) (ports : List ℕ)
-    (have_ports : HavePorts members ports) (running : List ℕ)
+    (is_membership : IsMembership members) (only_now : OnlyNow device) (addresses : List ℕ)
+    (have_ports : HavePorts members addresses) (running : List ℕ)
     (are_members : AreMembers (quorums_of members) running) (slot : SlotName)
     (is_slot : IsSlot slot) (before : ℕ) (since : Network)
   where
@@ -125,7 +126,7 @@ module _ {C : Type 0} (device : C → Device) (members : Membership)
     q = quorums_of members
 
     abbrev pub Mirror : Federation C → Network → Type 0
-    Mirror f w = Mirrors members ports before f w
+    Mirror f w = Mirrors members addresses before f w
 
     abbrev pub At : Federation C → Type 0
     At f = Reached device members is_membership only_now since f
@@ -134,8 +135,9 @@ module _ {C : Type 0} (device : C → Device) (members : Membership)
     abbrev pub Replayed : Federation C → Network → Type 0
     Replayed f w =
         Mirror f w
-        ⊎ ((act : Act) × MayDo members ports running slot before f act
-        × ((h : Happening C) → May device members f h → Does ports act h → Mirror (after f h) w))
+        ⊎ ((act : Act) × MayDo members addresses running slot before f act
+        × ((h : Happening C) → May device members f h → Does addresses act h → Mirror (after f h)
+        w))
 
     -- a whole turn
     abbrev whole : ℕ → Step C → Happening C
@@ -192,19 +194,19 @@ module _ {C : Type 0} (device : C → Device) (members : Membership)
         -- it takes this in, in a turn that goes well
         record TakesWell (took : Taken) (s : Step C) : Type 0 where
           took_is : s.turn.took ≡ took
-          ports_are : s.ports ≡ ports
+          ports_are : s.addresses ≡ addresses
           takes : Takes device members f old s
           well : GoesWell s.turn
 
         module _ (took : Taken) (s : Step C) (t : TakesWell took s) where
           what_comes : (k : Request) → request_of members.federation took ≡ k
-              → comes_of device ports (Some s.folders) old k s.turn.done s.next
+              → comes_of device addresses (Some s.folders) old k s.turn.done s.next
           what_comes k asks =
               subst (λ (k : Request).
-              comes_of device ports (Some s.folders) old k s.turn.done s.next)
+              comes_of device addresses (Some s.folders) old k s.turn.done s.next)
               (ap (λ (o : Owner). request_of o.members.federation took) served.whose ∙ asks)
               (subst (λ (k : Taken).
-              turn_of device ports (Some s.folders) old k s.turn.done s.next) t.took_is
+              turn_of device addresses (Some s.folders) old k s.turn.done s.next) t.took_is
               (subst (λ (ps : List ℕ).
               turn_of device ps (Some s.folders) old s.turn.took s.turn.done s.next) t.ports_are
               t.takes.comes))
@@ -212,10 +214,10 @@ module _ {C : Type 0} (device : C → Device) (members : Membership)
           -- its site moves in the federation as in the network
           turned : (records : List Record) (volatile : VolatileState) (sends : List Send)
               → s.next.site.book.records ≡ records → s.next.volatile ≡ volatile
-              → ((d : Send) → Has d sends → Posted members ports s.turn.done.posts d)
+              → ((d : Send) → Has d sends → Posted members addresses s.turn.done.posts d)
               → Mirror (after f (whole n s)) (went w n records (Up volatile) sends)
           turned records volatile sends same_records same_volatile posted =
-              moves members ports before f w m n (Serves s.next)
+              moves members addresses before f w m n (Serves s.next)
               (take (length s.turn.done.posts) s.turn.done.posts) records (Up volatile) sends
               (ap (λ (rs : List Record). a_site rs (Up s.next.volatile)) same_records
               ∙ ap (λ (v : VolatileState). a_site records (Up v)) same_volatile)
@@ -242,7 +244,7 @@ module _ {C : Type 0} (device : C → Device) (members : Membership)
               (result : Result Answer SiteFault)
               (call : IsCalled device old input result s.next)
               (done_is : s.turn.done
-              ≡ record { posts = posts_of ports result; notices = says result })
+              ≡ record { posts = posts_of addresses result; notices = says result })
               (memory_said : says (Err faults.Memory)
               ≡ Refused (turns.number old) faults.Memory ∷ [])
               (device_said : or_one (says (Err faults.Device)) ≡ true) where
@@ -278,8 +280,8 @@ module _ {C : Type 0} (device : C → Device) (members : Membership)
                     ∙ ap (λ (e : Effect). e.volatile) (same_effect input)
 
                 posts_are : s.turn.done.posts
-                    ≡ flat_map (turns.outgoing_posts ports) answer.sends.items
-                posts_are = ap (λ (d : Done). d.posts) done_is ∙ ap (posts_of ports) ok
+                    ≡ flat_map (turns.outgoing_posts addresses) answer.sends.items
+                posts_are = ap (λ (d : Done). d.posts) done_is ∙ ap (posts_of addresses) ok
 
                 sends_are : map handed_out answer.sends.items
                     ≡ map (datagram members.federation) (effect_at input).sends
@@ -290,18 +292,18 @@ module _ {C : Type 0} (device : C → Device) (members : Membership)
                     served.whose answered_so.gives.1
 
                 sends_posted : (d : Send) → Has d (effect_at input).sends
-                    → Posted members ports s.turn.done.posts d
+                    → Posted members addresses s.turn.done.posts d
                 sends_posted d h = record {
                   is = ((formed input is).sends d h).1;
                   speaks = effect_speaks q n old.site.book.records old.volatile input d h;
                   posted = λ to.
-                      let p = some_number (slice_get ports (d.to - 1)) (have_ports d.to to) in (
+                      let p = some_number (slice_get addresses (d.to - 1)) (have_ports d.to to) in (
                         p.0,
                         p.1,
                         subst (λ (ps : List Post).
                             Has (p.0, datagram_of members.federation d.message) ps)
                             (sym posts_are)
-                            (sent_is_posted members.federation ports answer.sends.items
+                            (sent_is_posted members.federation addresses answer.sends.items
                             (effect_at input).sends sends_are d h p.0 p.1),
                       );
                 }
@@ -338,7 +340,7 @@ module _ {C : Type 0} (device : C → Device) (members : Membership)
               serves_same : {a b : Serving C} → Serves a ≡ Serves b → a ≡ b
               serves_same e = cc
 
-          done_by : (h : Happening C) → May device members f h → Does ports (acts.Take n took) h
+          done_by : (h : Happening C) → May device members f h → Does addresses (acts.Take n took) h
               → Mirror (after f h) x
           done_by (Turns k s handed written) (other, serving, takes, opened)
               (same, took_is, ports_are, well, all, text) =
@@ -361,7 +363,7 @@ module _ {C : Type 0} (device : C → Device) (members : Membership)
           done_by (Starts k cell site) may does = absurd does
 
           replayed_by : MayCome members f.handed took
-              → Comes members ports (drop before f.handed) n slot took → Replayed f x
+              → Comes members addresses (drop before f.handed) n slot took → Replayed f x
           replayed_by may comes =
               inr (acts.Take n took, (runs, (old, serves), may, comes), done_by)
 
@@ -389,10 +391,10 @@ module _ {C : Type 0} (device : C → Device) (members : Membership)
             other : {message : Message} → requests.Recovers slot ≡ requests.Says message → ⊥
             other e = cc
 
-        comes_recover : Comes members ports (drop before f.handed) n slot recover_comes
+        comes_recover : Comes members addresses (drop before f.handed) n slot recover_comes
         comes_recover =
             subst (λ (k : Request).
-            IsOf members ports (drop before f.handed) n slot
+            IsOf members addresses (drop before f.handed) n slot
             (datagram_of members.federation recover_message) k) (sym asks_recover) refl
 
         recovers_turn : (b : BallotNumber)
@@ -418,7 +420,7 @@ module _ {C : Type 0} (device : C → Device) (members : Membership)
                   inl (subst (λ (x : Network). Mirror f x)
                   (sym (takes_up members w n member (Recovers slot) records old.volatile is_here
                   (refuses refused.0 old.volatile) refused.1))
-                  (moves_not members ports before f w m n records (Up old.volatile) is_here))
+                  (moves_not members addresses before f w m n records (Up old.volatile) is_here))
             ]
 
         -- ---- a client asks it for the slot's bag, and it asks the others
@@ -442,10 +444,10 @@ module _ {C : Type 0} (device : C → Device) (members : Membership)
             other : {message : Message} → requests.Queries 0 slot ≡ requests.Says message → ⊥
             other e = cc
 
-        comes_query : Comes members ports (drop before f.handed) n slot query_comes
+        comes_query : Comes members addresses (drop before f.handed) n slot query_comes
         comes_query =
             subst (λ (k : Request).
-            IsOf members ports (drop before f.handed) n slot
+            IsOf members addresses (drop before f.handed) n slot
             (datagram_of members.federation query_message) k) (sym asks_query) refl
 
         asked_are : known_of slot records ≡ None
@@ -479,19 +481,19 @@ module _ {C : Type 0} (device : C → Device) (members : Membership)
             served.whose
 
         -- each that is asked is handed one, unless memory ran out
-        asks_post : (all : List ℕ) (done : Done) → turns.Asks ports old slot all done
+        asks_post : (all : List ℕ) (done : Done) → turns.Asks addresses old slot all done
             → (Has (Refused (turns.number old) faults.Memory) done.notices → ⊥)
-            → (k : ℕ) → Has k all → (port : ℕ) → slice_get ports (k - 1) ≡ Some port
+            → (k : ℕ) → Has k all → (port : ℕ) → slice_get addresses (k - 1) ≡ Some port
             → Has (port, question) done.posts
         asks_post [] done t well k h port at = absurd (has_none h)
         asks_post (j ∷ all) done (rest, asks, inl e) well k (here same) port at =
             subst (λ (d : Done). Has (port, question) d.posts) (sym e)
             (has_left rest.posts
-            (post_has ports j question port
-            (subst (λ (i : ℕ). slice_get ports (i - 1) ≡ Some port) (sym same) at)))
+            (post_has addresses j question port
+            (subst (λ (i : ℕ). slice_get addresses (i - 1) ≡ Some port) (sym same) at)))
         asks_post (j ∷ all) done (rest, asks, inl e) well k (there h) port at =
             subst (λ (d : Done). Has (port, question) d.posts) (sym e)
-            (has_right (posts_to ports j question)
+            (has_right (posts_to addresses j question)
             (asks_post all rest asks
             (λ i. well
             (subst (λ (d : Done). Has (Refused (turns.number old) faults.Memory) d.notices)
@@ -512,15 +514,15 @@ module _ {C : Type 0} (device : C → Device) (members : Membership)
 
           posted_question : (s : Step C)
               → (Has (Refused (turns.number old) faults.Memory) s.turn.done.notices → ⊥)
-              → turns.queries ports old 0 slot s.turn.done s.next → (d : Send)
-              → Has d (to_each slot (Ask n) (k ∷ [])) → Posted members ports s.turn.done.posts d
+              → turns.queries addresses old 0 slot s.turn.done s.next → (d : Send)
+              → Has d (to_each slot (Ask n) (k ∷ [])) → Posted members addresses s.turn.done.posts d
           unfolding to_each
           posted_question s well (asks, asks_are, done_is, same) d h =
-              subst (Posted members ports s.turn.done.posts) (has_one h) (record {
+              subst (Posted members addresses s.turn.done.posts) (has_one h) (record {
                 is = (is_slot, members_are_sites members is_membership n member);
                 speaks = tt;
                 posted = λ to.
-                    let p = some_number (slice_get ports (k - 1)) (have_ports k to) in (
+                    let p = some_number (slice_get addresses (k - 1)) (have_ports k to) in (
                       p.0,
                       p.1,
                       subst (λ (bytes : List ℕ). Has (p.0, bytes) s.turn.done.posts) question_is
@@ -556,15 +558,15 @@ module _ {C : Type 0} (device : C → Device) (members : Membership)
         -- ---- a datagram comes
 
         module _ (d : Send) (sent : Has d w.sent) (to : d.to ≡ n) where
-          out : Out members ports before f d
+          out : Out members addresses before f d
           out = m.out d sent
 
           abbrev bytes : List ℕ
           bytes = datagram_of members.federation d.message
 
-          handed_here : IsFor members ports (drop before f.handed) n bytes
+          handed_here : IsFor members addresses (drop before f.handed) n bytes
           handed_here =
-              subst (λ (k : ℕ). IsFor members ports (drop before f.handed) k bytes) to
+              subst (λ (k : ℕ). IsFor members addresses (drop before f.handed) k bytes) to
               (out.handed (subst (λ (k : ℕ). Has k (members_of members)) (sym to) member))
 
           asks_it : request_of members.federation (From 0 bytes) ≡ requests.Says d.message
@@ -579,10 +581,10 @@ module _ {C : Type 0} (device : C → Device) (members : Membership)
             λ message e is. (handed_here.0, has_drop before f.handed handed_here.2),
           )
 
-          comes_here : Comes members ports (drop before f.handed) n slot (From 0 bytes)
+          comes_here : Comes members addresses (drop before f.handed) n slot (From 0 bytes)
           comes_here =
               subst (λ (k : Request).
-              IsOf members ports (drop before f.handed) n slot bytes k)
+              IsOf members addresses (drop before f.handed) n slot bytes k)
               (sym asks_it) handed_here
 
           hears_now : Replayed f (takes q w n (Arrives (Some d.message)) Whole).network
@@ -629,7 +631,7 @@ module _ {C : Type 0} (device : C → Device) (members : Membership)
             ∙ ap (λ (s : SiteState). (starts w n s.mode).network) is_down
             ∙ ap (λ (s : SiteState). went w n s.records (Up new_volatile) []) is_down
 
-        started_by : (h : Happening C) → May device members f h → Does ports (acts.Start n) h
+        started_by : (h : Happening C) → May device members f h → Does addresses (acts.Start n) h
             → Mirror (after f h)
             (networks.if_member q w n (starts w n (w.sites n).mode)).network
         started_by (Starts k cell site) may same =
@@ -637,7 +639,7 @@ module _ {C : Type 0} (device : C → Device) (members : Membership)
             (subst (λ (i : ℕ).
             Mirror (becomes f i (Serves (begins site new_volatile)) [])
             (went w n records (Up new_volatile) [])) (sym same)
-            (moves members ports before f w m n (Serves (begins site new_volatile)) [] records
+            (moves members addresses before f w m n (Serves (begins site new_volatile)) [] records
             (Up new_volatile) []
             (ap (λ (rs : List Record). a_site rs (Up new_volatile))
             (opened_with cell site

@@ -76,23 +76,24 @@ some_number (Some k) h = (k, refl)
 -- ---- what is handed out
 
 -- a datagram for a site goes to its port
-pub post_has : (ports : List ℕ) (site : ℕ) (bytes : List ℕ) (port : ℕ)
-    → slice_get ports (site - 1) ≡ Some port → Has (port, bytes) (posts_to ports site bytes)
-post_has ports site bytes port e =
+pub post_has : (addresses : List ℕ) (site : ℕ) (bytes : List ℕ) (port : ℕ)
+    → slice_get addresses (site - 1) ≡ Some port → Has (port, bytes) (posts_to addresses site bytes)
+post_has addresses site bytes port e =
     subst (λ (o : Option ℕ).
     Has {X = Post} (port, bytes) (map (λ (p : ℕ). (p, bytes)) (option_to_list o))) (sym e)
     (here refl)
 
 -- so does each that an answer sends
-pub sent_is_posted : (federation : ℕ) (ports : List ℕ) (items : List Outgoing) (sends : List Send)
+pub sent_is_posted : (federation : ℕ) (addresses : List ℕ) (items : List Outgoing) (sends : List
+    Send)
     → map handed_out items ≡ map (datagram federation) sends → (d : Send) → Has d sends
-    → (port : ℕ) → slice_get ports (d.to - 1) ≡ Some port
-    → Has (port, datagram_of federation d.message) (flat_map (outgoing_posts ports) items)
-sent_is_posted federation ports items sends same d h port at =
-    flat_map_has (outgoing_posts ports) (port, datagram_of federation d.message) f.0 items f.1
+    → (port : ℕ) → slice_get addresses (d.to - 1) ≡ Some port
+    → Has (port, datagram_of federation d.message) (flat_map (outgoing_posts addresses) items)
+sent_is_posted federation addresses items sends same d h port at =
+    flat_map_has (outgoing_posts addresses) (port, datagram_of federation d.message) f.0 items f.1
     (subst (λ (p : ℕ × List ℕ).
-    Has (port, datagram_of federation d.message) (posts_to ports p.0 p.1)) (sym f.2)
-    (post_has ports d.to (datagram_of federation d.message) port at))
+    Has (port, datagram_of federation d.message) (posts_to addresses p.0 p.1)) (sym f.2)
+    (post_has addresses d.to (datagram_of federation d.message) port at))
   where
     f : (o : Outgoing) × Has o items × (handed_out o ≡ datagram federation d)
     f =

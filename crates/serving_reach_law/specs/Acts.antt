@@ -22,27 +22,27 @@ pub data Act : Type 0 where
 
 -- ---- when it may be done
 
--- the ports of the sites: that of site 1 is first
-module _ (members : Membership) (ports : List ℕ) where
-  -- these bytes are among these datagrams, for the port of member n
+-- the addresses of the sites: that of site 1 is first
+module _ (members : Membership) (addresses : List ℕ) where
+  -- these bytes are among these datagrams, for the address of member n
   abbrev pub IsFor : List Post → (n : ℕ) → (bytes : List ℕ) → Type 0
   IsFor posts n bytes =
-      (port : ℕ) × (slice_get ports (n - 1) ≡ Some port) × Has (port, bytes) posts
+      (address : ℕ) × (slice_get addresses (n - 1) ≡ Some address) × Has (address, bytes) posts
 
   -- a site says something, which is among these datagrams, for member n; or a client asks for the
   -- slot's bag, or has the slot recovered
   abbrev pub IsOf : List Post → (n : ℕ) → SlotName → (bytes : List ℕ) → Request → Type 0
   IsOf posts n slot bytes (Says message) = IsFor posts n bytes
-  IsOf posts n slot bytes (Queries port asked) = asked ≡ slot
+  IsOf posts n slot bytes (Queries address asked) = asked ≡ slot
   IsOf posts n slot bytes (Recovers asked) = asked ≡ slot
-  IsOf posts n slot bytes (Deposits port asked path) = ⊥
+  IsOf posts n slot bytes (Deposits address asked path) = ⊥
   IsOf posts n slot bytes Waits = ⊥
   IsOf posts n slot bytes Noise = ⊥
 
   abbrev pub Comes : List Post → (n : ℕ) → SlotName → Taken → Type 0
   Comes posts n slot Nothing = ⊥
-  Comes posts n slot (From port bytes) =
-      IsOf posts n slot bytes (request_of members.federation (From port bytes))
+  Comes posts n slot (From address bytes) =
+      IsOf posts n slot bytes (request_of members.federation (From address bytes))
 
   -- One of those that run is down; or it serves, and this may come to it: what a client asks of the
   -- slot, or a datagram that wasn't among the first so many, and was for it.
@@ -63,9 +63,9 @@ pub record GoesWell (turn : Turned) : Type 0 where
 
 -- a happening does it: the member's start; or a turn of it that goes well, of which all is handed
 -- out and written
-abbrev pub Does : {C : Type 0} → (ports : List ℕ) → Act → Happening C → Type 0
-Does ports (Start n) (Starts member cell site) = member ≡ n
-Does ports (Take n took) (Turns member step handed written) =
-    (member ≡ n) × (step.turn.took ≡ took) × (step.ports ≡ ports) × GoesWell step.turn
+abbrev pub Does : {C : Type 0} → (addresses : List ℕ) → Act → Happening C → Type 0
+Does addresses (Start n) (Starts member cell site) = member ≡ n
+Does addresses (Take n took) (Turns member step handed written) =
+    (member ≡ n) × (step.turn.took ≡ took) × (step.addresses ≡ addresses) × GoesWell step.turn
     × (handed ≡ length step.turn.done.posts) × (written ≡ length (text_of step.turn))
-Does ports act h = ⊥
+Does addresses act h = ⊥

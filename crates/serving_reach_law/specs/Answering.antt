@@ -9,22 +9,23 @@ use Rattle.serving_law.specs.Rules.{May, IsHistory}
 use Rattle.serving_reach_law.specs.Acts.{Act, MayDo, Does}
 use Rattle.serving_reach_law.specs.Reach.{Agree}
 
-module _ {C : Type 0} (device : C → Device) (members : Membership) (ports : List ℕ)
+module _ {C : Type 0} (device : C → Device) (members : Membership) (addresses : List ℕ)
     (running : List ℕ) (slot : SlotName) where
   -- after every history, whatever may be done can be done so that nothing fails
   abbrev pub AreAnswered : Type 0
   AreAnswered =
       (history : List (Happening C)) (before : ℕ) (act : Act)
       → IsHistory device members history
-      → MayDo members ports running slot before (after_all new_federation history) act
+      → MayDo members addresses running slot before (after_all new_federation history) act
       → (h : Happening C) × May device members (after_all new_federation history) h
-      × Does ports act h
+      × Does addresses act h
 
   -- these acts may be done, and these happenings do them, one after another
   unfoldable pub AreDone : (before : ℕ) → Federation C → List Act → List (Happening C) → Type 0
   AreDone before f [] [] = ⊤
   AreDone before f (act ∷ acts) (h ∷ later) =
-      MayDo members ports running slot before f act × May device members f h × Does ports act h
+      MayDo members addresses running slot before f act × May device members f h × Does addresses
+      act h
       × AreDone before (after f h) acts later
   AreDone before f acts later = ⊥
 

@@ -15,10 +15,10 @@ use Rattle.serving_law.specs.Rules.{IsHistory}
 use Rattle.serving_reach_law.specs.Answering.{AreAnswered, ComesAbout}
 use Rattle.serving_reach_law.specs.Reach.{HavePorts, network_of, IsWithinReach}
 
--- those that run are members, and a quorum; and each member has a port
-pub record AreRunning (members : Membership) (ports running : List ℕ) : Type 0 where
+-- those that run are members, and a quorum; and each member has an address
+pub record AreRunning (members : Membership) (addresses running : List ℕ) : Type 0 where
   pub membership : IsMembership members
-  pub have_ports : HavePorts members ports
+  pub have_ports : HavePorts members addresses
   pub are_members : AreMembers (quorums_of members) running
   pub quorum : IsQuorum (quorums_of members) running
 
@@ -33,34 +33,34 @@ module _ {C : Type 0} (device : C → Device) (members : Membership) where
   -- one or has a deposit, and has rounds left
   abbrev pub ADecisionIsWithinReach : Type 0
   ADecisionIsWithinReach =
-      (ports running : List ℕ) (history : List (Happening C)) (slot : SlotName)
-      → AreRunning members ports running → IsHistory device members history
+      (addresses running : List ℕ) (history : List (Happening C)) (slot : SlotName)
+      → AreRunning members addresses running → IsHistory device members history
       → CanDecide (network_of (after_all new_federation history)) running slot
-      → IsWithinReach device members ports history running slot
+      → IsWithinReach device members addresses history running slot
 
   -- so is what a quorum has voted for, whoever has deposited it, and whoever is lost
   abbrev pub WhatIsChosenIsWithinReach : Type 0
   WhatIsChosenIsWithinReach =
-      (ports running : List ℕ) (history : List (Happening C)) (slot : SlotName) (bag : BagId)
-      → AreRunning members ports running → IsHistory device members history
+      (addresses running : List ℕ) (history : List (Happening C)) (slot : SlotName) (bag : BagId)
+      → AreRunning members addresses running → IsHistory device members history
       → IsChosen (quorums_of members) (network_of (after_all new_federation history)) slot bag
       → HaveRounds history running slot
-      → IsWithinReach device members ports history running slot
+      → IsWithinReach device members addresses history running slot
 
   -- and what any member ever reported
   abbrev pub WhatIsReportedIsWithinReach : Type 0
   WhatIsReportedIsWithinReach =
-      (ports running : List ℕ) (history : List (Happening C)) (slot : SlotName) (bag : BagId)
+      (addresses running : List ℕ) (history : List (Happening C)) (slot : SlotName) (bag : BagId)
       (h : Happening C)
-      → AreRunning members ports running → IsHistory device members history
+      → AreRunning members addresses running → IsHistory device members history
       → Has h history → Reports members.federation h slot bag
       → HaveRounds history running slot
-      → IsWithinReach device members ports history running slot
+      → IsWithinReach device members addresses history running slot
 
   -- what is within reach comes about, where calls that may answer are answered
   abbrev pub WhatIsWithinReachComesAbout : Type 0
   WhatIsWithinReachComesAbout =
-      (ports running : List ℕ) (history : List (Happening C)) (slot : SlotName)
-      → AreAnswered device members ports running slot → IsHistory device members history
-      → IsWithinReach device members ports history running slot
-      → ComesAbout device members ports running slot history
+      (addresses running : List ℕ) (history : List (Happening C)) (slot : SlotName)
+      → AreAnswered device members addresses running slot → IsHistory device members history
+      → IsWithinReach device members addresses history running slot
+      → ComesAbout device members addresses running slot history

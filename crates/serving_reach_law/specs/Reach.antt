@@ -15,10 +15,10 @@ use Rattle.serving_law.specs.Reports.{Reports, records_of}
 use Rattle.serving_law.specs.Rules.{May}
 use Rattle.serving_reach_law.specs.Acts.{Act, MayDo, Does}
 
--- each member has a port
-abbrev pub HavePorts : Membership → (ports : List ℕ) → Type 0
-HavePorts members ports =
-    (n : ℕ) → Has n (members_of members) → IsSome (slice_get ports (n - 1))
+-- each member has an address
+abbrev pub HavePorts : Membership → (addresses : List ℕ) → Type 0
+HavePorts members addresses =
+    (n : ℕ) → Has n (members_of members) → IsSome (slice_get addresses (n - 1))
 
 -- What the members have on record, and what those that serve have heard, as a network in which
 -- nothing was sent: of such a one `reach_law` says who can begin.
@@ -39,7 +39,7 @@ pub record Agree {C : Type 0} (federation : ℕ) (history : List (Happening C))
   pub reported : (h : Happening C) (v : BagId) → Has h history
       → Reports federation h slot v → v ≡ bag
 
-module _ {C : Type 0} (device : C → Device) (members : Membership) (ports : List ℕ)
+module _ {C : Type 0} (device : C → Device) (members : Membership) (addresses : List ℕ)
     (history : List (Happening C)) (running : List ℕ) (slot : SlotName) (before : ℕ) where
   -- They agree in at most so many acts: they agree now; or something may be done, and whatever does
   -- it by the rules of turns, they agree in one act less.
@@ -47,16 +47,16 @@ module _ {C : Type 0} (device : C → Device) (members : Membership) (ports : Li
   AgreeIn zero f = Agree members.federation history running slot f
   AgreeIn (suc most) f =
       Agree members.federation history running slot f
-      ⊎ ((act : Act) × MayDo members ports running slot before f act
-      × ((h : Happening C) → May device members f h → Does ports act h
+      ⊎ ((act : Act) × MayDo members addresses running slot before f act
+      × ((h : Happening C) → May device members f h → Does addresses act h
       → AgreeIn most (after f h)))
 
 -- After the history those that run agree in at most ten acts for each of them and two more. Nothing
 -- arrives in these that was handed out before.
 abbrev pub IsWithinReach :
-    {C : Type 0} → (C → Device) → Membership → (ports : List ℕ) → List (Happening C)
+    {C : Type 0} → (C → Device) → Membership → (addresses : List ℕ) → List (Happening C)
     → (running : List ℕ) → SlotName → Type 0
-IsWithinReach device members ports history running slot =
-    AgreeIn device members ports history running slot
+IsWithinReach device members addresses history running slot =
+    AgreeIn device members addresses history running slot
     (length (after_all new_federation history).handed) (10 * length running + 2)
     (after_all new_federation history)

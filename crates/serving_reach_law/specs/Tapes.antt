@@ -48,14 +48,14 @@ pub record AreLikeCells : Type 0 where
 -- calls that may answer are answered
 abbrev pub TapesAnswer : Type 0
 TapesAnswer =
-    (members : Membership) (ports running : List ℕ) (slot : SlotName)
-    → AreRunning members ports running → AreAnswered device members ports running slot
+    (members : Membership) (addresses running : List ℕ) (slot : SlotName)
+    → AreRunning members addresses running → AreAnswered device members addresses running slot
 
 -- so over them a decision comes about, whatever has happened
 abbrev pub ADecisionComesAbout : Type 0
 ADecisionComesAbout =
-    (members : Membership) (ports running : List ℕ) (history : List (Happening Tape))
+    (members : Membership) (addresses running : List ℕ) (history : List (Happening Tape))
     (slot : SlotName)
-    → AreRunning members ports running → IsHistory device members history
+    → AreRunning members addresses running → IsHistory device members history
     → CanDecide (network_of (after_all new_federation history)) running slot
-    → ComesAbout device members ports running slot history
+    → ComesAbout device members addresses running slot history

@@ -1,5 +1,6 @@
 -- A process that serves, call by call.
-use Rattle.std.proofs.Common.{◌≡◌, ℕ, ◌+◌, ◌%◌, refl, sym, ap, subst, ◌∙◌, inl, inr, Bool, true, false}
+use Rattle.std.proofs.Common.{◌≡◌, ℕ, ◌+◌, ◌%◌, refl, sym, ap, subst, ◌∙◌, inl, inr, Bool, true}
+use Rattle.std.proofs.Common.{false}
 use Rattle.std.proofs.Common.{List, [], ◌∷◌, ◌++◌, length, Option, Some, None, arith, length-append}
 use Rattle.std.specs.Bool.{◌==◌}
 use Rattle.std.specs.Prelude.{◌<◌, Result, Ok, Err, IsSome}
@@ -31,7 +32,7 @@ use Rattle.udp_site.specs.Turns.{volatile_after}
 use Rattle.udp_site.specs.Served.{Rule, Turned, Outside, Leads, Serves}
 use Rattle.site_commands.specs.declared.site_arguments.Turns.{Turns}
 use Rattle.site_commands.specs.declared.site_arguments.Turns.TheVariants as how
-use Rattle.site_commands.specs.Services.{GoesOn, EndsBy, ServesOn, ServedBy, IsConcluded, stopped}
+use Rattle.site_commands.specs.Services.{GoesOn, ServesOn, ServedBy, IsConcluded, stopped}
 use Rattle.site_commands.specs.Services.{turns_in, most_calls}
 use Rattle.site_commands.specs.Answers.{IsTold}
 
@@ -71,20 +72,20 @@ module _ {C : Type 0} (device : C → Device) where
           (answered_stands old.site new.site old.volatile
           (effect old.site old.volatile input) result (c.answered before) opened)
 
-  module _ (ports : List ℕ) (gives : Option (List ℕ → Result TreeFacts TreeFault))
+  module _ (addresses : List ℕ) (gives : Option (List ℕ → Result TreeFacts TreeFault))
       (old new : Serving C) (done : Done) (serves : IsServing old) where
     same : (s : Serving C) → IsServing s → new ≡ s → IsServing new
     same s is e = subst (λ (s : Serving C). IsServing s) (sym e) is
 
     proposed : (s : Serving C) → IsServing s → (place : Option ℕ) (slot : Option SlotName)
-        → proposes device ports s place slot done new → IsServing new
+        → proposes device addresses s place slot done new → IsServing new
     proposed s is None None (done_is, e) = same s is e
     proposed s is None (Some slot) (done_is, e) = same s is e
     proposed s is (Some place) None (done_is, e) = same s is e
     proposed s is (Some place) (Some slot) (result, c, refuses, done_is) =
         called_stands (tries s place) new (calls.Proposes slot) result c
 
-    idled : (t : Bool) → idles_if t device ports (one_more_idle old) done new → IsServing new
+    idled : (t : Bool) → idles_if t device addresses (one_more_idle old) done new → IsServing new
     idled true t =
         proposed (one_more_idle old) serves
         (next_waiting old.site.book.records old.tried)
@@ -97,7 +98,7 @@ module _ {C : Type 0} (device : C → Device) where
     treed port slot (Ok facts) (result, c, done_is) =
         called_stands old new _ result c
 
-    came : (r : Request) → comes_of device ports gives old r done new → IsServing new
+    came : (r : Request) → comes_of device addresses gives old r done new → IsServing new
     came Waits t = idled ((old.idle + 1) % turns.number old == 0) t
     came (Says message) (result, c, done_is) =
         called_stands old new (calls.Arrives (Some message)) result c
@@ -107,13 +108,13 @@ module _ {C : Type 0} (device : C → Device) where
         called_stands old new (calls.Recovers slot) result c
     came Noise (done_is, e) = same old serves e
 
-  module _ (ports : List ℕ) (gives : Option (List ℕ → Result TreeFacts TreeFault)) where
+  module _ (addresses : List ℕ) (gives : Option (List ℕ → Result TreeFacts TreeFault)) where
     pub led_stands : (those : List Turned) (start end : Serving C) → IsServing start
-        → Leads (turn_of device ports gives) start those end → IsServing end
+        → Leads (turn_of device addresses gives) start those end → IsServing end
     led_stands [] start end serves leads = subst (λ (s : Serving C). IsServing s) leads serves
     led_stands (turn ∷ those) start end serves (next, came_so, not_last, leads) =
         led_stands those next end
-        (came ports gives start next turn.done serves
+        (came addresses gives start next turn.done serves
         (request_of (turns.members start).federation turn.took) came_so) leads
 
 -- ---- one call after another
@@ -166,10 +167,10 @@ module _ {C : Type 0} (rule : Rule C) (wanted : ℕ) where
       (end : Serving C) × (done : List Turned) × (end.site ≡ site)
       × Serves rule before after start end wanted done result
 
-module _ {C : Type 0} (device : C → Device) (ports : List ℕ)
+module _ {C : Type 0} (device : C → Device) (addresses : List ℕ)
     (gives : Option (List ℕ → Result TreeFacts TreeFault)) (wanted : ℕ) where
   abbrev rule : Rule C
-  rule = turn_of device ports gives
+  rule = turn_of device addresses gives
 
   pub one_call_more : (before mid after : Outside) (start : Serving C) (old new : OpenSite C)
       (count : ℕ) (so_far : SoFar rule wanted before mid start old count)
@@ -182,7 +183,7 @@ module _ {C : Type 0} (device : C → Device) (ports : List ℕ)
         length-append so_far.calls (done ∷ []) ∙ ap (λ (n : ℕ). n + 1) so_far.counted;
     serving =
         subst (λ (s : OpenSite C). IsServing (begins s end.volatile)) site
-        (led_stands device ports gives done (begins old so_far.volatile) end so_far.serving
+        (led_stands device addresses gives done (begins old so_far.volatile) end so_far.serving
         serves.1.0);
     goes_on =
         subst (λ (s : OpenSite C). GoesOn rule wanted before after start (begins s end.volatile)
@@ -229,7 +230,8 @@ module _ {C : Type 0} (device : C → Device) (ports : List ℕ)
           result = Err fault;
           ended = ended;
           serves =
-              subst (λ (w : ℕ). ServesOn rule w (most_calls which) before ended start end so_far.calls
+              subst (λ (w : ℕ). ServesOn rule w (most_calls which) before ended start end
+              so_far.calls
               (Err fault)) (sym same) (
                 subst (λ (n : ℕ). n < most_calls which) (sym so_far.counted) fewer,
                 (begins old so_far.volatile, mid, so_far.goes_on, done, serves),
@@ -240,12 +242,12 @@ module _ {C : Type 0} (device : C → Device) (ports : List ℕ)
 
 -- ---- one call alone
 
-module _ {C : Type 0} (device : C → Device) (ports : List ℕ)
+module _ {C : Type 0} (device : C → Device) (addresses : List ℕ)
     (gives : Option (List ℕ → Result TreeFacts TreeFault)) (count : ℕ) (before ended : Outside)
     (old new : OpenSite C) (volatile : VolatileState) (serving : IsServing (begins old volatile))
   where
     abbrev by_turns : Rule C
-    by_turns = turn_of device ports gives
+    by_turns = turn_of device addresses gives
 
     abbrev first : SoFar by_turns count before before (begins old volatile) old 0
     first = none_yet by_turns count before old volatile serving
@@ -254,9 +256,11 @@ module _ {C : Type 0} (device : C → Device) (ports : List ℕ)
         → ServedBy by_turns (how.Count count) before ended (begins old volatile) (Ok 0)
     unfolding none_yet
     served_once ends =
-        all_calls device ports gives count (how.Count count) refl before ended (begins old volatile)
+        all_calls device addresses gives count (how.Count count) refl before ended (begins old
+        volatile)
         new 1
-        (one_call_more device ports gives count before before ended (begins old volatile) old new 0
+        (one_call_more device addresses gives count before before ended (begins old volatile) old
+        new 0
         first ends)
         ended refl refl (Ok 0) (refl, refl)
 
@@ -267,7 +271,7 @@ module _ {C : Type 0} (device : C → Device) (ports : List ℕ)
         → ServedBy by_turns (how.Count count) before after (begins old volatile) answer
     unfolding none_yet
     failed_once fault ends after still answer concluded =
-        one_failed device ports gives count (how.Count count) refl before before
+        one_failed device addresses gives count (how.Count count) refl before before
         (begins old volatile) old 0 first fault ended after new ends (omega arith) still answer
         concluded
 

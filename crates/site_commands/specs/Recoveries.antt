@@ -1,5 +1,6 @@
--- When a client has a site recover the version that it asks for, and which one. A bag may be chosen,
--- and known to none that runs: then a site that has voted for it has to propose it once more.
+-- When a client has a site recover the version that it asks for, and which one. A bag may be
+-- chosen, and known to none that runs: then a site that has voted for it has to propose it once
+-- more.
 use Rattle.std.specs.Prelude.{ℕ, ◌+◌, ◌-◌, ◌%◌, min, nat_lt, List, length, Option, None, slice_get}
 use Rattle.std.specs.Prelude.{if◌then◌else◌}
 use Rattle.std.specs.Option.{option_map}
@@ -12,14 +13,14 @@ use Rattle.site_commands.specs.Replies.{Question}
 -- their pauses add up to more than a second, in which most versions are decided, and each pause
 -- after them takes a second. So of a version one Recover is sent a second in all, to one site.
 abbrev pub PATIENCE : ℕ
-PATIENCE = 6
+PATIENCE = 9
 
 -- The port of the site that is asked to recover, after a question: that of the site that is asked
 -- itself, with the next question that of the next site, and after the last site that of the first.
 abbrev pub recovery_port : Question → Option ℕ
 recovery_port q =
     if nat_lt q.asked PATIENCE
-    then None else slice_get q.ports ((q.to - 1 + (q.asked - PATIENCE)) % length q.ports)
+    then None else slice_get q.addresses ((q.to - 1 + (q.asked - PATIENCE)) % length q.addresses)
 
 -- the datagram that says so
 unfoldable pub recovery_datagram : Question → List ℕ

@@ -17,14 +17,14 @@ use Rattle.site_commands.specs.declared.reply.Wanted.TheVariants as wanted
 
 -- ---- what is asked
 
--- whom a client asks, a site of a federation, at its port, and for which slot; the ports of all
+-- whom a client asks, a site of a federation, at its port, and for which slot; the addresses of all
 -- sites, that of site 1 first; and how many questions about the slot came before this one
 pub record Question : Type 0 where
   pub federation : ℕ
   pub to : ℕ
   pub target : ℕ
   pub slot : SlotName
-  pub ports : List ℕ
+  pub addresses : List ℕ
   pub asked : ℕ
 
 abbrev pub question_of : Request → Question
@@ -33,7 +33,7 @@ question_of request = record {
   to = request.to;
   target = request.target;
   slot = request.slot.now;
-  ports = request.ports.now;
+  addresses = request.addresses.now;
   asked = request.asked;
 }
 

@@ -1,12 +1,12 @@
 //! The command `send`: a client of a site of the members file.
 
 use crate::client::send_on;
-use crate::file_members::{members_at, port_of, ports_of};
+use crate::file_members::{address_of, addresses_of, members_at};
 use crate::key_files::keys_for;
 use crate::request::Request;
 use crate::send_arguments::SendTask;
 use crate::stop::{Stop, write_stop};
-use crate::udp_socket::socket;
+use crate::udp_socket::client_socket;
 use crate::until_known::send_until_known;
 use dgram::FolderPath;
 use fed_types::Slot;
@@ -52,19 +52,19 @@ fn try_to_send<W: Write>(
     output: &mut W,
 ) -> Result<Result<u8, ProgramFault>, Stop> {
     let members = members_at(rt, task.members)?;
-    let target = port_of(&members, task.to)?;
+    let target = address_of(&members, task.to)?;
     let keys = keys_for(rt, task.key)?;
     let slot = slot_of(rt.alloc(), task)?;
     let path = path_of(rt.alloc(), task)?;
-    let ports = ports_of(rt.alloc(), &members)?;
+    let addresses = addresses_of(rt.alloc(), &members)?;
     let federation = members.members().federation();
-    let mut port = socket(rt, federation, 0, Waits::always(task.wait), keys)?;
+    let mut port = client_socket(rt, &members, target, Waits::always(task.wait), keys)?;
     let request = Request {
         federation,
         to: task.to,
         target,
         slot: &slot,
-        ports: &ports,
+        addresses: &addresses,
         asked: 0,
     };
     Ok(match task.until_known {

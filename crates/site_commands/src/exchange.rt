@@ -4,11 +4,13 @@ ghost use Rattle.std.specs.Prelude.{◌≡◌, IfOk};
 ghost use Rattle.std.specs.Option.{option_map};
 ghost use Rattle.site_commands.specs.Replies.{question_of, datagram_to};
 ghost use Rattle.site_commands.specs.Exchanges.{IsAsked};
-ghost use Rattle.site_commands.specs.inner.Heard.{TakesOne, IsHandedOut, Hears};
+ghost use Rattle.site_commands.specs.inner.Heard.{TakesOne, datagram_taken, IsHandedOut, Hears};
+ghost use Rattle.udp_site.specs.Traffic.{taken};
 
 use crate::recovery::ask_to_recover;
 use crate::reply::{ClientReply, Wanted, reply_from};
 use crate::request::Request;
+use addresses::Address;
 use dgram::{Body, FolderPath, LONGEST_DATAGRAM, Message, encode};
 use std::alloc::{AllocError, Global};
 use udp_site::{Port, PortFault, Turn};
@@ -95,24 +97,36 @@ fn receive_reply<P: Port>(
         (P.traffic port.old) (P.traffic port.new) result }
 {
     for _ in 0..MOST_DATAGRAMS {
-        let Some((from, bytes)) = next_datagram(port) else {
+        let Some(datagram) = next_datagram(port) else {
             return Ok(None);
         };
-        if let Some(reply) = reply_from(alloc, request, wanted, from, bytes.as_slice())? {
+        let (from, bytes) = &datagram;
+        if let Some(reply) = reply_from(alloc, request, wanted, *from, bytes.as_slice())? {
             return Ok(Some(reply));
         }
     }
     Ok(None)
 }
 
-// The next datagram, if one comes before the turn is over: the port that it came from, and its
+// The next datagram, if one comes before the turn is over: the address that it came from, and its
 // bytes.
-fn next_datagram<P: Port>(port: &mut P) -> Option<(u16, Vec<u8>)>
+fn next_datagram<P: Port>(port: &mut P) -> Option<(Address, Vec<u8>)>
     ensures { TakesOne (P.traffic port.old) (P.traffic port.new)
         (option_map (λ datagram. (datagram.0, datagram.1.items)) result) }
 {
     match port.receive() {
-        Ok(Turn::Got(from, bytes)) => Some((from, bytes)),
-        Ok(Turn::Idle) | Err(_) => None,
+        Ok(turn) => datagram_in(turn),
+        Err(_) => None,
+    }
+}
+
+// The datagram that a turn has brought, if it has brought one.
+fn datagram_in(turn: Turn) -> Option<(Address, Vec<u8>)>
+    ensures { option_map (λ datagram. (datagram.0, datagram.1.items)) result
+        ≡ datagram_taken (taken turn) }
+{
+    match turn {
+        Turn::Got(from, bytes) => Some((from, bytes)),
+        Turn::Idle => None,
     }
 }

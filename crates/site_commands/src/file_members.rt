@@ -1,6 +1,7 @@
 //! The members file that the arguments name.
 
 use crate::stop::Stop;
+use addresses::Address;
 use fed_types::SiteNo;
 use members_file::{MemberSites, MembersFault, is_listed, read_members};
 use outcomes::{ReadFault, read_within};
@@ -44,19 +45,19 @@ pub(crate) fn expect_listed(alloc: Global, members: &MemberSites) -> Result<(), 
     }
 }
 
-/// The port of the site of this number, if it is a member.
-pub fn port_of(members: &MemberSites, number: SiteNo) -> Result<u16, Stop> {
+/// The address of the site of this number, if it is a member.
+pub fn address_of(members: &MemberSites, number: SiteNo) -> Result<Address, Stop> {
     let place = usize::from(number.number()) - 1;
     match members.sites().get(place) {
-        Some(site) => Ok(site.port),
+        Some(site) => Ok(site.address()),
         None => Err(Stop::NotAMember),
     }
 }
 
-/// The ports of all sites, that of site 1 first.
-pub fn ports_of(alloc: Global, members: &MemberSites) -> Result<Vec<u16>, Stop> {
-    match members.ports(alloc) {
-        Ok(ports) => Ok(ports),
+/// The addresses of all sites, that of site 1 first.
+pub fn addresses_of(alloc: Global, members: &MemberSites) -> Result<Vec<Address>, Stop> {
+    match members.addresses(alloc) {
+        Ok(addresses) => Ok(addresses),
         Err(AllocError) => Err(Stop::Memory),
     }
 }

@@ -3,7 +3,7 @@
 //!
 //! ```
 //! let members = members_at(rt, task.members)?;
-//! let target = port_of(&members, task.to)?;
+//! let target = address_of(&members, task.to)?;
 //! ```
 #![tactic(auto)]
 
@@ -20,6 +20,7 @@ mod key_files;
 mod member_words;
 mod members_arguments;
 mod noted_ending;
+mod own_address;
 mod printed_keys;
 mod printed_members;
 mod recovery;
@@ -36,7 +37,7 @@ mod until_known;
 
 pub use client::{ask_for_bag, send_on};
 pub use client_command::send_to_site;
-pub use file_members::{members_at, port_of, ports_of};
+pub use file_members::{address_of, addresses_of, members_at};
 pub use first_start::{Unprepared, prepare_cell};
 pub use key_files::keys_for;
 pub use members_arguments::{MembersTask, members_command, members_task};
@@ -50,5 +51,5 @@ pub use site_arguments::{
     SiteTask, Turns, key_argument, members_argument, site_command, site_task, wait_argument,
 };
 pub use stop::{Stop, write_numbered, write_stop};
-pub use udp_socket::socket;
+pub use udp_socket::client_socket;
 pub use until_known::send_until_known;

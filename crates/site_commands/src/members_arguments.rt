@@ -13,14 +13,17 @@ const EXAMPLE: &str = "Of a members file it prints
                     Sites with different digests mustn't be run together:
                     compare it before the first start, and after every copy of
                     the file.
-With --new it prints the members file of a new federation, with sites on these
-ports, that of site 1 first, each with its weight if one is given. Half of the
-federation's number is random: so no two federations are the same, even on the
-same ports, and their sites don't hear each other, nor open each other's cells.
-The other half comes from the list: from the number of sites and their weights.
-With --listed a file whose number doesn't come from its list is refused, as one
-in which a site is missing. Ports aren't in it: they may be changed, in all
-copies of the file, while no site runs.
+With --new it prints the members file of a new federation, with sites at these
+places, that of site 1 first, each with its weight if one is given. A place is a
+port of this machine, or an address and a port of any machine: all of a file are
+ports, or all are addresses of IPv4, 192.0.2.1:4001, or all of IPv6 in brackets,
+[2001:db8::1]:4001. A name of a machine isn't taken, since it may lead elsewhere
+tomorrow. Half of the federation's number is random: so no two federations are
+the same, even at the same places, and their sites don't hear each other, nor
+open each other's cells. The other half comes from the list: from the number of
+sites and their weights. With --listed a file whose number doesn't come from its
+list is refused, as one in which a site is missing. Places aren't in it: they
+may be changed, in all copies of the file, while no site runs.
 
 With --key it prints a line for each key of a key file, `key sites NAME` or
 `key clients NAME`. A name says which key it is, and doesn't give it away:
@@ -44,6 +47,7 @@ standard error says so; and 2 for a mistake in the arguments.
 Examples:
   bagpaxos members --new 5011 5012 5013 > members
   bagpaxos members --new 5011:2 5012 5013 > members
+  bagpaxos members --new 192.0.2.1:4001 192.0.2.2:4001:2 > members
   bagpaxos members members
   bagpaxos members --new-key key";
 
@@ -54,7 +58,8 @@ pub struct MembersTask<'a> {
     pub file: Option<&'a str>,
     /// Whether its number has to come from its list.
     pub listed: bool,
-    /// The sites of the file that is to be written, each as `PORT` or `PORT:WEIGHT`.
+    /// The sites of the file that is to be written, each as `PORT` or `ADDRESS:PORT`, and
+    /// `:WEIGHT` after it if it has one.
     pub sites: Vec<&'a str>,
     /// The path of the key file that is to be read, if one is.
     pub key: Option<&'a str>,
@@ -64,11 +69,8 @@ pub struct MembersTask<'a> {
 
 impl MembersTask<'_> {
     /// What is amiss in the arguments together, if anything is.
-    pub fn mistake(&self) -> Option<&'static str> {
-        if self.sites.is_empty() {
-            return None;
-        }
-        list_fault(self.sites.as_slice())
+    pub fn mistake(&self, alloc: Global) -> Result<Option<String>, AllocError> {
+        list_fault(alloc, self.sites.as_slice())
     }
 }
 
@@ -105,9 +107,9 @@ pub fn members_command<'a>(alloc: Global) -> Result<Command<'a>, AllocError> {
 fn new_argument<'a>(alloc: Global) -> Result<Arg<'a>, AllocError> {
     Arg::new(alloc, "new")
         .long("new")
-        .value_name("PORT")
+        .value_name("PLACE")
         .num_args(1..)
-        .help("Print a members file; each site as PORT or PORT:WEIGHT")
+        .help("Print a members file; each site as PLACE or PLACE:WEIGHT")
         .conflicts_with("FILE")
 }
 

@@ -6,13 +6,14 @@ ghost use Rattle.site_commands.specs.Recoveries.{recovery_port, recovery_datagra
 ghost use Rattle.site_commands.specs.inner.Heard.{IsAskedToRecover};
 
 use crate::request::Request;
+use addresses::Address;
 use dgram::{Body, LONGEST_DATAGRAM, Message, encode};
 use std::alloc::{AllocError, Global};
 use udp_site::{Port, PortFault};
 
 /// So many questions are asked before the first recovery: the pauses between them add up to more
 /// than a second, and each later one takes a second.
-const PATIENCE: u32 = 6;
+const PATIENCE: u32 = 9;
 
 /// Where it is time for it, asks a site to recover the slot. There is no reply.
 pub(crate) fn ask_to_recover<P: Port>(
@@ -33,16 +34,16 @@ pub(crate) fn ask_to_recover<P: Port>(
 }
 
 // The port of the site that is to recover: in turn, from the site that is asked itself on.
-fn recovery_port(request: &Request<'_>) -> Option<u16>
+fn recovery_port(request: &Request<'_>) -> Option<Address>
     ensures { result ≡ recovery_port (question_of request.now) }
 {
-    let count = request.ports.len();
+    let count = request.addresses.len();
     if request.asked < PATIENCE || count == 0 {
         return None;
     }
     let turn = request.asked - PATIENCE;
     let place = usize::from(request.to.number()) - 1 + turn as usize;
-    request.ports.get(place % count).copied()
+    request.addresses.get(place % count).copied()
 }
 
 #[tactic(auto, unfolding(crate::specs::Recoveries::recovery_datagram))]

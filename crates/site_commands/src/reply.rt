@@ -8,6 +8,7 @@ ghost use Rattle.site_commands.specs.Answers.{wanted_for};
 ghost use Rattle.site_commands.specs.inner.Heard.{query_in};
 
 use crate::request::Request;
+use addresses::Address;
 use dgram::{Body, DepositAnswer, DgramFault, FolderPath, Message, QueryAnswer, decode};
 use fed_types::SiteNo;
 use std::alloc::{AllocError, Global};
@@ -53,7 +54,7 @@ pub(crate) fn reply_from(
     alloc: Global,
     request: &Request<'_>,
     wanted: Wanted,
-    port: u16,
+    port: Address,
     bytes: &[u8],
 ) -> Result<Option<ClientReply>, AllocError>
     ensures { IfOk result

@@ -2,18 +2,19 @@ ghost use Rattle.std.specs.Prelude.{◌≡◌};
 ghost use Rattle.site_commands.specs.Replies.{question_of};
 ghost use Rattle.site_commands.specs.Recoveries.{question_at, next_question};
 
+use addresses::Address;
 use fed_types::{SiteNo, Slot};
 
 /// Whom a client asks for what.
 #[derive(Clone, Copy)]
 pub struct Request<'a> {
     pub federation: u64,
-    /// The site, and its port.
+    /// The site, and its address.
     pub to: SiteNo,
-    pub target: u16,
+    pub target: Address,
     pub slot: &'a Slot,
-    /// The ports of all sites, that of site 1 first: one of them may have to recover.
-    pub ports: &'a [u16],
+    /// The addresses of all sites, that of site 1 first: one of them may have to recover.
+    pub addresses: &'a [Address],
     /// How many questions about the slot came before.
     pub asked: u32,
 }
@@ -28,7 +29,7 @@ impl<'a> Request<'a> {
             to: self.to,
             target: self.target,
             slot: self.slot,
-            ports: self.ports,
+            addresses: self.addresses,
             asked,
         }
     }

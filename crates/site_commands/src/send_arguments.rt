@@ -31,7 +31,7 @@ or `members unread`, `members line N`, `not a member`, `key unread`,
 `key open to others`, `key line N`, `socket` or `memory`, as bagpaxos site.
 
 With --until-known it asks until the bag is known, and with PATH deposits it
-first: again after 20 ms, then twice as long each time, and a second at most.
+first: again after 2 ms, then twice as long each time, and a second at most.
 Once it asks each second, it also has the sites recover the version, one after
 the other: so it learns what was decided, even if the site that knew it is lost.
 After SECONDS, or if the deposit is refused, it prints the last line that there

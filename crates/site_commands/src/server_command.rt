@@ -4,15 +4,17 @@ ghost use Rattle.std.specs.Prelude.{◌≡◌, IfOk};
 
 use crate::apart_files::{NamedFile, expect_apart};
 use crate::cell_opening::cell_of;
-use crate::file_members::{expect_listed, members_at, port_of, ports_of};
+use crate::file_members::{expect_listed, members_at};
 use crate::folders_below::FoldersBelow;
 use crate::key_files::site_keys_for;
 use crate::noted_ending::note_ending;
+use crate::own_address::{addresses_with, origins_of, own_address};
 use crate::service::{Service, open_and_serve};
 use crate::site_arguments::SiteTask;
 use crate::site_output::SiteOutput;
 use crate::stop::{Stop, write_stop};
 use crate::udp_socket::site_socket;
+use addresses::Address;
 use bag_folders::{Folders, RememberingFolders};
 use cell_file::DiskCell;
 use fed_types::Members;
@@ -116,7 +118,7 @@ fn output_of<'a, 'l, 's>(
 #[derive(Drop)]
 struct Means<P, F> {
     members: Members,
-    ports: Vec<u16>,
+    addresses: Vec<Address>,
     folders: F,
     cell: DiskCell,
     port: P,
@@ -136,17 +138,18 @@ fn equip<'a>(rt: &HostRuntime, task: &SiteTask<'a>) -> Result<Means<UdpPort, Bag
     if task.listed {
         expect_listed(rt.alloc(), &file)?;
     }
-    let port_number = port_of(&file, task.number)?;
-    let ports = ports_of(rt.alloc(), &file)?;
+    let at = own_address(rt.alloc(), &file, task)?;
+    let addresses = addresses_with(rt.alloc(), &file, task.number, at)?;
     let members = file.members();
     let keys = site_keys_for(rt, task.key)?;
     let folders = folders_of(rt, task)?;
     let site = task.number;
     let cell = cell_of(rt, task, &Owner { members, site })?;
-    let port = site_socket(rt, members, site, port_number, task.waits, keys)?;
+    let origins = origins_of(rt.alloc(), &file, &addresses)?;
+    let port = site_socket(rt, members, site, at, origins, task.waits, keys)?;
     Ok(Means {
         members,
-        ports,
+        addresses,
         folders,
         cell,
         port,
@@ -177,15 +180,15 @@ fn serve_logged<'a, W: Write>(
 ) -> Result<u8, ProgramFault> {
     let Means {
         members,
-        ports,
+        addresses,
         folders,
         cell,
         port,
     } = means;
-    log.is_at(members, port.port(), port.buffer(), port.key_names());
+    log.is_at(members, port.address(), port.buffer(), port.key_names());
     let means = Means {
         members,
-        ports,
+        addresses,
         folders: LoggedFolders::new(log, folders),
         cell,
         port: LoggedPort::new(log, port),
@@ -203,15 +206,15 @@ fn serve_by<P: Port + Drop, F: Folders + Drop, W: Write>(
 ) -> Result<u8, ProgramFault> {
     let Means {
         members,
-        ports,
+        addresses,
         mut folders,
         cell,
         port,
     } = means;
-    let watch = Watch::new(rt, members, task.number, &ports, log, task.words);
+    let watch = Watch::new(rt, members, task.number, &addresses, log, task.words);
     let mut port = WatchedPort::new(&watch, port);
     let service = Service {
-        ports: &ports,
+        addresses: &addresses,
         turns: task.turns,
         log,
     };

@@ -10,6 +10,7 @@ ghost use Rattle.site_commands.specs.Services.{unopened, stopped};
 
 use crate::site_arguments::Turns;
 use crate::stop::{Stop, write_numbered, write_stop};
+use addresses::Address;
 use bag_folders::Folders;
 use book::OpenFault;
 use cell_device::Cell;
@@ -25,8 +26,8 @@ use udp_site::{Port, ServeFault, serve};
 /// How a site serves.
 #[derive(Clone, Copy)]
 pub struct Service<'a> {
-    /// The ports of all sites, that of site 1 first.
-    pub ports: &'a [u16],
+    /// The addresses of all sites, that of site 1 first.
+    pub addresses: &'a [Address],
     pub turns: Turns,
     /// The log that is told when it begins, if there is one.
     pub log: Option<&'a SiteLog<'a>>,
@@ -46,7 +47,7 @@ pub fn open_and_serve<C: Cell + Drop, P: Port, F: Folders, W: Write>(
     output: &mut W,
 ) -> Result<u8, ProgramFault>
     ensures { OpensAndServes C.device
-        (turn_of C.device service.entry.ports.now (F.gives folders.old))
+        (turn_of C.device service.entry.addresses.now (F.gives folders.old))
         (record { members = members; site = number }) service.entry.turns cell
         (outside (P.traffic port.old) (W.contents output.old))
         (outside (P.traffic port.new) (W.contents output.new)) result }
@@ -71,7 +72,7 @@ fn serve_as<C: Cell + Drop, P: Port, F: Folders, W: Write>(
     output: &mut W,
 ) -> Result<u8, ProgramFault>
     ensures { Represents site.old new_volatile → ServedBy
-        (turn_of C.device service.entry.ports.now (F.gives folders.old)) service.entry.turns
+        (turn_of C.device service.entry.addresses.now (F.gives folders.old)) service.entry.turns
         (outside (P.traffic port.old) (W.contents output.old))
         (outside (P.traffic port.new) (W.contents output.new))
         (begins site.old new_volatile) result }
@@ -80,8 +81,16 @@ fn serve_as<C: Cell + Drop, P: Port, F: Folders, W: Write>(
         log.begins(site.records());
     }
     match service.turns {
-        Turns::Count(turns) => serve_for(alloc, site, port, folders, service.ports, turns, output),
-        Turns::Forever => serve_forever(alloc, site, port, folders, service.ports, output),
+        Turns::Count(turns) => serve_for(
+            alloc,
+            site,
+            port,
+            folders,
+            service.addresses,
+            turns,
+            output,
+        ),
+        Turns::Forever => serve_forever(alloc, site, port, folders, service.addresses, output),
     }
 }
 
@@ -91,17 +100,17 @@ fn serve_for<C: Cell + Drop, P: Port, F: Folders, W: Write>(
     site: &mut Site<C>,
     port: &mut P,
     folders: &mut F,
-    ports: &[u16],
+    addresses: &[Address],
     turns: u32,
     output: &mut W,
 ) -> Result<u8, ProgramFault>
     ensures { Represents site.old new_volatile → ServedBy
-        (turn_of C.device ports.now (F.gives folders.old)) (Turns.Count turns)
+        (turn_of C.device addresses.now (F.gives folders.old)) (Turns.Count turns)
         (outside (P.traffic port.old) (W.contents output.old))
         (outside (P.traffic port.new) (W.contents output.new))
         (begins site.old new_volatile) result }
 {
-    match serve(alloc, site, port, folders, ports, turns, output) {
+    match serve(alloc, site, port, folders, addresses, turns, output) {
         Ok(()) => Ok(0),
         Err(fault) => write_stopped(alloc, output, fault),
     }
@@ -113,17 +122,17 @@ fn serve_forever<C: Cell + Drop, P: Port, F: Folders, W: Write>(
     site: &mut Site<C>,
     port: &mut P,
     folders: &mut F,
-    ports: &[u16],
+    addresses: &[Address],
     output: &mut W,
 ) -> Result<u8, ProgramFault>
     ensures { Represents site.old new_volatile → ServedBy
-        (turn_of C.device ports.now (F.gives folders.old)) Turns.Forever
+        (turn_of C.device addresses.now (F.gives folders.old)) Turns.Forever
         (outside (P.traffic port.old) (W.contents output.old))
         (outside (P.traffic port.new) (W.contents output.new))
         (begins site.old new_volatile) result }
 {
     'calls: for _ in 0..u64::MAX {
-        match serve(alloc, site, port, folders, ports, u32::MAX, output) {
+        match serve(alloc, site, port, folders, addresses, u32::MAX, output) {
             Ok(()) => {}
             Err(fault) => return write_stopped(alloc, output, fault),
         }

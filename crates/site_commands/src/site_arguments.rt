@@ -1,16 +1,23 @@
 //! The arguments of the command `site`.
 
+use addresses::Address;
 use clap::{Arg, ArgAction, ArgMatches, Command, value_parser};
 use fed_types::{GREATEST_SITE, SiteNo};
 use std::alloc::{AllocError, Global};
 use udp_site::Waits;
 
-const ABOUT: &str = "Serves as a site of a federation, over UDP on this machine";
+const ABOUT: &str = "Serves as a site of a federation, over UDP";
 
-const EXAMPLE: &str = "The members file is a text; all sites are on 127.0.0.1:
+const EXAMPLE: &str = "The members file is a text:
   federation F            the number of the federation
   site N PORT [WEIGHT]    for each of the sites 1, 2 .., at most 63: its port,
                           and its weight, 1 to 255, or else 1
+All sites are on this machine then, at 127.0.0.1. Sites on several machines have
+their addresses in place of ports, all of IPv4, as 192.0.2.1:42001, or all of
+IPv6, as [2001:db8::1]:42001. A message between sites then counts only if it
+comes from the address of the site that sends it; else it is dropped. If others
+reach a site at another address than its machine's own, --listen gives its own.
+Use --key where there are addresses.
 Sites that have more than half of all weight decide. Sites and weights stay as
 they are as long as there are cells. With --listed a file is refused whose
 number doesn't come from its list, as one in which a site is missing.
@@ -53,10 +60,11 @@ that can't be read isn't read again within a minute, while its files are the
 same: it is listed, and has the same answer.
 
 With --log each line is also written to a file, which grows: after the time in
-UTC and the port from which came what it is about (`-` if nothing came). After
-`refused` comes what was asked for, and a folder that can't be read has a line
-of its own. The log is opened before all else, so it has the last line of a site
-that doesn't begin to serve, too; after each last line it says why in words:
+UTC and the port, or address and port, from which came what it is about (`-` if
+nothing came). After `refused` comes what was asked for, and a folder that can't
+be read has a line of its own. The log is opened before all else, so it has the
+last line of a site that doesn't begin to serve, too; after each last line it
+says why in words:
   TIME - serves site 1 of 3, federation 7, port 42001, 12 records, 3 known, ..
   TIME 51234 refused 1 10 14 deposit OBJ V PATH
   TIME 51234 unread 1 21 deposit OBJ V PATH PLACE
@@ -67,10 +75,10 @@ keys that it sends with.
 If the log can't be written, or isn't a file, standard error says so once, and
 the site goes on.
 
-Of one port and one first word the log has 60 lines a minute, but each line
+Of one address and one first word the log has 60 lines a minute, but each line
 `known`. Those after them are counted, and once the minute is over, or the site
-ends, it says how many there were. So are 64 ports and words of a minute; later
-ones share one count for each word, under *:
+ends, it says how many there were. So are 64 addresses and words of a minute;
+later ones share one count for each word, under *:
   TIME 51234 log: 12345 dropped in this minute (refused)
 With a log no line waits for who reads standard output: what can't be written at
 once isn't, and the log says how many lines there were. With --quiet nothing is
@@ -106,7 +114,7 @@ The exit status is 0 after the last turn; 1 if a last line says why it stopped:
   open 4            the cell's file can't be opened, read or written, or another
                     process has it open for five seconds; with --existing, it
                     isn't there, or its header isn't
-  socket            the site's port can't be had
+  socket            the site's port can't be had at its address
   open N            the cell is of another federation (1) or site (2), damaged
                     (3), or of members with other weights (6); 5: no memory
   stopped N         a receive failed (1), the cell failed (2), or out of memory
@@ -116,6 +124,10 @@ or if standard output can't be written; and 2 for a mistake in the arguments.
 
 Example:
   bagpaxos site --members members --number 1 --cell cell.1 --forever --wait 100";
+
+/// What is no address for `--listen`.
+const NO_ADDRESS: &str =
+    "--listen is an address and a port, as 192.0.2.1:42001 or [2001:db8::1]:42001";
 
 /// The most milliseconds that a turn waits while things move.
 const LONGEST_WAIT: i64 = 60000;
@@ -132,6 +144,8 @@ pub struct SiteTask<'a> {
     /// The path of the key file, if there is one.
     pub key: Option<&'a str>,
     pub number: SiteNo,
+    /// The address of its socket, if it isn't the one in the members file.
+    pub listen: Option<&'a str>,
     pub cell: &'a str,
     /// Whether the cell has to be there.
     pub existing: bool,
@@ -159,12 +173,17 @@ pub enum Turns {
 }
 
 impl SiteTask<'_> {
-    /// What is amiss in the arguments together, if anything is.
-    pub fn mistake(&self) -> Option<&'static str> {
+    /// What is amiss in the arguments beyond what each by itself may be, if anything is.
+    pub fn mistake(&self, alloc: Global) -> Result<Option<&'static str>, AllocError> {
         if self.waits.most < self.waits.first {
-            return Some("--wait-most is less than --wait");
+            return Ok(Some("--wait-most is less than --wait"));
         }
-        None
+        if let Some(listen) = self.listen {
+            if Address::parse(alloc, listen.as_bytes())?.is_none() {
+                return Ok(Some(NO_ADDRESS));
+            }
+        }
+        Ok(None)
     }
 }
 
@@ -176,6 +195,7 @@ pub fn site_task<'a>(matches: &ArgMatches<'a>) -> Option<SiteTask<'a>> {
         listed: matches.get_flag("listed"),
         key: matches.get_str("key"),
         number,
+        listen: matches.get_str("listen"),
         cell: matches.get_str("cell")?,
         existing: matches.get_flag("existing"),
         bags: matches.get_str("bags"),
@@ -218,6 +238,7 @@ fn with_place<'a>(alloc: Global, command: Command<'a>) -> Result<Command<'a>, Al
         .arg(listed_argument(alloc))?
         .arg(key_argument(alloc))?
         .arg(number_argument(alloc))?
+        .arg(listen_argument(alloc))?
         .arg(cell_argument(alloc))?
         .arg(existing_argument(alloc))
 }
@@ -249,7 +270,7 @@ pub fn members_argument<'a>(alloc: Global) -> Arg<'a> {
         .long("members")
         .value_name("FILE")
         .required(true)
-        .help("The members file: sites, their ports and weights")
+        .help("The members file: sites, where they are, weights")
 }
 
 /// The option of the key file.
@@ -274,6 +295,13 @@ fn number_argument<'a>(alloc: Global) -> Arg<'a> {
         .required(true)
         .value_parser(value_parser!(u8).range(1..=i64::from(GREATEST_SITE)))
         .help("The number of the site, 1 to 63")
+}
+
+fn listen_argument<'a>(alloc: Global) -> Arg<'a> {
+    Arg::new(alloc, "listen")
+        .long("listen")
+        .value_name("AT")
+        .help("The ADDRESS:PORT of its socket, if the file has another")
 }
 
 fn cell_argument<'a>(alloc: Global) -> Arg<'a> {

@@ -1,32 +1,45 @@
 //! The socket of a site, or of a client.
 
 use crate::stop::Stop;
+use addresses::Address;
 use fed_types::{Members, SiteNo};
+use members_file::MemberSites;
 use tags::KeyRing;
-use udp_site::{PortFault, UdpPort, Waits};
+use udp_site::{Origins, PortFault, UdpPort, Waits};
 
-/// A client's socket at this port, or at a free one where it is 0, whose datagrams have tags where
-/// there are keys.
-pub fn socket(
+/// The socket of a client that asks the site of this address, among these, at a free port: of
+/// 127.0.0.1, where the sites are there by their ports alone. Its datagrams have tags where there
+/// are keys.
+pub fn client_socket(
     rt: &HostRuntime,
-    federation: u64,
-    number: u16,
+    sites: &MemberSites,
+    target: Address,
     waits: Waits,
     keys: Option<KeyRing>,
 ) -> Result<UdpPort, Stop> {
-    found(keys, UdpPort::bind(rt, federation, number, waits))
+    let federation = sites.members().federation();
+    let (at, origins) = if sites.names_addresses() {
+        (target.for_clients(), Origins::Anywhere)
+    } else {
+        (Address::on_this_machine(0), Origins::ThisMachine)
+    };
+    found(keys, UdpPort::bind(rt, federation, at, origins, waits))
 }
 
-/// The same of a site of these members.
-pub fn site_socket(
+/// The socket of a site of these members, at this address, for what comes from these.
+pub(crate) fn site_socket(
     rt: &HostRuntime,
     members: Members,
     site: SiteNo,
-    number: u16,
+    at: Address,
+    origins: Origins,
     waits: Waits,
     keys: Option<KeyRing>,
 ) -> Result<UdpPort, Stop> {
-    found(keys, UdpPort::bind_site(rt, members, site, number, waits))
+    found(
+        keys,
+        UdpPort::bind_site(rt, members, site, at, origins, waits),
+    )
 }
 
 // The port, with its keys, or why there is none.

@@ -21,7 +21,7 @@ use std::time::{Clock, Duration, Instant};
 use udp_site::Port;
 
 /// How many milliseconds it pauses after the first question.
-const FIRST_PAUSE: u64 = 20;
+const FIRST_PAUSE: u64 = 2;
 
 /// How many at most.
 const LONGEST_PAUSE: u64 = 1000;
@@ -29,10 +29,10 @@ const LONGEST_PAUSE: u64 = 1000;
 /// Asks a site for a slot's bag until it is known, for so many seconds at most, and writes the last
 /// answer that there was as one line: `reply .. known ..` with status 0, any other with status 1.
 /// With a path the folder is deposited first, and again where the site then knows nothing of it. A
-/// deposit that is refused ends it at once. After each question it pauses, first for 20 ms, then
-/// for twice as long each time, and for a second at most. From the seventh question on it asks a
-/// site to recover the slot after each: first the same site, and then the others in turn. Where
-/// memory runs out the line is `memory`, with status 1.
+/// deposit that is refused ends it at once. After each question it pauses, first for 2 ms, then for
+/// twice as long each time, and for a second at most. From the tenth question on it asks a site to
+/// recover the slot after each: first the same site, and then the others in turn. Where memory runs
+/// out the line is `memory`, with status 1.
 pub fn send_until_known<P: Port, C: Clock, W: Write>(
     alloc: Global,
     clock: &C,

@@ -16,6 +16,7 @@ mod logged_port;
 mod minute;
 mod moment;
 mod request_text;
+mod shown_address;
 mod site_log;
 mod tally;
 mod watch;

@@ -1,6 +1,7 @@
 //! A port whose datagrams are noted.
 
 use crate::site_log::SiteLog;
+use addresses::Address;
 use udp_site::{Port, PortFault, Turn};
 
 /// A port that tells the log what came. Otherwise it delegates to it.
@@ -31,7 +32,7 @@ impl<P: Port> Port for LoggedPort<'_, P> {
         Ok(turn)
     }
 
-    fn send(&mut self, to: u16, bytes: &[u8]) -> Result<(), PortFault> {
+    fn send(&mut self, to: Address, bytes: &[u8]) -> Result<(), PortFault> {
         self.port.send(to, bytes)
     }
 }

@@ -3,8 +3,8 @@
 use crate::tally::{Kind, Sender, Tally};
 
 /// So many senders and kinds of lines are counted by themselves in a minute. Those that come later
-/// share one count for each kind: whatever comes, from however many ports, a minute has no more than
-/// 69 times 60 lines, and what it learns.
+/// share one count for each kind: whatever comes, from however many addresses, a minute has no more
+/// than 69 times 60 lines, and what it learns.
 pub(crate) const PLACES: usize = 64;
 
 /// The lines of a minute of the clock.
@@ -30,7 +30,7 @@ impl Minute {
     }
 
     /// Counts a line of this sender and kind: whether it is one of those that are written.
-    pub(crate) fn admits(&mut self, sender: Sender, kind: Kind) -> bool {
+    pub(crate) fn admits(&mut self, sender: &Sender, kind: Kind) -> bool {
         for place in self.own.iter_mut() {
             match place {
                 Some(tally) => {
@@ -39,7 +39,7 @@ impl Minute {
                     }
                 }
                 None => {
-                    let mut tally = Tally::new(sender, kind);
+                    let mut tally = Tally::new(*sender, kind);
                     let is_written = tally.admits();
                     *place = Some(tally);
                     return is_written;

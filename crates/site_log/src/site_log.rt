@@ -4,7 +4,9 @@ use crate::log_file::LogFile;
 use crate::minute::Minute;
 use crate::moment::{end_of, minute_of, moment_text, now, text_of};
 use crate::request_text::{push_word, request_text};
+use crate::shown_address::{At, ShownPlace};
 use crate::tally::{Kind, Role, Sender, Tally};
+use addresses::Address;
 use bag_tree::TreeFault;
 use fed_types::{Members, SiteNo};
 use records::{Entry, Record};
@@ -26,7 +28,7 @@ pub struct SiteLog<'a> {
 #[derive(Clone, Copy)]
 struct Place {
     members: Members,
-    port: u16,
+    address: Address,
     /// How many bytes of datagrams its port keeps, if that is known.
     buffer: Option<u32>,
     /// The names of the keys of its datagrams, if they have tags.
@@ -39,8 +41,8 @@ struct State {
     file: LogFile,
     /// Where the site serves; none before it does.
     place: Option<Place>,
-    /// The port from which came what the site does now; none in an idle turn.
-    from: Option<u16>,
+    /// The address from which came what the site does now; none in an idle turn.
+    from: Option<Address>,
     /// What came.
     bytes: Vec<u8>,
     /// The beginning of a line of the site's that isn't ended.
@@ -70,19 +72,19 @@ impl<'a> SiteLog<'a> {
         }
     }
 
-    /// The site is one of these members, and has this port, which keeps so many bytes of datagrams,
+    /// The site is one of these members, at this address. Its port keeps so many bytes of datagrams,
     /// and makes tags by keys of these names, if it does.
     pub fn is_at(
         &self,
         members: Members,
-        port: u16,
+        address: Address,
         buffer: Option<u32>,
         keys: Option<(u32, u32)>,
     ) {
         if let Ok(mut state) = self.state.try_borrow_mut() {
             state.place = Some(Place {
                 members,
-                port,
+                address,
                 buffer,
                 keys,
             });
@@ -203,10 +205,10 @@ impl<'a> SiteLog<'a> {
     fn admits(&self, state: &mut State, kind: Kind) -> bool {
         self.keep_time(state);
         let sender = match state.from {
-            Some(port) => Sender::Port(port),
+            Some(address) => Sender::At(address),
             None => Sender::Nobody,
         };
-        state.minute.admits(sender, kind)
+        state.minute.admits(&sender, kind)
     }
 
     // Once the minute is over, the log has what was left out of it. Where the clock can't be read it
@@ -253,7 +255,7 @@ impl<'a> SiteLog<'a> {
         let mut line = self.time_of_summary(minute)?;
         match tally.sender {
             Sender::Nobody => line.push_str(" - ")?,
-            Sender::Port(port) => write!(line, " {port} ")?,
+            Sender::At(address) => write!(line, " {} ", At(address))?,
             Sender::Others => line.push_str(" * ")?,
         }
         let count = tally.left_out();
@@ -293,7 +295,7 @@ impl<'a> SiteLog<'a> {
     fn beginning(&self, place: Place, records: &[Record]) -> Result<String, AllocError> {
         let Place {
             members,
-            port,
+            address,
             buffer,
             keys,
         } = place;
@@ -303,7 +305,8 @@ impl<'a> SiteLog<'a> {
         let federation = members.federation();
         write!(
             line,
-            "serves site {site} of {count}, federation {federation}, port {port}, "
+            "serves site {site} of {count}, federation {federation}, {}, ",
+            ShownPlace(address)
         )?;
         let kept = records.len();
         let known = records.iter().filter(|it| is_known(it)).count();
@@ -365,12 +368,12 @@ impl<'a> SiteLog<'a> {
         line.push_str(request.as_str())
     }
 
-    // The time, and the port from which came what the line is about; `-` where nothing came.
-    fn heading(&self, from: Option<u16>) -> Result<String, AllocError> {
+    // The time, and the address from which came what the line is about; `-` where nothing came.
+    fn heading(&self, from: Option<Address>) -> Result<String, AllocError> {
         let alloc = self.rt.alloc();
         let moment = moment_text(alloc, self.rt)?;
         match from {
-            Some(port) => format!(in alloc; "{moment} {port} "),
+            Some(address) => format!(in alloc; "{moment} {} ", At(address)),
             None => format!(in alloc; "{moment} - "),
         }
     }

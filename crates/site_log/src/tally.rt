@@ -2,6 +2,8 @@
 
 ghost use Rattle.std.specs.Prelude.{◌≡◌, ◌↔◌, ◌<◌, ◌-◌, IsTrue};
 
+use addresses::Address;
+
 /// So many lines of one sender and kind are written in a minute.
 pub(crate) const MOST_LINES: u32 = 60;
 
@@ -73,8 +75,8 @@ impl Kind {
 pub(crate) enum Sender {
     /// Nobody: the turn was idle.
     Nobody,
-    /// Who has this port.
-    Port(u16),
+    /// Who is at this address.
+    At(Address),
     /// All who aren't counted by themselves.
     Others,
 }
@@ -100,8 +102,8 @@ impl Tally {
     }
 
     /// Whether it counts these.
-    pub(crate) fn is_of(&self, sender: Sender, kind: Kind) -> bool {
-        self.sender == sender && self.kind == kind
+    pub(crate) fn is_of(&self, sender: &Sender, kind: Kind) -> bool {
+        self.sender == *sender && self.kind == kind
     }
 
     /// Counts a line: whether it is one of those that are written.

@@ -2,6 +2,7 @@
 
 use crate::moment::{now, text_of};
 use crate::site_log::SiteLog;
+use addresses::Address;
 use fed_types::{Members, Quorums, SiteNo, Voters};
 use jiff::Timestamp;
 use std::alloc::{AllocError, Global};
@@ -24,15 +25,15 @@ const KNOWN: u8 = 7;
 /// What a site hears while a deposit of its own is pending. A site hands out a Prepare only for such
 /// a deposit: with the first a spell begins, which ends once a majority was heard since, or, unless
 /// it was said, with a Known. Where neither comes within ten seconds, it is said, once; and in the
-/// end that a majority is heard again. What comes from a member's port is heard of that member; the
+/// end that a majority is heard again. What comes from a member's address is heard of that member; the
 /// site itself counts, by its weight.
 #[derive(Drop)]
 pub struct Watch<'a> {
     rt: &'a HostRuntime,
     members: Members,
     number: SiteNo,
-    /// The ports of all sites, that of site 1 first.
-    ports: &'a [u16],
+    /// The addresses of all sites, that of site 1 first.
+    addresses: &'a [Address],
     /// The log that has it, if there is one.
     log: Option<&'a SiteLog<'a>>,
     /// Whether standard error has it.
@@ -53,12 +54,12 @@ struct Spell {
 }
 
 impl<'a> Watch<'a> {
-    /// Of the site of this number, among these members, which have these ports.
+    /// Of the site of this number, among these members, which have these addresses.
     pub fn new(
         rt: &'a HostRuntime,
         members: Members,
         number: SiteNo,
-        ports: &'a [u16],
+        addresses: &'a [Address],
         log: Option<&'a SiteLog<'a>>,
         speaks: bool,
     ) -> Watch<'a> {
@@ -66,7 +67,7 @@ impl<'a> Watch<'a> {
             rt,
             members,
             number,
-            ports,
+            addresses,
             log,
             speaks,
             spell: RefCell::new(None),
@@ -134,11 +135,11 @@ impl<'a> Watch<'a> {
         Some(spell)
     }
 
-    // The site that has this port.
-    fn member_at(&self, port: u16) -> Option<SiteNo> {
+    // The site that has this address.
+    fn member_at(&self, address: Address) -> Option<SiteNo> {
         for site in self.members.sites() {
             let place = usize::from(site.number()).saturating_sub(1);
-            if self.ports.get(place).copied() == Some(port) {
+            if self.addresses.get(place).copied() == Some(address) {
                 return Some(site);
             }
         }
@@ -228,9 +229,9 @@ fn is_over(time: Duration) -> bool {
     time >= Duration::from_secs(PATIENCE)
 }
 
-// What came, and from which port. A datagram of no bytes, as which one without a right tag counts,
+// What came, and from which address. A datagram of no bytes, as which one without a right tag counts,
 // is nothing.
-fn said(turn: &Turn) -> Option<(u16, &[u8])> {
+fn said(turn: &Turn) -> Option<(Address, &[u8])> {
     match turn {
         Turn::Got(from, bytes) => {
             if bytes.is_empty() {

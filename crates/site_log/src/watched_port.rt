@@ -1,6 +1,7 @@
 //! A port at which a site is watched.
 
 use crate::watch::Watch;
+use addresses::Address;
 use udp_site::{Port, PortFault, Turn};
 
 /// A port that tells a watch what came and what was handed out. Otherwise it delegates to it.
@@ -31,7 +32,7 @@ impl<P: Port> Port for WatchedPort<'_, P> {
         Ok(turn)
     }
 
-    fn send(&mut self, to: u16, bytes: &[u8]) -> Result<(), PortFault> {
+    fn send(&mut self, to: Address, bytes: &[u8]) -> Result<(), PortFault> {
         self.watch.hands(bytes);
         self.port.send(to, bytes)
     }

@@ -3,8 +3,9 @@
 use crate::asked::Asked;
 use crate::cell_reason::push_cell_reason;
 use crate::file_reason::push_file_reason;
-use crate::members_reason::{port_of, push_line_reason, push_stranger};
+use crate::members_reason::{place_of, push_line_reason, push_stranger};
 use code_words::{Meaning, meaning_of_line, push_name};
+use members_file::Place;
 use std::alloc::AllocError;
 
 /// Appends what a line says, if it has a code.
@@ -122,8 +123,11 @@ fn push_silence(rt: &HostRuntime, text: &mut String, asked: &Asked<'_>) -> Resul
     let site = asked.site;
     let wait = asked.wait;
     write!(text, "site {site} didn't answer in {wait} ms")?;
-    if let Some(port) = port_of(rt, asked) {
-        write!(text, " at port {port}")?;
+    if let Some(place) = place_of(rt, asked) {
+        match place {
+            Place::Port(port) => write!(text, " at port {port}")?,
+            Place::Address(address) => write!(text, " at {address}")?,
+        }
     }
     if asked.path.is_some() {
         return text.push_str(
@@ -152,14 +156,27 @@ fn push_in_vain(text: &mut String, asked: &Asked<'_>) -> Result<(), AllocError> 
 }
 
 fn push_socket(rt: &HostRuntime, text: &mut String, asked: &Asked<'_>) -> Result<(), AllocError> {
-    let port = port_of(rt, asked);
-    match (asked.cell, port) {
-        (Some(_), Some(port)) => write!(
+    if asked.cell.is_some() {
+        if let Some(place) = place_of(rt, asked) {
+            return push_refused_place(text, &place);
+        }
+    }
+    text.push_str("the system gives no port for the answer")
+}
+
+// Appends why a site may get no socket at its place.
+fn push_refused_place(text: &mut String, place: &Place) -> Result<(), AllocError> {
+    match place {
+        Place::Port(port) => write!(
             text,
             "port {port} can't be had: another process has it, or the system refuses it; \
             `ss -lunp` says which"
         ),
-        _ => text.push_str("the system gives no port for the answer"),
+        Place::Address(address) => write!(
+            text,
+            "{address} can't be had: another process has it, this machine hasn't that address, or \
+            the system refuses it; `ss -lunp` and `ip address` say which"
+        ),
     }
 }
 

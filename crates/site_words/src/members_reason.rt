@@ -4,7 +4,7 @@ use crate::asked::Asked;
 use crate::file_reason::bytes_at;
 use code_words::push_name;
 use line_words::push_members_words;
-use members_file::read_members;
+use members_file::{Place, read_members};
 use std::alloc::AllocError;
 
 /// Appends what is wrong with the line of this number of the members file.
@@ -31,15 +31,15 @@ pub(crate) fn push_stranger(text: &mut String, asked: &Asked<'_>) -> Result<(), 
     )
 }
 
-/// The port of the site by the members file, if that can be read.
-pub(crate) fn port_of(rt: &HostRuntime, asked: &Asked<'_>) -> Option<u16> {
+/// The place of the site by the members file, if that can be read.
+pub(crate) fn place_of(rt: &HostRuntime, asked: &Asked<'_>) -> Option<Place> {
     let bytes = bytes_at(rt, asked.members);
     let Ok(members) = read_members(rt.alloc(), bytes.as_slice()) else {
         return None;
     };
     let place = usize::from(asked.site).checked_sub(1)?;
     match members.sites().get(place) {
-        Some(site) => Some(site.port),
+        Some(site) => Some(site.place),
         None => None,
     }
 }

@@ -118,7 +118,7 @@ fn sealed_first(alloc: Global, keys: &[TagKey], text: &[u8]) -> Result<Option<Ve
 
 // Whether a datagram is a message between sites, by its kind.
 #[tactic(auto, unfolding(crate::specs::Rings::is_between_sites))]
-fn is_between_sites(datagram: &[u8]) -> bool
+pub fn is_between_sites(datagram: &[u8]) -> bool
     ensures { result ≡ is_between_sites datagram.now }
 {
     match datagram.get(KIND_PLACE) {

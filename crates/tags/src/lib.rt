@@ -15,6 +15,6 @@ mod key_ring;
 mod law;
 mod tag_key;
 
-pub use key_ring::KeyRing;
+pub use key_ring::{KeyRing, is_between_sites};
 pub use law::seals_law;
 pub use tag_key::{TAG_BYTES, TagKey};

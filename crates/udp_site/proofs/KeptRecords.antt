@@ -69,16 +69,16 @@ module _ {C : Type 0} (device : C → Device) where
           (effect old.site old.volatile input).commits (is.answered opened).keeps
           (is.answered opened).gives
 
-  module _ (ports : List ℕ) (new : Serving C) (done : Done) where
+  module _ (addresses : List ℕ) (new : Serving C) (done : Done) where
     proposed_on : (old : Serving C) (place : Option ℕ) (slot : Option SlotName)
-        → proposes device ports old place slot done new → GoesOn old.site new.site
+        → proposes device addresses old place slot done new → GoesOn old.site new.site
     proposed_on old None None (is, same) = unchanged_on old new same
     proposed_on old None (Some slot) (is, same) = unchanged_on old new same
     proposed_on old (Some place) None (is, same) = unchanged_on old new same
     proposed_on old (Some place) (Some slot) (result, called, refuses, is) =
         called_on (tries old place) new (calls.Proposes slot) result called
 
-    idled_on : (turn : Bool) (s : Serving C) → idles_if turn device ports s done new
+    idled_on : (turn : Bool) (s : Serving C) → idles_if turn device addresses s done new
         → GoesOn s.site new.site
     idled_on true s comes =
         proposed_on s (next_waiting s.site.book.records s.tried)
@@ -93,7 +93,7 @@ module _ {C : Type 0} (device : C → Device) where
         called_on old new (calls.Deposits slot (check_of facts)) result called
 
     module _ (gives : Option (List ℕ → Result TreeFacts TreeFault)) (old : Serving C) where
-      turned_on : (request : Request) → comes_of device ports gives old request done new
+      turned_on : (request : Request) → comes_of device addresses gives old request done new
           → GoesOn old.site new.site
       turned_on Waits comes = idled_on _ (one_more_idle old) comes
       turned_on (Says m) (result, called, is) =
@@ -106,14 +106,16 @@ module _ {C : Type 0} (device : C → Device) where
       turned_on Noise (is, same) = unchanged_on old new same
 
   -- what is settled before a turn is so after it
-  pub settled_after : (ports : List ℕ) (gives : Option (List ℕ → Result TreeFacts TreeFault))
+  pub settled_after : (addresses : List ℕ) (gives : Option (List ℕ → Result TreeFacts TreeFault))
       (old : Serving C) (took : Taken) (idle tried before : ℕ) (a b : Option (List Move))
       (lines said : List Line) (site : OpenSite C)
-      → ComesTo (at idle tried (turn_of device ports gives old took)) a b lines said site (Ok tt)
+      → ComesTo (at idle tried (turn_of device addresses gives old took)) a b lines said site (Ok
+      tt)
       → AreSettled old.site.book.records before → AreSettled site.book.records before
-  settled_after ports gives old took idle tried before a b lines said site came are =
+  settled_after addresses gives old took idle tried before a b lines said site came are =
       let on =
-      turned_on ports came.1 came.0 gives old (request_of (members old).federation took) came.2.0 in
+      turned_on addresses came.1 came.0 gives old (request_of (members old).federation took)
+      came.2.0 in
       subst (λ (rs : List Record). AreSettled rs before)
       (sym on.1 ∙ ap (λ (s : OpenSite C). s.book.records) came.3)
       (are_still_settled old.site.book.records on.0 before are)

@@ -49,20 +49,21 @@ refuses {C} old input result start same serving at_start opened =
     here opened old.volatile (serving opened)
 
 -- what is done of the answer, of which this is said
-abbrev pub done_of : List ℕ → (Result Answer SiteFault → List Notice) → Result Answer SiteFault → Done
-done_of ports says result = record { posts = posts_of ports result; notices = says result }
+abbrev pub done_of : List ℕ → (Result Answer SiteFault → List Notice) → Result Answer SiteFault →
+    Done
+done_of addresses says result = record { posts = posts_of addresses result; notices = says result }
 
 -- the site is called to begin a ballot: how the turn comes out
 module _ {C : Type 0} {device : C → Device} {old : Serving C} {input : Input}
     {result : Result Answer SiteFault} {start site : OpenSite C}
     (call : Call device old input result start site)
-    (refused : RefusesAt input result start) (ports : List ℕ)
+    (refused : RefusesAt input result start) (addresses : List ℕ)
     (says : Result Answer SiteFault → List Notice)
     (a b : Option (List Move)) (before after : List notes.Line) where
   abbrev pub coming : Done → Serving C → Type 0
-  coming = turns.begins_ballot device ports old input says
+  coming = turns.begins_ballot device addresses old input says
 
-  so : coming (done_of ports says result) (called old input result site)
+  so : coming (done_of addresses says result) (called old input result site)
   so = (
     result,
     is_called call,
@@ -70,20 +71,20 @@ module _ {C : Type 0} {device : C → Device} {old : Serving C} {input : Input}
     refl,
   )
 
-  pub begins_whole : Grows a b (all_handed (posts_of ports result))
+  pub begins_whole : Grows a b (all_handed (posts_of addresses result))
       → Notes before after (says result) → ComesTo coming a b before after site (Ok tt)
-  begins_whole = comes_whole call (done_of ports says) coming so a b before after
+  begins_whole = comes_whole call (done_of addresses says) coming so a b before after
 
-  pub begins_part : Part a b (all_handed (posts_of ports result))
+  pub begins_part : Part a b (all_handed (posts_of addresses result))
       → (r : Result (Unit {0}) ServeFault) → IsErrAnd r (λ e. e ≡ ends.Memory)
       → ComesTo coming a b before after site r
-  begins_part = comes_part call (done_of ports says) coming so a b before after
+  begins_part = comes_part call (done_of addresses says) coming so a b before after
 
   pub begins_failed : (fault : ServeFault) (r : Result (Unit {0}) ServeFault)
       → IsErrAnd r (λ e. e ≡ fault)
-      → Hands {T = Unit {0}} a b (posts_of ports result) (Err fault)
+      → Hands {T = Unit {0}} a b (posts_of addresses result) (Err fault)
       → ComesTo coming a b before after site r
-  begins_failed = comes_failed call (done_of ports says) coming so a b before after
+  begins_failed = comes_failed call (done_of addresses says) coming so a b before after
 
 module _ {C : Type 0} (device : C → Device) (s : OpenSite C) (volatile : VolatileState)
     (stands : Represents s volatile) where

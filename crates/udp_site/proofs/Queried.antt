@@ -78,7 +78,7 @@ query_replied old start there m f n named whose numbered port slot known is =
     (answer_to old slot) (same_federation old start there m f named whose)
     (same_site old start there n numbered) is
 
-module _ {C : Type 0} (ports : List ℕ) (old : Serving C) (port : ℕ) (slot : SlotName)
+module _ {C : Type 0} (addresses : List ℕ) (old : Serving C) (port : ℕ) (slot : SlotName)
     (site : OpenSite C) (there : old.site ≡ site) (serves : IsServing old) where
   abbrev done_with : Done → Done
   done_with asks = record {
@@ -91,8 +91,8 @@ module _ {C : Type 0} (ports : List ℕ) (old : Serving C) (port : ℕ) (slot : 
       → Grows a b (all_handed (client_reply old port slot))
       → Notes l m (reply_notice (number old) slot (answer_to old slot) ∷ [])
       → (r : Result (Unit {0}) ServeFault)
-      → AsksFor ports old slot (asked old (answer_to old slot)) b c m n r
-      → ComesTo (queries ports old port slot) a c l n site r
+      → AsksFor addresses old slot (asked old (answer_to old slot)) b c m n r
+      → ComesTo (queries addresses old port slot) a c l n site r
   answered a b c l m n replied said (Ok whole) (asks, were, handed, notes) = (
     done_with asks,
     old,
@@ -116,10 +116,10 @@ module _ {C : Type 0} (ports : List ℕ) (old : Serving C) (port : ℕ) (slot : 
   pub unanswered : (a b : Option (List Move)) (l m : List Line)
       → Part a b (all_handed (client_reply old port slot))
       → (r : Result (Unit {0}) ServeFault) → IsErrAnd r (λ e. e ≡ faults.Memory)
-      → ComesTo (queries ports old port slot) a b l m site r
+      → ComesTo (queries addresses old port slot) a b l m site r
   unanswered a b l m part r fails =
-      let asks = could_ask ports old slot (asked old (answer_to old slot)) in
-      broken_off (queries ports old port slot) a b l m site (done_with asks.0) old
+      let asks = could_ask addresses old slot (asked old (answer_to old slot)) in
+      broken_off (queries addresses old port slot) a b l m site (done_with asks.0) old
       (asks.0, asks.1, refl, refl) there
       (part_of_posts a b (client_reply old port slot) asks.0.posts part) r fails
 

@@ -54,24 +54,24 @@ notes_both l1 l2 l3 one two p q =
     ∙ ap (λ (l : List Line). l1 ++ l) (sym (map-append (line_of []) one two))))
 
 -- the posts of an answer, by what is handed out
-posts_by : (ports : List ℕ) (items : List Outgoing)
-    → flat_map (outgoing_posts ports) items
-    ≡ flat_map (λ (out : ℕ × List ℕ). posts_to ports out.0 out.1) (map handed_out items)
-posts_by ports [] = refl
-posts_by ports (x ∷ items) =
-    ap (λ (l : List Post). outgoing_posts ports x ++ l) (posts_by ports items)
+posts_by : (addresses : List ℕ) (items : List Outgoing)
+    → flat_map (outgoing_posts addresses) items
+    ≡ flat_map (λ (out : ℕ × List ℕ). posts_to addresses out.0 out.1) (map handed_out items)
+posts_by addresses [] = refl
+posts_by addresses (x ∷ items) =
+    ap (λ (l : List Post). outgoing_posts addresses x ++ l) (posts_by addresses items)
 
-module _ {C : Type 0} (ports : List ℕ) (s : Serving C) (slot : SlotName) where
-  asks_both : (xs ys : List ℕ) (one two : Done) → Asks ports s slot xs one
-      → Asks ports s slot ys two → Asks ports s slot (xs ++ ys) (both one two)
+module _ {C : Type 0} (addresses : List ℕ) (s : Serving C) (slot : SlotName) where
+  asks_both : (xs ys : List ℕ) (one two : Done) → Asks addresses s slot xs one
+      → Asks addresses s slot ys two → Asks addresses s slot (xs ++ ys) (both one two)
   asks_both [] ys one two p q =
-      subst (λ (d : Done). Asks ports s slot ys (both d two)) (sym p) q
+      subst (λ (d : Done). Asks addresses s slot ys (both d two)) (sym p) q
   asks_both (x ∷ xs) ys one two (rest, asks, inl e) q = (
     both rest two,
     asks_both xs ys rest two asks q,
     inl (ap (λ (d : Done). both d two) e
         ∙ ap (λ (l : List Post). record { posts = l; notices = rest.notices ++ two.notices })
-        (append_assoc (posts_to ports x (datagram_of (members s).federation
+        (append_assoc (posts_to addresses x (datagram_of (members s).federation
         (record { slot = slot; body = Ask (number s) }))) rest.posts two.posts)),
   )
   asks_both (x ∷ xs) ys one two (rest, asks, inr e) q = (
@@ -81,7 +81,7 @@ module _ {C : Type 0} (ports : List ℕ) (s : Serving C) (slot : SlotName) where
   )
 
   -- whoever they are, they might have been asked so
-  could_ask : (xs : List ℕ) → (done : Done) × Asks ports s slot xs done
+  could_ask : (xs : List ℕ) → (done : Done) × Asks addresses s slot xs done
   could_ask [] = (nothing, refl)
   could_ask (x ∷ xs) =
       let rest = could_ask xs in (
@@ -90,13 +90,13 @@ module _ {C : Type 0} (ports : List ℕ) (s : Serving C) (slot : SlotName) where
       )
 
   pub asks_none : (a : Option (List Move)) (lines : List Line)
-      → AsksFor ports s slot [] a a lines lines (Ok tt)
+      → AsksFor addresses s slot [] a a lines lines (Ok tt)
   asks_none a lines = (nothing, refl, grows_by_no_posts a, sym (append-nil lines))
 
   -- these were asked, and then those
   pub asks_then : (xs ys : List ℕ) (a b c : Option (List Move)) (l1 l2 l3 : List Line)
-      → AsksFor ports s slot xs a b l1 l2 (Ok tt) → (r : Result (Unit {0}) ServeFault)
-      → AsksFor ports s slot ys b c l2 l3 r → AsksFor ports s slot (xs ++ ys) a c l1 l3 r
+      → AsksFor addresses s slot xs a b l1 l2 (Ok tt) → (r : Result (Unit {0}) ServeFault)
+      → AsksFor addresses s slot ys b c l2 l3 r → AsksFor addresses s slot (xs ++ ys) a c l1 l3 r
   asks_then xs ys a b c l1 l2 l3 (one, asks, handed, said) (Ok whole)
       (two, asks2, handed2, said2) = (
         both one two,
@@ -114,8 +114,8 @@ module _ {C : Type 0} (ports : List ℕ) (s : Serving C) (slot : SlotName) where
 
   -- memory ran out among these, and so among these and those
   pub asks_before : (xs ys : List ℕ) (a b : Option (List Move)) (l1 l2 l3 : List Line)
-      → (fault : ServeFault) → AsksFor ports s slot xs a b l1 l2 (Err fault)
-      → AsksFor ports s slot (xs ++ ys) a b l1 l3 (Err fault)
+      → (fault : ServeFault) → AsksFor addresses s slot xs a b l1 l2 (Err fault)
+      → AsksFor addresses s slot (xs ++ ys) a b l1 l3 (Err fault)
   asks_before xs ys a b l1 l2 l3 faults.Memory (one, asks, count, handed) =
       let two = could_ask ys in
       let part = part_of_posts a b one.posts two.0.posts (count, handed) in
@@ -129,39 +129,40 @@ module _ {C : Type 0} (ports : List ℕ) (s : Serving C) (slot : SlotName) where
   -- those of one that are others
   pub not_asked : (member : ℕ) → (member == number s) ≡ true → (a : Option (List Move))
       → (lines : List Line)
-      → AsksFor ports s slot (others_of s (member ∷ [])) a a lines lines (Ok tt)
+      → AsksFor addresses s slot (others_of s (member ∷ [])) a a lines lines (Ok tt)
   not_asked member is a lines =
-      subst (λ (b : Bool). AsksFor ports s slot (cond (not b) (member ∷ []) []) a a lines lines
+      subst (λ (b : Bool). AsksFor addresses s slot (cond (not b) (member ∷ []) []) a a lines lines
       (Ok tt)) (sym is) (asks_none a lines)
 
   -- memory ran out for this one, and a line says so
   abbrev refused_one : Done
   refused_one = record { posts = []; notices = Refused (number s) sites.Memory ∷ [] }
 
-  refuses_one : (member : ℕ) → Asks ports s slot (member ∷ []) refused_one
+  refuses_one : (member : ℕ) → Asks addresses s slot (member ∷ []) refused_one
   refuses_one member = (nothing, refl, inr refl)
 
   module _ (member : ℕ) (is_other : (member == number s) ≡ false) where
     is_asked : (a b : Option (List Move)) (l1 l2 : List Line) (r : Result (Unit {0}) ServeFault)
-        → AsksFor ports s slot (member ∷ []) a b l1 l2 r
-        → AsksFor ports s slot (others_of s (member ∷ [])) a b l1 l2 r
+        → AsksFor addresses s slot (member ∷ []) a b l1 l2 r
+        → AsksFor addresses s slot (others_of s (member ∷ [])) a b l1 l2 r
     is_asked a b l1 l2 r asks =
-        subst (λ (b2 : Bool). AsksFor ports s slot (cond (not b2) (member ∷ []) []) a b l1 l2 r)
+        subst (λ (b2 : Bool). AsksFor addresses s slot (cond (not b2) (member ∷ []) []) a b l1 l2 r)
         (sym is_other) asks
 
     pub isnt_asked : (a : Option (List Move)) (l1 l2 : List Line)
         → Notes l1 l2 (Refused (number s) sites.Memory ∷ [])
-        → AsksFor ports s slot (others_of s (member ∷ [])) a a l1 l2 (Ok tt)
+        → AsksFor addresses s slot (others_of s (member ∷ [])) a a l1 l2 (Ok tt)
     isnt_asked a l1 l2 said =
         is_asked a a l1 l2 (Ok tt) (refused_one, refuses_one member, grows_by_no_posts a, said)
 
     pub isnt_asked_in_part : (a : Option (List Move)) (l1 l2 : List Line)
         → (r : Result (Unit {0}) ServeFault) → IsErrAnd r (λ f. f ≡ faults.Memory)
-        → AsksFor ports s slot (others_of s (member ∷ [])) a a l1 l2 r
+        → AsksFor addresses s slot (others_of s (member ∷ [])) a a l1 l2 r
     isnt_asked_in_part a l1 l2 r failed =
         let part = no_part a (all_handed []) in
         is_asked a a l1 l2 r
-        (subst (λ (x : Result (Unit {0}) ServeFault). AsksFor ports s slot (member ∷ []) a a l1 l2
+        (subst (λ (x : Result (Unit {0}) ServeFault). AsksFor addresses s slot (member ∷ []) a a l1
+        l2
         x) (sym (is_err r faults.Memory failed)) (refused_one, refuses_one member, part.0, part.1))
 
     -- the datagram of the answer was handed out
@@ -190,24 +191,24 @@ module _ {C : Type 0} (ports : List ℕ) (s : Serving C) (slot : SlotName) where
 
       abbrev asked_one : Done
       asked_one = record {
-        posts = flat_map (outgoing_posts ports) answer.sends.items;
+        posts = flat_map (outgoing_posts addresses) answer.sends.items;
         notices = [];
       }
 
-      asks_one : Asks ports s slot (member ∷ []) asked_one
+      asks_one : Asks addresses s slot (member ∷ []) asked_one
       asks_one = (
         nothing,
         refl,
         inl (ap (λ (l : List Post). record { posts = l; notices = [] })
-            (posts_by ports answer.sends.items
-            ∙ ap (flat_map (λ (out : ℕ × List ℕ). posts_to ports out.0 out.1)) one_datagram)),
+            (posts_by addresses answer.sends.items
+            ∙ ap (flat_map (λ (out : ℕ × List ℕ). posts_to addresses out.0 out.1)) one_datagram)),
       )
 
       -- in part, where memory ran out
       asks_member : (a b : Option (List Move)) (lines : List Line)
           → (r : Result (Unit {0}) ServeFault)
-          → Hands a b (flat_map (outgoing_posts ports) answer.sends.items) r
-          → AsksFor ports s slot (member ∷ []) a b lines lines r
+          → Hands a b (flat_map (outgoing_posts addresses) answer.sends.items) r
+          → AsksFor addresses s slot (member ∷ []) a b lines lines r
       asks_member a b lines (Ok whole) handed =
           (asked_one, asks_one, handed, sym (append-nil lines))
       asks_member a b lines (Err faults.Memory) (count, handed) =
@@ -218,13 +219,13 @@ module _ {C : Type 0} (ports : List ℕ) (s : Serving C) (slot : SlotName) where
 
       pub asks_by : (a b : Option (List Move)) (lines : List Line)
           → (r : Result (Unit {0}) ServeFault)
-          → Hands a b (flat_map (outgoing_posts ports) answer.sends.items) r
-          → AsksFor ports s slot (others_of s (member ∷ [])) a b lines lines r
+          → Hands a b (flat_map (outgoing_posts addresses) answer.sends.items) r
+          → AsksFor addresses s slot (others_of s (member ∷ [])) a b lines lines r
       asks_by a b lines r handed = is_asked a b lines lines r (asks_member a b lines r handed)
 
 -- ---- all of them
 
-module _ {C : Type 0} (ports : List ℕ) (s : Serving C) (slot : SlotName) where
+module _ {C : Type 0} (addresses : List ℕ) (s : Serving C) (slot : SlotName) where
   others_both : (xs ys : List ℕ) → others_of s (xs ++ ys) ≡ others_of s xs ++ others_of s ys
   others_both xs ys = filter-append (λ (member : ℕ). not (member == number s)) xs ys
 
@@ -233,17 +234,17 @@ module _ {C : Type 0} (ports : List ℕ) (s : Serving C) (slot : SlotName) where
       → Type 0
   AskedBut left a b l1 l2 =
       (asked : List ℕ) × (asked ++ left ≡ members_of (members s))
-      × AsksFor ports s slot (others_of s asked) a b l1 l2 (Ok tt)
+      × AsksFor addresses s slot (others_of s asked) a b l1 l2 (Ok tt)
 
   pub nobody_asked : (left : List ℕ) → left ≡ members_of (members s) → (a : Option (List Move))
       → (lines : List Line) → AskedBut left a a lines lines
-  nobody_asked left all a lines = ([], all, asks_none ports s slot a lines)
+  nobody_asked left all a lines = ([], all, asks_none addresses s slot a lines)
 
   pub all_asked : (a b : Option (List Move)) (l1 l2 : List Line) (left : List ℕ) → left ≡ []
       → AskedBut left a b l1 l2
-      → AsksFor ports s slot (others_of s (members_of (members s))) a b l1 l2 (Ok tt)
+      → AsksFor addresses s slot (others_of s (members_of (members s))) a b l1 l2 (Ok tt)
   all_asked a b l1 l2 left none (asked, all, asks) =
-      subst (λ (l : List ℕ). AsksFor ports s slot (others_of s l) a b l1 l2 (Ok tt))
+      subst (λ (l : List ℕ). AsksFor addresses s slot (others_of s l) a b l1 l2 (Ok tt))
       (sym (append-nil asked) ∙ (ap (λ (l : List ℕ). asked ++ l) (sym none) ∙ all)) asks
 
   -- the next of those that are left
@@ -258,27 +259,28 @@ module _ {C : Type 0} (ports : List ℕ) (s : Serving C) (slot : SlotName) where
         ∙ (ap (λ (l : List ℕ). before.0 ++ l) (sym next) ∙ before.1)
 
     with_next : (r : Result (Unit {0}) ServeFault)
-        → AsksFor ports s slot (others_of s (member ∷ [])) b c l2 l3 r
-        → AsksFor ports s slot (others_of s asked) a c l1 l3 r
+        → AsksFor addresses s slot (others_of s (member ∷ [])) b c l2 l3 r
+        → AsksFor addresses s slot (others_of s asked) a c l1 l3 r
     with_next r asks =
-        subst (λ (l : List ℕ). AsksFor ports s slot l a c l1 l3 r)
+        subst (λ (l : List ℕ). AsksFor addresses s slot l a c l1 l3 r)
         (sym (others_both before.0 (member ∷ [])))
-        (asks_then ports s slot (others_of s before.0) (others_of s (member ∷ [])) a b c l1 l2 l3
+        (asks_then addresses s slot (others_of s before.0) (others_of s (member ∷ [])) a b c l1 l2
+        l3
         before.2 r asks)
 
-    pub next_asked : AsksFor ports s slot (others_of s (member ∷ [])) b c l2 l3 (Ok tt)
+    pub next_asked : AsksFor addresses s slot (others_of s (member ∷ [])) b c l2 l3 (Ok tt)
         → AskedBut rest a c l1 l3
     next_asked asks = (asked, all_but, with_next (Ok tt) asks)
 
     pub next_failed : (fault : ServeFault)
-        → AsksFor ports s slot (others_of s (member ∷ [])) b c l2 l3 (Err fault)
+        → AsksFor addresses s slot (others_of s (member ∷ [])) b c l2 l3 (Err fault)
         → (r : Result (Unit {0}) ServeFault) → IsErrAnd r (λ f. f ≡ fault)
-        → AsksFor ports s slot (others_of s (members_of (members s))) a c l1 l3 r
+        → AsksFor addresses s slot (others_of s (members_of (members s))) a c l1 l3 r
     next_failed fault asks r failed =
         let all : others_of s asked ++ others_of s rest ≡ others_of s (members_of (members s)) =
         sym (others_both asked rest) ∙ ap (others_of s) all_but in
-        subst (λ (x : Result (Unit {0}) ServeFault). AsksFor ports s slot
+        subst (λ (x : Result (Unit {0}) ServeFault). AsksFor addresses s slot
         (others_of s (members_of (members s))) a c l1 l3 x) (sym (is_err r fault failed))
-        (subst (λ (l : List ℕ). AsksFor ports s slot l a c l1 l3 (Err fault)) all
-        (asks_before ports s slot (others_of s asked) (others_of s rest) a c l1 l3 l3 fault
+        (subst (λ (l : List ℕ). AsksFor addresses s slot l a c l1 l3 (Err fault)) all
+        (asks_before addresses s slot (others_of s asked) (others_of s rest) a c l1 l3 l3 fault
         (with_next (Err fault) asks)))

@@ -1,7 +1,6 @@
 -- A version's Recover is handed on once in a pause, whoever sends it, and at whatever moments.
-use Rattle.std.proofs.Common.{◌≡◌, ℕ, ◌+◌, ◌-◌, ◌<◌, ◌≤◌, Bool, true, false, List, length, get_or}
-use Rattle.std.proofs.Common.{set, refl, arith, [], ◌∷◌}
-use Rattle.std.specs.Prelude.{◌&&◌, nat_lt}
+use Rattle.std.proofs.Common.{◌≡◌, ℕ, ◌-◌, ◌<◌, ◌≤◌, true, false, List, length}
+use Rattle.std.proofs.Common.{refl, arith, [], ◌∷◌}
 use Rattle.std.proofs.lemmas.Bool.Decides.{nat_tests}
 use Rattle.std.proofs.lemmas.List.{get_or-set_same}
 use Rattle.udp_site.specs.declared.recoveries.Recoveries.{Recoveries}

@@ -30,16 +30,17 @@ use Rattle.udp_site.proofs.Called.{could_be_called}
 use Rattle.udp_site.proofs.Proposals.{could_recover}
 
 -- the members can be asked, one after another: memory may run out for each
-pub could_ask : {C : Type 0} (ports : List ℕ) (s : Serving C) (slot : SlotName) (others : List ℕ)
-    → (done : Done) × Asks ports s slot others done
-could_ask ports s slot [] = (record { posts = []; notices = [] }, refl)
-could_ask ports s slot (member ∷ others) =
-    let rest = could_ask ports s slot others in (
+pub could_ask : {C : Type 0} (addresses : List ℕ) (s : Serving C) (slot : SlotName) (others : List
+    ℕ)
+    → (done : Done) × Asks addresses s slot others done
+could_ask addresses s slot [] = (record { posts = []; notices = [] }, refl)
+could_ask addresses s slot (member ∷ others) =
+    let rest = could_ask addresses s slot others in (
       record { posts = rest.0.posts; notices = Refused (number s) faults.Memory ∷ rest.0.notices },
       (rest.0, rest.1, inr refl),
     )
 
-module _ {C : Type 0} (device : C → Device) (ports : List ℕ)
+module _ {C : Type 0} (device : C → Device) (addresses : List ℕ)
     (gives : Option (List ℕ → Result TreeFacts TreeFault)) (old : Serving C) where
   known_or_not : (known : Option (List ℕ → Result TreeFacts TreeFault)) (path : List ℕ)
       → IfSome known (λ answer. IsOrMemory {T = TreeFacts} (Err trees.Memory) (answer path))
@@ -48,19 +49,19 @@ module _ {C : Type 0} (device : C → Device) (ports : List ℕ)
 
   -- something comes of what came in, and it leaves the site as it was
   pub could_come : IsServing old → (port : ℕ) (message : Option Message)
-      → (done : Done) × comes_of device ports gives old (request_in port message) done old
+      → (done : Done) × comes_of device addresses gives old (request_in port message) done old
   could_come serves port None =
       (record { posts = []; notices = Dropped (number old) ∷ [] }, (refl, refl))
   could_come serves port (Some m) = by_body m.body
     where
       by : Request → Type 0
-      by request = (done : Done) × comes_of device ports gives old request done old
+      by request = (done : Done) × comes_of device addresses gives old request done old
 
       hears : by (Says m)
       hears =
           let call = could_be_called device old (calls.Arrives (Some m)) serves in (
             record {
-              posts = posts_of ports call.0;
+              posts = posts_of addresses call.0;
               notices = notices_of (number old) (calls.Arrives (Some m)) call.0;
             },
             (call.0, call.1, refl),
@@ -76,7 +77,7 @@ module _ {C : Type 0} (device : C → Device) (ports : List ℕ)
         (Err trees.Memory, known_or_not gives path, (refl, refl)),
       )
       by_body bodies.Query =
-          let asks = could_ask ports old m.slot (asked old (answer_to old m.slot)) in (
+          let asks = could_ask addresses old m.slot (asked old (answer_to old m.slot)) in (
             record {
               posts =
                   query_replies (members old).federation (number old) port m.slot
@@ -89,7 +90,7 @@ module _ {C : Type 0} (device : C → Device) (ports : List ℕ)
       by_body bodies.Recover =
           let call = could_recover device old m.slot serves in (
             record {
-              posts = posts_of ports call.0;
+              posts = posts_of addresses call.0;
               notices = recovery_notices (number old) (calls.Recovers m.slot) call.0;
             },
             (call.0, call.1, call.2, refl),
@@ -111,7 +112,7 @@ module _ {C : Type 0} (device : C → Device) (ports : List ℕ)
   SameRound next = (next.idle ≡ old.idle) × (next.tried ≡ old.tried)
 
   pub same_round : (port : ℕ) (message : Option Message) (done : Done) (next : Serving C)
-      → comes_of device ports gives old (request_in port message) done next → SameRound next
+      → comes_of device addresses gives old (request_in port message) done next → SameRound next
   same_round port None done next (is, same) = same_as same
     where
       same_as : next ≡ old → SameRound next
@@ -121,10 +122,10 @@ module _ {C : Type 0} (device : C → Device) (ports : List ℕ)
       same_as : next ≡ old → SameRound next
       same_as e = (ap (λ (s : Serving C). s.idle) e, ap (λ (s : Serving C). s.tried) e)
 
-      hears : comes_of device ports gives old (Says m) done next → SameRound next
+      hears : comes_of device addresses gives old (Says m) done next → SameRound next
       hears (result, called, is) = (called.idle, called.tried)
 
-      recovers : comes_of device ports gives old (Recovers m.slot) done next → SameRound next
+      recovers : comes_of device addresses gives old (Recovers m.slot) done next → SameRound next
       recovers (result, called, refuses, is) = (called.idle, called.tried)
 
       reads : (slot : SlotName) (read : Result TreeFacts TreeFault)
@@ -132,7 +133,7 @@ module _ {C : Type 0} (device : C → Device) (ports : List ℕ)
       reads slot (Err fault) (is, same) = same_as same
       reads slot (Ok facts) (result, called, is) = (called.idle, called.tried)
 
-      by_body : (b : Body) → comes_of device ports gives old (request_by port m b) done next
+      by_body : (b : Body) → comes_of device addresses gives old (request_by port m b) done next
           → SameRound next
       by_body (bodies.Deposit path) (read, known, takes) = reads m.slot read takes
       by_body bodies.Query (asks, were, is, same) = same_as same
@@ -152,8 +153,10 @@ module _ {C : Type 0} (device : C → Device) (ports : List ℕ)
       → request_in port message ≡ request
       → (a b : Option (List Move)) (before after : List Line) (site : OpenSite C)
       → (r : Result (Unit {0}) ServeFault)
-      → ComesTo (comes_of device ports gives old request) a b before after site r
-      → ComesTo (comes_of device ports gives old (request_in port message)) a b before after site r
+      → ComesTo (comes_of device addresses gives old request) a b before after site r
+      → ComesTo (comes_of device addresses gives old (request_in port message)) a b before after
+      site r
   by_request port message request is a b before after site r comes =
-      subst (λ (q : Request). ComesTo (comes_of device ports gives old q) a b before after site r)
+      subst (λ (q : Request). ComesTo (comes_of device addresses gives old q) a b before after site
+      r)
       (sym is) comes

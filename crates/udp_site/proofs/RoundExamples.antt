@@ -79,7 +79,7 @@ nothing_deposited = refl
 abbrev owner : Owner
 owner = record { members = membership_of 7 (1 ∷ 1 ∷ 1 ∷ []); site = 2 }
 
-module _ {C : Type 0} (device : C → Device) (ports : List ℕ) (s : Serving C) where
+module _ {C : Type 0} (device : C → Device) (addresses : List ℕ) (s : Serving C) where
   -- after so many idle turns
   abbrev after : ℕ → Serving C
   after idle = record s {
@@ -88,20 +88,20 @@ module _ {C : Type 0} (device : C → Device) (ports : List ℕ) (s : Serving C)
   }
 
   -- in each second idle turn it proposes, and in no other
-  pub not_in_the_first : (done : Done) (new : Serving C) → idles device ports (after 0) done new
+  pub not_in_the_first : (done : Done) (new : Serving C) → idles device addresses (after 0) done new
       → done ≡ record { posts = []; notices = [] }
   not_in_the_first done new idle = idle.0
 
-  pub in_the_second : (done : Done) (new : Serving C) → idles device ports (after 1) done new
-      → proposes_next device ports (after 2) done new
+  pub in_the_second : (done : Done) (new : Serving C) → idles device addresses (after 1) done new
+      → proposes_next device addresses (after 2) done new
   in_the_second done new idle = idle
 
-  pub not_in_the_third : (done : Done) (new : Serving C) → idles device ports (after 2) done new
+  pub not_in_the_third : (done : Done) (new : Serving C) → idles device addresses (after 2) done new
       → done ≡ record { posts = []; notices = [] }
   not_in_the_third done new idle = idle.0
 
-  pub in_the_fourth : (done : Done) (new : Serving C) → idles device ports (after 3) done new
-      → proposes_next device ports (after 4) done new
+  pub in_the_fourth : (done : Done) (new : Serving C) → idles device addresses (after 3) done new
+      → proposes_next device addresses (after 4) done new
   in_the_fourth done new idle = idle
 
   -- after the first deposit it tries the second

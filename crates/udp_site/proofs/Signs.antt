@@ -1,8 +1,7 @@
 -- What came while no proposal is under way changes no pace: what a site says to itself, where it
 -- can't be a vote; and what others say, where no wait has grown, and who says it is noted.
 use Rattle.std.proofs.Common.{◌≡◌, ℕ, ◌==◌, Bool, true, false, cond, List, refl, ap, sym, ◌∙◌}
-use Rattle.std.proofs.Common.{Option, Some, None, arith}
-use Rattle.std.proofs.lemmas.Bool.Decides.{nat_tests}
+use Rattle.std.proofs.Common.{Option, Some, None}
 use Rattle.fields.proofs.Bytes.{IsBytes}
 use Rattle.dgram.specs.Decoded.{message_of}
 use Rattle.dgram.specs.Encoding.{kind_of, body_from}
@@ -29,13 +28,6 @@ isnt_kind : (kind federation : ℕ) (bytes : List ℕ) (m : Message) → IsBytes
     → (kind_of m.body == kind) ≡ false
 isnt_kind kind federation bytes m are e isnt =
     ap (λ (n : ℕ). n == kind) (sym (kind_is federation bytes m are e)) ∙ isnt
-
--- the test of two numbers
-is_same : (m n : ℕ) → m ≡ n → (m == n) ≡ true
-is_same m n e = grind (arith, nat_tests)
-
-isnt_same : (m n : ℕ) → ¬ (m ≡ n) → (m == n) ≡ false
-isnt_same m n e = grind (arith, nat_tests)
 
 -- one of two signals changes nothing, where it is the one that is taken
 if_true : (pace : Pace) (now : ℕ) (t : Bool) (a b : Signal) → t ≡ true → takes pace now a ≡ pace
@@ -77,10 +69,10 @@ module _ (pace : Pace) (now own from federation : ℕ) (bytes : List ℕ) (are :
       if_true pace now (own == from) (own_signal_by m.body) (signal_by m.body) is_own
       (own_by_body m.body (isnt_kind ACCEPTED federation bytes m are e isnt))
 
-  pub own_changes_nothing : own ≡ from → is_vote bytes ≡ false
+  pub own_changes_nothing : (own == from) ≡ true → is_vote bytes ≡ false
       → takes pace now (signal_at own from (message_of federation bytes)) ≡ pace
   own_changes_nothing is_own isnt =
-      own_in_message (is_same own from is_own) isnt (message_of federation bytes) refl
+      own_in_message is_own isnt (message_of federation bytes) refl
 
   module _ (first : pace.wait ≡ pace.waits.first) (early : pace.answer_wait ≡ pace.waits.first)
       (noted : (site : ℕ) → meets pace.contacts now site ≡ pace.contacts) where
@@ -125,7 +117,7 @@ module _ (pace : Pace) (now own from federation : ℕ) (bytes : List ℕ) (are :
         if_false pace now (own == from) (own_signal_by m.body) (signal_by m.body) is_own
         (by_signal m.body)
 
-    pub nothing_changes : ¬ (own ≡ from)
+    pub nothing_changes : (own == from) ≡ false
         → takes pace now (signal_at own from (message_of federation bytes)) ≡ pace
     nothing_changes is_own =
-        in_message (isnt_same own from is_own) (message_of federation bytes)
+        in_message is_own (message_of federation bytes)

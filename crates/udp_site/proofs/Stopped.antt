@@ -72,8 +72,8 @@ said : (done : Done) (what : Done) → done ≡ what → or_one done.notices ≡
     → or_one what.notices ≡ true
 said done what is stops = sym (ap (λ (d : Done). or_one d.notices) is) ∙ stops
 
-module _ {C : Type 0} (ports : List ℕ) (s : Serving C) (slot : SlotName) where
-  asks_say_no : (others : List ℕ) (done : Done) → Asks ports s slot others done
+module _ {C : Type 0} (addresses : List ℕ) (s : Serving C) (slot : SlotName) where
+  asks_say_no : (others : List ℕ) (done : Done) → Asks addresses s slot others done
       → or_one done.notices ≡ false
   asks_say_no [] done is = ap (λ (d : Done). or_one d.notices) is
   asks_say_no (member ∷ others) done (rest, asks, inl is) =
@@ -116,10 +116,10 @@ module _ {C : Type 0} (device : C → Device) where
     called (Err faults.NeedsOpen) is stops = needs_open is old.site.book.needs_opening refl
     called (Err fault) is stops = absurd (impossible stops)
 
-  module _ (ports : List ℕ) (new : Serving C) (done : Done) (stops : or_one done.notices ≡ true)
+  module _ (addresses : List ℕ) (new : Serving C) (done : Done) (stops : or_one done.notices ≡ true)
     where
       proposed : (old : Serving C) (place : Option ℕ) (slot : Option SlotName)
-          → proposes device ports old place slot done new → new.site.book.needs_opening ≡ true
+          → proposes device addresses old place slot done new → new.site.book.needs_opening ≡ true
       proposed old None None (is, same) = absurd (impossible (said done _ is stops))
       proposed old None (Some slot) (is, same) = absurd (impossible (said done _ is stops))
       proposed old (Some place) None (is, same) = absurd (impossible (said done _ is stops))
@@ -127,7 +127,7 @@ module _ {C : Type 0} (device : C → Device) where
           called (tries old place) new (calls.Proposes slot) result called_so
           (proposal_says (number old) (calls.Proposes slot) result (said done _ is stops))
 
-      idled : (turn : Bool) (s : Serving C) → idles_if turn device ports s done new
+      idled : (turn : Bool) (s : Serving C) → idles_if turn device addresses s done new
           → new.site.book.needs_opening ≡ true
       idled true s comes =
           proposed s (next_waiting s.site.book.records s.tried)
@@ -143,7 +143,7 @@ module _ {C : Type 0} (device : C → Device) where
 
       module _ (gives : Option (List ℕ → Result TreeFacts TreeFault)) (old : Serving C) where
         pub last_needs_opening : (request : Request)
-            → comes_of device ports gives old request done new
+            → comes_of device addresses gives old request done new
             → new.site.book.needs_opening ≡ true
         last_needs_opening Waits comes = idled _ (one_more_idle old) comes
         last_needs_opening (Says m) (result, called_so, is) =
@@ -154,7 +154,7 @@ module _ {C : Type 0} (device : C → Device) where
             ap (λ (s : Serving C). s.site.book.needs_opening) same
             ∙ replied (number old) slot old.site.book.needs_opening
             (reply_of slot old.site.book.records) asks.notices
-            (asks_say_no ports old slot _ asks asked_so) (said done _ is stops)
+            (asks_say_no addresses old slot _ asks asked_so) (said done _ is stops)
         last_needs_opening (Recovers slot) (result, called_so, refuses, is) =
             called old new (calls.Recovers slot) result called_so
             (recovery_says (number old) (calls.Recovers slot) result (said done _ is stops))

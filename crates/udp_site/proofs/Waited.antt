@@ -49,7 +49,7 @@ comes_through coming other through a b before after site (Err faults.Port) came 
 comes_through coming other through a b before after site (Err faults.Cell) came = absurd came
 comes_through coming other through a b before after site (Err faults.Output) came = absurd came
 
-module _ {C : Type 0} (device : C → Device) (ports : List ℕ) (old : Serving C)
+module _ {C : Type 0} (device : C → Device) (addresses : List ℕ) (old : Serving C)
     (start : OpenSite C) (progress : IdleProgress) (stands : Stands old start progress)
     (from : ℕ) (from_is : from ≡ start.book.owner.site) where
   abbrev idle : ℕ
@@ -74,23 +74,24 @@ module _ {C : Type 0} (device : C → Device) (ports : List ℕ) (old : Serving 
   slot_is place o is =
       ap (λ (s : OpenSite C). slot_at (deposits_of s.book.records) place) stands.there ∙ sym is
 
-  not_its_turn : (idle + 1) % from ≢ 0 → idles device ports old nothing (one_more_idle old)
+  not_its_turn : (idle + 1) % from ≢ 0 → idles device addresses old nothing (one_more_idle old)
   not_its_turn e =
-      subst (λ (b : Bool). idles_if b device ports (one_more_idle old) nothing (one_more_idle old))
+      subst (λ (b : Bool). idles_if b device addresses (one_more_idle old) nothing (one_more_idle
+      old))
       (sym (isnt_zero ((old.idle + 1) % number old) (subst (λ (n : ℕ). n ≢ 0) count_is e)))
       (refl, refl)
 
   its_turn : (idle + 1) % from ≡ 0 → (done : Done) (next : Serving C)
-      → proposes_next device ports (one_more_idle old) done next
-      → idles device ports old done next
+      → proposes_next device addresses (one_more_idle old) done next
+      → idles device addresses old done next
   its_turn e done next so =
-      subst (λ (b : Bool). idles_if b device ports (one_more_idle old) done next)
+      subst (λ (b : Bool). idles_if b device addresses (one_more_idle old) done next)
       (sym (is_zero ((old.idle + 1) % number old) (sym count_is ∙ e))) so
 
   none_waits : None ≡ next_waiting start.book.records tried
-      → proposes_next device ports (one_more_idle old) nothing (one_more_idle old)
+      → proposes_next device addresses (one_more_idle old) nothing (one_more_idle old)
   none_waits is =
-      subst (λ (o : Option ℕ). proposes device ports (one_more_idle old) o
+      subst (λ (o : Option ℕ). proposes device addresses (one_more_idle old) o
       (slot_of old.site.book.records o) nothing (one_more_idle old))
       (sym (next_is None is)) (refl, refl)
 
@@ -98,18 +99,19 @@ module _ {C : Type 0} (device : C → Device) (ports : List ℕ) (old : Serving 
       → Some place ≡ next_waiting start.book.records tried
       → slot ≡ slot_at (deposits_of start.book.records) place
       → (done : Done) (next : Serving C)
-      → proposes device ports (one_more_idle old) (Some place) slot done next
-      → proposes_next device ports (one_more_idle old) done next
+      → proposes device addresses (one_more_idle old) (Some place) slot done next
+      → proposes_next device addresses (one_more_idle old) done next
   proposes_at place slot is there_is done next so =
-      subst (λ (o : Option ℕ). proposes device ports (one_more_idle old) o
+      subst (λ (o : Option ℕ). proposes device addresses (one_more_idle old) o
       (slot_of old.site.book.records o) done next) (sym (next_is (Some place) is))
-      (subst (λ (o : Option SlotName). proposes device ports (one_more_idle old) (Some place) o
+      (subst (λ (o : Option SlotName). proposes device addresses (one_more_idle old) (Some place) o
       done next) (sym (slot_is place slot there_is)) so)
 
   -- nothing comes of it but the count
   module _ (traffic : Option (List Move)) (lines : List Line) where
-    counts : idles device ports old nothing (one_more_idle old)
-        → ComesTo (at (idle + 1) tried (idles device ports old)) traffic traffic lines lines start
+    counts : idles device addresses old nothing (one_more_idle old)
+        → ComesTo (at (idle + 1) tried (idles device addresses old)) traffic traffic lines lines
+        start
         (Ok tt)
     counts so = (
       nothing,
@@ -122,12 +124,14 @@ module _ {C : Type 0} (device : C → Device) (ports : List ℕ) (old : Serving 
     )
 
     pub not_yet : (idle + 1) % from ≢ 0
-        → ComesTo (at (idle + 1) tried (idles device ports old)) traffic traffic lines lines start
+        → ComesTo (at (idle + 1) tried (idles device addresses old)) traffic traffic lines lines
+        start
         (Ok tt)
     not_yet e = counts (not_its_turn e)
 
     pub none_to_propose : (idle + 1) % from ≡ 0 → None ≡ next_waiting start.book.records tried
-        → ComesTo (at (idle + 1) tried (idles device ports old)) traffic traffic lines lines start
+        → ComesTo (at (idle + 1) tried (idles device addresses old)) traffic traffic lines lines
+        start
         (Ok tt)
     none_to_propose e is =
         counts (its_turn e nothing (one_more_idle old) (none_waits is))
@@ -135,7 +139,8 @@ module _ {C : Type 0} (device : C → Device) (ports : List ℕ) (old : Serving 
     pub no_slot : (idle + 1) % from ≡ 0 → (place : ℕ)
         → Some place ≡ next_waiting start.book.records tried
         → None ≡ slot_at (deposits_of start.book.records) place
-        → ComesTo (at (idle + 1) tried (idles device ports old)) traffic traffic lines lines start
+        → ComesTo (at (idle + 1) tried (idles device addresses old)) traffic traffic lines lines
+        start
         (Ok tt)
     no_slot e place is none =
         counts (its_turn e nothing (one_more_idle old)
@@ -148,8 +153,9 @@ module _ {C : Type 0} (device : C → Device) (ports : List ℕ) (old : Serving 
     abbrev pub tried_now : Serving C
     tried_now = tries (one_more_idle old) place
 
-    idles_so : (done : Done) (next : Serving C) → proposing device ports tried_now slot done next
-        → at (idle + 1) (place + 1) (idles device ports old) done next
+    idles_so : (done : Done) (next : Serving C) → proposing device addresses tried_now slot done
+        next
+        → at (idle + 1) (place + 1) (idles device addresses old) done next
     idles_so done next (result, called, refuses, done_is) = (
       its_turn e done next
           (proposes_at place (Some slot) is slot_there done next
@@ -161,23 +167,24 @@ module _ {C : Type 0} (device : C → Device) (ports : List ℕ) (old : Serving 
     pub proposal_comes : (a b : Option (List Move)) (before after : List Line) (site : OpenSite C)
         → (r : Result (Unit {0}) ServeFault)
         → ((s : Serving C) → s.site ≡ start → IsServing s
-        → ComesTo (proposing device ports s slot) a b before after site r)
-        → ComesTo (at (idle + 1) (place + 1) (idles device ports old)) a b before after site r
+        → ComesTo (proposing device addresses s slot) a b before after site r)
+        → ComesTo (at (idle + 1) (place + 1) (idles device addresses old)) a b before after site r
     proposal_comes a b before after site r came =
-        comes_through (proposing device ports tried_now slot)
-        (at (idle + 1) (place + 1) (idles device ports old)) idles_so a b before after site r
+        comes_through (proposing device addresses tried_now slot)
+        (at (idle + 1) (place + 1) (idles device addresses old)) idles_so a b before after site r
         (came tried_now stands.there stands.serves)
 
     -- memory ran out before the call
     pub no_memory : (a : Option (List Move)) (lines : List Line)
         → (r : Result (Unit {0}) ServeFault) → IsErrAnd r (λ f. f ≡ faults.Memory)
-        → ComesTo (at (idle + 1) (place + 1) (idles device ports old)) a a lines lines start r
+        → ComesTo (at (idle + 1) (place + 1) (idles device addresses old)) a a lines lines start r
     no_memory a lines r failed =
         let call = could_propose device tried_now slot stands.serves in
         let done : Done = record {
-          posts = posts_of ports call.0;
+          posts = posts_of addresses call.0;
           notices = proposal_notices (number tried_now) (Proposes slot) call.0;
         } in
-        broken_off (at (idle + 1) (place + 1) (idles device ports old)) a a lines lines start done
+        broken_off (at (idle + 1) (place + 1) (idles device addresses old)) a a lines lines start
+        done
         tried_now (idles_so done tried_now (call.0, call.1, call.2, refl)) stands.there
         (no_part a (all_handed done.posts)) r failed

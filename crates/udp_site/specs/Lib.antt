@@ -12,5 +12,6 @@ pub mod Pace
 pub mod Signs
 pub mod Recoveries
 pub mod Seals
+pub mod Origins
 pub mod UdpPorts
 pub mod inner

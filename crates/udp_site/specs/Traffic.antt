@@ -6,18 +6,18 @@ use Rattle.udp_site.specs.declared.port_fault.PortFault.TheVariants as faults
 use Rattle.udp_site.specs.declared.turn.Turn.{Turn}
 use Rattle.udp_site.specs.declared.turn.Turn.TheVariants as turns
 
--- a datagram for a port: the port's number, and the bytes
+-- a datagram for an address, which is a number (Rattle.addresses.specs.Addresses), and its bytes
 abbrev pub Post : Type 0
 Post = ℕ × List ℕ
 
--- what one turn of waiting brings: nothing, or a datagram from a port
+-- what one turn of waiting brings: nothing, or a datagram from an address
 pub data Taken : Type 0 where
   Nothing : Taken
-  From : (port : ℕ) → List ℕ → Taken
+  From : (address : ℕ) → List ℕ → Taken
 
 abbrev pub taken : Turn → Taken
 taken turns.Idle = Nothing
-taken (turns.Got port bytes) = From port bytes.items
+taken (turns.Got from bytes) = From from bytes.items
 
 -- a port took this in, a receive at it failed, or this was handed to it
 pub data Move : Type 0 where

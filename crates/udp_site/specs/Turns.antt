@@ -68,24 +68,24 @@ IsServing s = s.site.book.needs_opening ≡ false → Represents s.site s.volati
 
 -- ---- what it hands out
 
--- a datagram for a site goes to that site's port: that of site 1 is first. A site without a port
--- gets none.
-abbrev pub posts_to : (ports : List ℕ) → (site : ℕ) → List ℕ → List Post
-posts_to ports site bytes =
-    map (λ port. (port, bytes)) (option_to_list (slice_get ports (site - 1)))
+-- a datagram for a site goes to that site's address: that of site 1 is first. A site without an
+-- address gets none.
+abbrev pub posts_to : (addresses : List ℕ) → (site : ℕ) → List ℕ → List Post
+posts_to addresses site bytes =
+    map (λ address. (address, bytes)) (option_to_list (slice_get addresses (site - 1)))
 
-abbrev pub outgoing_posts : (ports : List ℕ) → Outgoing → List Post
-outgoing_posts ports sealed = posts_to ports sealed.to sealed.bytes.items
+abbrev pub outgoing_posts : (addresses : List ℕ) → Outgoing → List Post
+outgoing_posts addresses sealed = posts_to addresses sealed.to sealed.bytes.items
 
 -- the datagrams of an answer, in order; a refusal has none
-abbrev pub posts_of : (ports : List ℕ) → Result Answer SiteFault → List Post
-posts_of ports (Ok answer) = flat_map (outgoing_posts ports) answer.sends.items
-posts_of ports (Err fault) = []
+abbrev pub posts_of : (addresses : List ℕ) → Result Answer SiteFault → List Post
+posts_of addresses (Ok answer) = flat_map (outgoing_posts addresses) answer.sends.items
+posts_of addresses (Err fault) = []
 
 -- what the site tells a client
-abbrev pub replies_to : (federation port : ℕ) → SlotName → Body → List Post
-replies_to federation port slot body =
-    (port, datagram_of federation (record { slot = slot; body = body })) ∷ []
+abbrev pub replies_to : (federation client : ℕ) → SlotName → Body → List Post
+replies_to federation client slot body =
+    (client, datagram_of federation (record { slot = slot; body = body })) ∷ []
 
 -- ---- what it says
 
@@ -151,39 +151,39 @@ drops old done new =
 
 -- a site's message arrives
 abbrev pub hears : {C : Type 0} → (C → Device) → List ℕ → Serving C → Message → Coming C
-hears device ports old message done new =
+hears device addresses old message done new =
     (result : Result Answer SiteFault)
     × IsCalled device old (calls.Arrives (Some message)) result new
     × (done ≡ record {
-      posts = posts_of ports result;
+      posts = posts_of addresses result;
       notices = notices_of (number old) (calls.Arrives (Some message)) result;
     })
 
 -- the reply to a deposit
 abbrev pub deposit_replies :
-    (federation site port : ℕ) → SlotName → Option DepositAnswer → List Post
-deposit_replies federation site port slot None = []
-deposit_replies federation site port slot (Some answer) =
-    replies_to federation port slot (bodies.DepositReply site answer)
+    (federation site client : ℕ) → SlotName → Option DepositAnswer → List Post
+deposit_replies federation site client slot None = []
+deposit_replies federation site client slot (Some answer) =
+    replies_to federation client slot (bodies.DepositReply site answer)
 
 -- A folder that couldn't be read has a reply, and no line. The tree of one that was read is
 -- deposited.
 abbrev pub takes_tree :
-    {C : Type 0} → (C → Device) → Serving C → (port : ℕ) → SlotName → Result TreeFacts TreeFault
+    {C : Type 0} → (C → Device) → Serving C → (client : ℕ) → SlotName → Result TreeFacts TreeFault
     → Coming C
-takes_tree device old port slot (Err fault) done new =
+takes_tree device old client slot (Err fault) done new =
     (done ≡ record {
       posts =
-          deposit_replies (members old).federation (number old) port slot (tree_answer fault);
+          deposit_replies (members old).federation (number old) client slot (tree_answer fault);
       notices = [];
     })
     × (new ≡ old)
-takes_tree device old port slot (Ok facts) done new =
+takes_tree device old client slot (Ok facts) done new =
     (result : Result Answer SiteFault)
     × IsCalled device old (calls.Deposits slot (check_of facts)) result new
     × (done ≡ record {
       posts =
-          deposit_replies (members old).federation (number old) port slot
+          deposit_replies (members old).federation (number old) client slot
           (deposit_answer result);
       notices = notices_of (number old) (calls.Deposits slot (check_of facts)) result;
     })
@@ -192,21 +192,21 @@ takes_tree device old port slot (Ok facts) done new =
 -- memory ran out.
 abbrev pub deposits :
     {C : Type 0} → (C → Device) → Option (List ℕ → Result TreeFacts TreeFault) → Serving C
-    → (port : ℕ) → SlotName → (path : List ℕ) → Coming C
-deposits device gives old port slot path done new =
+    → (client : ℕ) → SlotName → (path : List ℕ) → Coming C
+deposits device gives old client slot path done new =
     (read : Result TreeFacts TreeFault)
     × IfSome gives (λ answer. IsOrMemory read (answer path))
-    × takes_tree device old port slot read done new
+    × takes_tree device old client slot read done new
 
 -- Of these members each is asked, in order; or, where memory ran out, that one isn't, and a line
 -- says so.
 abbrev pub Asks : {C : Type 0} → List ℕ → Serving C → SlotName → (others : List ℕ) → Done → Type 0
-Asks ports s slot [] done = done ≡ record { posts = []; notices = [] }
-Asks ports s slot (member ∷ others) done =
-    (rest : Done) × Asks ports s slot others rest
+Asks addresses s slot [] done = done ≡ record { posts = []; notices = [] }
+Asks addresses s slot (member ∷ others) done =
+    (rest : Done) × Asks addresses s slot others rest
     × ((done ≡ record {
       posts =
-          posts_to ports member
+          posts_to addresses member
           (datagram_of (members s).federation
           (record { slot = slot; body = bodies.Ask (number s) }))
           ++ rest.posts;
@@ -235,17 +235,17 @@ answer_to s slot =
 
 -- the reply to a query
 abbrev pub query_replies :
-    (federation site port : ℕ) → SlotName → Result (Reply BagId) SiteFault → List Post
-query_replies federation site port slot known =
-    replies_to federation port slot (bodies.QueryReply site (query_answer known))
+    (federation site client : ℕ) → SlotName → Result (Reply BagId) SiteFault → List Post
+query_replies federation site client slot known =
+    replies_to federation client slot (bodies.QueryReply site (query_answer known))
 
 -- a client asks for a slot's bag: the reply goes before the questions to the other members
-abbrev pub queries : {C : Type 0} → List ℕ → Serving C → (port : ℕ) → SlotName → Coming C
-queries ports old port slot done new =
-    (asks : Done) × Asks ports old slot (asked old (answer_to old slot)) asks
+abbrev pub queries : {C : Type 0} → List ℕ → Serving C → (client : ℕ) → SlotName → Coming C
+queries addresses old client slot done new =
+    (asks : Done) × Asks addresses old slot (asked old (answer_to old slot)) asks
     × (done ≡ record {
       posts =
-          query_replies (members old).federation (number old) port slot (answer_to old slot)
+          query_replies (members old).federation (number old) client slot (answer_to old slot)
           ++ asks.posts;
       notices = reply_notice (number old) slot (answer_to old slot) ∷ asks.notices;
     })
@@ -262,17 +262,17 @@ Refuses old input result =
 abbrev pub begins_ballot :
     {C : Type 0} → (C → Device) → List ℕ → Serving C → Input
     → (Result Answer SiteFault → List Notice) → Coming C
-begins_ballot device ports old input says done new =
+begins_ballot device addresses old input says done new =
     (result : Result Answer SiteFault)
     × IsCalled device old input result new
     × Refuses old input result
-    × (done ≡ record { posts = posts_of ports result; notices = says result })
+    × (done ≡ record { posts = posts_of addresses result; notices = says result })
 
 -- a client has the site recover the slot, which has no reply
 abbrev pub recovering :
     {C : Type 0} → (C → Device) → List ℕ → Serving C → SlotName → Coming C
-recovering device ports old slot =
-    begins_ballot device ports old (calls.Recovers slot)
+recovering device addresses old slot =
+    begins_ballot device addresses old (calls.Recovers slot)
     (recovery_notices (number old) (calls.Recovers slot))
 
 -- an idle turn more
@@ -286,16 +286,16 @@ tries s place = record s { tried = place + 1 }
 -- it proposes the slot's deposit
 abbrev pub proposing :
     {C : Type 0} → (C → Device) → List ℕ → Serving C → SlotName → Coming C
-proposing device ports old slot =
-    begins_ballot device ports old (calls.Proposes slot)
+proposing device addresses old slot =
+    begins_ballot device addresses old (calls.Proposes slot)
     (proposal_notices (number old) (calls.Proposes slot))
 
 -- it proposes the deposit at this place, if there is one
 abbrev pub proposes :
     {C : Type 0} → (C → Device) → List ℕ → Serving C → Option ℕ → Option SlotName → Coming C
-proposes device ports old (Some place) (Some slot) done new =
-    proposing device ports (tries old place) slot done new
-proposes device ports old place slot done new =
+proposes device addresses old (Some place) (Some slot) done new =
+    proposing device addresses (tries old place) slot done new
+proposes device addresses old place slot done new =
     (done ≡ record { posts = []; notices = [] }) × (new ≡ old)
 
 -- the slot of the deposit at this place, if there is a place
@@ -305,35 +305,36 @@ slot_of records (Some place) = slot_at (deposits_of records) place
 
 -- the site's turn to propose: the next of its deposits without a known bag
 abbrev pub proposes_next : {C : Type 0} → (C → Device) → List ℕ → Serving C → Coming C
-proposes_next device ports s =
-    proposes device ports s (next_waiting s.site.book.records s.tried)
+proposes_next device addresses s =
+    proposes device addresses s (next_waiting s.site.book.records s.tried)
     (slot_of s.site.book.records (next_waiting s.site.book.records s.tried))
 
 -- where it is its turn it proposes
 abbrev pub idles_if : {C : Type 0} → Bool → (C → Device) → List ℕ → Serving C → Coming C
-idles_if true device ports s done new = proposes_next device ports s done new
-idles_if false device ports s done new = (done ≡ record { posts = []; notices = [] }) × (new ≡ s)
+idles_if true device addresses s done new = proposes_next device addresses s done new
+idles_if false device addresses s done new = (done ≡ record { posts = []; notices = [] }) × (new ≡
+    s)
 
 -- nothing came: it is its turn where the count of such turns is a multiple of its number
 abbrev pub idles : {C : Type 0} → (C → Device) → List ℕ → Serving C → Coming C
-idles device ports old =
-    idles_if ((old.idle + 1) % number old == 0) device ports (one_more_idle old)
+idles device addresses old =
+    idles_if ((old.idle + 1) % number old == 0) device addresses (one_more_idle old)
 
 -- what comes of a request
 abbrev pub comes_of :
     {C : Type 0} → (C → Device) → List ℕ → Option (List ℕ → Result TreeFacts TreeFault)
     → Serving C → Request → Coming C
-comes_of device ports gives old Waits = idles device ports old
-comes_of device ports gives old (Says message) = hears device ports old message
-comes_of device ports gives old (Deposits port slot path) =
-    deposits device gives old port slot path
-comes_of device ports gives old (Queries port slot) = queries ports old port slot
-comes_of device ports gives old (Recovers slot) = recovering device ports old slot
-comes_of device ports gives old Noise = drops old
+comes_of device addresses gives old Waits = idles device addresses old
+comes_of device addresses gives old (Says message) = hears device addresses old message
+comes_of device addresses gives old (Deposits client slot path) =
+    deposits device gives old client slot path
+comes_of device addresses gives old (Queries client slot) = queries addresses old client slot
+comes_of device addresses gives old (Recovers slot) = recovering device addresses old slot
+comes_of device addresses gives old Noise = drops old
 
 -- what comes of a turn
 abbrev pub turn_of :
     {C : Type 0} → (C → Device) → List ℕ → Option (List ℕ → Result TreeFacts TreeFault)
     → Serving C → Taken → Coming C
-turn_of device ports gives old taken =
-    comes_of device ports gives old (request_of (members old).federation taken)
+turn_of device addresses gives old taken =
+    comes_of device addresses gives old (request_of (members old).federation taken)

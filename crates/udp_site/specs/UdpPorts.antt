@@ -11,9 +11,9 @@ use Rattle.udp_site.specs.inner.Paced.{TurnIsPaced}
 abbrev pub failures_of : {R : Type 0} → UdpPort R → ℕ
 failures_of port = port.failures
 
--- its own number
-abbrev pub number_of : {R : Type 0} → UdpPort R → ℕ
-number_of port = port.number
+-- its own address
+abbrev pub own_of : {R : Type 0} → UdpPort R → ℕ
+own_of port = port.own
 
 -- how long it waits
 abbrev pub pace_of : {R : Type 0} → UdpPort R → Pace
@@ -26,7 +26,7 @@ recoveries_of port = port.socket.recoveries
 -- a receive changes its pace as the definitions say, and hands no Recover on too early
 abbrev pub IsPaced : {R : Type 0} → (old new : UdpPort R) → Result Turn PortFault → Type 0
 IsPaced old new (Ok turn) =
-    TurnIsPaced old.federation old.number (pace_of old) (pace_of new) (recoveries_of old)
+    TurnIsPaced old.federation old.own (pace_of old) (pace_of new) (recoveries_of old)
     (recoveries_of new) turn
 IsPaced old new (Err fault) =
     (pace_of new ≡ pace_of old) × (recoveries_of new ≡ recoveries_of old)

@@ -11,6 +11,7 @@ use crate::replies::{deposit_answer, tree_answer};
 use crate::said_lines::push_deposit;
 use crate::sends::reply;
 use crate::server::Server;
+use addresses::Address;
 use bag_folders::Folders;
 use bag_tree::{Facts, TreeFault};
 use cell_device::Cell;
@@ -23,7 +24,7 @@ impl<C: Cell, P: Port, F: Folders> Server<'_, '_, '_, '_, '_, C, P, F> {
     /// A client asks to deposit the folder of this path. It is read first.
     pub(crate) fn handle_deposit(
         &mut self,
-        client: u16,
+        client: Address,
         slot: Slot,
         path: &FolderPath,
     ) -> Result<(), ServeFault>
@@ -39,7 +40,7 @@ impl<C: Cell, P: Port, F: Folders> Server<'_, '_, '_, '_, '_, C, P, F> {
     }
 
     // A folder was read: its tree is deposited, and the client gets a reply.
-    fn deposit_tree(&mut self, client: u16, slot: Slot, facts: &Facts) -> Result<(), ServeFault>
+    fn deposit_tree(&mut self, client: Address, slot: Slot, facts: &Facts) -> Result<(), ServeFault>
         ensures comes { Comes P.traffic (λ s. takes_tree C.device s client slot (Ok facts.now))
             self.old self.new result }
         ensures stays { Stays P.failures F.gives self.old self.new }
@@ -57,7 +58,7 @@ impl<C: Cell, P: Port, F: Folders> Server<'_, '_, '_, '_, '_, C, P, F> {
     // A folder couldn't be read: the client gets a reply.
     fn refuse_deposit(
         &mut self,
-        client: u16,
+        client: Address,
         slot: Slot,
         fault: TreeFault,
     ) -> Result<(), ServeFault>
@@ -88,7 +89,7 @@ fn reply_to_deposit<P: Port>(
     port: &mut P,
     federation: u64,
     from: SiteNo,
-    client: u16,
+    client: Address,
     slot: Slot,
     said: Option<DepositAnswer>,
 ) -> Result<Slot, ServeFault>

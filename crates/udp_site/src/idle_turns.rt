@@ -35,7 +35,7 @@ impl<C: Cell, P: Port, F: Folders> Server<'_, '_, '_, '_, '_, C, P, F> {
     /// the next of its deposits without a known bag.
     pub(crate) fn idle(&mut self) -> Result<(), ServeFault>
         requires { self.old.progress.idle < 4294967295 }
-        ensures turn { ComesOfTurn P.traffic (idles C.device self.old.ports.now)
+        ensures turn { ComesOfTurn P.traffic (idles C.device self.old.addresses.now)
             self.old self.new result }
         ensures keeps { Keeps P.failures F.gives self.old self.new }
     {
@@ -57,13 +57,13 @@ impl<C: Cell, P: Port, F: Folders> Server<'_, '_, '_, '_, '_, C, P, F> {
 
     // Proposes the slot's deposit.
     fn propose(&mut self, slot: &Slot) -> Result<(), ServeFault>
-        ensures comes { Comes P.traffic (λ s. proposing C.device self.old.ports.now s slot.now)
+        ensures comes { Comes P.traffic (λ s. proposing C.device self.old.addresses.now s slot.now)
             self.old self.new result }
         ensures stays { Stays P.failures F.gives self.old self.new }
     {
         let number = self.site.number().number();
         let answer = self.site.propose(slot);
-        send_answer(self.port, self.ports, &answer)?;
+        send_answer(self.port, self.addresses, &answer)?;
         push_proposal(self.lines, number, answer)?;
         Ok(())
     }

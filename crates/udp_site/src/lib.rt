@@ -2,7 +2,10 @@
 //! is handed out.
 //!
 //! ```
-//! found(keys, UdpPort::bind_site(rt, members, site, number, waits))
+//! found(
+//!     keys,
+//!     UdpPort::bind_site(rt, members, site, at, origins, waits),
+//! )
 //! ```
 #![tactic(auto)]
 
@@ -12,6 +15,7 @@ mod fault;
 mod idle_turns;
 mod memory_port;
 mod messages;
+mod origins;
 mod pace;
 mod paced_socket;
 mod port;
@@ -36,6 +40,7 @@ mod waits;
 
 pub use fault::ServeFault;
 pub use memory_port::MemoryPort;
+pub use origins::Origins;
 pub use port::Port;
 pub use port_fault::PortFault;
 pub use port_move::PortMove;

@@ -2,6 +2,7 @@ use crate::port::Port;
 use crate::port_fault::PortFault;
 use crate::port_move::PortMove;
 use crate::turn::Turn;
+use addresses::Address;
 use std::alloc::{AllocError, Global};
 use std::collections::VecDeque;
 
@@ -9,8 +10,8 @@ use std::collections::VecDeque;
 #[derive(Drop)]
 enum Arrival {
     Idle,
-    /// A datagram, from this port.
-    Got(u16, Vec<u8>),
+    /// A datagram, from this address.
+    Got(Address, Vec<u8>),
     /// The receive fails.
     Failure,
 }
@@ -52,8 +53,8 @@ impl MemoryPort {
         }
     }
 
-    /// After all that is to come, a datagram comes from this port.
-    pub fn bring(&mut self, from: u16, bytes: &[u8]) -> Result<(), AllocError>
+    /// After all that is to come, a datagram comes from this address.
+    pub fn bring(&mut self, from: Address, bytes: &[u8]) -> Result<(), AllocError>
         ensures { WillBring self.old self.new (Some (From from bytes.now)) result }
     {
         let bytes = bytes.to_vec(self.alloc)?;
@@ -174,7 +175,7 @@ impl Port for MemoryPort {
         }
     }
 
-    fn send(&mut self, to: u16, bytes: &[u8]) -> Result<(), PortFault>
+    fn send(&mut self, to: Address, bytes: &[u8]) -> Result<(), PortFault>
         ensures handed { IsHanded (Some (traffic_of self.old)) (Some (traffic_of self.new))
             (to, bytes.now) result }
         ensures cause { HasCause Device (failures_of self.old) (failures_of self.new) result }

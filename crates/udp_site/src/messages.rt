@@ -15,13 +15,13 @@ use dgram::Message;
 impl<C: Cell, P: Port, F: Folders> Server<'_, '_, '_, '_, '_, C, P, F> {
     /// A site's message arrives.
     pub(crate) fn handle_message(&mut self, message: Message) -> Result<(), ServeFault>
-        ensures comes { Comes P.traffic (λ s. hears C.device self.old.ports.now s message)
+        ensures comes { Comes P.traffic (λ s. hears C.device self.old.addresses.now s message)
             self.old self.new result }
         ensures stays { Stays P.failures F.gives self.old self.new }
     {
         let number = self.site.number().number();
         let answer = self.site.arrive_message(message);
-        send_answer(self.port, self.ports, &answer)?;
+        send_answer(self.port, self.addresses, &answer)?;
         push_arrival(self.lines, number, answer)?;
         Ok(())
     }

@@ -10,6 +10,7 @@ ghost use Rattle.udp_site.specs.Signs.{signal_at};
 use crate::contacts::Contacts;
 use crate::sign::{Sign, Signal, is_accept, is_pending, is_prepare, is_registered, is_vote};
 use crate::waits::Waits;
+use addresses::Address;
 use fed_types::SiteNo;
 
 /// How many of its first waits a port lets pass between two idle turns, where no turn is idle by
@@ -101,7 +102,7 @@ impl Pace {
     /// Whether what came from this port may change anything. While a proposal is under way all may.
     /// Of what a site says to itself a vote may; what others say may while a wait has grown, or too
     /// few sites were heard.
-    pub(crate) fn heeds(&self, now: u64, own: u16, from: u16, bytes: &[u8]) -> bool
+    pub(crate) fn heeds(&self, now: u64, own: Address, from: Address, bytes: &[u8]) -> bool
         ensures { result ≡ false → (federation : ℕ)
             → takes self.now now (signal_at own from (message_of federation bytes.now))
             ≡ self.now }
@@ -177,7 +178,7 @@ impl Pace {
     }
 
     /// A datagram is handed out for a port.
-    pub(crate) fn hands(&mut self, own: u16, to: u16, bytes: &[u8])
+    pub(crate) fn hands(&mut self, own: Address, to: Address, bytes: &[u8])
         ensures { self.new ≡ hands self.old own to bytes.now }
     {
         if is_prepare(bytes) && own == to {

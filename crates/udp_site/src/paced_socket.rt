@@ -8,17 +8,19 @@ ghost use Rattle.udp_site.specs.Signs.{signal_at};
 ghost use Rattle.udp_site.specs.inner.Paced.{Waited, IsTaken, EndsWait};
 
 use crate::contacts::Contacts;
+use crate::origins::Origins;
 use crate::pace::Pace;
 use crate::receive_buffer::{ask_for_buffer, buffer_of};
 use crate::recoveries::Recoveries;
 use crate::seals::handed_on;
 use crate::sign::Signal;
 use crate::waits::Waits;
+use addresses::Address;
 use libc::net::{POLLIN, poll};
 use libc::types::pollfd;
 use std::alloc::Global;
 use std::io::{self, ErrorKind};
-use std::net::{IpAddr, Ipv4Addr, Net, SocketAddr, UdpSocket};
+use std::net::{Net, UdpSocket};
 use std::os::fd::AsRawFd;
 use std::time::{Clock, Instant};
 use tags::KeyRing;
@@ -26,13 +28,14 @@ use tags::KeyRing;
 /// How often a call of the system is made for one datagram that is sent.
 const MOST_TRIES: u32 = 100;
 
-/// A socket on 127.0.0.1, with the clock and the pace of its waits.
+/// A socket, with the clock and the pace of its waits.
 #[derive(Drop)]
 pub(crate) struct PacedSocket<R: Clock + Drop> {
     clock: R,
     /// The moment 0 of the pace.
     made: Instant,
     socket: UdpSocket,
+    origins: Origins,
     /// With keys a datagram has a tag between sockets, and none on either side of them.
     keys: Option<KeyRing>,
     pace: Pace,
@@ -42,8 +45,8 @@ pub(crate) struct PacedSocket<R: Clock + Drop> {
 /// A datagram that was taken.
 #[derive(Clone, Copy)]
 pub(crate) struct Arrival {
-    /// The port from which it came.
-    pub(crate) from: u16,
+    /// The address from which it came.
+    pub(crate) from: Address,
     /// How many bytes of it are in the buffer.
     pub(crate) count: usize,
     /// When it was taken.
@@ -60,11 +63,12 @@ pub(crate) enum End {
 }
 
 impl<R: Clock + Drop> PacedSocket<R> {
-    /// A socket at this port, or at a free one where it is 0. A first wait of 0 is refused. That of
-    /// a site, which has contacts, asks for a larger buffer than others.
+    /// A socket at this address, or at a free port where its port is 0. A first wait of 0 is
+    /// refused. That of a site, which has contacts, asks for a larger buffer than others.
     pub(crate) fn bind(
         net: &R,
-        port: u16,
+        at: Address,
+        origins: Origins,
         waits: Waits,
         contacts: Option<Contacts>,
     ) -> io::Result<PacedSocket<R>>
@@ -76,7 +80,7 @@ impl<R: Clock + Drop> PacedSocket<R> {
         if waits.first == 0 {
             return Err(ErrorKind::InvalidInput.into());
         }
-        let socket = UdpSocket::bind(net, at(port))?;
+        let socket = UdpSocket::bind(net, at.to_socket())?;
         // Only `poll` waits: a socket's own timeout is rounded up to the kernel's tick.
         socket.set_nonblocking(true)?;
         if contacts.is_some() {
@@ -86,6 +90,7 @@ impl<R: Clock + Drop> PacedSocket<R> {
             clock: *net,
             made: Instant::now(net)?,
             socket,
+            origins,
             keys: None,
             pace: Pace::new(waits, contacts),
             recoveries: Recoveries::new(),
@@ -108,9 +113,9 @@ impl<R: Clock + Drop> PacedSocket<R> {
         }
     }
 
-    /// The number of its port.
-    pub(crate) fn number(&self) -> io::Result<u16> {
-        Ok(self.socket.local_addr()?.port())
+    /// Its address.
+    pub(crate) fn address(&self) -> io::Result<Address> {
+        Ok(Address::of_socket(self.socket.local_addr()?))
     }
 
     /// How many bytes of what has come it keeps, if the system says so.
@@ -149,7 +154,7 @@ impl<R: Clock + Drop> PacedSocket<R> {
             if left == 0 {
                 return Ok(End::Idle { began, now });
             }
-            if let Some((from, count)) = taken_within(&self.socket, &self.keys, left, buffer)? {
+            if let Some((from, count)) = self.taken_within(left, buffer)? {
                 if !self.is_early(now, &buffer[..count]) {
                     return Ok(End::Taken(Arrival { from, count, now }));
                 }
@@ -174,7 +179,7 @@ impl<R: Clock + Drop> PacedSocket<R> {
     }
 
     /// Whether what was taken may change its pace.
-    pub(crate) fn heeds(&self, now: u64, own: u16, from: u16, bytes: &[u8]) -> bool
+    pub(crate) fn heeds(&self, now: u64, own: Address, from: Address, bytes: &[u8]) -> bool
         ensures { result ≡ false → (federation : ℕ)
             → takes self.now.pace now (signal_at own from (message_of federation bytes.now))
             ≡ self.now.pace }
@@ -190,30 +195,30 @@ impl<R: Clock + Drop> PacedSocket<R> {
         self.pace.takes(now, signal);
     }
 
-    /// A datagram is handed out for a port.
-    pub(crate) fn hands(&mut self, own: u16, to: u16, bytes: &[u8])
+    /// A datagram is handed out for an address.
+    pub(crate) fn hands(&mut self, own: Address, to: Address, bytes: &[u8])
         ensures pace { self.new.pace ≡ hands self.old.pace own to bytes.now }
         ensures recoveries { self.new.recoveries ≡ self.old.recoveries }
     {
         self.pace.hands(own, to, bytes);
     }
 
-    /// Sends a datagram to this port, with its tag where there are keys. One for which there is no
+    /// Sends a datagram to this address, with its tag where there are keys. One for which there is no
     /// key is refused.
-    pub(crate) fn send_to(&self, alloc: Global, port: u16, bytes: &[u8]) -> io::Result<()> {
+    pub(crate) fn send_to(&self, alloc: Global, to: Address, bytes: &[u8]) -> io::Result<()> {
         let Some(keys) = &self.keys else {
-            return self.send_bytes(port, bytes);
+            return self.send_bytes(to, bytes);
         };
         match keys.sealed(alloc, bytes)? {
-            Some(sealed) => self.send_bytes(port, &sealed),
+            Some(sealed) => self.send_bytes(to, &sealed),
             None => Err(ErrorKind::InvalidInput.into()),
         }
     }
 
-    // Sends these bytes to this port.
-    fn send_bytes(&self, port: u16, bytes: &[u8]) -> io::Result<()> {
+    // Sends these bytes to this address.
+    fn send_bytes(&self, to: Address, bytes: &[u8]) -> io::Result<()> {
         for _ in 0..MOST_TRIES {
-            match self.socket.send_to(bytes, at(port)) {
+            match self.socket.send_to(bytes, to.to_socket()) {
                 Ok(_) => return Ok(()),
                 Err(error) => match error.kind() {
                     // The second is of a datagram that was sent earlier.
@@ -225,51 +230,43 @@ impl<R: Clock + Drop> PacedSocket<R> {
         Err(ErrorKind::Interrupted.into())
     }
 
+    // Takes a datagram that is there. Where none is, it waits for so many microseconds at most until
+    // one may be. One from where none is taken is passed over.
+    fn taken_within(&self, micros: u64, buffer: &mut [u8]) -> io::Result<Option<(Address, usize)>>
+        ensures { IfOk result (λ got. IfSome got (λ g. g.1 ≤ length buffer.new)) }
+    {
+        match self.taken(buffer) {
+            Ok(taken) => Ok(taken),
+            Err(error) => match error.kind() {
+                ErrorKind::WouldBlock => {
+                    wait(&self.socket, micros)?;
+                    Ok(None)
+                }
+                // The second is of a datagram that was sent earlier.
+                ErrorKind::Interrupted | ErrorKind::ConnectionRefused => Ok(None),
+                _ => Err(error),
+            },
+        }
+    }
+
+    // Takes a datagram, if it comes from where one is taken: with keys what is before its tag. There
+    // are no bytes of it where the tag isn't right, nor where it doesn't count.
+    fn taken(&self, buffer: &mut [u8]) -> io::Result<Option<(Address, usize)>>
+        ensures { IfOk result (λ got. IfSome got (λ g. g.1 ≤ length buffer.new)) }
+    {
+        let (count, from) = self.socket.recv_from(buffer)?;
+        let from = Address::of_socket(from);
+        if self.origins.pass_over(from) {
+            return Ok(None);
+        }
+        let opened = handed_on(&self.keys, &buffer[..count]);
+        Ok(Some((from, self.origins.counted(from, &buffer[..opened]))))
+    }
+
     // The moment that it is.
     fn moment(&self) -> io::Result<u64> {
         let micros = self.made.elapsed(&self.clock)?.as_micros();
         Ok(u64::try_from(micros).unwrap_or(u64::MAX))
-    }
-}
-
-/// Takes a datagram that is there. Where none is, it waits for so many microseconds at most until
-/// one may be. One from another address is passed over.
-fn taken_within(
-    socket: &UdpSocket,
-    keys: &Option<KeyRing>,
-    micros: u64,
-    buffer: &mut [u8],
-) -> io::Result<Option<(u16, usize)>>
-    ensures { IfOk result (λ got. IfSome got (λ g. g.1 ≤ length buffer.new)) }
-{
-    match taken(socket, keys, buffer) {
-        Ok(taken) => Ok(taken),
-        Err(error) => match error.kind() {
-            ErrorKind::WouldBlock => {
-                wait(socket, micros)?;
-                Ok(None)
-            }
-            // The second is of a datagram that was sent earlier.
-            ErrorKind::Interrupted | ErrorKind::ConnectionRefused => Ok(None),
-            _ => Err(error),
-        },
-    }
-}
-
-/// Takes a datagram, if it comes from this machine: with keys what is before its tag, or no bytes
-/// where the tag isn't right.
-fn taken(
-    socket: &UdpSocket,
-    keys: &Option<KeyRing>,
-    buffer: &mut [u8],
-) -> io::Result<Option<(u16, usize)>>
-    ensures { IfOk result (λ got. IfSome got (λ g. g.1 ≤ length buffer.new)) }
-{
-    let (count, from) = socket.recv_from(buffer)?;
-    if from.ip() == IpAddr::V4(Ipv4Addr::LOCALHOST) {
-        Ok(Some((from.port(), handed_on(keys, &buffer[..count]))))
-    } else {
-        Ok(None)
     }
 }
 
@@ -289,9 +286,4 @@ fn wait(socket: &UdpSocket, micros: u64) -> io::Result<()> {
         error if error.kind() == ErrorKind::Interrupted => Ok(()),
         error => Err(error),
     }
-}
-
-/// The address of a port.
-fn at(port: u16) -> SocketAddr {
-    SocketAddr::new(IpAddr::V4(Ipv4Addr::LOCALHOST), port)
 }

@@ -5,6 +5,7 @@ ghost use Rattle.udp_site.specs.declared.port_fault.PortFault.TheVariants as fau
 
 use crate::port_fault::PortFault;
 use crate::turn::Turn;
+use addresses::Address;
 
 /// Where datagrams come in and are handed out.
 pub trait Port {
@@ -19,9 +20,9 @@ pub trait Port {
         ensures received { IsReceived (traffic self.old) (traffic self.new) result }
         ensures cause { HasCause faults.Device (failures self.old) (failures self.new) result };
 
-    /// Sends a datagram to a port. `Device`: it counts as handed out, but is lost. `Memory`: it
+    /// Sends a datagram to an address. `Device`: it counts as handed out, but is lost. `Memory`: it
     /// wasn't handed out.
-    fn send(&mut self, to: u16, bytes: &[u8]) -> Result<(), PortFault>
+    fn send(&mut self, to: Address, bytes: &[u8]) -> Result<(), PortFault>
         ensures handed { IsHanded (traffic self.old) (traffic self.new) (to, bytes.now) result }
         ensures cause { HasCause faults.Device (failures self.old) (failures self.new) result };
 }

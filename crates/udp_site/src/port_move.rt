@@ -1,4 +1,5 @@
 use crate::turn::Turn;
+use addresses::Address;
 
 /// What a port did.
 #[derive(Debug, Drop)]
@@ -8,6 +9,6 @@ pub enum PortMove {
     /// It was waited at for one turn, and the receive failed. The count of failures alone can't say
     /// so, since it counts sends that failed too.
     Failed,
-    /// It was handed these bytes for the port of this number.
-    Handed(u16, Vec<u8>),
+    /// It was handed these bytes for this address.
+    Handed(Address, Vec<u8>),
 }

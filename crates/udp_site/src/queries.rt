@@ -12,6 +12,7 @@ use crate::replies::query_answer;
 use crate::said_lines::{push_refused, push_reply};
 use crate::sends::{reply, send_all};
 use crate::server::Server;
+use addresses::Address;
 use bag_folders::Folders;
 use cell_device::Cell;
 use dgram::Body;
@@ -22,8 +23,8 @@ use site::{Reply, Site, SiteFault};
 impl<C: Cell, P: Port, F: Folders> Server<'_, '_, '_, '_, '_, C, P, F> {
     /// A client asks for the slot's bag. Where the site doesn't know it, it asks the other members
     /// after its reply.
-    pub(crate) fn handle_query(&mut self, client: u16, slot: Slot) -> Result<(), ServeFault>
-        ensures comes { Comes P.traffic (λ s. queries self.old.ports.now s client slot)
+    pub(crate) fn handle_query(&mut self, client: Address, slot: Slot) -> Result<(), ServeFault>
+        ensures comes { Comes P.traffic (λ s. queries self.old.addresses.now s client slot)
             self.old self.new result }
         ensures stays { Stays P.failures F.gives self.old self.new }
     {
@@ -34,7 +35,14 @@ impl<C: Cell, P: Port, F: Folders> Server<'_, '_, '_, '_, '_, C, P, F> {
         let body = Body::QueryReply { from, answer };
         let slot = reply(self.alloc, self.port, federation, client, slot, body)?;
         push_reply(self.alloc, self.lines, from.number(), &slot, known)?;
-        ask_unless_known(self.site, self.port, self.ports, self.lines, &slot, known)
+        ask_unless_known(
+            self.site,
+            self.port,
+            self.addresses,
+            self.lines,
+            &slot,
+            known,
+        )
     }
 }
 
@@ -42,14 +50,14 @@ impl<C: Cell, P: Port, F: Folders> Server<'_, '_, '_, '_, '_, C, P, F> {
 fn ask_unless_known<C: Cell, P: Port>(
     site: &Site<C>,
     port: &mut P,
-    ports: &[u16],
+    addresses: &[Address],
     lines: &mut Vec<Line>,
     slot: &Slot,
     known: Result<Reply, SiteFault>,
 ) -> Result<(), ServeFault>
     requires { IsOk known → site.now.book.needs_opening ≡ false }
     ensures comes { (old : Serving C) → old.site ≡ site.now → IsServing old
-        → AsksFor ports.now old slot.now (asked old known) (P.traffic port.old) (P.traffic port.new)
+        → AsksFor addresses.now old slot.now (asked old known) (P.traffic port.old) (P.traffic port.new)
         lines.old.items lines.new.items result }
     ensures later { P.failures port.old ≤ P.failures port.new }
 {
@@ -58,8 +66,8 @@ fn ask_unless_known<C: Cell, P: Port>(
     };
     match reply {
         Reply::Known(_) => Ok(()),
-        Reply::Pending(_) => ask_others(site, port, ports, lines, slot),
-        Reply::Nothing => ask_others(site, port, ports, lines, slot),
+        Reply::Pending(_) => ask_others(site, port, addresses, lines, slot),
+        Reply::Nothing => ask_others(site, port, addresses, lines, slot),
     }
 }
 
@@ -68,18 +76,18 @@ fn ask_unless_known<C: Cell, P: Port>(
 fn ask_others<C: Cell, P: Port>(
     site: &Site<C>,
     port: &mut P,
-    ports: &[u16],
+    addresses: &[Address],
     lines: &mut Vec<Line>,
     slot: &Slot,
 ) -> Result<(), ServeFault>
     requires { site.now.book.needs_opening ≡ false }
     ensures comes { (old : Serving C) → old.site ≡ site.now → IsServing old
-        → AsksFor ports.now old slot.now (others old) (P.traffic port.old) (P.traffic port.new)
+        → AsksFor addresses.now old slot.now (others old) (P.traffic port.old) (P.traffic port.new)
         lines.old.items lines.new.items result }
     ensures later { P.failures port.old ≤ P.failures port.new }
 {
     for member in site.members().sites() {
-        ask_other(site, port, ports, lines, slot, member)?;
+        ask_other(site, port, addresses, lines, slot, member)?;
     }
     Ok(())
 }
@@ -88,14 +96,14 @@ fn ask_others<C: Cell, P: Port>(
 fn ask_other<C: Cell, P: Port>(
     site: &Site<C>,
     port: &mut P,
-    ports: &[u16],
+    addresses: &[Address],
     lines: &mut Vec<Line>,
     slot: &Slot,
     member: SiteNo,
 ) -> Result<(), ServeFault>
     requires { site.now.book.needs_opening ≡ false }
     ensures comes { (old : Serving C) → old.site ≡ site.now → IsServing old
-        → AsksFor ports.now old slot.now (others_of old (member ∷ [])) (P.traffic port.old)
+        → AsksFor addresses.now old slot.now (others_of old (member ∷ [])) (P.traffic port.old)
         (P.traffic port.new) lines.old.items lines.new.items result }
     ensures later { P.failures port.old ≤ P.failures port.new }
 {
@@ -103,7 +111,7 @@ fn ask_other<C: Cell, P: Port>(
         return Ok(());
     }
     match site.ask(slot, member) {
-        Ok(answer) => send_all(port, ports, answer.sends.as_slice()),
+        Ok(answer) => send_all(port, addresses, answer.sends.as_slice()),
         Err(_) => {
             push_refused(lines, site.number().number(), SiteFault::Memory)?;
             Ok(())

@@ -15,13 +15,13 @@ use fed_types::Slot;
 impl<C: Cell, P: Port, F: Folders> Server<'_, '_, '_, '_, '_, C, P, F> {
     /// A client asks the site to recover what may be chosen for the slot. It has no reply.
     pub(crate) fn handle_recover(&mut self, slot: &Slot) -> Result<(), ServeFault>
-        ensures comes { Comes P.traffic (λ s. recovering C.device self.old.ports.now s slot.now)
+        ensures comes { Comes P.traffic (λ s. recovering C.device self.old.addresses.now s slot.now)
             self.old self.new result }
         ensures stays { Stays P.failures F.gives self.old self.new }
     {
         let number = self.site.number().number();
         let answer = self.site.recover(slot);
-        send_answer(self.port, self.ports, &answer)?;
+        send_answer(self.port, self.addresses, &answer)?;
         push_recovery(self.lines, number, answer)?;
         Ok(())
     }

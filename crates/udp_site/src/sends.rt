@@ -8,6 +8,7 @@ ghost use Rattle.udp_site.specs.Turns.{posts_to, posts_of, outgoing_posts, repli
 use crate::fault::ServeFault;
 use crate::port::Port;
 use crate::port_fault::PortFault;
+use addresses::Address;
 use dgram::{Body, LONGEST_DATAGRAM, Message, encode};
 use fed_types::{SiteNo, Slot};
 use site::{Answer, Outgoing, SiteFault};
@@ -16,15 +17,15 @@ use std::alloc::Global;
 /// Hands out the datagrams of an answer, in order. A refusal has none.
 pub(crate) fn send_answer<P: Port>(
     port: &mut P,
-    ports: &[u16],
+    addresses: &[Address],
     answer: &Result<Answer, SiteFault>,
 ) -> Result<(), ServeFault>
     ensures hands { Hands (P.traffic port.old) (P.traffic port.new)
-        (posts_of ports.now answer.now) result }
+        (posts_of addresses.now answer.now) result }
     ensures later { P.failures port.old ≤ P.failures port.new }
 {
     match answer {
-        Ok(Answer { sends, .. }) => send_all(port, ports, sends.as_slice()),
+        Ok(Answer { sends, .. }) => send_all(port, addresses, sends.as_slice()),
         Err(_) => Ok(()),
     }
 }
@@ -32,15 +33,15 @@ pub(crate) fn send_answer<P: Port>(
 /// Hands out datagrams for sites, in order.
 pub(crate) fn send_all<P: Port>(
     port: &mut P,
-    ports: &[u16],
+    addresses: &[Address],
     sends: &[Outgoing],
 ) -> Result<(), ServeFault>
     ensures hands { Hands (P.traffic port.old) (P.traffic port.new)
-        (flat_map (outgoing_posts ports.now) sends.now) result }
+        (flat_map (outgoing_posts addresses.now) sends.now) result }
     ensures later { P.failures port.old ≤ P.failures port.new }
 {
     for sealed in sends {
-        send_to_site(port, ports, sealed.to, &sealed.bytes)?;
+        send_to_site(port, addresses, sealed.to, &sealed.bytes)?;
     }
     Ok(())
 }
@@ -48,15 +49,15 @@ pub(crate) fn send_all<P: Port>(
 /// Hands out a datagram for a site, if it has a port.
 pub(crate) fn send_to_site<P: Port>(
     port: &mut P,
-    ports: &[u16],
+    addresses: &[Address],
     site: SiteNo,
     bytes: &[u8],
 ) -> Result<(), ServeFault>
     ensures hands { Hands (P.traffic port.old) (P.traffic port.new)
-        (posts_to ports.now site bytes.now) result }
+        (posts_to addresses.now site bytes.now) result }
     ensures later { P.failures port.old ≤ P.failures port.new }
 {
-    match ports.get(usize::from(site.number()) - 1) {
+    match addresses.get(usize::from(site.number()) - 1) {
         Some(to) => send(port, *to, bytes),
         None => Ok(()),
     }
@@ -67,7 +68,7 @@ pub(crate) fn reply<P: Port>(
     alloc: Global,
     port: &mut P,
     federation: u64,
-    to: u16,
+    to: Address,
     slot: Slot,
     body: Body,
 ) -> Result<Slot, ServeFault>
@@ -84,7 +85,7 @@ pub(crate) fn reply<P: Port>(
 }
 
 // Hands out a datagram. One that is lost since the port's device failed counts as handed out.
-fn send<P: Port>(port: &mut P, to: u16, bytes: &[u8]) -> Result<(), ServeFault>
+fn send<P: Port>(port: &mut P, to: Address, bytes: &[u8]) -> Result<(), ServeFault>
     ensures hands { Hands (P.traffic port.old) (P.traffic port.new) ((to, bytes.now) ∷ []) result }
     ensures later { P.failures port.old ≤ P.failures port.new }
 {

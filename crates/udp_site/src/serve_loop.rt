@@ -22,6 +22,7 @@ use crate::port::Port;
 use crate::port_fault::PortFault;
 use crate::server::Server;
 use crate::turn::Turn;
+use addresses::Address;
 use bag_folders::Folders;
 use cell_device::Cell;
 use lines::{Line, Options, push_line};
@@ -31,19 +32,19 @@ use std::alloc::{AllocError, Global};
 use std::io::Write;
 
 /// Serves `turns` turns. Each receives once; what came is taken in, its datagrams are handed out,
-/// and its lines are written. `ports` are those of the sites, site 1's first.
+/// and its lines are written. `addresses` are those of the sites, site 1's first.
 pub fn serve<C: Cell, P: Port, F: Folders, W: Write>(
     alloc: Global,
     site: &mut Site<C>,
     port: &mut P,
     folders: &mut F,
-    ports: &[u16],
+    addresses: &[Address],
     turns: u32,
     output: &mut W,
 ) -> Result<(), ServeFault>
     ensures served { (volatile : VolatileState) → IsServing (begins site.old volatile)
         → (end : Serving C) × (done : List Turned) × (end.site ≡ site.new)
-        × Serves (turn_of C.device ports.now (F.gives folders.old))
+        × Serves (turn_of C.device addresses.now (F.gives folders.old))
         (outside (P.traffic port.old) (W.contents output.old))
         (outside (P.traffic port.new) (W.contents output.new))
         (begins site.old volatile) end turns done result }
@@ -57,7 +58,7 @@ pub fn serve<C: Cell, P: Port, F: Folders, W: Write>(
         site,
         port,
         folders,
-        ports,
+        addresses,
         progress: IdleProgress {
             idle: 0,
             tried: 0,
@@ -77,7 +78,7 @@ impl<C: Cell, P: Port, F: Folders> Server<'_, '_, '_, '_, '_, C, P, F> {
         requires { self.old.progress.idle < 4294967295 }
         ensures keeps { Keeps P.failures F.gives self.old self.new }
         ensures turn { (s : Serving C) → Stands s self.old.site.now self.old.progress
-            → OneTurn (turn_of C.device self.old.ports.now (F.gives self.old.folders.now))
+            → OneTurn (turn_of C.device self.old.addresses.now (F.gives self.old.folders.now))
             (outside (P.traffic self.old.port.now) (W.contents output.old))
             (outside (P.traffic self.new.port.now) (W.contents output.new))
             s self.new.site.now self.new.progress.idle self.new.progress.tried result }

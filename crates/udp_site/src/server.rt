@@ -2,6 +2,7 @@
 
 use crate::idle_turns::IdleProgress;
 use crate::port::Port;
+use addresses::Address;
 use bag_folders::Folders;
 use cell_device::Cell;
 use lines::Line;
@@ -17,8 +18,8 @@ pub(crate) struct Server<'s, 'p, 'f, 'b, 'l, C: Cell, P: Port, F: Folders> {
     pub(crate) site: &'s mut Site<C>,
     pub(crate) port: &'p mut P,
     pub(crate) folders: &'f mut F,
-    /// The sites' ports, that of site 1 first.
-    pub(crate) ports: &'b [u16],
+    /// The sites' addresses, that of site 1 first.
+    pub(crate) addresses: &'b [Address],
     pub(crate) progress: IdleProgress,
     /// The lines to write.
     pub(crate) lines: &'l mut Vec<Line>,

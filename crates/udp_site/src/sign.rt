@@ -6,6 +6,7 @@ ghost use Rattle.udp_site.specs.Signs.{sign_by, own_sign_by, signal_by, own_sign
 ghost use Rattle.udp_site.specs.Signs.{kind_byte, body_byte, is_prepare, is_accept, is_vote};
 ghost use Rattle.udp_site.specs.Signs.{is_recover, is_registered, is_pending};
 
+use addresses::Address;
 use dgram::{Body, DgramFault, Message, decode};
 use fed_types::SiteNo;
 use std::alloc::{AllocError, Global};
@@ -70,8 +71,8 @@ const NOTHING: Signal = Signal {
 pub(crate) fn signal_of(
     alloc: Global,
     federation: u64,
-    own: u16,
-    from: u16,
+    own: Address,
+    from: Address,
     bytes: &[u8],
 ) -> Result<Signal, AllocError>
     ensures { IfOk result (λ signal. signal ≡ signal_at own from (message_of federation bytes.now)) }

@@ -1,8 +1,10 @@
+use addresses::Address;
+
 /// What one turn of waiting at a port brings.
 #[derive(Debug, Drop)]
 pub enum Turn {
     /// No datagram came.
     Idle,
-    /// A datagram came from this port.
-    Got(u16, Vec<u8>),
+    /// A datagram came from this address.
+    Got(Address, Vec<u8>),
 }

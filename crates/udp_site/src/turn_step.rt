@@ -10,6 +10,7 @@ use crate::port::Port;
 use crate::requests::{Asked, asked_by};
 use crate::server::Server;
 use crate::turn::Turn;
+use addresses::Address;
 use bag_folders::Folders;
 use cell_device::Cell;
 
@@ -19,7 +20,7 @@ impl<C: Cell, P: Port, F: Folders> Server<'_, '_, '_, '_, '_, C, P, F> {
     pub(crate) fn handle_turn(&mut self, turn: &Turn) -> Result<(), ServeFault>
         requires { self.old.progress.idle < 4294967295 }
         ensures turn { ComesOfTurn P.traffic
-            (λ s. turn_of C.device self.old.ports.now (F.gives self.old.folders.now) s
+            (λ s. turn_of C.device self.old.addresses.now (F.gives self.old.folders.now) s
             (taken turn.now)) self.old self.new result }
         ensures keeps { Keeps P.failures F.gives self.old self.new }
     {
@@ -30,9 +31,9 @@ impl<C: Cell, P: Port, F: Folders> Server<'_, '_, '_, '_, '_, C, P, F> {
     }
 
     // A datagram came from this port.
-    fn handle_datagram(&mut self, from: u16, bytes: &[u8]) -> Result<(), ServeFault>
+    fn handle_datagram(&mut self, from: Address, bytes: &[u8]) -> Result<(), ServeFault>
         ensures comes { Comes P.traffic
-            (λ s. turn_of C.device self.old.ports.now (F.gives self.old.folders.now) s
+            (λ s. turn_of C.device self.old.addresses.now (F.gives self.old.folders.now) s
             (From from bytes.now)) self.old self.new result }
         ensures stays { Stays P.failures F.gives self.old self.new }
     {

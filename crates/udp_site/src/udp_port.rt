@@ -1,10 +1,12 @@
 use crate::contacts::Contacts;
+use crate::origins::Origins;
 use crate::paced_socket::{Arrival, PacedSocket};
 use crate::port::Port;
 use crate::port_fault::PortFault;
 use crate::sign::signal_of;
 use crate::turn::Turn;
 use crate::waits::Waits;
+use addresses::Address;
 use fed_types::{Members, SiteNo};
 use std::alloc::{AllocError, Global};
 use std::io::{self, ErrorKind};
@@ -16,13 +18,13 @@ use tags::KeyRing;
 /// message still.
 const MOST_BYTES: usize = 1024;
 
-/// A socket on 127.0.0.1, with the clock that ends its waits. No contract says what comes there.
+/// A socket, with the clock that ends its waits. No contract says what comes there.
 #[derive(Drop)]
 pub struct UdpPort<R: Clock + Drop = HostRuntime> {
     alloc: Global,
     federation: u64,
     socket: PacedSocket<R>,
-    number: u16,
+    own: Address,
     failures: u64,
 }
 
@@ -35,17 +37,23 @@ impl<R: Clock + Drop> UdpPort<R> {
     ghost use Rattle.udp_site.specs.Recoveries.{none_handed_on};
     ghost use Rattle.udp_site.specs.UdpPorts.{failures_of, pace_of, recoveries_of};
 
-    /// A client's port, of this number, or a free one where it is 0, whose pace follows the
-    /// messages of a federation. It is refused with `Device` where the first wait is 0 or the
-    /// system refuses it, or with `Memory`.
-    pub fn bind(net: &R, federation: u64, port: u16, waits: Waits) -> Result<UdpPort<R>, PortFault>
+    /// A client's port at this address, or a free one of the host where its port is 0. It takes what
+    /// comes from these origins, and its pace follows the messages of a federation. It is refused
+    /// with `Device` where the first wait is 0 or the system refuses it, or with `Memory`.
+    pub fn bind(
+        net: &R,
+        federation: u64,
+        at: Address,
+        origins: Origins,
+        waits: Waits,
+    ) -> Result<UdpPort<R>, PortFault>
     where
         R: Net + AllocGlobal + Copy,
         ensures failures { IfOk result (λ port. failures_of port ≡ 0) }
         ensures pace { IfOk result (λ port. pace_of port ≡ begins waits None) }
         ensures recoveries { IfOk result (λ port. recoveries_of port ≡ none_handed_on) }
     {
-        UdpPort::bind_with(net, federation, port, waits, None)
+        UdpPort::bind_with(net, federation, at, origins, waits, None)
     }
 
     /// The port of a site of these members. It is refused as that of a client is. Its pace follows
@@ -54,7 +62,8 @@ impl<R: Clock + Drop> UdpPort<R> {
         net: &R,
         members: Members,
         site: SiteNo,
-        port: u16,
+        at: Address,
+        origins: Origins,
         waits: Waits,
     ) -> Result<UdpPort<R>, PortFault>
     where
@@ -65,14 +74,22 @@ impl<R: Clock + Drop> UdpPort<R> {
         ensures recoveries { IfOk result (λ port. recoveries_of port ≡ none_handed_on) }
     {
         let contacts = Contacts::new(members, site);
-        UdpPort::bind_with(net, members.federation(), port, waits, Some(contacts))
+        UdpPort::bind_with(
+            net,
+            members.federation(),
+            at,
+            origins,
+            waits,
+            Some(contacts),
+        )
     }
 
     // The port, with the contacts with which it begins.
     fn bind_with(
         net: &R,
         federation: u64,
-        port: u16,
+        at: Address,
+        origins: Origins,
         waits: Waits,
         contacts: Option<Contacts>,
     ) -> Result<UdpPort<R>, PortFault>
@@ -82,12 +99,12 @@ impl<R: Clock + Drop> UdpPort<R> {
         ensures pace { IfOk result (λ port. pace_of port ≡ begins waits contacts) }
         ensures recoveries { IfOk result (λ port. recoveries_of port ≡ none_handed_on) }
     {
-        match open(net, port, waits, contacts) {
-            Ok((socket, number)) => Ok(UdpPort {
+        match open(net, at, origins, waits, contacts) {
+            Ok((socket, own)) => Ok(UdpPort {
                 alloc: net.alloc(),
                 federation,
                 socket,
-                number,
+                own,
                 failures: 0,
             }),
             Err(error) => Err(fault_of(&error)),
@@ -111,9 +128,9 @@ impl<R: Clock + Drop> UdpPort<R> {
         self.socket.key_names()
     }
 
-    /// Its number.
-    pub fn port(&self) -> u16 {
-        self.number
+    /// Its own address.
+    pub fn address(&self) -> Address {
+        self.own
     }
 
     /// How many bytes of datagrams the system keeps for it until they are taken, if it says so. A
@@ -144,7 +161,7 @@ impl<R: Clock + Drop> Port for UdpPort<R> {
     ghost use Rattle.udp_site.specs.declared.port_fault.PortFault.TheVariants as faults;
     ghost use Rattle.udp_site.specs.Pace.{hands};
     ghost use Rattle.udp_site.specs.Traffic.{IsReceived, IsHanded};
-    ghost use Rattle.udp_site.specs.UdpPorts.{failures_of, pace_of, recoveries_of, number_of};
+    ghost use Rattle.udp_site.specs.UdpPorts.{failures_of, pace_of, recoveries_of, own_of};
     ghost use Rattle.udp_site.specs.UdpPorts.{IsPaced};
 
     ghost failures = { failures_of };
@@ -155,21 +172,21 @@ impl<R: Clock + Drop> Port for UdpPort<R> {
             (failures_of self.new) result }
         ensures paced { IsPaced self.old self.new result }
     {
-        match turn_at(self.alloc, self.federation, self.number, &mut self.socket) {
+        match turn_at(self.alloc, self.federation, self.own, &mut self.socket) {
             Ok(turn) => Ok(turn),
             Err(error) => Err(self.fail(&error)),
         }
     }
 
-    fn send(&mut self, to: u16, bytes: &[u8]) -> Result<(), PortFault>
+    fn send(&mut self, to: Address, bytes: &[u8]) -> Result<(), PortFault>
         ensures handed { IsHanded None None (to, bytes.now) result }
         ensures cause { HasCause faults.Device (failures_of self.old)
             (failures_of self.new) result }
         ensures paced { pace_of self.new
-            ≡ hands (pace_of self.old) (number_of self.old) to bytes.now }
+            ≡ hands (pace_of self.old) (own_of self.old) to bytes.now }
         ensures recoveries { recoveries_of self.new ≡ recoveries_of self.old }
     {
-        self.socket.hands(self.number, to, bytes);
+        self.socket.hands(self.own, to, bytes);
         match self.socket.send_to(self.alloc, to, bytes) {
             Ok(()) => Ok(()),
             Err(error) => Err(self.fail(&error)),
@@ -184,26 +201,27 @@ ghost use Rattle.udp_site.specs.Recoveries.{none_handed_on};
 ghost use Rattle.udp_site.specs.Signs.{signal_at};
 ghost use Rattle.udp_site.specs.inner.Paced.{TurnIsPaced};
 
-/// A socket at this port, and the number of its port.
+/// A socket at this address, and its own address.
 fn open<R: Net + Clock + Drop + Copy>(
     net: &R,
-    port: u16,
+    at: Address,
+    origins: Origins,
     waits: Waits,
     contacts: Option<Contacts>,
-) -> io::Result<(PacedSocket<R>, u16)>
+) -> io::Result<(PacedSocket<R>, Address)>
     ensures pace { IfOk result (λ made. made.0.pace ≡ begins waits contacts) }
     ensures recoveries { IfOk result (λ made. made.0.recoveries ≡ none_handed_on) }
 {
-    let socket = PacedSocket::bind(net, port, waits, contacts)?;
-    let number = socket.number()?;
-    Ok((socket, number))
+    let socket = PacedSocket::bind(net, at, origins, waits, contacts)?;
+    let own = socket.address()?;
+    Ok((socket, own))
 }
 
 /// Waits for a datagram as long as the pace of the socket says.
 fn turn_at<R: Clock + Drop>(
     alloc: Global,
     federation: u64,
-    own: u16,
+    own: Address,
     socket: &mut PacedSocket<R>,
 ) -> io::Result<Turn>
     ensures paced { IfOk result (TurnIsPaced federation own socket.old.pace socket.new.pace
@@ -224,15 +242,15 @@ fn turn_at<R: Clock + Drop>(
     }
 }
 
-/// The pace of the socket learns from what came at this moment from a port. A datagram is decoded
+/// The pace of the socket learns from what came at this moment from an address. A datagram is decoded
 /// once more only where that may change something.
 fn learn<R: Clock + Drop>(
     alloc: Global,
     federation: u64,
-    own: u16,
+    own: Address,
     socket: &mut PacedSocket<R>,
     now: u64,
-    from: u16,
+    from: Address,
     bytes: &[u8],
 ) -> Result<(), AllocError>
     ensures learned { OnOk result (socket.new.pace ≡ takes socket.old.pace now

@@ -1,6 +1,6 @@
 -- How far a site was asked, and what was written of its answers.
-use Rattle.std.specs.Prelude.{◌≡◌, ◌≤◌, ℕ, true, if◌then◌else◌, List, [], ◌∷◌, ◌++◌, length}
-use Rattle.std.specs.Prelude.{take}
+use Rattle.std.specs.Prelude.{◌≡◌, ◌≢◌, ◌⊎◌, ◌≤◌, ◌<◌, ◌-◌, ℕ, Bool, true, false}
+use Rattle.std.specs.Prelude.{if◌then◌else◌, List, [], ◌∷◌, ◌++◌, length, take}
 use Rattle.std.specs.Prelude.{Option, Some, None, Result, Ok, Err, IfOk}
 use Rattle.std.specs.Io.KnownBytes.{Appends}
 use Rattle.std.specs.declared.alloc.AllocError.{AllocError}
@@ -15,6 +15,8 @@ use Rattle.catch_up.specs.declared.rounds.Target.{Target}
 use Rattle.catch_up.specs.Rounds.{Answer, question, bag_in, AsksFor, IsOneMore, open_of, AreAnswers}
 use Rattle.catch_up.specs.Rounds.{answer_lines, is_same, same_in, left_of, AreRounds}
 use Rattle.catch_up.specs.Rounds.{AreWhole, round_lines, same_after, left_after, last_round}
+use Rattle.catch_up.specs.Times.{Beat, Read, Paused, Beats, is_over, pause_after, ReadsOver}
+use Rattle.catch_up.specs.Times.{ArePaced, AreAllRounds, AreSoManyRounds}
 use Rattle.catch_up.specs.Reports.{report}
 
 -- a prefix of the bytes was written
@@ -85,37 +87,56 @@ GoesOnRounds asked versions before after old new rounds =
     (moves : List Move) × Grows before after moves × AreRounds asked versions rounds moves
     × AreWhole versions rounds × Appends old new (round_lines versions rounds)
 
-abbrev pub StopsInRounds : Target → List KnownBag → (before after : Option (List Move))
+abbrev pub StopsInRounds : (seconds : ℕ) → Target → List KnownBag
+    → (since until : Option (List Beat)) → (before after : Option (List Move))
     → (old new : Option (List ℕ)) → AskFault → Type 0
-StopsInRounds asked versions before after old new fault =
+StopsInRounds seconds asked versions since until before after old new fault =
     (rounds : List (List Answer)) × (moves : List Move) × (others : List Move)
     × Grows before after (moves ++ others) × AreRounds asked versions rounds moves
     × OnlyAsked (last_round asked rounds) fault others
     × AppendsPart old new (round_lines versions rounds)
+    × ArePaced seconds versions rounds since until (λ last. last ≡ [])
 
 -- rounds until no version is left, or time is over
-abbrev pub AreAsked : Target → (versions next : List KnownBag)
-    → (before after : Option (List Move)) → (old new : Option (List ℕ)) → Result ℕ AskFault
-    → Type 0
-AreAsked asked versions next before after old new (Ok same) =
+abbrev pub AreAsked : (seconds : ℕ) → Target → (versions next : List KnownBag)
+    → (since until : Option (List Beat)) → (before after : Option (List Move))
+    → (old new : Option (List ℕ)) → Result ℕ AskFault → Type 0
+AreAsked seconds asked versions next since until before after old new (Ok same) =
     (rounds : List (List Answer)) × (1 ≤ length rounds)
     × GoesOnRounds asked (open_of versions) before after old new rounds
     × (open_of next ≡ left_after (open_of versions) rounds) × (length next ≡ length versions)
     × (same ≡ same_after (open_of versions) rounds)
-AreAsked asked versions next before after old new (Err fault) =
-    StopsInRounds asked (open_of versions) before after old new fault
+    × AreAllRounds seconds (open_of versions) rounds since until
+AreAsked seconds asked versions next since until before after old new (Err fault) =
+    StopsInRounds seconds asked (open_of versions) since until before after old new fault
+
+-- Whether there is another round after so many, by what they leave, and what is waited for it.
+-- There is a first one.
+abbrev pub IsNext : (seconds : ℕ) → (left : List KnownBag) → (rounds : ℕ)
+    → (old new : Option (List Beat)) → Bool → Type 0
+IsNext seconds left rounds old new true =
+    ((rounds ≡ 0) × Beats old new [])
+    ⊎ ((0 < rounds) × (left ≢ []) × ((passed : ℕ)
+    × Beats old new (Read (Some passed) ∷ Paused (pause_after (rounds - 1)) ∷ [])
+    × (is_over seconds (Some passed) ≡ false)))
+IsNext seconds left rounds old new false =
+    (0 < rounds) × ((last : List Beat) × Beats old new last
+    × (((left ≡ []) × (last ≡ [])) ⊎ ((left ≢ []) × ReadsOver seconds last)))
 
 -- and what is written then
-abbrev pub AreReported : Target → List KnownBag → (before after : Option (List Move))
+abbrev pub AreReported : (seconds : ℕ) → Target → List KnownBag
+    → (since until : Option (List Beat)) → (before after : Option (List Move))
     → (old new : Option (List ℕ)) → Result ℕ AskFault → Type 0
-AreReported asked versions before after old new (Ok status) =
+AreReported seconds asked versions since until before after old new (Ok status) =
     (rounds : List (List Answer)) × (moves : List Move) × Grows before after moves
     × AreRounds asked (open_of versions) rounds moves
-    × ((1 ≤ length rounds) × AreWhole (open_of versions) rounds)
+    × ((1 ≤ length rounds) × AreWhole (open_of versions) rounds
+    × AreAllRounds seconds (open_of versions) rounds since until)
     × (status ≡ (report versions rounds).status)
     × Appends old new (report versions rounds).text
-AreReported asked versions before after old new (Err fault) =
+AreReported seconds asked versions since until before after old new (Err fault) =
     (rounds : List (List Answer)) × (moves : List Move) × (others : List Move)
     × Grows before after (moves ++ others) × AreRounds asked (open_of versions) rounds moves
     × OnlyAsked (last_round asked rounds) fault others
     × AppendsPart old new (report versions rounds).text
+    × AreSoManyRounds seconds (open_of versions) rounds since until

@@ -3,7 +3,7 @@ use Rattle.std.specs.Prelude.{◌≡◌, ⊤, ℕ, List, [], ◌∷◌, Option, 
 use Rattle.std.specs.declared.alloc.AllocError.{AllocError}
 use Rattle.udp_site.specs.declared.port_fault.PortFault.{PortFault}
 use Rattle.udp_site.specs.declared.port_fault.PortFault.TheVariants as faults
-use Rattle.udp_site.specs.Traffic.{Nothing, From, Post, Move, Took, Failed, Handed, Grows}
+use Rattle.udp_site.specs.Traffic.{Taken, Nothing, From, Post, Move, Took, Failed, Handed, Grows}
 use Rattle.dgram.specs.declared.answers.QueryAnswer.{QueryAnswer}
 use Rattle.site_commands.specs.declared.reply.ClientReply.{ClientReply}
 use Rattle.site_commands.specs.declared.reply.ClientReply.TheVariants.{ToDeposit, ToQuery}
@@ -16,11 +16,16 @@ use Rattle.site_commands.specs.Recoveries.{recovery_of}
 abbrev pub BringsNone : List Move → Type 0
 BringsNone [] = ⊤
 BringsNone (Took Nothing ∷ moves) = BringsNone moves
-BringsNone (Took (From port bytes) ∷ moves) = ⊥
+BringsNone (Took (From address bytes) ∷ moves) = ⊥
 BringsNone (Failed ∷ moves) = BringsNone moves
 BringsNone (Handed post ∷ moves) = ⊥
 
--- a datagram is taken in, of these bytes and from this port, or none is
+-- the datagram that was taken in, if one was: its address, and its bytes
+abbrev pub datagram_taken : Taken → Option (ℕ × List ℕ)
+datagram_taken Nothing = None
+datagram_taken (From address bytes) = Some (address, bytes)
+
+-- a datagram is taken in, of these bytes and from this address, or none is
 abbrev pub TakesOne : (before after : Option (List Move)) → Option (ℕ × List ℕ) → Type 0
 TakesOne before after (Some datagram) =
     Grows before after (Took (From datagram.0 datagram.1) ∷ [])

@@ -43,10 +43,10 @@ at idle tried coming done next = coming done next × (next.idle ≡ idle) × (ne
 abbrev pub AsksFor :
     {C : Type 0} → List ℕ → Serving C → SlotName → List ℕ → (before after : Option (List Move))
     → (old new : List Line) → Result (Unit {0}) ServeFault → Type 0
-AsksFor ports s slot asked before after old new (Ok whole) =
-    (done : Done) × Asks ports s slot asked done × Grows before after (all_handed done.posts)
+AsksFor addresses s slot asked before after old new (Ok whole) =
+    (done : Done) × Asks addresses s slot asked done × Grows before after (all_handed done.posts)
     × Notes old new done.notices
-AsksFor ports s slot asked before after old new (Err faults.Memory) =
-    (done : Done) × Asks ports s slot asked done
+AsksFor addresses s slot asked before after old new (Err faults.Memory) =
+    (done : Done) × Asks addresses s slot asked done
     × (count : ℕ) × Grows before after (take count (all_handed done.posts))
-AsksFor ports s slot asked before after old new (Err fault) = ⊥
+AsksFor addresses s slot asked before after old new (Err fault) = ⊥

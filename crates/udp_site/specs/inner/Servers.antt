@@ -18,7 +18,7 @@ module _ {C P F : Type 0} (failures : P → ℕ)
     pub site : new.site.ghost_name ≡ old.site.ghost_name
     pub port : new.port.ghost_name ≡ old.port.ghost_name
     pub folders : new.folders.ghost_name ≡ old.folders.ghost_name
-    pub ports : new.ports.now ≡ old.ports.now
+    pub addresses : new.addresses.now ≡ old.addresses.now
     pub later : failures old.port.now ≤ failures new.port.now
     pub kept : gives new.folders.now ≡ gives old.folders.now
 

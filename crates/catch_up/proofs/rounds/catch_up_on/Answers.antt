@@ -6,12 +6,15 @@ use Rattle.catch_up.proofs.rounds.catch_up_on.Goals as goal
 
 pub returns-in-Err-Memory-clause-told : goal.returns-in-Err-Memory-clause-told
 returns-in-Err-Memory-clause-told g c =
-    memory_ran_out c.args.asked.now c.args.versions.now (g.P.Port.traffic c.args.port.now)
+    memory_ran_out c.args.seconds c.args.asked.now c.args.versions.now
+    (g.T.Timer.beats c.args.timer.now) (g.T.Timer.beats c.report_on.new.timer)
+    (g.P.Port.traffic c.args.port.now)
     (g.P.Port.traffic c.report_on.new.port) (g.W.CountedWrite.contents c.args.output.now)
     (g.W.CountedWrite.contents c.report_on.new.output)
     (g.W.CountedWrite.contents c.write_output.new.output)
     c.write_output.result
-    (subst (λ (fault : AskFault). AreReported c.args.asked.now c.args.versions.now
+    (subst (λ (fault : AskFault). AreReported c.args.seconds c.args.asked.now
+    c.args.versions.now (g.T.Timer.beats c.args.timer.now) (g.T.Timer.beats c.report_on.new.timer)
     (g.P.Port.traffic c.args.port.now) (g.P.Port.traffic c.report_on.new.port)
     (g.W.CountedWrite.contents c.args.output.now) (g.W.CountedWrite.contents c.report_on.new.output)
     (Err fault)) c.in-Err-Memory.field-0-is c.in-Err-Memory.ensures.asked)

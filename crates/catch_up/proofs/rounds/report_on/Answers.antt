@@ -3,7 +3,9 @@ use Rattle.catch_up.proofs.rounds.report_on.Goals as goal
 
 pub returns-in_err-same-clause-asked : goal.returns-in_err-same-clause-asked
 returns-in_err-same-clause-asked g c =
-    stops_in_rounds c.args.asked.now c.args.versions.now (g.P.Port.traffic c.args.port.now)
+    stops_in_rounds c.args.seconds c.args.asked.now c.args.versions.now
+    (g.T.Timer.beats c.args.timer.now) (g.T.Timer.beats c.ask_rounds.new.timer)
+    (g.P.Port.traffic c.args.port.now)
     (g.P.Port.traffic c.ask_rounds.new.port) (g.W.CountedWrite.contents c.args.output.now)
     (g.W.CountedWrite.contents c.ask_rounds.new.output) c.from_residual.result
     c.in_err-same.field-0.0
@@ -11,7 +13,9 @@ returns-in_err-same-clause-asked g c =
 
 pub returns-in_err-write_open-clause-asked : goal.returns-in_err-write_open-clause-asked
 returns-in_err-write_open-clause-asked g c =
-    stops_in_open c.args.asked.now c.args.versions.now (g.P.Port.traffic c.args.port.now)
+    stops_in_open c.args.seconds c.args.asked.now c.args.versions.now
+    (g.T.Timer.beats c.args.timer.now) (g.T.Timer.beats c.ask_rounds.new.timer)
+    (g.P.Port.traffic c.args.port.now)
     (g.P.Port.traffic c.ask_rounds.new.port) (g.W.CountedWrite.contents c.args.output.now)
     c.ask_rounds.new.versions (g.W.CountedWrite.contents c.ask_rounds.new.output) c.in_ok-same.same
     c.in_ok-same.ensures.asked (g.W.CountedWrite.contents c.write_open.new.output)
@@ -20,7 +24,9 @@ returns-in_err-write_open-clause-asked g c =
 
 pub returns-clause-asked : goal.returns-clause-asked
 returns-clause-asked g c =
-    all_written c.args.asked.now c.args.versions.now (g.P.Port.traffic c.args.port.now)
+    all_written c.args.seconds c.args.asked.now c.args.versions.now
+    (g.T.Timer.beats c.args.timer.now) (g.T.Timer.beats c.ask_rounds.new.timer)
+    (g.P.Port.traffic c.args.port.now)
     (g.P.Port.traffic c.ask_rounds.new.port) (g.W.CountedWrite.contents c.args.output.now)
     c.ask_rounds.new.versions (g.W.CountedWrite.contents c.ask_rounds.new.output) c.in_ok-same.same
     c.in_ok-same.ensures.asked (g.W.CountedWrite.contents c.write_open.new.output)

@@ -4,7 +4,7 @@ use Rattle.std.specs.List.{Contains}
 use Rattle.std.specs.Str.Lines.{lines}
 use Rattle.std.proofs.lemmas.Bool.{cases_lt, false≢true}
 use Rattle.std.proofs.lemmas.Result.{err_from_is_err_and}
-use Rattle.fed_types.specs.Sites.{CountFits}
+use Rattle.fed_types.specs.Sites.{CountFits, Membership}
 use Rattle.words.specs.Words.{words_of}
 use Rattle.members_file.specs.declared.members_fault.MembersFault.TheVariants.{Line}
 use Rattle.members_file.specs.Files.{HasFault, are_blank, weights_of}
@@ -93,3 +93,23 @@ new-requires-clause-sites c =
     AreListed-read (lines c.in_ok-first.after.now) sites (lines c.in_ok-sites.rest.now)
     c.in_ok-sites.ensures
     (weights-some sites (subst CountFits weights (c.in-Ok.ensures.ok.0 refl).0))
+
+pub returns : goal.returns
+returns c =
+    let at = (goal.at.returns c).After-parse_federation in
+    let federation : c.in-Ok.members.federation ≡ c.in_ok-federation.federation =
+    ap (λ (m : Membership). m.federation) c.in-Ok.ensures.value in
+    let weights = weights_are (goal.at.returns c).After-deref-3 in
+    rw (c.new.ensures, federation) (record {
+      first = c.in_ok-first.first.now;
+      named = c.in_ok-sites.ensures.named;
+      rest = lines c.in_ok-sites.rest.now;
+      is = first_is at
+          ∙ ap (λ (later : List (List ℕ)). c.in_ok-first.first.now ∷ later)
+          c.in_ok-sites.ensures.is;
+      federation = federation_is at ∙ c.in_ok-federation.ensures.ok_part;
+      sites = c.in_ok-sites.ensures.sites;
+      some = weights-some c.in_ok-sites.sites.items
+          (subst CountFits weights (c.in-Ok.ensures.ok.0 refl).0);
+      blank = sym c.in_ok-is_blank.ensures ∙ c.if-not-branch.false;
+    })

@@ -17,7 +17,7 @@ returns-in_err-reply g c =
     (g.P.Port.traffic c.loop.port) (g.P.Port.traffic c.next_datagram.new.port) c.loop.invariant
     c.from_residual.result (hears_one (question_of c.args.request.now) c.args.wanted
     (g.P.Port.traffic c.loop.port) (g.P.Port.traffic c.next_datagram.new.port)
-    c.in-Some.from c.in-Some.bytes.items c.in-Some.ensures c.from_residual.result
+    c.in-Some.datagram.0 c.in-Some.datagram.1.items c.in-Some.ensures c.from_residual.result
     (err_if_ok c.from_residual.result _ _ c.from_residual.ensures.1))
 
 pub returns-in-Some-2 : goal.returns-in-Some-2
@@ -26,9 +26,9 @@ returns-in-Some-2 g c =
     (g.P.Port.traffic c.loop.port) (g.P.Port.traffic c.next_datagram.new.port) c.loop.invariant
     (Ok (Some c.in-Some-2.reply)) (hears_one (question_of c.args.request.now) c.args.wanted
     (g.P.Port.traffic c.loop.port) (g.P.Port.traffic c.next_datagram.new.port)
-    c.in-Some.from c.in-Some.bytes.items c.in-Some.ensures (Ok (Some c.in-Some-2.reply))
+    c.in-Some.datagram.0 c.in-Some.datagram.1.items c.in-Some.ensures (Ok (Some c.in-Some-2.reply))
     (sym c.in-Some-2.is ∙ c.in_ok-reply.ensures
-    ∙ ap (reply_from (question_of c.args.request.now) c.args.wanted c.in-Some.from)
+    ∙ ap (reply_from (question_of c.args.request.now) c.args.wanted c.in-Some.datagram.0)
     c.as_slice.ensures.value))
 
 pub loop-preserved : goal.loop-preserved
@@ -37,7 +37,7 @@ loop-preserved g c =
     (g.P.Port.traffic c.loop.port) (g.P.Port.traffic c.next_datagram.new.port) c.loop.invariant
     (Ok None) (hears_one (question_of c.args.request.now) c.args.wanted
     (g.P.Port.traffic c.loop.port) (g.P.Port.traffic c.next_datagram.new.port)
-    c.in-Some.from c.in-Some.bytes.items c.in-Some.ensures (Ok None)
+    c.in-Some.datagram.0 c.in-Some.datagram.1.items c.in-Some.ensures (Ok None)
     (sym c.in_default-2.is ∙ c.in_ok-reply.ensures
-    ∙ ap (reply_from (question_of c.args.request.now) c.args.wanted c.in-Some.from)
+    ∙ ap (reply_from (question_of c.args.request.now) c.args.wanted c.in-Some.datagram.0)
     c.as_slice.ensures.value))

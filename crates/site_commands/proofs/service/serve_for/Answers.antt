@@ -6,7 +6,8 @@ use Rattle.site_commands.proofs.service.serve_for.Goals as goal
 
 pub returns-in-Ok : goal.returns-in-Ok
 returns-in-Ok g c stands =
-    served_once g.C.Cell.device c.args.ports.now (g.F.Folders.gives c.args.folders.now) c.args.turns
+    served_once g.C.Cell.device c.args.addresses.now (g.F.Folders.gives c.args.folders.now)
+    c.args.turns
     (outside (g.P.Port.traffic c.args.port.now) (g.W.Write.contents c.args.output.now))
     (outside (g.P.Port.traffic c.serve.new.port) (g.W.Write.contents c.serve.new.output))
     c.args.site.now c.serve.new.site new_volatile (λ opened. stands)
@@ -14,7 +15,8 @@ returns-in-Ok g c stands =
 
 pub returns-in-Err : goal.returns-in-Err
 returns-in-Err g c stands =
-    failed_once g.C.Cell.device c.args.ports.now (g.F.Folders.gives c.args.folders.now) c.args.turns
+    failed_once g.C.Cell.device c.args.addresses.now (g.F.Folders.gives c.args.folders.now)
+    c.args.turns
     (outside (g.P.Port.traffic c.args.port.now) (g.W.Write.contents c.args.output.now))
     (outside (g.P.Port.traffic c.serve.new.port) (g.W.Write.contents c.serve.new.output))
     c.args.site.now c.serve.new.site new_volatile (λ opened. stands) c.in-Err.fault

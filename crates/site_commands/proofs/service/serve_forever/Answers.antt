@@ -10,7 +10,7 @@ pub calls-init : goal.calls-init
 calls-init g c = record {
   kept = refl;
   led = λ stands.
-      none_yet (turn_of g.C.Cell.device c.args.ports.now (g.F.Folders.gives c.args.folders.now))
+      none_yet (turn_of g.C.Cell.device c.args.addresses.now (g.F.Folders.gives c.args.folders.now))
       4294967295
       (outside (g.P.Port.traffic c.args.port.now) (g.W.Write.contents c.args.output.now))
       c.args.site.now new_volatile (λ opened. stands);
@@ -24,11 +24,11 @@ calls-preserved g c = record {
       let mid = outside (g.P.Port.traffic c.calls.port) (g.W.Write.contents c.calls.output) in
       let after = outside (g.P.Port.traffic c.serve.new.port)
       (g.W.Write.contents c.serve.new.output) in
-      one_call_more g.C.Cell.device c.args.ports.now (g.F.Folders.gives c.args.folders.now)
+      one_call_more g.C.Cell.device c.args.addresses.now (g.F.Folders.gives c.args.folders.now)
       4294967295
       (outside (g.P.Port.traffic c.args.port.now) (g.W.Write.contents c.args.output.now)) mid after
       (begins c.args.site.now new_volatile) c.calls.site c.serve.new.site c.calls.counter so_far
-      (subst (λ gives. CallEnds (turn_of g.C.Cell.device c.args.ports.now gives) 4294967295 mid
+      (subst (λ gives. CallEnds (turn_of g.C.Cell.device c.args.addresses.now gives) 4294967295 mid
       after (begins c.calls.site so_far.volatile) c.serve.new.site (Ok tt))
       c.calls.invariant.kept
       (c.in-Ok.ensures.served so_far.volatile so_far.serving));
@@ -37,7 +37,7 @@ calls-preserved g c = record {
 pub returns : goal.returns
 returns g c stands =
     let now = outside (g.P.Port.traffic c.calls.port) (g.W.Write.contents c.calls.output) in
-    all_calls g.C.Cell.device c.args.ports.now (g.F.Folders.gives c.args.folders.now) 4294967295
+    all_calls g.C.Cell.device c.args.addresses.now (g.F.Folders.gives c.args.folders.now) 4294967295
     how.Forever refl
     (outside (g.P.Port.traffic c.args.port.now) (g.W.Write.contents c.args.output.now)) now
     (begins c.args.site.now new_volatile) c.calls.site c.calls.counter
@@ -50,13 +50,14 @@ returns-in-Err g c stands =
     let mid = outside (g.P.Port.traffic c.calls.port) (g.W.Write.contents c.calls.output) in
     let ended = outside (g.P.Port.traffic c.serve.new.port)
     (g.W.Write.contents c.serve.new.output) in
-    one_failed g.C.Cell.device c.args.ports.now (g.F.Folders.gives c.args.folders.now) 4294967295
+    one_failed g.C.Cell.device c.args.addresses.now (g.F.Folders.gives c.args.folders.now)
+    4294967295
     how.Forever refl
     (outside (g.P.Port.traffic c.args.port.now) (g.W.Write.contents c.args.output.now)) mid
     (begins c.args.site.now new_volatile) c.calls.site c.calls.counter so_far c.in-Err.fault ended
     (outside (g.P.Port.traffic c.serve.new.port) (g.W.Write.contents c.write_stopped.new.output))
     c.serve.new.site
-    (subst (λ gives. CallEnds (turn_of g.C.Cell.device c.args.ports.now gives) 4294967295 mid
+    (subst (λ gives. CallEnds (turn_of g.C.Cell.device c.args.addresses.now gives) 4294967295 mid
     ended (begins c.calls.site so_far.volatile) c.serve.new.site (Err c.in-Err.fault))
     c.calls.invariant.kept
     (c.in-Err.ensures.served so_far.volatile so_far.serving))

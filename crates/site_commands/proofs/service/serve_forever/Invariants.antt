@@ -11,7 +11,7 @@ abbrev pub invariant-calls : goal.invariant-calls
 invariant-calls g l = record {
   kept : g.F.Folders.gives l.folders ≡ g.F.Folders.gives l.fn.folders;
   led : Represents l.fn.site new_volatile
-      → SoFar (turn_of g.C.Cell.device l.ports (g.F.Folders.gives l.fn.folders)) 4294967295
+      → SoFar (turn_of g.C.Cell.device l.addresses (g.F.Folders.gives l.fn.folders)) 4294967295
       (outside (g.P.Port.traffic l.fn.port) (g.W.Write.contents l.fn.output))
       (outside (g.P.Port.traffic l.port) (g.W.Write.contents l.output))
       (begins l.fn.site new_volatile) l.site l.counter;

@@ -22,7 +22,7 @@ same_test {C} old start member n test there from is =
 
 pub returns-then-eq-clause-comes : goal.returns-then-eq-clause-comes
 returns-then-eq-clause-comes g c old there serves =
-    not_asked c.args.ports.now old c.args.slot.now c.args.member
+    not_asked c.args.addresses.now old c.args.slot.now c.args.member
     (same_test old c.args.site.now c.args.member c.number.result true there c.number.ensures
     c.if-eq.ensures) (g.P.Port.traffic c.args.port.now) c.args.lines.now.items
 
@@ -34,19 +34,19 @@ is_other g c old there =
 
 pub returns-in-Ok-clause-comes : goal.returns-in-Ok-clause-comes
 returns-in-Ok-clause-comes g c old there serves =
-    asks_by c.args.ports.now old c.args.slot.now c.args.member
+    asks_by c.args.addresses.now old c.args.slot.now c.args.member
     (is_other g (goal.at.returns-in-Ok-clause-comes g c).Else-eq old there)
     g.C.Cell.device c.args.site.now there serves c.requires c.in-Ok.answer c.in-Ok.ensures.answer
     (g.P.Port.traffic c.args.port.now) (g.P.Port.traffic c.send_all.new.port)
     c.args.lines.now.items c.send_all.result
     (subst (λ (l : List Outgoing). Hands (g.P.Port.traffic c.args.port.now)
-    (g.P.Port.traffic c.send_all.new.port) (flat_map (outgoing_posts c.args.ports.now) l)
+    (g.P.Port.traffic c.send_all.new.port) (flat_map (outgoing_posts c.args.addresses.now) l)
     c.send_all.result) c.as_slice.ensures.value c.send_all.ensures.hands)
 
 pub returns-in_err-push_refused-in-Err-clause-comes :
     goal.returns-in_err-push_refused-in-Err-clause-comes
 returns-in_err-push_refused-in-Err-clause-comes g c old there serves =
-    isnt_asked_in_part c.args.ports.now old c.args.slot.now c.args.member
+    isnt_asked_in_part c.args.addresses.now old c.args.slot.now c.args.member
     (is_other g (goal.at.returns-in_err-push_refused-in-Err-clause-comes g c).Else-eq old there)
     (g.P.Port.traffic c.args.port.now) c.args.lines.now.items c.push_refused.new.lines.items
     c.from_residual.result c.from_residual.ensures.1
@@ -54,7 +54,7 @@ returns-in_err-push_refused-in-Err-clause-comes g c old there serves =
 pub returns-in_ok-push_refused-in-Err-clause-comes :
     goal.returns-in_ok-push_refused-in-Err-clause-comes
 returns-in_ok-push_refused-in-Err-clause-comes g c old there serves =
-    isnt_asked c.args.ports.now old c.args.slot.now c.args.member
+    isnt_asked c.args.addresses.now old c.args.slot.now c.args.member
     (is_other g (goal.at.returns-in_ok-push_refused-in-Err-clause-comes g c).Else-eq old there)
     (g.P.Port.traffic c.args.port.now) c.args.lines.now.items c.push_refused.new.lines.items
     (subst (λ (site : ℕ). Notes c.args.lines.now.items c.push_refused.new.lines.items

@@ -9,7 +9,7 @@ loop-member-init g c = (
   tt,
   tt,
   λ old there serves.
-      nobody_asked c.args.ports.now old c.args.slot.now c.into_iter-member-iterator.result
+      nobody_asked c.args.addresses.now old c.args.slot.now c.into_iter-member-iterator.result
       (c.into_iter-member-iterator.ensures.into_iter_gives ∙ (c.sites-member-items.ensures
       ∙ ap members_of (c.members.ensures
       ∙ ap (λ (o : OpenSite g.row.C.Denot). o.book.owner.members) (sym there))))
@@ -22,7 +22,7 @@ loop-member-preserved g c = (
   tt,
   tt,
   λ old there serves.
-      next_asked c.args.ports.now old c.args.slot.now (g.P.Port.traffic c.args.port.now)
+      next_asked c.args.addresses.now old c.args.slot.now (g.P.Port.traffic c.args.port.now)
       (g.P.Port.traffic c.loop-member.port) (g.P.Port.traffic c.ask_other.new.port)
       c.args.lines.now.items c.loop-member.lines.items c.ask_other.new.lines.items
       c.in-Some.member c.loop-member.member-iterator c.next.new.self c.in-Some.ensures.steps
@@ -33,7 +33,7 @@ loop-member-preserved g c = (
 
 pub returns-in_err-ask_other-clause-comes : goal.returns-in_err-ask_other-clause-comes
 returns-in_err-ask_other-clause-comes g c old there serves =
-    next_failed c.args.ports.now old c.args.slot.now (g.P.Port.traffic c.args.port.now)
+    next_failed c.args.addresses.now old c.args.slot.now (g.P.Port.traffic c.args.port.now)
     (g.P.Port.traffic c.loop-member.port) (g.P.Port.traffic c.ask_other.new.port)
     c.args.lines.now.items c.loop-member.lines.items c.ask_other.new.lines.items
     c.in-Some.member c.loop-member.member-iterator c.next.new.self c.in-Some.ensures.steps
@@ -43,7 +43,7 @@ returns-in_err-ask_other-clause-comes g c old there serves =
 
 pub returns-clause-comes : goal.returns-clause-comes
 returns-clause-comes g c old there serves =
-    all_asked c.args.ports.now old c.args.slot.now (g.P.Port.traffic c.args.port.now)
+    all_asked c.args.addresses.now old c.args.slot.now (g.P.Port.traffic c.args.port.now)
     (g.P.Port.traffic c.loop-member.port) c.args.lines.now.items c.loop-member.lines.items
     c.loop-member.member-iterator c.in-None.ensures.steps.0
     (c.loop-member.invariant.2 old there serves)

@@ -9,6 +9,6 @@ invariant-loop-member g l =
     (goal.iterator-loop-member g).can_next l.member-iterator
     × (goal.iterator-loop-member g).is_finite l.member-iterator
     × ((old : Serving g.row.C.Denot) → old.site ≡ l.site → IsServing old
-    → AskedBut l.ports old l.slot l.member-iterator (g.P.Port.traffic l.fn.port)
+    → AskedBut l.addresses old l.slot l.member-iterator (g.P.Port.traffic l.fn.port)
     (g.P.Port.traffic l.port) l.fn.lines.items l.lines.items)
     × (g.P.Port.failures l.fn.port ≤ g.P.Port.failures l.port)

@@ -9,6 +9,6 @@ abbrev pub invariant-loop-sealed : goal.invariant-loop-sealed
 invariant-loop-sealed g l = record {
   grows :
       Grows (g.P.Port.traffic l.fn.port) (g.P.Port.traffic l.port)
-      (all_handed (flat_map (outgoing_posts l.ports) (take l.sealed-index l.sends)));
+      (all_handed (flat_map (outgoing_posts l.addresses) (take l.sealed-index l.sends)));
   later : g.P.Port.failures l.fn.port ≤ g.P.Port.failures l.port;
 }

@@ -10,4 +10,5 @@ pub returns-in-Err-clause-hands : goal.returns-in-Err-clause-hands
 returns-in-Err-clause-hands g c =
     let traffic = g.P.Port.traffic c.args.port.now in
     subst (λ (answer : Result Answer SiteFault). Grows traffic traffic
-    (all_handed (posts_of c.args.ports.now answer))) (sym c.in-Err.is) (grows_by_no_posts traffic)
+    (all_handed (posts_of c.args.addresses.now answer))) (sym c.in-Err.is) (grows_by_no_posts
+    traffic)

@@ -15,14 +15,14 @@ none_past place length found is none = ltb-false place length (sym is ∙ ap is_
 pub returns-in-None-clause-hands : goal.returns-in-None-clause-hands
 returns-in-None-clause-hands g c =
     let traffic = g.P.Port.traffic c.args.port.now in
-    let past : length c.args.ports.now ≤ c.args.site - 1 =
+    let past : length c.args.addresses.now ≤ c.args.site - 1 =
     omega (
       arith,
       none_past (c.from.result - 1)
-          (length c.args.ports.now) c.get.result c.get.ensures.lookup.0 c.in-None.is,
+          (length c.args.addresses.now) c.get.result c.get.ensures.lookup.0 c.in-None.is,
       c.from.ensures,
       c.number.ensures.value,
     ) in
     subst (λ found. Grows traffic traffic
     (all_handed (map (λ port. (port, c.args.bytes.now)) (option_to_list found))))
-    (sym (slice_get_past c.args.ports.now (c.args.site - 1) past)) (grows_by_no_posts traffic)
+    (sym (slice_get_past c.args.addresses.now (c.args.site - 1) past)) (grows_by_no_posts traffic)

@@ -34,13 +34,13 @@ given_back rule before start wanted result traffic written p q s t port site end
     rw (← port, ← site) ends
 
 -- the same comes by the same rule
-by_rule : {C : Type 0} (device : C → Device) (ports l : List ℕ)
+by_rule : {C : Type 0} (device : C → Device) (addresses l : List ℕ)
     (gives f : Option (List ℕ → Result TreeFacts TreeFault)) (before after : Outside)
     (old : Serving C) (site : OpenSite C) (idle tried : ℕ) (result : Result (Unit {0}) ServeFault)
-    → l ≡ ports → f ≡ gives
+    → l ≡ addresses → f ≡ gives
     → OneTurn (turn_of device l f) before after old site idle tried result
-    → OneTurn (turn_of device ports gives) before after old site idle tried result
-by_rule device ports l gives f before after old site idle tried result same kept comes =
+    → OneTurn (turn_of device addresses gives) before after old site idle tried result
+by_rule device addresses l gives f before after old site idle tried result same kept comes =
     rw (← same, ← kept) comes
 
 -- the turns so far end where the next one begins
@@ -84,7 +84,7 @@ turns-preserved g c = record {
         site = turn.site ∙ so_far.site;
         port = turn.port ∙ so_far.port;
         folders = turn.folders ∙ so_far.folders;
-        ports = turn.ports ∙ so_far.ports;
+        addresses = turn.addresses ∙ so_far.addresses;
         later = le_trans so_far.later turn.later;
         kept = turn.kept ∙ so_far.kept;
       };
@@ -94,7 +94,7 @@ turns-preserved g c = record {
       (stands g (goal.at.turns-preserved g c).After-one_turn volatile serving);
   led = λ volatile serving.
       let gives = g.F.Folders.gives c.args.folders.now in
-      let rule = turn_of g.C.Cell.device c.args.ports.now gives in
+      let rule = turn_of g.C.Cell.device c.args.addresses.now gives in
       let before = outside (g.P.Port.traffic c.args.port.now)
       (g.W.Write.contents c.args.output.now) in
       let mid = outside (g.P.Port.traffic c.turns.server.port.now)
@@ -107,9 +107,9 @@ turns-preserved g c = record {
       one_turn_more rule before mid after (begins c.args.site.now volatile)
       c.turns.server.site.now c.one_turn.new.self.site.now was.idle was.tried is.idle is.tried
       c.turns.counter so_far
-      (by_rule g.C.Cell.device c.args.ports.now c.turns.server.ports.now gives
+      (by_rule g.C.Cell.device c.args.addresses.now c.turns.server.addresses.now gives
       (g.F.Folders.gives c.turns.server.folders.now) mid after so_far.0
-      c.one_turn.new.self.site.now is.idle is.tried (Ok tt) c.turns.invariant.keeps.ports
+      c.one_turn.new.self.site.now is.idle is.tried (Ok tt) c.turns.invariant.keeps.addresses
       c.turns.invariant.keeps.kept
       (c.in_ok-one_turn.ensures.turn so_far.0
       (stands g (goal.at.turns-preserved g c).After-one_turn volatile serving)));
@@ -118,7 +118,7 @@ turns-preserved g c = record {
 pub returns-in_err-one_turn-clause-served : goal.returns-in_err-one_turn-clause-served
 returns-in_err-one_turn-clause-served g c volatile serving =
     let gives = g.F.Folders.gives c.args.folders.now in
-    let rule = turn_of g.C.Cell.device c.args.ports.now gives in
+    let rule = turn_of g.C.Cell.device c.args.addresses.now gives in
     let before =
     outside (g.P.Port.traffic c.args.port.now) (g.W.Write.contents c.args.output.now) in
     let mid = outside (g.P.Port.traffic c.turns.server.port.now)
@@ -138,9 +138,9 @@ returns-in_err-one_turn-clause-served g c volatile serving =
     (ended rule before mid after start c.turns.server.site.now c.one_turn.new.self.site.now
     was.idle was.tried is.idle is.tried c.turns.counter so_far c.args.turns c.turns-test.true
     fault
-    (by_rule g.C.Cell.device c.args.ports.now c.turns.server.ports.now gives
+    (by_rule g.C.Cell.device c.args.addresses.now c.turns.server.addresses.now gives
     (g.F.Folders.gives c.turns.server.folders.now) mid after so_far.0
-    c.one_turn.new.self.site.now is.idle is.tried (Err fault) c.turns.invariant.keeps.ports
+    c.one_turn.new.self.site.now is.idle is.tried (Err fault) c.turns.invariant.keeps.addresses
     c.turns.invariant.keeps.kept
     (c.in_err-one_turn.ensures.turn so_far.0
     (stands g (goal.at.returns-in_err-one_turn-clause-served g c).After-one_turn volatile
@@ -148,7 +148,8 @@ returns-in_err-one_turn-clause-served g c volatile serving =
 
 pub returns-clause-served : goal.returns-clause-served
 returns-clause-served g c volatile serving =
-    let rule = turn_of g.C.Cell.device c.args.ports.now (g.F.Folders.gives c.args.folders.now) in
+    let rule = turn_of g.C.Cell.device c.args.addresses.now (g.F.Folders.gives c.args.folders.now)
+    in
     let before =
     outside (g.P.Port.traffic c.args.port.now) (g.W.Write.contents c.args.output.now) in
     let written = g.W.Write.contents c.turns.output in

@@ -14,7 +14,7 @@ invariant-turns g l = record {
   settled : (volatile : VolatileState) → IsServing (begins l.fn.site volatile)
       → AreSettled l.server.site.now.book.records l.server.progress.settled;
   led : (volatile : VolatileState) → IsServing (begins l.fn.site volatile)
-      → SoFar (turn_of g.C.Cell.device l.ports (g.F.Folders.gives l.fn.folders))
+      → SoFar (turn_of g.C.Cell.device l.addresses (g.F.Folders.gives l.fn.folders))
       (record {
         traffic = g.P.Port.traffic l.fn.port;
         written = g.W.Write.contents l.fn.output;

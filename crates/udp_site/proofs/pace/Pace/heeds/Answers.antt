@@ -2,14 +2,14 @@ use Rattle.std.proofs.Common.{◌∙◌, sym, arith}
 use Rattle.udp_site.proofs.Signs.{own_changes_nothing, nothing_changes}
 use Rattle.udp_site.proofs.pace.Pace.heeds.Goals as goal
 
-pub returns-then-own-from : goal.returns-then-own-from
-returns-then-own-from c = λ isnt federation.
+pub returns-then-eq : goal.returns-then-eq
+returns-then-eq c = λ isnt federation.
     own_changes_nothing c.args.self.now c.args.now c.args.own c.args.from federation
-    c.args.bytes.now (λ i. omega (arith, c.type_inv.bytes i)) c.if-self.false c.if-own-from.true
+    c.args.bytes.now (λ i. omega (arith, c.type_inv.bytes i)) c.if-self.false (sym c.eq.ensures ∙ c.if-eq.true)
     (sym c.is_vote.ensures ∙ isnt)
 
 pub returns : goal.returns
 returns c = λ isnt federation.
     nothing_changes c.args.self.now c.args.now c.args.own c.args.from federation
     c.args.bytes.now (λ i. omega (arith, c.type_inv.bytes i)) c.if-self.false c.if-self-2.false
-    c.if-self-3.false (c.wants_contacts.ensures isnt) c.if-own-from.false
+    c.if-self-3.false (c.wants_contacts.ensures isnt) (sym c.eq.ensures ∙ c.if-eq.false)

@@ -28,7 +28,7 @@ returns-in-Hear-clause-comes g c old there serves =
     (asks.Hear c.in-Hear.message)
     (same_federation old was.site.now there c.members.result c.federation.result
     c.federation.ensures c.members.ensures) c.in-Hear.is c.in_ok-message.ensures in
-    by_request g.C.Cell.device was.ports.now
+    by_request g.C.Cell.device was.addresses.now
     (g.F.Folders.gives was.folders.now) old c.args.from
     (message_of (members old).federation c.args.bytes.now) (Says c.in-Hear.message)
     (asked c.args.from)
@@ -44,7 +44,7 @@ returns-in-Deposit-clause-comes g c old there serves =
     (asks.Deposit c.in-Deposit.slot c.in-Deposit.path)
     (same_federation old was.site.now there c.members.result c.federation.result
     c.federation.ensures c.members.ensures) c.in-Deposit.is c.in_ok-message.ensures in
-    by_request g.C.Cell.device was.ports.now
+    by_request g.C.Cell.device was.addresses.now
     (g.F.Folders.gives was.folders.now) old c.args.from
     (message_of (members old).federation c.args.bytes.now)
     (Deposits c.args.from c.in-Deposit.slot c.in-Deposit.path) (asked c.args.from)
@@ -60,7 +60,7 @@ returns-in-Query-clause-comes g c old there serves =
     (asks.Query c.in-Query.slot)
     (same_federation old was.site.now there c.members.result c.federation.result
     c.federation.ensures c.members.ensures) c.in-Query.is c.in_ok-message.ensures in
-    by_request g.C.Cell.device was.ports.now
+    by_request g.C.Cell.device was.addresses.now
     (g.F.Folders.gives was.folders.now) old c.args.from
     (message_of (members old).federation c.args.bytes.now) (Queries c.args.from c.in-Query.slot)
     (asked c.args.from) (g.P.Port.traffic was.port.now) (g.P.Port.traffic left.port.now)
@@ -75,7 +75,7 @@ returns-in-Recover-clause-comes g c old there serves =
     (asks.Recover c.in-Recover.slot)
     (same_federation old was.site.now there c.members.result c.federation.result
     c.federation.ensures c.members.ensures) c.in-Recover.is c.in_ok-message.ensures in
-    by_request g.C.Cell.device was.ports.now
+    by_request g.C.Cell.device was.addresses.now
     (g.F.Folders.gives was.folders.now) old c.args.from
     (message_of (members old).federation c.args.bytes.now) (Recovers c.in-Recover.slot)
     (asked c.args.from) (g.P.Port.traffic was.port.now) (g.P.Port.traffic left.port.now)
@@ -91,7 +91,7 @@ returns-in-Nothing-clause-comes g c old there serves =
     c.federation.result c.federation.ensures c.members.ensures) c.in-Nothing.is
     c.in_ok-message.ensures in
     let traffic = g.P.Port.traffic was.port.now in
-    by_request g.C.Cell.device was.ports.now
+    by_request g.C.Cell.device was.addresses.now
     (g.F.Folders.gives was.folders.now) old c.args.from
     (message_of (members old).federation c.args.bytes.now) Noise (asked c.args.from) traffic
     (g.P.Port.traffic left.port.now)
@@ -103,9 +103,9 @@ returns-in_err-message-clause-comes g c old there serves =
     let was = c.args.self.now in
     let gives = g.F.Folders.gives was.folders.now in
     let traffic = g.P.Port.traffic was.port.now in
-    let could = could_come g.C.Cell.device was.ports.now gives old serves c.args.from
+    let could = could_come g.C.Cell.device was.addresses.now gives old serves c.args.from
     (message_of (members old).federation c.args.bytes.now) in
-    broken_off (turn_of g.C.Cell.device was.ports.now gives old
+    broken_off (turn_of g.C.Cell.device was.addresses.now gives old
     (From c.args.from c.args.bytes.now)) traffic traffic was.lines.now.items
     was.lines.now.items was.site.now could.0 old could.1 there
     (no_part traffic (all_handed could.0.posts)) c.from_residual.result c.from_residual.ensures.1

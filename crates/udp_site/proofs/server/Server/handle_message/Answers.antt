@@ -16,8 +16,8 @@ use Rattle.udp_site.proofs.server.Server.handle_message.Goals as goal
 
 -- what is done of an answer
 abbrev done_of : List ℕ → (site : ℕ) → Message → Result Answer SiteFault → Done
-done_of ports site m result = record {
-  posts = posts_of ports result;
+done_of addresses site m result = record {
+  posts = posts_of addresses result;
   notices = notices_of site (Arrives (Some m)) result;
 }
 
@@ -41,7 +41,7 @@ returns-clause-comes g c old there serves =
     let before = was.lines.now.items in
     let after = c.push_arrival.new.lines.items in
     calls_whole (call g (goal.at.returns-clause-comes g c).After-send_answer old there serves)
-    (done_of was.ports.now (number old) m)
+    (done_of was.addresses.now (number old) m)
     (g.P.Port.traffic was.port.now) (g.P.Port.traffic c.send_answer.new.port)
     before after c.in_ok-send_answer.ensures.hands
     (subst (λ (site : ℕ). Notes before after
@@ -54,7 +54,7 @@ returns-in_err-send_answer-clause-comes g c old there serves =
     let was = c.args.self.now in
     let at = goal.at.returns-in_err-send_answer-clause-comes g c in
     calls_failed (call g at.After-send_answer old there serves)
-    (done_of was.ports.now (number old) c.args.message)
+    (done_of was.addresses.now (number old) c.args.message)
     (g.P.Port.traffic was.port.now) (g.P.Port.traffic c.send_answer.new.port)
     was.lines.now.items was.lines.now.items c.in_err-send_answer.field-0.0
     c.from_residual.result c.from_residual.ensures.1 c.in_err-send_answer.ensures.hands
@@ -66,9 +66,9 @@ returns-in_err-push_arrival-clause-comes g c old there serves =
     let before = g.P.Port.traffic was.port.now in
     let after = g.P.Port.traffic c.send_answer.new.port in
     calls_part (call g at.After-send_answer old there serves)
-    (done_of was.ports.now (number old) c.args.message) before after
+    (done_of was.addresses.now (number old) c.args.message) before after
     was.lines.now.items c.push_arrival.new.lines.items
     (whole_part before after
-    (all_handed (posts_of was.ports.now c.arrive_message-answer.result))
+    (all_handed (posts_of was.addresses.now c.arrive_message-answer.result))
     c.in_ok-send_answer.ensures.hands)
     c.from_residual-in_err-push_arrival.result c.from_residual-in_err-push_arrival.ensures.1

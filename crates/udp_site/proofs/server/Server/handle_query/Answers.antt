@@ -52,7 +52,7 @@ returns-clause-comes g c old there serves =
     let end = g.P.Port.traffic c.ask_unless_known.new.port in
     let told = (goal.at.returns-clause-comes g c).After-reply in
     let known = known g told old there in
-    answered was.ports.now old c.args.client c.args.slot start there serves before after end
+    answered was.addresses.now old c.args.client c.args.slot start there serves before after end
     was.lines.now.items c.push_reply.new.lines.items c.ask_unless_known.new.lines.items
     (subst (λ (posts : List Post). Grows before after (all_handed posts))
     (replied g told old there) c.in_ok-slot.ensures.hands)
@@ -62,10 +62,10 @@ returns-clause-comes g c old there serves =
     c.number-from.ensures) c.in_ok-slot.ensures.slot known
     was.lines.now.items c.push_reply.new.lines.items c.in_ok-push_reply.ensures)
     c.ask_unless_known.result
-    (subst (λ (k : Result (Reply BagId) SiteFault). AsksFor was.ports.now old c.args.slot
+    (subst (λ (k : Result (Reply BagId) SiteFault). AsksFor was.addresses.now old c.args.slot
     (asked old k) after end c.push_reply.new.lines.items c.ask_unless_known.new.lines.items
     c.ask_unless_known.result) known
-    (subst (λ (slot : SlotName). AsksFor was.ports.now old slot
+    (subst (λ (slot : SlotName). AsksFor was.addresses.now old slot
     (asked old c.query-known.result) after end c.push_reply.new.lines.items
     c.ask_unless_known.new.lines.items c.ask_unless_known.result) c.in_ok-slot.ensures.slot
     (c.ask_unless_known.ensures.comes old there serves)))
@@ -80,7 +80,7 @@ returns-in_err-slot-clause-comes g c old there serves =
     c.in_err-slot.field-0.0
     (subst (λ (posts : List Post). Hands {T = Unit {0}} before after posts
     (Err c.in_err-slot.field-0.0)) (replied g told old there) c.in_err-slot.ensures.hands) in
-    unanswered was.ports.now old c.args.client c.args.slot was.site.now there serves before
+    unanswered was.addresses.now old c.args.client c.args.slot was.site.now there serves before
     after was.lines.now.items was.lines.now.items fails.1 c.from_residual.result
     (subst (λ (f : ServeFault). IsErrAnd c.from_residual.result (λ e. e ≡ f)) fails.0
     c.from_residual.ensures.1)
@@ -91,7 +91,7 @@ returns-in_err-push_reply-clause-comes g c old there serves =
     let before = g.P.Port.traffic was.port.now in
     let after = g.P.Port.traffic c.reply.new.port in
     let told = (goal.at.returns-in_err-push_reply-clause-comes g c).After-reply in
-    unanswered was.ports.now old c.args.client c.args.slot was.site.now there serves before
+    unanswered was.addresses.now old c.args.client c.args.slot was.site.now there serves before
     after was.lines.now.items c.push_reply.new.lines.items
     (whole_part before after (all_handed (client_reply old c.args.client c.args.slot))
     (subst (λ (posts : List Post). Grows before after (all_handed posts))

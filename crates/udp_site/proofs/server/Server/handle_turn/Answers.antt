@@ -15,7 +15,7 @@ returns-in-Idle-clause-turn g c = record {
   comes = λ old stands.
       let was = c.args.self.now in
       let left = c.idle.new.self in
-      let rule = turn_of g.C.Cell.device was.ports.now
+      let rule = turn_of g.C.Cell.device was.addresses.now
       (g.F.Folders.gives was.folders.now) old in
       subst (λ (turn : Turn). ComesTo (at left.progress.idle
       left.progress.tried (rule (taken turn)))
@@ -31,7 +31,7 @@ returns-in-Got-clause-turn g c = record {
   comes = λ old stands.
       let was = c.args.self.now in
       let left = c.handle_datagram.new.self in
-      let rule = turn_of g.C.Cell.device was.ports.now
+      let rule = turn_of g.C.Cell.device was.addresses.now
       (g.F.Folders.gives was.folders.now) old in
       let before = g.P.Port.traffic was.port.now in
       let after = g.P.Port.traffic left.port.now in
@@ -44,7 +44,7 @@ returns-in-Got-clause-turn g c = record {
       (sym c.in-Got.is)
       (comes_too (rule from) (at idle tried (rule from))
       (λ done next is.
-      let same = same_round g.C.Cell.device was.ports.now
+      let same = same_round g.C.Cell.device was.addresses.now
       (g.F.Folders.gives was.folders.now) old c.in-Got.from
       (message_of (members old).federation c.in-Got.bytes.items) done next is in
       (is, same.0 ∙ stands.idle, same.1 ∙ stands.tried))

@@ -27,7 +27,7 @@ returns-then-self-from-ne0-clause-turn g c = record {
   comes = λ old stands.
       let was = c.args.self.now in
       let at = goal.at.returns-then-self-from-ne0-clause-turn g c in
-      not_yet g.C.Cell.device was.ports.now old was.site.now was.progress stands c.from.result
+      not_yet g.C.Cell.device was.addresses.now old was.site.now was.progress stands c.from.result
       (from_is g at.After-from) (g.P.Port.traffic was.port.now) was.lines.now.items
       c.if-self-from-ne0.true;
 }
@@ -41,7 +41,7 @@ returns-in_default-clause-turn g c =
       settled = past;
       comes = λ old stands.
           let was = c.args.self.now in
-          none_to_propose g.C.Cell.device was.ports.now old was.site.now was.progress stands
+          none_to_propose g.C.Cell.device was.addresses.now old was.site.now was.progress stands
           c.from.result (from_is g at.After-from) (g.P.Port.traffic was.port.now)
           was.lines.now.items c.if-self-from-ne0.false
           (c.in_default.ensures.next (past stands.settled));
@@ -56,7 +56,7 @@ returns-in_default-deposited-clause-turn g c =
       settled = past;
       comes = λ old stands.
           let was = c.args.self.now in
-          no_slot g.C.Cell.device was.ports.now old was.site.now was.progress stands
+          no_slot g.C.Cell.device was.addresses.now old was.site.now was.progress stands
           c.from.result (from_is g at.After-from) (g.P.Port.traffic was.port.now)
           was.lines.now.items c.if-self-from-ne0.false c.in-Some.place
           (c.in-Some.ensures.next (past stands.settled)) c.in_default-deposited.ensures;
@@ -71,7 +71,7 @@ returns-in_err-slot-clause-turn g c =
       settled = past;
       comes = λ old stands.
           let was = c.args.self.now in
-          no_memory g.C.Cell.device was.ports.now old was.site.now was.progress stands
+          no_memory g.C.Cell.device was.addresses.now old was.site.now was.progress stands
           c.from.result (from_is g at.After-from) c.if-self-from-ne0.false c.in-Some.place
           (c.in-Some.ensures.next (past stands.settled)) c.in-Some-deposited.slot.now
           c.in-Some-deposited.ensures (g.P.Port.traffic was.port.now) was.lines.now.items
@@ -89,7 +89,7 @@ returns-clause-turn g c =
           let was = c.args.self.now in
           let left = c.propose.new.self in
           rw c.propose.ensures.stays.progress
-          (proposal_comes g.C.Cell.device was.ports.now old was.site.now was.progress stands
+          (proposal_comes g.C.Cell.device was.addresses.now old was.site.now was.progress stands
           c.from.result (from_is g at.After-from) c.if-self-from-ne0.false c.in-Some.place
           (c.in-Some.ensures.next (past stands.settled)) c.in_ok-slot.slot
           (ap (λ (s : SlotName). Some s) c.in_ok-slot.ensures ∙ c.in-Some-deposited.ensures)

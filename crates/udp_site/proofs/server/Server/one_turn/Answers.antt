@@ -16,7 +16,7 @@ use Rattle.udp_site.proofs.server.Server.one_turn.Goals as goal
 pub returns-in_err-turn-clause-turn : goal.returns-in_err-turn-clause-turn
 returns-in_err-turn-clause-turn g c old stands =
     let was = c.args.self.now in
-    let rule = turn_of g.C.Cell.device was.ports.now (g.F.Folders.gives was.folders.now) in
+    let rule = turn_of g.C.Cell.device was.addresses.now (g.F.Folders.gives was.folders.now) in
     let before = outside (g.P.Port.traffic was.port.now)
     (g.W.Write.contents c.args.output.now) in
     let after = outside (g.P.Port.traffic c.receive.new.port)
@@ -30,7 +30,7 @@ pub returns-in-Err-clause-turn : goal.returns-in-Err-clause-turn
 returns-in-Err-clause-turn g c old stands =
     let was = c.args.self.now in
     let left = c.handle_turn.new.self in
-    let rule = turn_of g.C.Cell.device was.ports.now (g.F.Folders.gives was.folders.now) in
+    let rule = turn_of g.C.Cell.device was.addresses.now (g.F.Folders.gives was.folders.now) in
     let before = outside (g.P.Port.traffic was.port.now)
     (g.W.Write.contents c.args.output.now) in
     let after = outside (g.P.Port.traffic left.port.now)
@@ -44,7 +44,7 @@ pub returns-then-is_refused-clause-turn : goal.returns-then-is_refused-clause-tu
 returns-then-is_refused-clause-turn g c old stands =
     let was = c.args.self.now in
     let left = c.handle_turn.new.self in
-    let rule = turn_of g.C.Cell.device was.ports.now (g.F.Folders.gives was.folders.now) in
+    let rule = turn_of g.C.Cell.device was.addresses.now (g.F.Folders.gives was.folders.now) in
     let before = outside (g.P.Port.traffic was.port.now)
     (g.W.Write.contents c.args.output.now) in
     let after = outside (g.P.Port.traffic left.port.now)
@@ -59,7 +59,7 @@ returns-then-is_refused-clause-turn g c old stands =
     (sym c.if-is_refused.true ∙ c.is_refused.ensures
     ∙ ap (list_any line_of_the_cell) c.deref-2.ensures.value))
     (λ turn next comes stops.
-    last_needs_opening g.C.Cell.device was.ports.now next turn.done stops
+    last_needs_opening g.C.Cell.device was.addresses.now next turn.done stops
     (g.F.Folders.gives was.folders.now) old (request_of (members old).federation turn.took) comes)
 
 pub returns-clause-turn : goal.returns-clause-turn
@@ -68,7 +68,7 @@ returns-clause-turn g c old stands =
     let left = c.handle_turn.new.self in
     let refused = sym c.if-is_refused.false ∙ c.is_refused.ensures
     ∙ ap (list_any line_of_the_cell) c.deref-2.ensures.value in
-    went_on (turn_of g.C.Cell.device was.ports.now (g.F.Folders.gives was.folders.now))
+    went_on (turn_of g.C.Cell.device was.addresses.now (g.F.Folders.gives was.folders.now))
     (outside (g.P.Port.traffic was.port.now) (g.W.Write.contents c.args.output.now))
     (outside (g.P.Port.traffic left.port.now)
     (g.W.Write.contents c.write_lines-written.new.output)) old left.site.now
@@ -86,7 +86,7 @@ returns-clause-settled g c =
     let left = c.handle_turn.new.self in
     on_ok c.write_lines-written.result
     (λ old stands.
-    settled_after g.C.Cell.device was.ports.now (g.F.Folders.gives was.folders.now) old
+    settled_after g.C.Cell.device was.addresses.now (g.F.Folders.gives was.folders.now) old
     (taken c.in_ok-turn.turn) left.progress.idle left.progress.tried
     left.progress.settled (g.P.Port.traffic c.receive.new.port)
     (g.P.Port.traffic left.port.now) c.clear.new.self.items left.lines.now.items

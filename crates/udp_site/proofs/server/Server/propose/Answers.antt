@@ -36,7 +36,7 @@ pub returns-clause-comes : goal.returns-clause-comes
 returns-clause-comes g c old there serves =
     let was = c.args.self.now in
     begins_whole (call g (goal.at.returns-clause-comes g c).After-send_answer old there serves)
-    c.propose-answer.ensures.refused was.ports.now (says old c.args.slot.now)
+    c.propose-answer.ensures.refused was.addresses.now (says old c.args.slot.now)
     (g.P.Port.traffic was.port.now) (g.P.Port.traffic c.send_answer.new.port)
     was.lines.now.items c.push_proposal.new.lines.items c.in_ok-send_answer.ensures.hands
     (subst (λ (site : ℕ). Notes was.lines.now.items c.push_proposal.new.lines.items
@@ -49,7 +49,7 @@ returns-in_err-send_answer-clause-comes g c old there serves =
     let was = c.args.self.now in
     let at = goal.at.returns-in_err-send_answer-clause-comes g c in
     begins_failed (call g at.After-send_answer old there serves)
-    c.propose-answer.ensures.refused was.ports.now (says old c.args.slot.now)
+    c.propose-answer.ensures.refused was.addresses.now (says old c.args.slot.now)
     (g.P.Port.traffic was.port.now) (g.P.Port.traffic c.send_answer.new.port)
     was.lines.now.items was.lines.now.items c.in_err-send_answer.field-0.0
     c.from_residual.result c.from_residual.ensures.1 c.in_err-send_answer.ensures.hands
@@ -59,9 +59,10 @@ returns-in_err-push_proposal-clause-comes g c old there serves =
     let was = c.args.self.now in
     let at = goal.at.returns-in_err-push_proposal-clause-comes g c in
     begins_part (call g at.After-send_answer old there serves)
-    c.propose-answer.ensures.refused was.ports.now (says old c.args.slot.now)
+    c.propose-answer.ensures.refused was.addresses.now (says old c.args.slot.now)
     (g.P.Port.traffic was.port.now) (g.P.Port.traffic c.send_answer.new.port)
     was.lines.now.items c.push_proposal.new.lines.items
     (whole_part (g.P.Port.traffic was.port.now) (g.P.Port.traffic c.send_answer.new.port)
-    (all_handed (posts_of was.ports.now c.propose-answer.result)) c.in_ok-send_answer.ensures.hands)
+    (all_handed (posts_of was.addresses.now c.propose-answer.result))
+    c.in_ok-send_answer.ensures.hands)
     c.from_residual-in_err-push_proposal.result c.from_residual-in_err-push_proposal.ensures.1

@@ -1,0 +1,3 @@
+mod SocketLemmas
+mod BackLemmas
+pub mod TextLemmas

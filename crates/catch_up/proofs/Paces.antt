@@ -1,0 +1,241 @@
+-- What is waited for between rounds, one round after another.
+use Rattle.std.proofs.Common.{◌≡◌, ℕ, suc, ◌+◌, ◌-◌, Bool, true, false}
+use Rattle.std.proofs.Common.{List, [], ◌∷◌, ◌++◌, length, Option, Some, None, refl, sym, ap, subst}
+use Rattle.std.proofs.Common.{◌∙◌, append_assoc, append-nil, inl, inr, arith, cond, not}
+use Rattle.std.proofs.lemmas.List.Elements.{All-nil, All-cons, All-head, All-tail}
+use Rattle.std.specs.Prelude.{◌≢◌, ◌⊎◌, ◌↔◌, IsTrue, filter}
+use Rattle.std.specs.List.{All}
+use Rattle.known_bags.specs.declared.known_bag.KnownBag.{KnownBag}
+use Rattle.catch_up.specs.Rounds.{Answer, open_of, left_of, left_after}
+use Rattle.catch_up.specs.Times.{Beat, Read, Paused, Beats, is_over, pause_after, ArePauses}
+use Rattle.catch_up.specs.Times.{LeaveSome, ReadsOver, most_rounds, AreLast, ArePaced}
+use Rattle.catch_up.specs.Times.{AreSoManyRounds, AreAllRounds}
+use Rattle.catch_up.specs.inner.Progress.{IsNext}
+
+pub Beats-none : (a : Option (List Beat)) → Beats a a []
+Beats-none None = tt
+Beats-none (Some x) = ap (λ (l : List Beat). Some l) (sym (append-nil x))
+
+Beats-trans : (a b c : Option (List Beat)) (m n : List Beat) → Beats a b m → Beats b c n
+    → Beats a c (m ++ n)
+Beats-trans None b c m n p q = tt
+Beats-trans (Some x) b c m n p q =
+    let then : c ≡ Some ((x ++ m) ++ n) = subst (λ (o : Option (List Beat)). Beats o c n) p q in
+    then ∙ ap (λ (l : List Beat). Some l) (append_assoc x m n)
+
+-- ---- what a round leaves
+
+-- nothing is left where all are known
+opened : (v : KnownBag) (vs : List KnownBag) (t : Bool) → t ≡ true → open_of vs ≡ []
+    → cond (not t) (v ∷ filter (λ v. not v.is_found) vs) (filter (λ v. not v.is_found) vs) ≡ []
+unfolding open_of
+opened v vs true is none = none
+opened v vs false is none = absurd (cc is)
+
+pub none_open : (vs : List KnownBag) → All (λ v. v.is_found ≡ true) vs → open_of vs ≡ []
+unfolding open_of
+none_open [] all = refl
+none_open (v ∷ vs) all =
+    opened v vs v.is_found (All-head (λ (v : KnownBag). v.is_found ≡ true) v vs all)
+    (none_open vs (All-tail (λ (v : KnownBag). v.is_found ≡ true) v vs all))
+
+found_too : (v : KnownBag) (vs : List KnownBag) (t : Bool) → v.is_found ≡ t
+    → (open_of vs ≡ [] → All (λ v. v.is_found ≡ true) vs)
+    → cond (not t) (v ∷ filter (λ v. not v.is_found) vs) (filter (λ v. not v.is_found) vs) ≡ []
+    → All (λ v. v.is_found ≡ true) (v ∷ vs)
+unfolding open_of
+found_too v vs true is others none =
+    All-cons (λ (v : KnownBag). v.is_found ≡ true) v vs is (others none)
+found_too v vs false is others none = absurd (cc none)
+
+pub all_found : (vs : List KnownBag) → open_of vs ≡ [] → All (λ v. v.is_found ≡ true) vs
+unfolding open_of
+all_found [] none = All-nil (λ v. v.is_found ≡ true)
+all_found (v ∷ vs) none = found_too v vs v.is_found refl (all_found vs) none
+
+pub no_length : (rounds : List (List Answer)) → length rounds ≡ 0 → rounds ≡ []
+no_length [] is = refl
+no_length (us ∷ rounds) is = absurd (omega arith)
+
+leave_more : (vs : List KnownBag) (bs : List Answer) (rounds : List (List Answer))
+    (us : List Answer) → LeaveSome vs (bs ∷ rounds) → left_after vs (bs ∷ rounds) ≢ []
+    → LeaveSome vs (bs ∷ (rounds ++ us ∷ []))
+leave_more vs bs [] us leave some = (some, tt)
+leave_more vs bs (cs ∷ rounds) us (left, leave) some =
+    (left, leave_more (left_of vs bs) cs rounds us leave some)
+
+-- there is another round if there was none, or if the last one left something
+pub leave_then : (vs : List KnownBag) (rounds : List (List Answer)) (us : List Answer)
+    → LeaveSome vs rounds → (rounds ≡ []) ⊎ (left_after vs rounds ≢ [])
+    → LeaveSome vs (rounds ++ us ∷ [])
+leave_then vs [] us leave why = tt
+leave_then vs (bs ∷ rounds) us leave (inl none) = absurd (cc none)
+leave_then vs (bs ∷ rounds) us leave (inr some) = leave_more vs bs rounds us leave some
+
+-- ---- the pauses so far
+
+-- the pauses between so many rounds
+abbrev pub ArePausesOf : (seconds rounds : ℕ) → (old new : Option (List Beat)) → Type 0
+ArePausesOf seconds rounds old new =
+    (pauses : List Beat) × Beats old new pauses × ArePauses seconds (rounds - 1) pauses
+
+-- those before the next one, of which there is one
+abbrev pub IsAwaited : (seconds : ℕ) → (left : List KnownBag) → (rounds : ℕ)
+    → (old new : Option (List Beat)) → Type 0
+IsAwaited seconds left rounds old new =
+    ((pauses : List Beat) × Beats old new pauses × ArePauses seconds rounds pauses)
+    × ((rounds ≡ 0) ⊎ (left ≢ []))
+
+module _ (s : ℕ) (t : Option (List Beat)) where
+  pub no_pauses : (rounds : ℕ) → rounds ≡ 0 → ArePausesOf s rounds t t
+  no_pauses rounds none =
+      let is : 0 ≡ rounds - 1 = omega (arith, none) in
+      ([], Beats-none t, subst (λ (k : ℕ). ArePauses s k []) is refl)
+
+  pub awaited : (left : List KnownBag) (rounds : ℕ) (u v : Option (List Beat))
+      → ArePausesOf s rounds t u → IsNext s left rounds u v true → IsAwaited s left rounds t v
+  awaited left rounds u v (pauses, beats, are) (inl (none, idle)) =
+      let is : rounds - 1 ≡ rounds = omega (arith, none) in (
+        (
+          pauses ++ [],
+          Beats-trans t u v pauses [] beats idle,
+          subst (λ (k : ℕ). ArePauses s k (pauses ++ [])) is
+              (subst (λ (l : List Beat). ArePauses s (rounds - 1) l) (sym (append-nil pauses))
+              are),
+        ),
+        inl none,
+      )
+  awaited left rounds u v (pauses, beats, are) (inr (more, some, (passed, paused, isnt))) = (
+    (
+      pauses ++ Read (Some passed) ∷ Paused (pause_after (rounds - 1)) ∷ [],
+      Beats-trans t u v pauses (Read (Some passed) ∷ Paused (pause_after (rounds - 1)) ∷ []) beats
+          paused,
+      one_more rounds (rounds - 1) (omega (arith, more)) pauses passed isnt are,
+    ),
+    inr some,
+  )
+    where
+      one_more : (rounds earlier : ℕ) → rounds ≡ suc earlier → (pauses : List Beat) (passed : ℕ)
+          → is_over s (Some passed) ≡ false → ArePauses s earlier pauses
+          → ArePauses s rounds (pauses ++ Read (Some passed) ∷ Paused (pause_after earlier) ∷ [])
+      one_more rounds earlier is pauses passed isnt are =
+          subst
+          (λ (k : ℕ). ArePauses s k
+          (pauses ++ Read (Some passed) ∷ Paused (pause_after earlier) ∷ []))
+          (sym is) (pauses, passed, refl, isnt, are)
+
+  -- the round that was awaited is done
+  pub after_round : (left : List KnownBag) (rounds next : ℕ) (u : Option (List Beat))
+      → next ≡ rounds + 1 → IsAwaited s left rounds t u → ArePausesOf s next t u
+  after_round left rounds next u is ((pauses, beats, are), some) =
+      let its : rounds ≡ next - 1 = omega (arith, is) in
+      (pauses, beats, subst (λ (k : ℕ). ArePauses s k pauses) its are)
+
+module _ (s : ℕ) (vs : List KnownBag) (rounds : List (List Answer)) (t : Option (List Beat)) where
+  -- no round after these
+  pub last_of : (now : List KnownBag) (u v : Option (List Beat)) (count : ℕ)
+      → length rounds ≡ count → now ≡ left_after vs rounds → LeaveSome vs rounds
+      → ArePausesOf s count t u → IsNext s now count u v false → AreAllRounds s vs rounds t v
+  last_of now u v count so_many kept leave (pauses, beats, are) (more, (last, ended, why)) = (
+    leave,
+    (
+      pauses,
+      last,
+      Beats-trans t u v pauses last beats ended,
+      subst (λ (k : ℕ). ArePauses s (k - 1) pauses) (sym so_many) are,
+      go why,
+    ),
+  )
+    where
+      go : ((now ≡ []) × (last ≡ [])) ⊎ ((now ≢ []) × ReadsOver s last)
+          → AreLast s vs rounds last
+      go (inl (none, idle)) = inl (sym kept ∙ none, idle)
+      go (inr (some, over)) = inr (inl ((λ none. some (kept ∙ none)), over))
+
+  -- no more rounds can be counted
+  pub most_of : (u : Option (List Beat)) (count : ℕ) → length rounds ≡ count → count ≡ most_rounds
+      → LeaveSome vs rounds → ArePausesOf s count t u → AreAllRounds s vs rounds t u
+  most_of u count so_many most leave (pauses, beats, are) = (
+    leave,
+    (
+      pauses,
+      [],
+      subst (Beats t u) (sym (append-nil pauses)) beats,
+      subst (λ (k : ℕ). ArePauses s (k - 1) pauses) (sym so_many) are,
+      inr (inr (so_many ∙ most, refl)),
+    ),
+  )
+
+  -- the rounds stop in the last of these
+  pub stops_in : (u : Option (List Beat)) (count : ℕ) → length rounds ≡ count + 1
+      → LeaveSome vs rounds → ((pauses : List Beat) × Beats t u pauses × ArePauses s count pauses)
+      → ArePaced s vs rounds t u (λ last. last ≡ [])
+  stops_in u count so_many leave (pauses, beats, are) =
+      let its : count ≡ length rounds - 1 = omega (arith, so_many) in (
+        leave,
+        (
+          pauses,
+          [],
+          subst (Beats t u) (sym (append-nil pauses)) beats,
+          subst (λ (k : ℕ). ArePauses s k pauses) its are,
+          refl,
+        ),
+      )
+
+  pub not_to_the_end : (u : Option (List Beat)) → ArePaced s vs rounds t u (λ last. last ≡ [])
+      → AreSoManyRounds s vs rounds t u
+  not_to_the_end u (leave, (pauses, last, beats, are, none)) =
+      (leave, (pauses, last, beats, are, inl none))
+
+  pub to_the_end : (u : Option (List Beat)) → AreAllRounds s vs rounds t u
+      → AreSoManyRounds s vs rounds t u
+  to_the_end u (leave, (pauses, last, beats, are, ends)) =
+      (leave, (pauses, last, beats, are, inr ends))
+
+-- ---- whether there is another round
+
+module _ (s : ℕ) (vs : List KnownBag) (rounds : ℕ) (some : rounds ≢ 0) where
+  -- nothing is left
+  pub none_left : (known : Bool) → (IsTrue known ↔ All (λ v. v.is_found ≡ true) vs)
+      → known ≡ true → (a : Option (List Beat)) → IsNext s (open_of vs) rounds a a false
+  none_left known is all a =
+      (omega (arith, some), ([], Beats-none a, inl (none_open vs (is.0 all), refl)))
+
+  module _ (a b : Option (List Beat)) (known over : Bool)
+      (is : IsTrue known ↔ All (λ v. v.is_found ≡ true) vs) (not_all : known ≡ false)
+      (read : (time : Option ℕ) × Beats a b (Read time ∷ []) × (over ≡ is_over s time)) where
+    not_none : open_of vs ≢ []
+    not_none none = absurd (cc (sym (is.1 (all_found vs none)) ∙ not_all))
+
+    -- the time is over
+    pub is_late : over ≡ true → IsNext s (open_of vs) rounds a b false
+    is_late late = go read
+      where
+        go : (time : Option ℕ) × Beats a b (Read time ∷ []) × (over ≡ is_over s time)
+            → IsNext s (open_of vs) rounds a b false
+        go (time, beats, same) = (
+          omega (arith, some),
+          (Read time ∷ [], beats, inr (not_none, (time, refl, sym same ∙ late))),
+        )
+
+    -- there is time, and it is waited for
+    pub goes_on : over ≡ false → (c : Option (List Beat)) (millis : ℕ)
+        → millis ≡ pause_after (rounds - 1) → Beats b c (Paused millis ∷ [])
+        → IsNext s (open_of vs) rounds a c true
+    goes_on early c millis long paused = go read
+      where
+        go : (time : Option ℕ) × Beats a b (Read time ∷ []) × (over ≡ is_over s time)
+            → IsNext s (open_of vs) rounds a c true
+        go (None, beats, same) = absurd (cc (sym same ∙ early))
+        go (Some passed, beats, same) =
+            inr (
+              omega (arith, some),
+              not_none,
+              (
+                passed,
+                Beats-trans a b c (Read (Some passed) ∷ [])
+                    (Paused (pause_after (rounds - 1)) ∷ []) beats
+                    (subst (λ (k : ℕ). Beats b c (Paused k ∷ [])) long paused),
+                sym same ∙ early,
+              ),
+            )

@@ -1,0 +1,73 @@
+//! Folders of the file system, of which it is said which of how many is read.
+
+use crate::tally::{TalliedProgress, Tally};
+use bag_check::BagFault;
+use bag_folders::{DiskFolders, Folders};
+use bag_tree::{Facts, TreeFault};
+use std::alloc::AllocError;
+use std::io::Stderr;
+
+type Disk = DiskFolders<HostRuntime, TalliedProgress<HostRuntime, Stderr>>;
+
+/// The folders of the file system, which are read one after the other.
+#[derive(Drop)]
+pub struct TalliedFolders<'a> {
+    rt: &'a HostRuntime,
+    /// Whether all digests are wanted, even if a fault shows without them.
+    are_all_wanted: bool,
+    tally: Tally,
+    /// What read the last folder, if there was memory for it.
+    last: Option<Disk>,
+}
+
+impl<'a> TalliedFolders<'a> {
+    pub fn new(rt: &'a HostRuntime, are_all_wanted: bool, tally: Tally) -> TalliedFolders<'a> {
+        TalliedFolders {
+            rt,
+            are_all_wanted,
+            tally,
+            last: None,
+        }
+    }
+
+    /// Takes back the line of a terminal, if it is there.
+    pub fn end(&self) {
+        if self.tally.is_shown {
+            let _ = self.rt.eprint("\r\x1b[K");
+        }
+    }
+
+    fn next(&self) -> Result<Disk, AllocError> {
+        let rt = self.rt;
+        let watcher = TalliedProgress::new(rt.alloc(), rt.clone()?, rt.stderr(), self.tally);
+        let folders = DiskFolders::watched(rt.clone()?, watcher);
+        if self.are_all_wanted {
+            Ok(folders.with_all_digests())
+        } else {
+            Ok(folders)
+        }
+    }
+}
+
+impl Folders for TalliedFolders<'_> {
+    fn read(&mut self, path: &str) -> Result<Facts, TreeFault> {
+        self.tally.folder = self.tally.folder.saturating_add(1);
+        self.last = None;
+        let Ok(mut folders) = self.next() else {
+            return Err(TreeFault::Memory);
+        };
+        let read = folders.read(path);
+        self.tally = folders.watcher().tally();
+        self.last = Some(folders);
+        read
+    }
+
+    fn refused(&mut self, _fault: BagFault) {}
+
+    fn failed_at(&self) -> Option<&str> {
+        match &self.last {
+            Some(folders) => folders.failed_at(),
+            None => None,
+        }
+    }
+}

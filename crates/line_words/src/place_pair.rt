@@ -1,0 +1,42 @@
+//! Why the places of two sites can't stand in one file.
+
+use members_file::{Place, PlaceKind};
+use std::alloc::AllocError;
+
+/// Appends why a place doesn't go with that of this earlier site, and answers whether it doesn't.
+pub fn push_pair_words(
+    text: &mut String,
+    site: usize,
+    earlier: &Place,
+    place: &Place,
+) -> Result<bool, AllocError> {
+    if earlier.kind() != place.kind() {
+        let has = kind_name(earlier.kind());
+        let other = kind_name(place.kind());
+        write!(
+            text,
+            "site {site} has {has}, and this one {other}; all sites of a file have one or the other"
+        )?;
+        return Ok(true);
+    }
+    if earlier.address() != place.address() {
+        return Ok(false);
+    }
+    let name = match place.kind() {
+        PlaceKind::Port => "port",
+        _ => "address",
+    };
+    write!(
+        text,
+        "that is the {name} of site {site}, and each has its own"
+    )?;
+    Ok(true)
+}
+
+fn kind_name(kind: PlaceKind) -> &'static str {
+    match kind {
+        PlaceKind::Port => "a port of this machine",
+        PlaceKind::Ipv4 => "an address of IPv4",
+        PlaceKind::Ipv6 => "an address of IPv6",
+    }
+}

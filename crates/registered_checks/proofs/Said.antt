@@ -1,0 +1,58 @@
+-- A check against a source, and then what is said.
+use Rattle.std.proofs.Common.{◌≡◌, ℕ, List, Option, None, Some, IfSome, inl, inr}
+use Rattle.std.proofs.Common.{sym, ◌∙◌, arith}
+use Rattle.folder_checks.specs.declared.report.Report.{Report}
+use Rattle.known_bags.specs.declared.known_bag.KnownBag.{KnownBag}
+use Rattle.outcomes.specs.Outcomes.{Outcome}
+use Rattle.registered_checks.specs.Held.{Given, held_of}
+use Rattle.registered_checks.specs.Checks.{ComparesFor, ComparesOn, Ends, IsSaid, EndsSaid}
+use Rattle.registered_checks.specs.Lists.{AnswersTo}
+use Rattle.registered_checks.proofs.Compared.{reported_on}
+
+-- ---- what ends so also ends otherwise
+
+module _ (P Q : Outcome → List ℕ → Type 0)
+    (so : (outcome : Outcome) (words : List ℕ) → P outcome words → Q outcome words) where
+  compared_so : (given : Given) (paths : List (List ℕ)) (known : List KnownBag) (alone : Outcome)
+      → ComparesFor (held_of given paths) known P alone
+      → ComparesFor (held_of given paths) known Q alone
+  compared_so given paths known alone (inl p) = inl (so _ _ p)
+  compared_so given paths known alone (inr p) = inr (so _ _ p)
+
+  known_so : (report : Report) (given : Option Given) (place : Option (List ℕ))
+      (paths : List (List ℕ)) (known : List KnownBag)
+      → IfSome given (λ gives. ComparesOn report gives place paths known P)
+      → IfSome given (λ gives. ComparesOn report gives place paths known Q)
+  known_so report None place paths known compares = tt
+  known_so report (Some gives) place paths known compares =
+      reported_on report (ComparesFor (held_of gives paths) known P)
+      (ComparesFor (held_of gives paths) known Q) (compared_so gives paths known) gives place paths
+      compares
+
+  pub answers_so : (source : List ℕ) (report : Report) (given : Option Given)
+      (place : Option (List ℕ)) (paths : List (List ℕ))
+      → AnswersTo source report given place paths P
+      → AnswersTo source report given place paths Q
+  answers_so source report given place paths (inl (known, knows, compares)) =
+      inl (known, knows, known_so report given place paths known compares)
+  answers_so source report given place paths (inr (fault, is, p)) = inr (fault, is, so _ _ p)
+
+-- ---- saying
+
+-- a check ended, and what was to be said then was said
+pub ends_said : (old new said_before said_after : Option (List ℕ)) (before after : ℕ)
+    (alone status : ℕ) (text : List ℕ)
+    → IsSaid said_before said_after before after alone status text
+    → (outcome : Outcome) (words : List ℕ) → Ends old new alone text outcome words
+    → EndsSaid old new said_before said_after before after status outcome words
+ends_said old new said_before said_after before after alone status text said outcome words ends = (
+  ends.0.1,
+  rw (← ends.0.0) (rw (← ends.1) said),
+)
+
+-- the status 0 is that of the check
+pub zero_alone : (old new : Option (List ℕ)) (before after : ℕ) (alone status : ℕ)
+    (text : List ℕ) → IsSaid old new before after alone status text → status ≡ 0 → alone ≡ 0
+zero_alone old new before after alone status text (inl said) zero = sym said.0 ∙ zero
+zero_alone old new before after alone status text (inr said) zero =
+    absurd (omega (arith, said.0, zero))
