@@ -12,3 +12,4 @@ pub mod BegunBallots
 pub mod StartedBallots
 pub mod Proposed
 pub mod Reports
+pub mod Batched
