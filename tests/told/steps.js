@@ -89,8 +89,8 @@ function opened(page) {
     clearInterval: () => { told.clock = null; }
   };
   vm.runInNewContext(page.steps + page.view, context);
-  const press = (key) => told.keys.keydown({
-    key, target: made.get('sites'), preventDefault: () => {}
+  const press = (key, more) => told.keys.keydown({
+    key, target: made.get('sites'), preventDefault: () => {}, ...more
   });
   return { told, context, press, drawing, click: (id) => made.get(id).heard.click() };
 }
@@ -156,6 +156,13 @@ function others(view, count) {
   view.context.location.hash = '#-7'; view.told.window.hashchange(); note();
   view.press(' '); if (view.told.clock) view.told.clock(); view.press(' '); note();
   all.push(String(view.told.clock));
+  // Keys that are the browser's, or a button's, and none of the page.
+  view.press('Home');
+  view.press('ArrowRight', { altKey: true }); note();
+  view.press('ArrowRight', { ctrlKey: true }); note();
+  view.press('ArrowRight', { metaKey: true }); note();
+  view.press('PageDown'); note();
+  view.press(' ', { target: made.get('play') }); all.push(String(view.told.clock));
   return all;
 }
 
