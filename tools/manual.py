@@ -52,7 +52,8 @@ def listed(entries):
 
 
 def as_it_stands(text):
-    return [".PP", ".nf", escaped(text), ".fi"] if text else []
+    # At the left edge: with an indent the lines, of up to 80 columns, wouldn't fit a terminal.
+    return [".PP", ".in 0", ".nf", escaped(text), ".fi", ".in"] if text else []
 
 
 def manual(program, version):

@@ -37,7 +37,8 @@ For each version, in the order in which the cells name them:
 and finally how many of each there are: C chosen, K known, O open, X conflicts.
 
 With --words standard error says of each cell whether it is in use, or why it
-can't be opened.
+can't be opened or used; and of each conflict which cells know either bag, or
+have a vote for it.
 
 The exit status is 0 if there is no conflict, and each cell can be used as it
 is; 1 if that isn't so, or a last line says `members unread`, `members line N`
@@ -53,7 +54,7 @@ pub struct AuditTask<'a> {
     pub members: &'a str,
     /// The paths of the cells.
     pub cells: Vec<&'a str>,
-    /// Whether to say in words how each cell was opened.
+    /// Whether to say in words how each cell was opened, and which name the bags of a conflict.
     pub words: bool,
 }
 
@@ -86,7 +87,7 @@ pub fn audit_command<'a>(alloc: Global) -> Result<Command<'a>, AllocError> {
     let words = Arg::new(alloc, "words")
         .long("words")
         .action(ArgAction::SetTrue)
-        .help("Say on standard error in words how each cell was opened");
+        .help("Say in words, on standard error, what is amiss and where");
     Command::new(alloc, "audit")
         .about(ABOUT)
         .after_help(EXAMPLE)

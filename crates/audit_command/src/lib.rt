@@ -1,11 +1,12 @@
 //! The command `audit`: what the cells of several sites show together.
 //!
 //! ```
-//! Ok(Some(Task::Audit(task))) => exit_of(print_audit(rt, &task)),
+//! Ok(Some(Task::Audit(task))) => exit_of(hinted(rt, task.words, print_audit(rt, &task))),
 //! ```
 #![tactic(auto)]
 
 mod arguments;
+mod audit_speaker;
 mod cell_defect;
 mod cell_files;
 mod cell_reading;
@@ -13,6 +14,7 @@ mod cell_state;
 mod cell_words;
 mod cells_audit;
 mod command;
+mod conflict_cells;
 mod counts;
 mod disk_cells;
 mod evidence;

@@ -1,6 +1,6 @@
 //! The help on what the program prints by a number or a word.
 
-use code_words::push_table;
+use crate::narrow_table::push_table;
 use outcomes::{ProgramFault, write_output};
 use std::alloc::AllocError;
 use std::io;

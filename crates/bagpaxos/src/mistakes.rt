@@ -1,13 +1,15 @@
 //! What is wrong with the arguments, in words.
 
 use crate::arguments::task_of;
+use crate::mistake_text::{help_text, mistake_text};
+use crate::usage::{Usage, usage_of};
 use clap::Error;
 use clap::error::ErrorKind;
 use code_words::push_name;
 use folder_checks::push_escaped_bytes;
 use std::alloc::{AllocError, Global};
 use std::env::Env;
-use std::str;
+use std::{io, str};
 
 /// As many bytes as Linux lets an argument have.
 const LONGEST_ARGUMENT: usize = 131_072;
@@ -19,7 +21,7 @@ pub fn say_mistake(rt: &HostRuntime, words: &[String]) -> Result<(), AllocError>
     let words = visible(rt.alloc(), words)?;
     let task = task_of(rt.alloc(), words.as_slice());
     match task {
-        Err(error) => say(rt, &error),
+        Err(error) => say(rt, words.as_slice(), &error),
         // Only what can't be seen was wrong.
         Ok(_) => {
             let _ = rt.eprintln("error: an argument has a character that can't be seen");
@@ -48,11 +50,35 @@ pub fn say_unreadable(rt: &HostRuntime) -> Result<(), AllocError> {
     Ok(())
 }
 
-fn say(rt: &HostRuntime, error: &Error) -> Result<(), AllocError> {
+/// Prints the help that clap gives as an error, with the usage of the command that these words
+/// name.
+pub fn print_help(rt: &HostRuntime, words: &[String], error: &Error) -> io::Result<()> {
+    let usage = match words {
+        [_, help, command, ..] if help.as_str() == "help" => usage_of(command.as_str()),
+        _ => usage_in(words),
+    };
+    let Some(usage) = usage else {
+        return error.print(rt);
+    };
+    let said = format!(in rt.alloc(); "{error}")?;
+    rt.print(help_text(rt.alloc(), said.as_str(), usage)?.as_str())
+}
+
+// How the command is typed that these words begin with.
+fn usage_in(words: &[String]) -> Option<&'static Usage> {
+    match words {
+        [_, command, ..] => usage_of(command.as_str()),
+        _ => None,
+    }
+}
+
+fn say(rt: &HostRuntime, words: &[String], error: &Error) -> Result<(), AllocError> {
     if error.kind() == ErrorKind::OutOfMemory {
         return Err(AllocError);
     }
-    let _ = rt.eprint(error);
+    let said = format!(in rt.alloc(); "{error}")?;
+    let text = mistake_text(rt.alloc(), said.as_str(), usage_in(words))?;
+    let _ = rt.eprint(text.as_str());
     Ok(())
 }
 

@@ -1,6 +1,6 @@
 //! The arguments of the command `catch-up`.
 
-use clap::{Arg, ArgMatches, Command, value_parser};
+use clap::{Arg, ArgAction, ArgMatches, Command, value_parser};
 use fed_types::SiteNo;
 use site_commands::{key_argument, members_argument, to_argument, wait_argument};
 use std::alloc::{AllocError, Global};
@@ -21,6 +21,9 @@ and finally `K of N`: of K of the N versions it knows the bag that the file
 knows.
 
 With --key what is sent has a tag, as with bagpaxos send.
+
+With --words standard error says in words what lines `other` and `open` say, and
+why nobody was asked.
 
 The exit status is 0 if that is all of them; 1 if it isn't, or a last line says
 why nobody was asked:
@@ -51,6 +54,8 @@ pub struct CatchUpTask<'a> {
     /// How many milliseconds an answer may take.
     pub wait: u32,
     pub seconds: u32,
+    /// Whether to say in words what lines say.
+    pub words: bool,
     /// The paths of cells and lists.
     pub files: Vec<&'a str>,
 }
@@ -74,6 +79,7 @@ fn task_of<'a>(matches: &ArgMatches<'a>, files: Vec<&'a str>) -> Option<CatchUpT
         to: SiteNo::new(matches.get_one::<u8>("to")?).ok()?,
         wait: matches.get_one::<u32>("wait")?,
         seconds: matches.get_one::<u32>("for")?,
+        words: matches.get_flag("words"),
         files,
     })
 }
@@ -84,7 +90,10 @@ pub fn catch_up_command<'a>(alloc: Global) -> Result<Command<'a>, AllocError> {
         .about(ABOUT)
         .after_help(EXAMPLE);
     let command = with_site(alloc, command)?;
-    command.arg(for_argument(alloc))?.arg(files_argument(alloc))
+    command
+        .arg(for_argument(alloc))?
+        .arg(words_argument(alloc))?
+        .arg(files_argument(alloc))
 }
 
 fn with_site<'a>(alloc: Global, command: Command<'a>) -> Result<Command<'a>, AllocError> {
@@ -109,6 +118,13 @@ fn for_argument<'a>(alloc: Global) -> Arg<'a> {
         .default_value("60")
         .value_parser(value_parser!(u32).range(1..))
         .help("How long it asks, 1 to 4294967295")
+}
+
+fn words_argument<'a>(alloc: Global) -> Arg<'a> {
+    Arg::new(alloc, "words")
+        .long("words")
+        .action(ArgAction::SetTrue)
+        .help("Say in words, on standard error, what codes say")
 }
 
 fn files_argument<'a>(alloc: Global) -> Arg<'a> {

@@ -3,20 +3,25 @@
 use crate::arguments::CatchUpTask;
 use crate::clock_timer::ClockTimer;
 use crate::rounds::{Target, catch_up_on};
+use crate::version_speaker::VersionSpeaker;
 use addresses::Address;
 use counted_writes::CountedWriter;
+use file_words::SpokenLines;
 use known_bags::{KnownBag, push_source, write_fault};
 use outcomes::ProgramFault;
 use site_commands::{
     Stop, address_of, addresses_of, client_socket, keys_for, members_at, write_stop,
 };
+use site_words::{Asked, SpokenOutput};
 use std::io;
 use std::io::Write;
 use udp_site::{UdpPort, Waits};
 
-/// Asks as the arguments say. The lines are written to standard output.
+/// Asks as the arguments say. The lines are written to standard output, and said in words on
+/// standard error, if that is asked for.
 pub fn catch_up_site(rt: &HostRuntime, task: &CatchUpTask<'_>) -> Result<u8, ProgramFault> {
-    let mut output = io::writer(rt);
+    let speaker = VersionSpeaker::if_asked(rt, task);
+    let output = SpokenLines::new(rt.alloc(), speaker, io::writer(rt));
     let mut versions = Vec::new(rt.alloc());
     for path in &task.files {
         match push_source(rt, &mut versions, path) {
@@ -26,8 +31,28 @@ pub fn catch_up_site(rt: &HostRuntime, task: &CatchUpTask<'_>) -> Result<u8, Pro
     }
     match asked_by(rt, task) {
         Ok(sites) => ask_all(rt, task, sites, &mut versions, output),
-        Err(stop) => write_stop(rt.alloc(), &mut output, stop),
+        Err(stop) => refuse(rt, task, stop),
     }
+}
+
+// Writes why nobody can be asked, and says it in words if they are asked for.
+fn refuse(rt: &HostRuntime, task: &CatchUpTask<'_>, stop: Stop) -> Result<u8, ProgramFault> {
+    let asked = Asked {
+        members: task.members,
+        key: task.key,
+        site: task.to.number(),
+        cell: None,
+        bags: None,
+        path: None,
+        wait: task.wait,
+        until_known: None,
+    };
+    let asked = if task.words { Some(asked) } else { None };
+    write_stop(
+        rt.alloc(),
+        &mut SpokenOutput::new(rt, asked, io::writer(rt)),
+        stop,
+    )
 }
 
 /// The federation, the address of the site that is asked, those of all sites, and the socket from

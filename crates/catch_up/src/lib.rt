@@ -1,7 +1,7 @@
 //! The command `catch-up`: a site that was down learns what others know.
 //!
 //! ```
-//! Ok(Some(Task::CatchUp(task))) => exit_of(catch_up_site(rt, &task)),
+//! Ok(Some(Task::CatchUp(task))) => exit_of(hinted(rt, task.words, catch_up_site(rt, &task))),
 //! ```
 #![tactic(auto)]
 
@@ -12,6 +12,7 @@ mod next_round;
 mod progress;
 mod rounds;
 mod timer;
+mod version_speaker;
 
 pub use arguments::{CatchUpTask, catch_up_command, catch_up_task};
 pub use command::catch_up_site;

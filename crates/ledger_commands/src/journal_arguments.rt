@@ -1,5 +1,6 @@
 //! The arguments of the command `journal`.
 
+use crate::words_argument::words_argument;
 use clap::{Arg, ArgMatches, Command};
 use std::alloc::{AllocError, Global};
 
@@ -23,6 +24,9 @@ and finally, unless the cell ends with a whole record:
   damaged OFFSET          from this byte on there is neither a record nor a part
                           of one
 
+With --words standard error says in words why a cell can't be read, and what the
+last line says.
+
 The exit status is 0; 1 if the cell is damaged, can't be read (`open 4`), memory
 runs out (`memory`) or standard output can't be written; and 2 for a mistake in
 the arguments.
@@ -35,12 +39,15 @@ Example:
 pub struct JournalTask<'a> {
     /// The path of its file.
     pub cell: &'a str,
+    /// Whether to say in words what is amiss with it.
+    pub words: bool,
 }
 
 /// What these arguments of the command ask for.
 pub fn journal_task<'a>(matches: &ArgMatches<'a>) -> Option<JournalTask<'a>> {
     Some(JournalTask {
         cell: matches.get_str("CELL")?,
+        words: matches.get_flag("words"),
     })
 }
 
@@ -52,5 +59,6 @@ pub fn journal_command<'a>(alloc: Global) -> Result<Command<'a>, AllocError> {
     Command::new(alloc, "journal")
         .about(ABOUT)
         .after_help(EXAMPLE)
-        .arg(cell)
+        .arg(cell)?
+        .arg(words_argument(alloc))
 }

@@ -2,6 +2,7 @@
 
 use crate::journal::journal_on;
 use crate::journal_arguments::JournalTask;
+use file_words::{FileSpeaker, SpokenLines};
 use ledger::LiveCell;
 use outcomes::{ProgramFault, write_output};
 use std::io;
@@ -9,9 +10,11 @@ use std::io::{ErrorKind, Write};
 
 const UNREAD: &str = "open 4\n";
 
-/// Prints what the cell says, to standard output; if it can't be read, `open 4`, as `site` does.
+/// Prints what the cell says, to standard output; if it can't be read, `open 4`, as `site` does. In
+/// words, if they are asked for, standard error says what is amiss.
 pub fn print_journal(rt: &HostRuntime, task: &JournalTask<'_>) -> Result<u8, ProgramFault> {
-    let mut output = io::writer(rt);
+    let speaker = FileSpeaker::if_asked(rt, task.words, task.cell);
+    let mut output = SpokenLines::new(rt.alloc(), speaker, io::writer(rt));
     match LiveCell::open(rt, task.cell) {
         Ok(mut cell) => match journal_on(rt.alloc(), &mut cell, &mut output) {
             Err(ProgramFault::Input) => write_output(&mut output, 1, UNREAD),

@@ -1,5 +1,6 @@
 //! The arguments of the command `ledger`.
 
+use crate::words_argument::words_argument;
 use clap::{Arg, ArgAction, ArgMatches, Command};
 use ledger::VersionFilter;
 use std::alloc::{AllocError, Global};
@@ -29,6 +30,9 @@ The versions are then those of the records before that. With `--known`,
 `--pending` or both, only the lines of these kinds are printed, and the last
 one. `comm` of two sorted lists shows what a site lacks.
 
+With --words standard error says in words why a cell can't be read, and what a
+line `torn` or `damaged` says.
+
 The exit status is 0; 1 if the cell is damaged, can't be read (`open 4`), memory
 runs out (`memory`) or standard output can't be written; and 2 for a mistake in
 the arguments.
@@ -43,6 +47,8 @@ pub struct LedgerTask<'a> {
     pub cell: &'a str,
     /// Which of them.
     pub wanted: VersionFilter,
+    /// Whether to say in words what is amiss with it.
+    pub words: bool,
 }
 
 /// What these arguments of the command ask for.
@@ -53,6 +59,7 @@ pub fn ledger_task<'a>(matches: &ArgMatches<'a>) -> Option<LedgerTask<'a>> {
             known: matches.get_flag("known"),
             pending: matches.get_flag("pending"),
         },
+        words: matches.get_flag("words"),
     })
 }
 
@@ -63,7 +70,8 @@ pub fn ledger_command<'a>(alloc: Global) -> Result<Command<'a>, AllocError> {
         .after_help(EXAMPLE)
         .arg(cell_argument(alloc))?
         .arg(known_argument(alloc))?
-        .arg(pending_argument(alloc))
+        .arg(pending_argument(alloc))?
+        .arg(words_argument(alloc))
 }
 
 fn cell_argument<'a>(alloc: Global) -> Arg<'a> {

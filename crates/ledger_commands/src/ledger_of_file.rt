@@ -2,6 +2,7 @@
 
 use crate::ledger_arguments::LedgerTask;
 use crate::version_lines::ledger_on;
+use file_words::{FileSpeaker, SpokenLines};
 use ledger::LiveCell;
 use outcomes::{ProgramFault, write_output};
 use std::io;
@@ -10,9 +11,10 @@ use std::io::{ErrorKind, Write};
 const UNREAD: &str = "open 4\n";
 
 /// Prints what the cell says of its versions, to standard output; if it can't be read, `open 4`, as
-/// `site` does.
+/// `site` does. In words, if they are asked for, standard error says what is amiss.
 pub fn print_ledger(rt: &HostRuntime, task: &LedgerTask<'_>) -> Result<u8, ProgramFault> {
-    let mut output = io::writer(rt);
+    let speaker = FileSpeaker::if_asked(rt, task.words, task.cell);
+    let mut output = SpokenLines::new(rt.alloc(), speaker, io::writer(rt));
     match LiveCell::open(rt, task.cell) {
         Ok(mut cell) => match ledger_on(rt.alloc(), &mut cell, &mut output, task.wanted) {
             Err(ProgramFault::Input) => write_output(&mut output, 1, UNREAD),

@@ -1,8 +1,8 @@
 //! The commands `journal` and `ledger`: what a cell says, read without a lock, and never changed.
 //!
 //! ```
-//! Ok(Some(Task::Journal(task))) => exit_of(print_journal(rt, &task)),
-//! Ok(Some(Task::Ledger(task))) => exit_of(print_ledger(rt, &task)),
+//! Ok(Some(Task::Journal(task))) => exit_of(hinted(rt, task.words, print_journal(rt, &task))),
+//! Ok(Some(Task::Ledger(task))) => exit_of(hinted(rt, task.words, print_ledger(rt, &task))),
 //! ```
 #![tactic(auto)]
 
@@ -13,6 +13,7 @@ mod ledger_arguments;
 mod ledger_of_file;
 mod status;
 mod version_lines;
+mod words_argument;
 
 pub use journal::journal_on;
 pub use journal_arguments::{JournalTask, journal_command, journal_task};

@@ -1,0 +1,109 @@
+//! What an audit's lines say, in words.
+
+use crate::arguments::AuditTask;
+use crate::conflict_cells::{Conflict, push_names};
+use code_words::{OTHERS, push_name};
+use file_words::{LineSpeaker, say_text};
+use ledger::LiveCell;
+use std::alloc::AllocError;
+use words::push_escaped;
+
+/// What says an audit's lines.
+#[derive(Drop)]
+pub(crate) struct AuditSpeaker<'a> {
+    rt: &'a HostRuntime,
+    /// The paths of the cells of which something may be counted.
+    cells: Vec<&'a str>,
+}
+
+impl<'a> AuditSpeaker<'a> {
+    /// What says them, if words are asked for, and there is memory for them.
+    pub(crate) fn if_asked(rt: &'a HostRuntime, task: &AuditTask<'a>) -> Option<AuditSpeaker<'a>> {
+        let mut cells = Vec::new(rt.alloc());
+        if !task.words || cells.extend_from_slice(task.cells.as_slice()).is_err() {
+            return None;
+        }
+        Some(AuditSpeaker { rt, cells })
+    }
+
+    fn words_of(&mut self, line: &str) -> Result<String, AllocError> {
+        let mut text = String::new(self.rt.alloc());
+        let words = line.split(' ').collect::<Vec<&str>>(self.rt.alloc())?;
+        match words.as_slice() {
+            ["unread", cell] => self.push_unread(&mut text, cell)?,
+            ["foreign", cell] => {
+                push_code(&mut text, self.path_of(cell)?, "foreign CELL")?;
+                self.leave_out(cell)?;
+            }
+            ["damaged", cell, _] => {
+                push_code(&mut text, self.path_of(cell)?, "damaged CELL OFFSET")?;
+            }
+            ["conflict", object, version, one, other] => {
+                let conflict = Conflict {
+                    object,
+                    version,
+                    one,
+                    other,
+                };
+                push_names(self.rt, &mut text, self.cells.as_slice(), &conflict)?;
+            }
+            _ => {}
+        }
+        Ok(text)
+    }
+
+    // Appends why nothing of a cell is counted, where its opening has said nothing of that.
+    fn push_unread(&mut self, text: &mut String, cell: &str) -> Result<(), AllocError> {
+        if let Some(path) = self.path_of(cell)? {
+            if LiveCell::open(self.rt, path).is_ok() {
+                push_code(text, Some(path), "unread CELL")?;
+            }
+        }
+        self.leave_out(cell)
+    }
+
+    // The path of the cell that a line names.
+    fn path_of(&self, cell: &str) -> Result<Option<&'a str>, AllocError> {
+        for path in &self.cells {
+            let mut escaped = String::new(self.rt.alloc());
+            push_escaped(&mut escaped, path)?;
+            if escaped.as_str() == cell {
+                return Ok(Some(path));
+            }
+        }
+        Ok(None)
+    }
+
+    // Nothing of the cell that a line names is counted.
+    fn leave_out(&mut self, cell: &str) -> Result<(), AllocError> {
+        let path = self.path_of(cell)?;
+        let mut left = Vec::new(self.rt.alloc());
+        for other in &self.cells {
+            if Some(*other) != path {
+                left.push(*other)?;
+            }
+        }
+        self.cells = left;
+        Ok(())
+    }
+}
+
+impl LineSpeaker for AuditSpeaker<'_> {
+    fn say(&mut self, line: &str) {
+        let words = self.words_of(line);
+        say_text(self.rt, words);
+    }
+}
+
+// Appends what a code says of the cell of this path.
+fn push_code(text: &mut String, path: Option<&str>, code: &str) -> Result<(), AllocError> {
+    let Some(path) = path else {
+        return Ok(());
+    };
+    let Some(meaning) = OTHERS.iter().find(|m| m.code == code) else {
+        return Ok(());
+    };
+    push_name(text, path)?;
+    text.push_str(": ")?;
+    meaning.push(text)
+}

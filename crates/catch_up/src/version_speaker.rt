@@ -1,0 +1,105 @@
+//! What is said of a version that the site doesn't know as a file does, and of a file that can't be
+//! used.
+
+use crate::arguments::CatchUpTask;
+use code_words::{meaning_of_line, push_name};
+use file_words::{LineSpeaker, push_file_words, say_text};
+use known_bags::push_source;
+use std::alloc::AllocError;
+
+/// What says the lines of versions.
+#[derive(Clone, Copy)]
+pub(crate) struct VersionSpeaker<'a> {
+    rt: &'a HostRuntime,
+    /// The paths of cells and lists.
+    files: &'a [&'a str],
+    /// The number of the site that is asked.
+    site: u8,
+    /// For how many seconds it is asked.
+    seconds: u32,
+}
+
+impl<'a> VersionSpeaker<'a> {
+    /// What says them, if words are asked for.
+    pub(crate) fn if_asked(
+        rt: &'a HostRuntime,
+        task: &'a CatchUpTask<'a>,
+    ) -> Option<VersionSpeaker<'a>> {
+        if !task.words {
+            return None;
+        }
+        Some(VersionSpeaker {
+            rt,
+            files: task.files.as_slice(),
+            site: task.to.number(),
+            seconds: task.seconds,
+        })
+    }
+
+    fn words_of(&self, line: &str) -> Result<String, AllocError> {
+        let mut text = String::new(self.rt.alloc());
+        let words = line.split(' ').collect::<Vec<&str>>(self.rt.alloc())?;
+        match words.as_slice() {
+            ["other", object, version, ..] => {
+                self.push_other(&mut text, object, version)?;
+            }
+            ["open", object, version] => self.push_open(&mut text, object, version)?,
+            ["memory"] => push_code(self.rt, &mut text, line)?,
+            _ => self.push_file(&mut text, line)?,
+        }
+        Ok(text)
+    }
+
+    // Appends what a line says of the first file that can't be used, if one can't.
+    fn push_file(&self, text: &mut String, line: &str) -> Result<(), AllocError> {
+        if meaning_of_line(self.rt.alloc(), line)?.is_none() {
+            return Ok(());
+        }
+        for path in self.files {
+            if push_source(self.rt, &mut Vec::new(self.rt.alloc()), path).is_err() {
+                return push_file_words(self.rt, text, path, line);
+            }
+        }
+        Ok(())
+    }
+
+    fn push_other(&self, text: &mut String, object: &str, version: &str) -> Result<(), AllocError> {
+        let site = self.site;
+        push_slot(text, object, version)?;
+        write!(
+            text,
+            "site {site} knows the first bag and the file the second; a cell was lost, replaced or \
+            altered: audit the cells, as docs/AUDIT.md says"
+        )
+    }
+
+    fn push_open(&self, text: &mut String, object: &str, version: &str) -> Result<(), AllocError> {
+        let site = self.site;
+        let seconds = self.seconds;
+        push_slot(text, object, version)?;
+        write!(
+            text,
+            "site {site} knew no bag after {seconds} s: it is down, or doesn't hear sites with more \
+            than half of all weight; see whether they run, and give --for more"
+        )
+    }
+}
+
+impl LineSpeaker for VersionSpeaker<'_> {
+    fn say(&mut self, line: &str) {
+        say_text(self.rt, self.words_of(line));
+    }
+}
+
+// Appends the version, and a colon.
+fn push_slot(text: &mut String, object: &str, version: &str) -> Result<(), AllocError> {
+    push_name(text, object)?;
+    write!(text, " {version}: ")
+}
+
+fn push_code(rt: &HostRuntime, text: &mut String, line: &str) -> Result<(), AllocError> {
+    match meaning_of_line(rt.alloc(), line)? {
+        Some(meaning) => meaning.push(text),
+        None => Ok(()),
+    }
+}

@@ -1,0 +1,33 @@
+//! Why a file can't be read.
+
+use code_words::push_name;
+use std::alloc::AllocError;
+use std::fs::{self, File};
+use std::io::{self, ErrorKind};
+
+/// Appends a path, and why the cell or the list there can't be read.
+pub(crate) fn push_unread(
+    rt: &HostRuntime,
+    text: &mut String,
+    path: &str,
+) -> Result<(), AllocError> {
+    push_name(text, path)?;
+    match fs::metadata(rt, path) {
+        Ok(found) if found.is_dir() => text.push_str(" is a folder, and a cell is a file"),
+        Ok(found) if !found.is_file() => text.push_str(" isn't a file, as a cell is"),
+        Ok(_) => match File::open(rt, path) {
+            Ok(_) => text.push_str(" can't be read to its end"),
+            Err(error) => push_error(text, &error),
+        },
+        Err(error) => push_error(text, &error),
+    }
+}
+
+// Appends what an error of the system says of a file.
+fn push_error(text: &mut String, error: &io::Error) -> Result<(), AllocError> {
+    match error.kind() {
+        ErrorKind::NotFound => text.push_str(" isn't there"),
+        ErrorKind::PermissionDenied => text.push_str(" may not be opened by this user"),
+        _ => write!(text, " can't be opened: {error}"),
+    }
+}

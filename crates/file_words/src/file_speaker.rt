@@ -1,0 +1,54 @@
+//! What is said of a file that is read.
+
+use crate::file_reason::push_unread;
+use crate::line_speaker::{LineSpeaker, say_text};
+use code_words::{meaning_of_line, push_name};
+use std::alloc::AllocError;
+
+/// What says the lines of a command that reads one file.
+#[derive(Clone, Copy)]
+pub struct FileSpeaker<'a> {
+    rt: &'a HostRuntime,
+    path: &'a str,
+}
+
+impl<'a> FileSpeaker<'a> {
+    /// What speaks of the file of this path, if words are asked for.
+    pub fn if_asked(rt: &'a HostRuntime, words: bool, path: &'a str) -> Option<FileSpeaker<'a>> {
+        if words {
+            Some(FileSpeaker { rt, path })
+        } else {
+            None
+        }
+    }
+}
+
+impl LineSpeaker for FileSpeaker<'_> {
+    fn say(&mut self, line: &str) {
+        say_text(self.rt, words_of(self.rt, self.path, line));
+    }
+}
+
+fn words_of(rt: &HostRuntime, path: &str, line: &str) -> Result<String, AllocError> {
+    let mut text = String::new(rt.alloc());
+    push_file_words(rt, &mut text, path, line)?;
+    Ok(text)
+}
+
+/// Appends what a line says of the file of this path, if it has a code: the path, and what is so.
+pub fn push_file_words(
+    rt: &HostRuntime,
+    text: &mut String,
+    path: &str,
+    line: &str,
+) -> Result<(), AllocError> {
+    if line == "open 4" {
+        return push_unread(rt, text, path);
+    }
+    let Some(meaning) = meaning_of_line(rt.alloc(), line)? else {
+        return Ok(());
+    };
+    push_name(text, path)?;
+    text.push_str(": ")?;
+    meaning.push(text)
+}

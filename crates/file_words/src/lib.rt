@@ -1,0 +1,17 @@
+//! What the lines of commands that read cells and lists say, in words on standard error, for their
+//! `--words`: with the names of the files that they are about.
+//!
+//! ```
+//! let speaker = FileSpeaker::if_asked(rt, task.words, task.cell);
+//! let mut output = SpokenLines::new(rt.alloc(), speaker, io::writer(rt));
+//! ```
+#![tactic(auto)]
+
+mod file_reason;
+mod file_speaker;
+mod line_speaker;
+mod spoken_lines;
+
+pub use file_speaker::{FileSpeaker, push_file_words};
+pub use line_speaker::{LineSpeaker, say_text};
+pub use spoken_lines::SpokenLines;

@@ -1,0 +1,66 @@
+//! An output whose lines are said in words.
+
+use crate::line_speaker::LineSpeaker;
+use std::alloc::Global;
+use std::io::{Result, Write};
+use std::str;
+
+/// An output that has each line said in words, once it is written, where that is asked for.
+/// Otherwise it is the output.
+#[derive(Drop)]
+pub struct SpokenLines<W, S> {
+    output: W,
+    speech: Speech<S>,
+}
+
+/// What says lines, and the beginning of one that isn't ended.
+#[derive(Drop)]
+struct Speech<S> {
+    speaker: Option<S>,
+    begun: Vec<u8>,
+}
+
+impl<W: Write, S: LineSpeaker> SpokenLines<W, S> {
+    /// This output, with words if there is something that says them.
+    pub fn new(alloc: Global, speaker: Option<S>, output: W) -> SpokenLines<W, S> {
+        let begun = Vec::new(alloc);
+        SpokenLines {
+            output,
+            speech: Speech { speaker, begun },
+        }
+    }
+}
+
+impl<W: Write, S: LineSpeaker> Write for SpokenLines<W, S> {
+    ghost contents = { λ o. W.contents o.output };
+
+    fn write(&mut self, buf: &[u8]) -> Result<usize> {
+        let count = self.output.write(buf)?;
+        self.speech.take(&buf[..count]);
+        Ok(count)
+    }
+
+    fn flush(&mut self) -> Result<()> {
+        self.output.flush()
+    }
+}
+
+impl<S: LineSpeaker> Speech<S> {
+    // At the end of each line that was written, it is said.
+    fn take(&mut self, written: &[u8]) {
+        let Speech { speaker, begun } = self;
+        let Some(speaker) = speaker else {
+            return;
+        };
+        for byte in written {
+            if *byte == b'\n' {
+                if let Ok(line) = str::from_utf8(begun.as_slice()) {
+                    speaker.say(line);
+                }
+                begun.clear();
+            } else {
+                let _ = begun.push(*byte);
+            }
+        }
+    }
+}
