@@ -17,7 +17,7 @@ use Rattle.folder_checks.specs.Explanations.{unread_line, lines_after, outcome_w
 use Rattle.folder_checks.specs.Explanations.{IsPlace}
 
 -- a known place is the known one
-known_is : (known : Option (List ℕ)) → IsPlace known known
+pub known_is : (known : Option (List ℕ)) → IsPlace known known
 known_is None = tt
 known_is (Some place) = refl
 
@@ -38,6 +38,19 @@ answered facts verdict lines (Ok a) is same s t = λ known. (
   (s, t ∙ ap (λ l. (outcome_with verdict l).text) (same known)),
 )
 
+-- the verdict on a folder that wasn't read
+pub unread_is : (read : Result TreeFacts TreeFault) (fault : TreeFault)
+    → tree_numbers.IsOrMemory {T = TreeFacts} (Err fault) read
+    → IsOrMemory (Unread fault) (verdict_of read)
+unread_is read tree_faults.Listing is = rw is refl
+unread_is read tree_faults.NotAFile is = rw is refl
+unread_is read tree_faults.TooDeep is = rw is refl
+unread_is read tree_faults.TooMany is = rw is refl
+unread_is read tree_faults.TextTooLong is = rw is refl
+unread_is read tree_faults.Device is = rw is refl
+unread_is read tree_faults.Memory is = tt
+unread_is read tree_faults.BadPath is = rw is refl
+
 -- the answer for a folder that wasn't read
 pub unread : (read : Result TreeFacts TreeFault) (known place : Option (List ℕ)) (fault : TreeFault)
     (r : Result ProgramOutput AllocError) → tree_numbers.IsOrMemory (Err fault) read
@@ -48,18 +61,7 @@ pub unread : (read : Result TreeFacts TreeFault) (known place : Option (List ℕ
     → IfOk r (λ a. IsAnswer read known a.status (string_bytes a.text))
 unread read known place fault (Err e) is at s t = tt
 unread read known place fault (Ok a) is at s t =
-    (Unread fault, place, same fault is, at, (s, t))
-  where
-    same : (fault : TreeFault) → tree_numbers.IsOrMemory {T = TreeFacts} (Err fault) read
-        → IsOrMemory (Unread fault) (verdict_of read)
-    same tree_faults.Listing is = rw is refl
-    same tree_faults.NotAFile is = rw is refl
-    same tree_faults.TooDeep is = rw is refl
-    same tree_faults.TooMany is = rw is refl
-    same tree_faults.TextTooLong is = rw is refl
-    same tree_faults.Device is = rw is refl
-    same tree_faults.Memory is = tt
-    same tree_faults.BadPath is = rw is refl
+    (Unread fault, place, unread_is read fault is, at, (s, t))
 
 -- the same, where it is known what a read gives
 pub unread_known : (gives : Option (List ℕ → Result TreeFacts TreeFault))

@@ -1,3 +1,5 @@
 pub mod Explained
 pub mod Several
 pub mod Names
+pub mod JsonValues
+pub mod Findings

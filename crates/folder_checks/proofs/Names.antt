@@ -48,38 +48,37 @@ unfolding names_of
 some_names end [] some = absurd (omega (arith, some))
 some_names end (byte ∷ bytes) some = refl
 
--- the answer for a folder whose name is UTF-8
-pub told_of_text : (report : Report) (known : Option Given) (place : Option (List ℕ))
-    (path name : List ℕ) (r : Result ProgramOutput AllocError) → path ≡ name → IsUtf8 name
-    → IfOk r (λ a. IfSome known (λ gives. TellsFor report (gives path) place
-    (λ outcome. (a.status ≡ outcome.status) × (string_bytes a.text ≡ outcome.text))))
-    → IfOk r (λ a. IfSome known (λ gives.
-    TellsFor report (read_of gives name) (place_of place name)
-    (λ outcome. (a.status ≡ outcome.status) × (string_bytes a.text ≡ outcome.text))))
-told_of_text report known place path name r same utf8 told =
+-- what is so of a folder whose name is UTF-8
+pub of_text : {X : Type 0} (P : Result TreeFacts TreeFault → Option (List ℕ) → X → Type 0)
+    (known : Option Given) (place : Option (List ℕ)) (path name : List ℕ)
+    (r : Result X AllocError) → path ≡ name → IsUtf8 name
+    → IfOk r (λ x. IfSome known (λ gives. P (gives path) place x))
+    → IfOk r (λ x. IfSome known (λ gives. P (read_of gives name) (place_of place name) x))
+of_text P known place path name r same utf8 is =
     rw (is_utf8-from_IsUtf8 name utf8)
-    (subst (λ n. IfOk r (λ a. IfSome known (λ gives. TellsFor report (gives n) place
-    (λ outcome. (a.status ≡ outcome.status) × (string_bytes a.text ≡ outcome.text)))))
-    same told)
+    (subst (λ n. IfOk r (λ x. IfSome known (λ gives. P (gives n) place x))) same is)
 
-not_text : (name : List ℕ) → ¬ IsUtf8 name → is_utf8 name ≡ false
+pub not_text : (name : List ℕ) → ¬ IsUtf8 name → is_utf8 name ≡ false
 not_text name not = go (is_utf8 name) refl
   where
     go : (t : Bool) → is_utf8 name ≡ t → is_utf8 name ≡ false
     go true is = absurd (not (IsUtf8-from_is_utf8 name is))
     go false is = is
 
--- the answer for one whose name isn't
-pub told_of_bytes : (report : Report) (known : Option Given) (place : Option (List ℕ))
-    (name : List ℕ) (r : Result ProgramOutput AllocError) → ¬ IsUtf8 name
-    → IfOk r (λ a. TellsFor report (Err Listing) (Some (codes "."))
-    (λ outcome. (a.status ≡ outcome.status) × (string_bytes a.text ≡ outcome.text)))
-    → IfOk r (λ a. IfSome known (λ gives.
-    TellsFor report (read_of gives name) (place_of place name)
-    (λ outcome. (a.status ≡ outcome.status) × (string_bytes a.text ≡ outcome.text))))
-told_of_bytes report known place name (Err e) not told = tt
-told_of_bytes report None place name (Ok a) not told = tt
-told_of_bytes report (Some gives) place name (Ok a) not told = rw (not_text name not) told
+-- what is so of one whose name isn't
+pub of_bytes : {X : Type 0} (P : Result TreeFacts TreeFault → Option (List ℕ) → X → Type 0)
+    (known : Option Given) (place : Option (List ℕ)) (name : List ℕ) (r : Result X AllocError)
+    → ¬ IsUtf8 name → IfOk r (λ x. P (Err Listing) (Some (codes ".")) x)
+    → IfOk r (λ x. IfSome known (λ gives. P (read_of gives name) (place_of place name) x))
+of_bytes P known place name (Err e) not is = tt
+of_bytes P None place name (Ok x) not is = tt
+of_bytes P (Some gives) place name (Ok x) not is = rw (not_text name not) is
+
+-- the answer is one of these
+abbrev pub Tells : Report → Result TreeFacts TreeFault → Option (List ℕ) → ProgramOutput → Type 0
+Tells report read place a =
+    TellsFor report read place
+    (λ outcome. (a.status ≡ outcome.status) × (string_bytes a.text ≡ outcome.text))
 
 -- the brief answer for a folder that can't be listed
 pub unlisted_brief : (place : Option (List ℕ)) (r : Result ProgramOutput AllocError)

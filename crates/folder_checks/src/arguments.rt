@@ -1,6 +1,7 @@
 //! The arguments of the command `check`.
 
 use crate::folder_list::FolderList;
+use crate::form::Form;
 use crate::report::Report;
 use clap::{Arg, ArgAction, ArgMatches, Command};
 use std::alloc::{AllocError, Global};
@@ -65,8 +66,15 @@ With --progress lines on standard error say how far it is:
 On a terminal it is one line, also without --progress, which is renewed once a
 second at most; with --quiet there is none. With --named, --from or --from0
 there is a line a second at most, which begins with the bag, and how much of all
-bags is done:
+bags is done; on a terminal it comes again at once if a bag's line cleared it:
   bag 12 of 500, 2 %, 40 min left: 7 of 9 files, 4096 of 9216 bytes, 300 MB/s
+
+With --json each folder has a line of JSON, by its name as with --named:
+  {\"bytes\":42,\"code\":12,\"escaped\":\"a%20b\",\"files\":3,\"folder\":\"a b\", ..}
+Its members are the name as it is (folder; null if it isn't UTF-8) and escaped,
+the verdict (valid, invalid, unread), its code and what that says (words), the
+bag's identity, how many files and bytes there are, how many seconds it took,
+and with --explain the places of what is wrong. FORMATS.md has each of these.
 
 With --registered FILE, a site's cell or a list that `ledger` printed, lines
 there say which of the known bags the folders are, once all are checked:
@@ -97,6 +105,8 @@ pub struct CheckTask<'a> {
     pub report: Report,
     /// Whether each line has the folder before it, of one folder too.
     pub named: bool,
+    /// Whether each folder has a line of JSON in place of other lines.
+    pub json: bool,
     /// The list that names the folders, if none of them are arguments.
     pub list: Option<FolderList<'a>>,
     /// Whether to say in words what is wrong.
@@ -108,6 +118,17 @@ pub struct CheckTask<'a> {
     /// The path of the cell or list that knows the registered bags, if the folders are compared
     /// with it.
     pub registered: Option<&'a str>,
+}
+
+impl CheckTask<'_> {
+    /// In which form folders that are named are reported.
+    pub fn form(&self) -> Form {
+        if self.json {
+            Form::Json(self.report)
+        } else {
+            Form::Lines(self.report)
+        }
+    }
 }
 
 /// What these arguments of the command ask for.
@@ -127,7 +148,8 @@ pub fn check_task<'a>(
     Ok(CheckTask {
         paths,
         report,
-        named: matches.get_flag("named"),
+        named: matches.get_flag("named") || matches.get_flag("json"),
+        json: matches.get_flag("json"),
         list: list_in(matches),
         words: matches.get_flag("words"),
         progress: matches.get_flag("progress"),
@@ -166,8 +188,8 @@ pub fn check_command<'a>(alloc: Global) -> Result<Command<'a>, AllocError> {
     let command = with_flags(command, explain, words_argument(alloc))?;
     let command = with_flags(command, progress, quiet_argument(alloc)?)?;
     let command = with_flags(command, named_argument(alloc)?, list_argument(alloc)?)?;
-    let command = with_flags(command, list0_argument(alloc)?, registered)?;
-    command.arg(folders_argument(alloc)?)
+    let command = with_flags(command, list0_argument(alloc)?, json_argument(alloc)?)?;
+    with_flags(command, registered, folders_argument(alloc)?)
 }
 
 fn named_argument<'a>(alloc: Global) -> Result<Arg<'a>, AllocError> {
@@ -175,6 +197,14 @@ fn named_argument<'a>(alloc: Global) -> Result<Arg<'a>, AllocError> {
         .long("named")
         .action(ArgAction::SetTrue)
         .help("Begin each line with its folder, of one folder too")
+        .conflicts_with("registered")
+}
+
+fn json_argument<'a>(alloc: Global) -> Result<Arg<'a>, AllocError> {
+    Arg::new(alloc, "json")
+        .long("json")
+        .action(ArgAction::SetTrue)
+        .help("Print a line of JSON for each folder")
         .conflicts_with("registered")
 }
 

@@ -36,12 +36,12 @@ fn check_listed(
     let mut output = CountedWriter::new(io::writer(rt));
     let bytes = match list_bytes(rt, list) {
         Ok(bytes) => bytes,
-        Err(ReadFault::Input) => return write_output(&mut output, 1, "open 4\n"),
-        Err(ReadFault::Memory) => return write_output(&mut output, 1, "memory\n"),
+        Err(ReadFault::Input) => return write_output(&mut output, 1, unread_list(task)),
+        Err(ReadFault::Memory) => return write_output(&mut output, 1, no_memory(task)),
     };
     match names_in(rt.alloc(), bytes.as_slice(), list.end) {
         Ok(names) => check_names(rt, task, names.as_slice(), &mut output),
-        Err(AllocError) => write_output(&mut output, 1, "memory\n"),
+        Err(AllocError) => write_output(&mut output, 1, no_memory(task)),
     }
 }
 
@@ -50,7 +50,25 @@ fn check_named(rt: &HostRuntime, task: &CheckTask<'_>) -> Result<u8, ProgramFaul
     let mut output = CountedWriter::new(io::writer(rt));
     match names_of(rt.alloc(), task.paths.as_slice()) {
         Ok(names) => check_names(rt, task, names.as_slice(), &mut output),
-        Err(AllocError) => write_output(&mut output, 1, "memory\n"),
+        Err(AllocError) => write_output(&mut output, 1, no_memory(task)),
+    }
+}
+
+// The line where a list can't be read.
+fn unread_list(task: &CheckTask<'_>) -> &'static str {
+    if task.json {
+        "{\"code\":4,\"verdict\":\"open\"}\n"
+    } else {
+        "open 4\n"
+    }
+}
+
+// The line where memory ran out before any folder was read.
+fn no_memory(task: &CheckTask<'_>) -> &'static str {
+    if task.json {
+        "{\"verdict\":\"memory\"}\n"
+    } else {
+        "memory\n"
     }
 }
 
@@ -70,7 +88,7 @@ fn check_names<W: CountedWrite>(
 ) -> Result<u8, ProgramFault> {
     let folders = TalliedFolders::new(rt, are_all_wanted(task), tally(rt, task, names));
     let mut folders = spoken_folders(rt, task, folders);
-    let answer = check_names_on(rt.alloc(), &mut folders, names, task.report, output);
+    let answer = check_names_on(rt.alloc(), &mut folders, names, task.form(), output);
     folders.folders().end();
     folders.say();
     answer

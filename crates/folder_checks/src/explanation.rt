@@ -1,6 +1,6 @@
 //! One check of a folder, with all that is wrong.
 
-ghost use Rattle.std.specs.Prelude.{◌≡◌, ℕ, List, Option, option_copied, string_bytes};
+ghost use Rattle.std.specs.Prelude.{◌≡◌, ℕ, List, Option, Some, length, option_copied, string_bytes};
 ghost use Rattle.std.specs.Prelude.{IfErr, IfOk, IfSome, IsErrOf};
 ghost use Rattle.outcomes.specs.Outcomes.{Writes, WritesPrefix};
 ghost use Rattle.bag_check.specs.Check.{check_of};
@@ -10,6 +10,7 @@ ghost use Rattle.folder_checks.specs.Verdicts.{verdict_of_check, IsOrMemory};
 ghost use Rattle.folder_checks.specs.Explanations.{ExplainsFor, IsAnswer, outcome_with};
 ghost use Rattle.folder_checks.specs.Explanations.{lines_after};
 ghost use Rattle.folder_checks.specs.Explanations.{unread_line};
+ghost use Rattle.folder_checks.specs.Json.{files_in};
 
 use crate::verdict::{Verdict, line_of};
 use bag_check::check;
@@ -103,11 +104,12 @@ fn answer_of(alloc: Global, facts: &Facts) -> Result<ProgramOutput, AllocError>
     with_lines(alloc, verdict, lines.as_str())
 }
 
-// The verdict on a tree of these facts, which were read.
-fn verdict_of(alloc: Global, facts: &Facts) -> Verdict
+/// The verdict on a tree of these facts, which were read.
+pub(crate) fn verdict_of(alloc: Global, facts: &Facts) -> Verdict
     ensures verdict { IsOrMemory result (verdict_of_check (check_of facts.now)) }
     ensures lines { (place : Option (List ℕ))
         → lines_after result (Ok facts.now) place ≡ explanation_of facts.now }
+    ensures files { files_in result (Ok facts.now) ≡ Some (length facts.now.files) }
 {
     match check(alloc, facts) {
         Ok(bag) => Verdict::Valid(bag),

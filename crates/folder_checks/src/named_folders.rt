@@ -6,9 +6,13 @@ ghost use Rattle.outcomes.specs.Outcomes.{Outcome, Writes, WritesPrefix};
 ghost use Rattle.cell_device.specs.Calls.{HasCause};
 ghost use Rattle.bag_tree.specs.declared.fault.TreeFault.TheVariants.{Listing};
 ghost use Rattle.folder_checks.specs.Reports.{TellsFor};
+ghost use Rattle.folder_checks.specs.Forms.{IsForm, IsJson};
 ghost use Rattle.folder_checks.specs.Names.{IsNamed, EndsAll, read_of, place_of};
 
 use crate::explanation::{place_line, with_lines};
+use crate::form::Form;
+use crate::json_line::json_answer;
+use crate::measure::Measured;
 use crate::named::named_bytes;
 use crate::report::{Report, answer_for};
 use crate::several_folders::NamedAnswer;
@@ -21,22 +25,22 @@ use std::alloc::{AllocError, Global};
 use std::str;
 
 /// Checks the folders of these names one by one, and writes for each what a check of it alone
-/// writes, with its name, escaped, and a space before each line. Names may be any bytes: one that
+/// writes, with its name, escaped, and a space before each line; or its line of JSON. Names may be any bytes: one that
 /// isn't UTF-8 is a folder that can't be listed. The status is 0 if each folder is a valid bag, and
-/// else 1. If there was no room for the lines of a folder, they are `memory` alone, and the other
-/// folders have theirs.
-pub fn check_names_on<F: Folders, W: CountedWrite>(
+/// else 1. If there was no room for the lines of a folder, they are `memory` alone, or an object that
+/// says so, and the other folders have theirs.
+pub fn check_names_on<F: Folders + Measured, W: CountedWrite>(
     alloc: Global,
     folders: &mut F,
     names: &[&[u8]],
-    report: Report,
+    form: Form,
     output: &mut W,
 ) -> Result<u8, ProgramFault>
     ensures ok { IfOk result (λ status. IfSome (F.gives folders.old) (λ gives.
-        EndsAll (IsNamed report (F.fails_at folders.old) gives) (map (λ name. name.now) names.now)
+        EndsAll (IsForm form (F.fails_at folders.old) gives) (map (λ name. name.now) names.now)
         (Writes (W.contents output.old) (W.contents output.new) status))) }
     ensures output { IsErrOf result ProgramFault.Output → IfSome (F.gives folders.old) (λ gives.
-        (count : ℕ) × EndsAll (IsNamed report (F.fails_at folders.old) gives)
+        (count : ℕ) × EndsAll (IsForm form (F.fails_at folders.old) gives)
         (take count (map (λ name. name.now) names.now))
         (WritesPrefix (W.contents output.old) (W.contents output.new))) }
     ensures kept { F.gives folders.new ≡ F.gives folders.old }
@@ -46,14 +50,40 @@ pub fn check_names_on<F: Folders, W: CountedWrite>(
 {
     let mut all_valid = true;
     for name in names {
-        let status = check_name_on(alloc, folders, name, report, output)?;
+        let status = check_name_on(alloc, folders, name, form, output)?;
         all_valid = all_valid && status == 0;
     }
     Ok(if all_valid { 0 } else { 1 })
 }
 
-// Checks the folder of this name, and writes its lines.
-fn check_name_on<F: Folders, W: CountedWrite>(
+// Checks the folder of this name, and writes what is asked for.
+fn check_name_on<F: Folders + Measured, W: CountedWrite>(
+    alloc: Global,
+    folders: &mut F,
+    name: &[u8],
+    form: Form,
+    output: &mut W,
+) -> Result<u8, ProgramFault>
+    ensures ok { IfOk result (λ status. IfSome (F.gives folders.old) (λ gives.
+        (outcome : Outcome) × IsForm form (F.fails_at folders.old) gives name.now outcome
+        × Writes (W.contents output.old) (W.contents output.new) status outcome)) }
+    ensures output { IsErrOf result ProgramFault.Output → IfSome (F.gives folders.old) (λ gives.
+        (outcome : Outcome) × IsForm form (F.fails_at folders.old) gives name.now outcome
+        × WritesPrefix (W.contents output.old) (W.contents output.new) outcome) }
+    ensures kept { F.gives folders.new ≡ F.gives folders.old }
+    ensures place { F.fails_at folders.new ≡ F.fails_at folders.old }
+    ensures fault { IfErr result (λ fault. fault ≡ ProgramFault.Output) }
+    ensures cause { HasCause ProgramFault.Output (W.failures output.old) (W.failures output.new)
+        result }
+{
+    match form {
+        Form::Lines(report) => write_lines(alloc, folders, name, report, output),
+        Form::Json(report) => write_json(alloc, folders, name, report, output),
+    }
+}
+
+// Writes the lines of a check, each with the name before it.
+fn write_lines<F: Folders, W: CountedWrite>(
     alloc: Global,
     folders: &mut F,
     name: &[u8],
@@ -75,6 +105,32 @@ fn check_name_on<F: Folders, W: CountedWrite>(
     match name_answer(alloc, folders, name, report) {
         Ok(answer) => write_bytes(output, answer.status, answer.text.as_slice()),
         Err(AllocError) => write_bytes(output, 1, b"memory\n"),
+    }
+}
+
+// Writes a check's line of JSON.
+fn write_json<F: Folders + Measured, W: CountedWrite>(
+    alloc: Global,
+    folders: &mut F,
+    name: &[u8],
+    report: Report,
+    output: &mut W,
+) -> Result<u8, ProgramFault>
+    ensures ok { IfOk result (λ status. IfSome (F.gives folders.old) (λ gives.
+        (outcome : Outcome) × IsJson report (F.fails_at folders.old) gives name.now outcome
+        × Writes (W.contents output.old) (W.contents output.new) status outcome)) }
+    ensures output { IsErrOf result ProgramFault.Output → IfSome (F.gives folders.old) (λ gives.
+        (outcome : Outcome) × IsJson report (F.fails_at folders.old) gives name.now outcome
+        × WritesPrefix (W.contents output.old) (W.contents output.new) outcome) }
+    ensures kept { F.gives folders.new ≡ F.gives folders.old }
+    ensures place { F.fails_at folders.new ≡ F.fails_at folders.old }
+    ensures fault { IfErr result (λ fault. fault ≡ ProgramFault.Output) }
+    ensures cause { HasCause ProgramFault.Output (W.failures output.old) (W.failures output.new)
+        result }
+{
+    match json_answer(alloc, folders, name, report) {
+        Ok(answer) => write_bytes(output, answer.status, answer.text.as_slice()),
+        Err(AllocError) => write_bytes(output, 1, b"{\"verdict\":\"memory\"}\n"),
     }
 }
 

@@ -1,11 +1,13 @@
 //! Folders of the file system, of which it is said which of how many is read.
 
+use crate::measure::{Measure, Measured};
 use crate::tally::{TalliedProgress, Tally};
 use bag_check::BagFault;
 use bag_folders::{DiskFolders, Folders};
 use bag_tree::{Facts, TreeFault};
 use std::alloc::AllocError;
 use std::io::Stderr;
+use std::time::Instant;
 
 type Disk = DiskFolders<HostRuntime, TalliedProgress<HostRuntime, Stderr>>;
 
@@ -18,6 +20,7 @@ pub struct TalliedFolders<'a> {
     tally: Tally,
     /// What read the last folder, if there was memory for it.
     last: Option<Disk>,
+    measure: Measure,
 }
 
 impl<'a> TalliedFolders<'a> {
@@ -27,6 +30,7 @@ impl<'a> TalliedFolders<'a> {
             are_all_wanted,
             tally,
             last: None,
+            measure: Measure::unknown(),
         }
     }
 
@@ -53,11 +57,17 @@ impl Folders for TalliedFolders<'_> {
     fn read(&mut self, path: &str) -> Result<Facts, TreeFault> {
         self.tally.folder = self.tally.folder.saturating_add(1);
         self.last = None;
+        self.measure = Measure::unknown();
         let Ok(mut folders) = self.next() else {
             return Err(TreeFault::Memory);
         };
+        let start = Instant::now(self.rt).ok();
         let read = folders.read(path);
         self.tally = folders.watcher().tally();
+        self.measure = Measure {
+            bytes: folders.watcher().bytes(),
+            seconds: seconds_since(self.rt, start),
+        };
         self.last = Some(folders);
         read
     }
@@ -69,5 +79,19 @@ impl Folders for TalliedFolders<'_> {
             Some(folders) => folders.failed_at(),
             None => None,
         }
+    }
+}
+
+impl Measured for TalliedFolders<'_> {
+    fn measure(&self) -> Measure {
+        self.measure
+    }
+}
+
+// How many whole seconds have passed since then, if the clock can be read.
+fn seconds_since(rt: &HostRuntime, start: Option<Instant>) -> Option<u64> {
+    match start?.elapsed(rt) {
+        Ok(passed) => Some(passed.as_secs()),
+        Err(_) => None,
     }
 }

@@ -44,7 +44,8 @@ pub struct TalliedProgress<C: Clock + Drop, W: Write + Drop> {
     clock: C,
     output: W,
     tally: Tally,
-    /// When the folder's files were listed.
+    are_listed: bool,
+    /// When the folder's files were listed, if the clock can be read.
     listed: Option<Instant>,
     files: u64,
     bytes: u64,
@@ -62,6 +63,7 @@ impl<C: Clock + Drop, W: Write + Drop> TalliedProgress<C, W> {
             clock,
             output,
             tally,
+            are_listed: false,
             listed: None,
             files: 0,
             bytes: 0,
@@ -75,6 +77,15 @@ impl<C: Clock + Drop, W: Write + Drop> TalliedProgress<C, W> {
     /// Which folder it is, and what was said of it.
     pub fn tally(&self) -> Tally {
         self.tally
+    }
+
+    /// How many bytes the folder's files have, if they were listed.
+    pub fn bytes(&self) -> Option<u64> {
+        if self.are_listed {
+            Some(self.bytes)
+        } else {
+            None
+        }
     }
 
     /// What the lines are written to.
@@ -208,6 +219,7 @@ fn push_time(text: &mut String, seconds: u64) -> Result<(), AllocError> {
 
 impl<C: Clock + Drop, W: Write + Drop> Watcher for TalliedProgress<C, W> {
     fn listed(&mut self, files: u64, bytes: u64) {
+        self.are_listed = true;
         self.listed = Instant::now(&self.clock).ok();
         self.files = files;
         self.bytes = bytes;

@@ -1,19 +1,13 @@
-use Rattle.std.proofs.Common.{inr, refl}
-use Rattle.outcomes.specs.Outcomes.{no_memory}
-use Rattle.folder_checks.specs.Names.{IsNamed}
-use Rattle.folder_checks.proofs.Names.{no_room, no_room_stopped}
 use Rattle.folder_checks.proofs.named_folders.check_name_on.Goals as goal
 
-pub returns-in-Err-clause-ok : goal.returns-in-Err-clause-ok
-returns-in-Err-clause-ok g c =
-    no_room (IsNamed c.args.report) no_memory (λ place gives name. inr refl)
-    (g.F.Folders.gives c.args.folders.now) (g.F.Folders.fails_at c.args.folders.now)
-    c.args.name.now c.write_bytes-in-Err.result (g.W.CountedWrite.contents c.args.output.now)
-    (g.W.CountedWrite.contents c.write_bytes-in-Err.new.output) c.write_bytes-in-Err.ensures.ok
+pub returns-in-Lines-clause-ok : goal.returns-in-Lines-clause-ok
+returns-in-Lines-clause-ok g c = rw c.in-Lines.is c.write_lines.ensures.ok
 
-pub returns-in-Err-clause-output : goal.returns-in-Err-clause-output
-returns-in-Err-clause-output g c =
-    no_room_stopped (IsNamed c.args.report) no_memory (λ place gives name. inr refl)
-    (g.F.Folders.gives c.args.folders.now) (g.F.Folders.fails_at c.args.folders.now)
-    c.args.name.now c.write_bytes-in-Err.result (g.W.CountedWrite.contents c.args.output.now)
-    (g.W.CountedWrite.contents c.write_bytes-in-Err.new.output) c.write_bytes-in-Err.ensures.err
+pub returns-in-Lines-clause-output : goal.returns-in-Lines-clause-output
+returns-in-Lines-clause-output g c = rw c.in-Lines.is c.write_lines.ensures.output
+
+pub returns-in-Json-clause-ok : goal.returns-in-Json-clause-ok
+returns-in-Json-clause-ok g c = rw c.in-Json.is c.write_json.ensures.ok
+
+pub returns-in-Json-clause-output : goal.returns-in-Json-clause-output
+returns-in-Json-clause-output g c = rw c.in-Json.is c.write_json.ensures.output

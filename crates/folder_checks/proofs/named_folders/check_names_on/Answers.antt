@@ -1,5 +1,5 @@
 use Rattle.std.proofs.Common.{◌≡◌, ℕ, List, Bor, map, get_or, Err, refl, sym, ap, ◌∙◌, ◌&&◌, nat_eq}
-use Rattle.folder_checks.specs.Names.{IsNamed}
+use Rattle.folder_checks.specs.Forms.{IsForm}
 use Rattle.folder_checks.proofs.Names.{IsNext, before_all, one_more, stopped}
 use Rattle.folder_checks.proofs.Several.{map_next}
 use Rattle.folder_checks.proofs.named_folders.check_names_on.Goals.{After-check_name_on}
@@ -12,13 +12,13 @@ loop-name-init g c = (
   refl,
   refl,
   refl,
-  before_all (IsNamed c.args.report) (g.F.Folders.gives c.args.folders.now)
+  before_all (IsForm c.args.form) (g.F.Folders.gives c.args.folders.now)
       (g.F.Folders.fails_at c.args.folders.now) (g.W.CountedWrite.contents c.args.output.now),
 )
 
 -- the folders before have their lines
 next : (g : Over) (c : After-check_name_on g) (other : Bor (List ℕ))
-    → IsNext (IsNamed c.args.report)
+    → IsNext (IsForm c.args.form)
     (g.F.Folders.gives c.args.folders.now) (g.F.Folders.gives c.loop-name.folders)
     (g.F.Folders.fails_at c.args.folders.now) (g.F.Folders.fails_at c.loop-name.folders)
     (map (λ name. name.now) c.args.names.now) c.loop-name.name-index
