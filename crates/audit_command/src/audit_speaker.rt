@@ -8,12 +8,18 @@ use ledger::LiveCell;
 use std::alloc::AllocError;
 use words::push_escaped;
 
+/// Of so many conflicts the cells are named. Each time all cells are read once more, and whoever
+/// hands in a cell chooses how many conflicts there are.
+const MOST_NAMED: u32 = 20;
+
 /// What says an audit's lines.
 #[derive(Drop)]
 pub(crate) struct AuditSpeaker<'a> {
     rt: &'a HostRuntime,
     /// The paths of the cells of which something may be counted.
     cells: Vec<&'a str>,
+    /// How many conflicts were said.
+    conflicts: u32,
 }
 
 impl<'a> AuditSpeaker<'a> {
@@ -23,7 +29,11 @@ impl<'a> AuditSpeaker<'a> {
         if !task.words || cells.extend_from_slice(task.cells.as_slice()).is_err() {
             return None;
         }
-        Some(AuditSpeaker { rt, cells })
+        Some(AuditSpeaker {
+            rt,
+            cells,
+            conflicts: 0,
+        })
     }
 
     fn words_of(&mut self, line: &str) -> Result<String, AllocError> {
@@ -45,11 +55,34 @@ impl<'a> AuditSpeaker<'a> {
                     one,
                     other,
                 };
-                push_names(self.rt, &mut text, self.cells.as_slice(), &conflict)?;
+                self.push_conflict(&mut text, &conflict)?;
             }
             _ => {}
         }
         Ok(text)
+    }
+
+    // Appends which cells name the bags of a conflict, or, where there were too many before, that
+    // none are named.
+    fn push_conflict(
+        &mut self,
+        text: &mut String,
+        conflict: &Conflict<'_>,
+    ) -> Result<(), AllocError> {
+        let before = self.conflicts;
+        self.conflicts = before.saturating_add(1);
+        if before < MOST_NAMED {
+            return push_names(self.rt, text, self.cells.as_slice(), conflict);
+        }
+        if before == MOST_NAMED {
+            let most = MOST_NAMED;
+            write!(
+                text,
+                "cells are named for the first {most} conflicts alone; `bagpaxos journal` lists \
+                the records of a cell"
+            )?;
+        }
+        Ok(())
     }
 
     // Appends why nothing of a cell is counted, where its opening has said nothing of that.

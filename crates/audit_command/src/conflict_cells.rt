@@ -74,12 +74,12 @@ fn mention_of(
     for kept in records {
         match kept.body {
             Entry::Known(bag) => {
-                if is_bag(alloc, bag, digits)? && is_slot(alloc, conflict, &kept.slot)? {
+                if is_slot(alloc, conflict, &kept.slot)? && is_bag(alloc, bag, digits)? {
                     found.is_known = true;
                 }
             }
             Entry::Vote(vote) => {
-                if is_bag(alloc, vote.bag, digits)? && is_slot(alloc, conflict, &kept.slot)? {
+                if is_slot(alloc, conflict, &kept.slot)? && is_bag(alloc, vote.bag, digits)? {
                     found.has_vote = true;
                 }
             }
@@ -94,11 +94,14 @@ fn is_bag(alloc: Global, bag: BagId, digits: &str) -> Result<bool, AllocError> {
 }
 
 fn is_slot(alloc: Global, conflict: &Conflict<'_>, slot: &Slot) -> Result<bool, AllocError> {
-    let mut object = String::new(alloc);
-    push_escaped(&mut object, slot.object())?;
     let number = slot.version();
     let version = format!(in alloc; "{number}")?;
-    Ok(object.as_str() == conflict.object && version.as_str() == conflict.version)
+    if version.as_str() != conflict.version {
+        return Ok(false);
+    }
+    let mut object = String::new(alloc);
+    push_escaped(&mut object, slot.object())?;
+    Ok(object.as_str() == conflict.object)
 }
 
 // Appends a line, if the cell names the bag.

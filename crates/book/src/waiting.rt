@@ -7,7 +7,7 @@ use std::alloc::Global;
 /// writes and syncs them. None of its calls fails.
 #[derive(Drop)]
 pub struct Waiting {
-    /// So that only a batch has one.
+    /// Only `Book::begin_batch` makes one. A book that is closed hands its own back.
     nothing: (),
 }
 

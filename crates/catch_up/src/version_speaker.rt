@@ -68,8 +68,8 @@ impl<'a> VersionSpeaker<'a> {
         push_slot(text, object, version)?;
         write!(
             text,
-            "site {site} knows the first bag and the file the second; a cell was lost, replaced or \
-            altered: audit the cells, as docs/AUDIT.md says"
+            "site {site} knows the first bag and the file the second: a cell was lost, replaced or \
+            altered, or the file is of another federation; audit the cells, as docs/AUDIT.md says"
         )
     }
 
@@ -79,8 +79,9 @@ impl<'a> VersionSpeaker<'a> {
         push_slot(text, object, version)?;
         write!(
             text,
-            "site {site} knew no bag after {seconds} s: it is down, or doesn't hear sites with more \
-            than half of all weight; see whether they run, and give --for more"
+            "site {site} knew no bag after {seconds} s: it is down, doesn't hear sites with more \
+            than half of all weight, or has other keys, or the file is of another federation; see \
+            whether the sites run, and give --for more"
         )
     }
 }

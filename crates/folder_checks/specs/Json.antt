@@ -73,7 +73,8 @@ words_data (Some words) = string words
 -- ---- the value, and its line
 
 -- what is said of a folder, in this order: by its name and the verdict, how many files it has, what
--- was measured, the lines that explain the verdict, and what its code says; null for what is left out
+-- was measured, the lines that explain the verdict, and what its code says; null for what is left
+-- out
 unfoldable pub folder_data : List ℕ → Verdict → Option ℕ → Measure → Option (List ℕ)
     → Option (List ℕ) → Data
 folder_data name verdict files measure lines words =
