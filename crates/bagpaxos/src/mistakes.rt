@@ -51,17 +51,22 @@ pub fn say_unreadable(rt: &HostRuntime) -> Result<(), AllocError> {
 }
 
 /// Prints the help that clap gives as an error, with the usage of the command that these words
-/// name.
-pub fn print_help(rt: &HostRuntime, words: &[String], error: &Error) -> io::Result<()> {
+/// name. Where memory runs out before, nothing is printed.
+pub fn print_help(
+    rt: &HostRuntime,
+    words: &[String],
+    error: &Error,
+) -> Result<io::Result<()>, AllocError> {
     let usage = match words {
         [_, help, command, ..] if help.as_str() == "help" => usage_of(command.as_str()),
         _ => usage_in(words),
     };
     let Some(usage) = usage else {
-        return error.print(rt);
+        return Ok(error.print(rt));
     };
     let said = format!(in rt.alloc(); "{error}")?;
-    rt.print(help_text(rt.alloc(), said.as_str(), usage)?.as_str())
+    let text = help_text(rt.alloc(), said.as_str(), usage)?;
+    Ok(rt.print(text.as_str()))
 }
 
 // How the command is typed that these words begin with.
