@@ -12,7 +12,8 @@ since a crash may take that one back. A cell that no site holds is synced before
 it is read, and a site that starts meanwhile waits for that. No cell is changed.
 Cells may be copies, but a copy of a cell in use can't be recognised as one:
 copy a cell while its site is stopped, or audit the cell itself. Two cells of
-one site count as one.
+one site count as one. `-` is standard input. What comes through a pipe, as that
+of `<(..)` in a shell, can't be synced: it counts as a cell in use.
 
 First it prints
   in-use CELL            for each cell that is in use; it changes no status

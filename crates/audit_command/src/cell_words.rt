@@ -14,6 +14,8 @@ use std::io::{self, ErrorKind};
 const IN_USE: &str =
     " is in use: its last record isn't counted, since a crash may still take it back";
 
+const PIPED: &str = " comes through a pipe and can't be synced, so its last record isn't counted";
+
 const FREE: &str =
     " isn't in use: it was synced before it was read, and each of its records can be counted";
 
@@ -21,6 +23,7 @@ const FREE: &str =
 /// standard error can't be written, or memory runs out, it says nothing.
 pub(crate) fn say_opened(rt: &HostRuntime, path: &str, opened: &io::Result<DiskCell>) {
     match opened {
+        Ok(cell) if cell.is_pipe() => say_state(rt, path, PIPED),
         Ok(cell) if !cell.in_use => {}
         Ok(_) => say_state(rt, path, IN_USE),
         Err(error) => say_unopened(rt, path, error),

@@ -26,11 +26,18 @@ pub(crate) struct DiskCells<'a> {
 #[derive(Drop)]
 pub(crate) struct DiskCell {
     bytes: LiveCell,
-    /// Whether a site holds its lock. Where none does, this file does, shared: no site can open the
-    /// cell until it is dropped.
+    /// Whether a site holds its lock, or may: nobody knows it of what comes through a pipe. Where
+    /// none does, this file holds it, shared: no site can open the cell until it is dropped.
     pub(crate) in_use: bool,
     /// At most this many more bytes are read.
     unread: u64,
+}
+
+impl DiskCell {
+    /// Whether its bytes come through a pipe.
+    pub(crate) fn is_pipe(&self) -> bool {
+        self.bytes.is_pipe()
+    }
 }
 
 impl CellFiles for DiskCells<'_> {
@@ -94,6 +101,15 @@ fn cell_of<C>(opened: io::Result<C>) -> Result<Option<C>, AllocError>
 /// Opens the file of this path for reading as a cell.
 fn open_cell(rt: &HostRuntime, path: &str) -> io::Result<DiskCell> {
     let bytes = LiveCell::open(rt, path)?;
+    if bytes.is_pipe() {
+        // It can't be synced, and nobody knows which of its records are: it is taken for a cell
+        // in use.
+        return Ok(DiskCell {
+            bytes,
+            in_use: true,
+            unread: u64::MAX,
+        });
+    }
     if is_locked(bytes.file())? {
         // By now its site has synced all of these records, except perhaps the last: it syncs before
         // it appends the next. What comes after them isn't read. If the site couldn't sync the last

@@ -11,6 +11,9 @@ pub(crate) fn push_unread(
     text: &mut String,
     path: &str,
 ) -> Result<(), AllocError> {
+    if path == "-" {
+        return text.push_str("standard input is neither a file nor a pipe that can be read");
+    }
     push_name(text, path)?;
     match fs::metadata(rt, path) {
         Ok(found) if found.is_dir() => text.push_str(" is a folder, and a cell is a file"),

@@ -76,8 +76,9 @@ the verdict (valid, invalid, unread), its code and what that says (words), the
 bag's identity, how many files and bytes there are, how many seconds it took,
 and with --explain the places of what is wrong. FORMATS.md has each of these.
 
-With --registered FILE, a site's cell or a list that `ledger` printed, lines
-there say which of the known bags the folders are, once all are checked:
+With --registered FILE, a site's cell or a list that `ledger` printed (`-` is
+standard input), lines there say which of the known bags the folders are, once
+all are checked:
   FOLDER is OBJ V               it is the bag that is known as version V of OBJ
   FOLDER is no registered bag   it is a valid bag, but that of no version
   not among these: OBJ V        no folder is the bag of this version

@@ -21,6 +21,7 @@ mod law;
 mod ledger_lines;
 mod live_cell;
 mod named;
+mod open_pipe;
 mod part;
 mod read;
 mod record_line;

@@ -2,6 +2,7 @@
 
 ghost use Rattle.std.specs.Prelude.{◌≤◌, length, IfOk};
 
+use crate::open_pipe::{is_open_pipe, path_to_open};
 use std::fs;
 use std::fs::{File, Files};
 use std::io::{ErrorKind, Read, Result, Seek, SeekFrom};
@@ -21,9 +22,12 @@ const MOST_LOOKS: u32 = 100;
 /// intact cell damaged. So it first reads the bytes that have `CHANGING` others after them, which
 /// no site changes. Then it reads all others at once, between two looks that find the file the
 /// same. What is appended after that isn't given.
+///
+/// The bytes may also come through a pipe. They are then given as they come, to their end.
 #[derive(Drop)]
 pub struct LiveCell {
     file: File,
+    is_pipe: bool,
     /// How many bytes were given before the end.
     place: u64,
     end: End,
@@ -49,14 +53,18 @@ struct Look {
 }
 
 impl LiveCell {
-    /// Opens the cell in the file of this path. Anything else, such as a folder or a pipe, is
-    /// `InvalidInput`, before it is opened: opening a pipe would wait.
+    /// Opens the cell in the file of this path, or that comes through a pipe which this process was
+    /// given open; `-` is standard input. Anything else, such as a folder or a pipe with a name, is
+    /// `InvalidInput`, before it is opened: opening a pipe with a name would wait.
     pub fn open(rt: &HostRuntime, path: &str) -> Result<LiveCell> {
-        if !fs::metadata(rt, path)?.is_file() {
+        let path = path_to_open(path);
+        let is_pipe = is_open_pipe(rt, path)?;
+        if !is_pipe && !fs::metadata(rt, path)?.is_file() {
             return Err(ErrorKind::InvalidInput.into());
         }
         Ok(LiveCell {
             file: File::open(rt, path)?,
+            is_pipe,
             place: 0,
             end: End {
                 is_read: false,
@@ -70,6 +78,11 @@ impl LiveCell {
     /// The file itself, as for its lock.
     pub fn file(&self) -> &File {
         &self.file
+    }
+
+    /// Whether the bytes come through a pipe. It has no lock, and can't be synced.
+    pub fn is_pipe(&self) -> bool {
+        self.is_pipe
     }
 
     // Reads bytes that no site changes, from a file of this length; none, if the end comes next.
@@ -141,6 +154,9 @@ impl Read for LiveCell {
     fn read(&mut self, buf: &mut [u8]) -> Result<usize> {
         if buf.is_empty() {
             return Ok(0);
+        }
+        if self.is_pipe {
+            return self.file.read(buf);
         }
         if !self.end.is_read {
             let count = self.read_on(buf)?;

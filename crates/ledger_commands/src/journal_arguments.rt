@@ -9,7 +9,9 @@ const ABOUT: &str = "Prints what a site's cell says, record by record";
 const EXAMPLE: &str =
     "The cell may be in use, or a copy: it is read without a lock, and never changed.
 The newest record of a cell in use may not be synced yet, and a crash may take
-it back: the lines say what the bytes are as they are read. It prints
+it back: the lines say what the bytes are as they are read. `-` is standard
+input, and a cell may come through a pipe, as that of `<(..)` in a shell. It
+prints
   cell F S [W1 .. WN]     whose it is: the federation, the site, and the
                           members' weights, if the cell names them
 and then a line for each record, in order:

@@ -11,7 +11,8 @@ const EXAMPLE: &str =
     "The cell may be in use, or a copy: it is read without a lock, and never changed.
 The newest record of a cell in use may not be synced yet, and a crash may take
 it back: the lines say what the bytes are as they are read. A `known` line is
-true even so: the votes that chose its bag are synced.
+true even so: the votes that chose its bag are synced. `-` is standard input,
+and a cell may come through a pipe, as that of `<(..)` in a shell.
 It prints a line for each version, in the order in which the versions come first
 in the cell:
   known OBJ V HEX         the site knows that this bag was chosen
