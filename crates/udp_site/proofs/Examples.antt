@@ -149,6 +149,9 @@ rests_after_them = refl
 pub waits_again : left (hears rested Moves) 9000 9000 ≡ 1000
 waits_again = refl
 
+pub and_takes_no_prompt_turn_away : (hears deposited Moves).prompt ≡ 2
+and_takes_no_prompt_turn_away = refl
+
 pub and_rests_on : left (idles (hears rested Moves) 10000) 10000 10000 ≡ 2000
 and_rests_on = refl
 
@@ -219,6 +222,13 @@ questioned = hands alone own 40000 (reply 1)
 pub still_a_question : (hears questioned Decides).asked ≡ 2
 still_a_question = refl
 
+-- nor is a deposit; and one question more makes no more turns
+pub a_deposit_is_no_answer : (registers questioned).asked ≡ 2
+a_deposit_is_no_answer = refl
+
+pub questions_dont_add_up : (hands questioned own 40000 (reply 1)).asked ≡ 2
+questions_dont_add_up = refl
+
 pub not_before_a_second : left questioned 300000 400000 ≡ 600000
 not_before_a_second = refl
 
@@ -240,6 +250,10 @@ a_proposal_answers = refl
 -- before any question, and whatever comes, it waits for its minute
 pub waits_for_a_minute : left alone 300000 400000 ≡ 59600000
 waits_for_a_minute = refl
+
+-- where a deposit has turns that are prompt, these don't wait for the second
+pub prompt_before_the_second : left (registers (hears questioned Decides)) 400000 400000 ≡ 0
+prompt_before_the_second = refl
 
 pub asked_again_it_takes_a_second :
     left (hands (hands (idles (idles questioned 1000000) 1000000) own own prepare) own 40000

@@ -112,6 +112,15 @@ pub too_few : (thrice (thrice (fresh (1 ∷ 1 ∷ 1 ∷ 1 ∷ 1 ∷ [])))).answe
 unfolding with_voter sites_to is_in
 too_few = refl
 
+-- Two others of five are one, though one promise comes after the other.
+abbrev promise_of_four : Signal
+promise_of_four = record { sign = Still; sender = Some 4 }
+
+pub two_of_five : (proposes (takes (takes (proposes (fresh (1 ∷ 1 ∷ 1 ∷ 1 ∷ 1 ∷ []))) 9000000
+    promise) 9000001 promise_of_four)).answer_wait ≡ 200
+unfolding with_voter sites_to is_in
+two_of_five = refl
+
 -- Where no quorum is heard any more it waits for its wait.
 pub nobody_is_heard : wait_at five 30000000 ≡ 3200
 unfolding with_voter sites_to is_in

@@ -4,7 +4,7 @@ use Rattle.std.proofs.Common.{refl, arith, [], ◌∷◌}
 use Rattle.std.proofs.lemmas.Bool.Decides.{nat_tests}
 use Rattle.std.proofs.lemmas.List.{get_or-set_same}
 use Rattle.udp_site.specs.declared.recoveries.Recoveries.{Recoveries}
-use Rattle.udp_site.specs.Recoveries.{class_of, is_early, hands_on}
+use Rattle.udp_site.specs.Recoveries.{class_of, is_early, hands_on, none_handed_on}
 use Rattle.udp_site.specs.Signs.{is_recover}
 
 module _ (recoveries : Recoveries) (bytes : List ℕ) (now later pause : ℕ)
@@ -33,6 +33,16 @@ module _ (recoveries : Recoveries) (bytes : List ℕ) (now pause : ℕ)
   pub others_change_nothing : hands_on recoveries now bytes ≡ recoveries
   others_change_nothing = rw other refl
 
+-- a port begins as if one had been handed on at the moment 0: the first waits for a pause
+abbrev recover : List ℕ
+recover = 0x42 ∷ 0x50 ∷ 2 ∷ 18 ∷ 7 ∷ []
+
+pub first_is_early : is_early none_handed_on 1000000 999999 recover ≡ true
+first_is_early = refl
+
+pub first_after_a_pause : is_early none_handed_on 1000000 1000000 recover ≡ false
+first_after_a_pause = refl
+
 -- it has the class of its last byte, whatever its others are
-pub class_is_the_last_byte : class_of (0x42 ∷ 0x50 ∷ 2 ∷ 18 ∷ 7 ∷ []) ≡ 7
+pub class_is_the_last_byte : class_of recover ≡ 7
 class_is_the_last_byte = refl

@@ -10,11 +10,14 @@ use Rattle.records.specs.declared.owner.Owner.{Owner}
 use Rattle.records.specs.declared.record.Record.{Record}
 use Rattle.records.specs.SlotStates.{known_of}
 use Rattle.cell_device.specs.Devices.{Device}
+use Rattle.proposer.specs.VolatileStates.{VolatileState}
+use Rattle.site.specs.Sites.{OpenSite}
 use Rattle.site.specs.declared.fault.SiteFault.TheVariants as faults
 use Rattle.site.specs.Calls.{Input}
 use Rattle.site_tables.specs.Contents.{deposits_of}
 use Rattle.udp_site.specs.Rounds.{next_waiting}
-use Rattle.udp_site.specs.Turns.{Serving, Done, idles, proposes_next, tries, others}
+use Rattle.udp_site.specs.Turns.{Serving, Done, idles, proposes_next, proposes, tries}
+use Rattle.udp_site.specs.Turns.{begins, others}
 use Rattle.udp_site.specs.Turns.{proposal_notices, recovery_notices}
 
 abbrev said : (object : ℕ) → Entry → Record
@@ -79,6 +82,14 @@ nothing_deposited = refl
 abbrev owner : Owner
 owner = record { members = membership_of 7 (1 ∷ 1 ∷ 1 ∷ []); site = 2 }
 
+-- a site begins to serve with no idle turn, and tries its first deposit first
+module _ {C : Type 0} (site : OpenSite C) (volatile : VolatileState) where
+  pub begins_with_no_idle_turn : (begins site volatile).idle ≡ 0
+  begins_with_no_idle_turn = refl
+
+  pub begins_with_its_first_deposit : (begins site volatile).tried ≡ 0
+  begins_with_its_first_deposit = refl
+
 module _ {C : Type 0} (device : C → Device) (addresses : List ℕ) (s : Serving C) where
   -- after so many idle turns
   abbrev after : ℕ → Serving C
@@ -103,6 +114,12 @@ module _ {C : Type 0} (device : C → Device) (addresses : List ℕ) (s : Servin
   pub in_the_fourth : (done : Done) (new : Serving C) → idles device addresses (after 3) done new
       → proposes_next device addresses (after 4) done new
   in_the_fourth done new idle = idle
+
+  -- it proposes nothing where no deposit waits
+  pub nothing_waits : (done : Done) (new : Serving C)
+      → proposes device addresses (after 2) None None done new
+      → done ≡ record { posts = []; notices = [] }
+  nothing_waits done new idle = idle.0
 
   -- after the first deposit it tries the second
   pub goes_on : next_waiting deposits (tries (after 1) 0).tried ≡ Some 1

@@ -82,6 +82,15 @@ module _ (site : ℕ) (ballot standing : Ballot) (vote : Vote) (bag : BagId) whe
   pub own_known_is_still : own_sign_by (Known site bag) ≡ Still
   own_known_is_still = refl
 
+  pub own_prepare_is_still : own_sign_by (Prepare ballot) ≡ Still
+  own_prepare_is_still = refl
+
+  pub own_refusal_is_still : own_sign_by (Refused site ballot standing) ≡ Still
+  own_refusal_is_still = refl
+
+  pub own_ask_is_still : own_sign_by (Ask site) ≡ Still
+  own_ask_is_still = refl
+
   pub own_promise_is_still : (prior : Option Vote) → own_sign_by (Promise site ballot prior) ≡ Still
   own_promise_is_still prior = refl
 
@@ -117,6 +126,15 @@ module _ (site : ℕ) (ballot standing : Ballot) (vote : Vote) (bag : BagId) whe
     pub knowing_site_is_heard : at 7001 (Known site bag)
         ≡ record { sign = Decides; sender = Some site }
     knowing_site_is_heard = refl
+
+    -- so is a site that replies to a client, though that is no message between sites
+    pub replying_site_is_heard : (answer : QueryAnswer) → at 7001 (QueryReply site answer)
+        ≡ record { sign = Still; sender = Some site }
+    replying_site_is_heard answer = refl
+
+    pub registering_site_is_heard : (answer : DepositAnswer) → at 7001 (DepositReply site answer)
+        ≡ record { sign = Still; sender = Some site }
+    registering_site_is_heard answer = refl
 
     pub asking_client_is_nobody : at 40000 Query ≡ record { sign = Still; sender = None }
     asking_client_is_nobody = refl
