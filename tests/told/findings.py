@@ -136,8 +136,10 @@ def difference(listed, present):
 class Folder:
     """What is in a folder that can be read, and what can't be read, with the reason."""
 
-    def __init__(self, path):
+    def __init__(self, path, is_nobody=False):
+        """`is_nobody`: for a user who has no rights but those of all."""
         self.path, self.files, self.folders, self.unread = path, {}, set(), {}
+        self.lacks = lambda mode, rights: is_nobody and mode & rights != rights
         self.list(os.fsencode(path), "")
         self.files = dict(sorted(self.files.items(), key=lambda it: it[0].encode()))
 
@@ -163,7 +165,10 @@ class Folder:
             self.unread[path] = "deep"
         elif stat.S_ISDIR(mode):
             self.folders.add(path)
-            self.list(entry.path, path)
+            if self.lacks(mode, 0o005):
+                self.unread[path] = "no right"
+            else:
+                self.list(entry.path, path)
         elif stat.S_ISREG(mode):
             self.read(entry, path)
         else:
@@ -175,6 +180,8 @@ class Folder:
             self.unread[path] = "long"
             return
         try:
+            if self.lacks(entry.stat().st_mode, 0o004):
+                raise PermissionError
             self.files[path] = pathlib.Path(os.fsdecode(entry.path)).read_bytes()
         except PermissionError:
             self.unread[path] = "no right"
@@ -401,7 +408,7 @@ def in_order(lines):
     there are, and warnings of one kind."""
     kinds = [lines.index(it) for it in lines[1:] if not it.startswith("  ")]
     at = kinds[0] if lines[0].startswith("unread ") and kinds else 1
-    made = [*lines[:1], *sorted(lines[1:at]), *map(in_order_within, lines[at:])]
+    made = [in_order_within(it) for it in [*lines[:1], *sorted(lines[1:at]), *lines[at:]]]
     for form in ("^warning: .* is a folder without files", "^warning: no tag manifest lists"):
         places = [place for place, it in enumerate(made) if re.search(form, it)]
         if places and places[-1] - places[0] < len(places):
@@ -418,10 +425,10 @@ def in_order_within(line):
     return f"warning: {' and '.join(sorted(twins.groups()[:2]))}{twins[3]}" if twins else line
 
 
-def said_of(path, room, explained):
+def said_of(path, room, explained, is_nobody=False):
     """All that is said of the folder of this path. `explained` gives the lines of `check --explain`
     for a folder; of one that can't be read whole, for a copy of the rest in this room."""
-    folder = Folder(path)
+    folder = Folder(path, is_nobody)
     if not folder.unread:
         verdict, *places = explained(path)
         return Words(folder, places).lines()
