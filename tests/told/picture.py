@@ -5,11 +5,18 @@ import re
 import xml.etree.ElementTree as ElementTree
 from typing import NamedTuple
 
+from style import DARK, WHITE, colour_of as shade_of, contrast, nearest
+
 SVG = "{http://www.w3.org/2000/svg}"
 # How far from a column an arrow may end; and how far from the middle of its row a stop may stand.
 NEAR, ROW = 12, 26
-# How wide a letter is at least, and how many of words beside an event are seen.
-LETTER, LETTERS = 5, 60
+# How many letters of words beside an event are seen; and how wide a letter of Helvetica is, in
+# thousandths of the height, by its published metrics. A box is no narrower.
+LETTERS, HIGH = 60, 12
+WIDTHS = {191: "'", 222: "ijl", 260: "|", 278: " !,./:;I[]\\ft\u00b7", 333: "()-`r", 334: "{}", 355: '"',
+          389: "*", 469: "^", 500: "Jckxsvyz", 584: "+<=>~", 611: "FTZ", 667: "&ABEKPSVXY", 722: "CDHNRUw",
+          778: "GOQ", 833: "Mm", 889: "%", 944: "W", 1000: "\u2026", 1015: "@"}
+WIDTHS = {it: wide for wide, letters in WIDTHS.items() for it in letters}
 # Sites are named again after about so many rows' height; and so far from any row, at least.
 SCREENFUL, ASIDE = 25 * 26, 18
 MARKS = {
@@ -151,7 +158,7 @@ class Labels:
 
 def end_of_words(words):
     """Where words end that begin beside a place; to the left, where they stand there."""
-    wide = LETTER * len(words_of(words)[0])
+    wide = int(sum(WIDTHS.get(it, 556) for it in words_of(words)[0]) * HIGH / 1000)
     beside = int(words.get("dx", 0))
     return int(words.get("x")) + beside + (-wide if "l" in classes(words) else wide)
 
@@ -249,6 +256,21 @@ class Picture:
         self.names = sorted(heights)
         claim(len(self.names) > 1, "one row of names")
         self.top, self.bottom = self.names[0], self.names[-1]
+
+    def check_shades(self, sheet, found):
+        """Each colour is one, can be seen on its sheet, and is unlike each other. The first eight bags
+        have colours that are chosen; those of others have hues apart from that of refusals."""
+        shades = [it for _, it in found]
+        same("no colours", [it for it in shades if shade_of(it) is None], [])
+        for letters, it in found:
+            is_chosen = letters in ("p", "r") or int(letters) <= 8
+            least = 3 if is_chosen else 1.8
+            claim(contrast(it, sheet) >= least, f"{it} isn't seen on {sheet}")
+            if not is_chosen:
+                hue, saturation = float(it[4:].split(",")[0]), it.split(",")[1]
+                same("how strong a colour is", saturation, "52%")
+                claim(20 <= hue < 340, f"{it} is that of refusals")
+        claim(nearest(shades[:10]) > 20, f"two are alike: {shades}")
 
     def check_screenfuls(self):
         """The sites are named again before a row if they were named a screenful above it, and nowhere
@@ -541,4 +563,7 @@ class Picture:
             trees = dict.fromkeys(it.tree for it in self.run.events if it.tree)
             same("colours", [it for it, _ in found], ["p", "r", *map(str, trees)])
             same("two of one colour", len({it for _, it in found}), len(found))
+            self.check_shades(DARK if sheet is dark else WHITE, found)
+        grounds = [f"fill:{it}}}" in one for one, it in ((light, WHITE), (dark, DARK))]
+        same("sheets", grounds, [True, True])
         claim(".sheet,.box" in light and ".sheet,.box" in dark, "a sheet that is neither")

@@ -10,7 +10,7 @@ class Element {
   constructor(tag, id) {
     Object.assign(this, { tagName: tag.toUpperCase(), id: id || '', children: [], words: '' });
     Object.assign(this, { className: '', attributes: {}, heard: {}, scrollTop: 0, clientHeight: 100 });
-    this.viewBox = { baseVal: { height: 1000 } };
+    this.viewBox = { baseVal: { height: 500 } };
     this.classList = { add: (name) => { this.className += ` ${name}`; } };
   }
 
@@ -68,12 +68,13 @@ let made;
 function opened(page) {
   made = new Map(page.ids.map((id) => [id, new Element(id === 'play' ? 'button' : 'div', id)]));
   made.get('run').textContent = page.run;
+  made.get('play').textContent = 'Play';
   const drawing = new Element('svg');
   const [definitions, column] = [new Element('defs'), new Element('path')];
   definitions.append(new Element('path'));
   column.className = 'up';
   drawing.append(definitions, column);
-  const told = { keys: {}, window: {}, clock: null };
+  const told = { keys: {}, window: {}, clock: null, pause: 0, kept: 0 };
   const context = {
     document: {
       getElementById: (id) => made.get(id),
@@ -85,12 +86,12 @@ function opened(page) {
     window: { addEventListener: (name, act) => { told.window[name] = act; } },
     location: { hash: '' },
     history: { replaceState: (_, __, hash) => { context.location.hash = hash; } },
-    setInterval: (act) => { told.clock = act; return 1; },
+    setInterval: (act, pause) => { told.clock = act; told.pause = pause; return 1; },
     clearInterval: () => { told.clock = null; }
   };
   vm.runInNewContext(page.steps + page.view, context);
   const press = (key, more) => told.keys.keydown({
-    key, target: made.get('sites'), preventDefault: () => {}, ...more
+    key, target: made.get('sites'), preventDefault: () => { told.kept += 1; }, ...more
   });
   return { told, context, press, drawing, click: (id) => made.get(id).heard.click() };
 }
@@ -103,6 +104,11 @@ function seen(view) {
     name: card.of('H2')[0].textContent,
     mode: card.of('P')[0].textContent,
     rows: card.of('TR').map((row) => row.children.map((it) => it.textContent)),
+    titles: card.of('TR').map((row) => row.title || ''),
+    bags: card.of('SPAN').map((it) => `${it.className}: ${it.textContent}`),
+    head: card.of('H3').map((it) => it.textContent),
+    colours: card.of('LI').map((it) => it.className),
+    tags: card.children.map((it) => it.tagName),
     marked: card.of('TD').map((it) => it.className === 'new'),
     way: card.of('LI').map((it) => it.textContent)
   }));
@@ -110,6 +116,9 @@ function seen(view) {
   return {
     cards, says: text('says'), prints: text('prints'), count: text('count'),
     hash: view.context.location.hash, cursor: { ...made.get('cursor').attributes },
+    veil: { ...made.get('veil').attributes }, scroll: made.get('picture').scrollTop,
+    slider: [made.get('at').value, made.get('at').max], play: text('play'),
+    order: view.drawing.children.map((it) => it.id || it.className || it.tagName),
     disabled: ['first', 'back', 'next', 'last'].filter((id) => made.get(id).disabled)
   };
 }
@@ -163,6 +172,17 @@ function others(view, count) {
   view.press('ArrowRight', { metaKey: true }); note();
   view.press('PageDown'); note();
   view.press(' ', { target: made.get('play') }); all.push(String(view.told.clock));
+  // A key that the page takes isn't the browser's too.
+  const before = view.told.kept;
+  view.press('PageDown');
+  view.press('ArrowRight', { altKey: true });
+  all.push(`${view.told.kept - before} kept`);
+  for (const key of ['ArrowRight', 'ArrowLeft', 'End', 'Home']) view.press(key);
+  all.push(`${view.told.kept - before} kept`);
+  view.press(' ');
+  all.push(`${made.get('play').textContent}, ${view.told.clock ? view.told.pause : 'no'} ms`);
+  view.press(' ');
+  all.push(made.get('play').textContent);
   return all;
 }
 

@@ -74,6 +74,7 @@ class Page(html.parser.HTMLParser):
     def __init__(self, text):
         super().__init__()
         self.scripts, self.elements, self.open, self.policy = {}, [], [], ""
+        self.texts, self.styles = [], []
         self.feed(text)
         self.close()
 
@@ -95,8 +96,13 @@ class Page(html.parser.HTMLParser):
         self.open.pop()
 
     def handle_data(self, data):
-        if self.open and self.open[-1][0] == "script":
+        tag = self.open[-1][0] if self.open else ""
+        if tag == "script":
             self.scripts[self.open[-1][1]] += data
+        elif tag == "style":
+            self.styles.append(data)
+        elif data.strip() and "svg" not in [it for it, _ in self.open]:
+            self.texts.append((tag, self.open[-1][1], data.strip()))
 
     def run(self):
         """The run in the page's table."""
