@@ -17,7 +17,7 @@ from failing_allocation import CALL, RAX, RDI, RIP, RSP, SETREGS, SYSCALL, Trace
 RDX, RSI = 12, 13
 # The numbers of calls of the system.
 READ, WRITE, POLL, SENDTO, FLOCK, GETDENTS = 0, 1, 7, 44, 73, 217
-CLOCK_NANOSLEEP, OPENAT = 230, 257
+CLOCK_NANOSLEEP, OPENAT, STATX = 230, 257, 332
 # What stands in place of the call that is asked for, so that none is made.
 NO_CALL = 2**64 - 1
 # The clock that is set; and when another began, by which a test's moments are.
@@ -32,7 +32,7 @@ class Event(NamedTuple):
     """A call of the system that was made, or a wait that took no time: when it ended, in
     nanoseconds since the beginning, its number, its first three arguments, and its answer; of a
     wait it is how long it was. Of a write, and of a datagram, `bytes` are what was handed over; of
-    an opening, the path."""
+    an opening, or a look at a file, the path."""
 
     moment: int
     call: int
@@ -46,9 +46,10 @@ class FalseClock:
 
     def __init__(self, words, input=os.devnull, output=os.devnull, error=os.devnull):
         self.traced = Traced([str(it) for it in words], str(input), str(output), str(error))
-        self.words, self.now, self.events = words, 0, []
-        # Whether clocks can be read, and what the one that is set says at the beginning.
-        self.can_tell, self.since = True, SINCE_1970
+        self.words, self.now, self.events, self.loaded = words, 0, [], float("inf")
+        # Whether clocks can be read, and what the one that is set says at the beginning; and how
+        # many bytes a read gives at most, if that is limited.
+        self.can_tell, self.since, self.most = True, SINCE_1970, None
 
     def run(self, costs=lambda event: 0, meanwhile=lambda event: None):
         """Runs it to its end, and gives the status. `costs(event)` says how many nanoseconds a call
@@ -81,6 +82,7 @@ class FalseClock:
                     ptrace(SETREGS, traced.process, addressof(traced.registers))
                     library, place = self.library()
                     os.pwrite(traced.memory, STOPS_AT, place)
+                    self.loaded = len(self.events)
                 else:
                     self.tells()
 
@@ -114,10 +116,13 @@ class FalseClock:
         if wait is not None:
             registers[CALL] = NO_CALL
             ptrace(SETREGS, self.traced.process, addressof(registers))
+        if call == READ and self.most and len(self.events) > self.loaded:
+            registers[RDX] = min(registers[RDX], self.most)
+            ptrace(SETREGS, self.traced.process, addressof(registers))
         bytes = b""
         if call in (WRITE, SENDTO):
             bytes = os.pread(self.traced.memory, given[2], given[1])
-        elif call == OPENAT:
+        elif call in (OPENAT, STATX):
             bytes = os.pread(self.traced.memory, 4096, given[1]).partition(b"\0")[0]
         return call, given, wait, bytes
 
