@@ -72,10 +72,10 @@ class Ran(NamedTuple):
 class Traced:
     """A process that is traced, from its first instruction on."""
 
-    def __init__(self, words, input, said):
+    def __init__(self, words, input, said, error=os.devnull):
         self.process = os.fork()
         if self.process == 0:
-            begin(words, input, said)
+            begin(words, input, said, error)
         os.waitpid(self.process, 0)
         ptrace(SETOPTIONS, self.process, SYSGOOD)
         self.memory = os.open(f"/proc/{self.process}/mem", os.O_RDWR)
@@ -137,11 +137,11 @@ class Traced:
         return os.WEXITSTATUS(self.status) if os.WIFEXITED(self.status) else None
 
 
-def begin(words, input, said):
+def begin(words, input, said, error):
     """Becomes the program, in a new process."""
     try:
         written = os.O_WRONLY | os.O_CREAT | os.O_TRUNC
-        files = [(input, os.O_RDONLY), (said, written), (os.devnull, os.O_WRONLY)]
+        files = [(input, os.O_RDONLY), (said, written), (error, written)]
         for number, (file, how) in enumerate(files):
             os.dup2(os.open(file, how, 0o644), number)
         ptrace(TRACEME, 0)

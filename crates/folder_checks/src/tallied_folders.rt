@@ -41,6 +41,17 @@ impl<'a> TalliedFolders<'a> {
         }
     }
 
+    // Takes back the line of a terminal for the folder's line, unless it stays: a fault may show
+    // before all files are read. That of a folder that can't be read is taken back by who says so.
+    fn take_back(&mut self, is_unread: bool) {
+        if is_unread {
+            self.tally.is_shown = false;
+        } else if !self.tally.stays {
+            self.end();
+            self.tally.is_shown = false;
+        }
+    }
+
     fn next(&self) -> Result<Disk, AllocError> {
         let rt = self.rt;
         let watcher = TalliedProgress::new(rt.alloc(), rt.clone()?, rt.stderr(), self.tally);
@@ -64,6 +75,7 @@ impl Folders for TalliedFolders<'_> {
         let start = Instant::now(self.rt).ok();
         let read = folders.read(path);
         self.tally = folders.watcher().tally();
+        self.take_back(read.is_err());
         self.measure = Measure {
             bytes: folders.watcher().bytes(),
             seconds: seconds_since(self.rt, start),

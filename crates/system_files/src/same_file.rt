@@ -42,7 +42,8 @@ pub fn is_same_file(rt: &HostRuntime, one: &str, other: &str) -> Result<bool, Al
 
 fn target_of(rt: &HostRuntime, path: &str) -> Result<Target, AllocError> {
     let mut path = String::from_str(rt.alloc(), path)?;
-    for _ in 0..MOST_LINKS {
+    // What the last of these links leads to is looked at too.
+    for _ in 0..MOST_LINKS + 1 {
         match look_at(rt, path.as_str())? {
             Step::End(target) => return Ok(target),
             Step::Link(next) => path = next,
