@@ -33,6 +33,14 @@ NUMBERS = r"-?\d+(?:\.\d+)?"
 DOT = "2.5"
 
 
+# The colours that were chosen: of what names no bag, of refusals, and of the bags of the trees 1 to 8,
+# on a light sheet and on a dark one.
+CHOSEN = {"p": ("#64748b", "#94a3b8"), "r": ("#b4483c", "#ef7d6f"), "1": ("#2f6fb5", "#6ea8e8"),
+          "2": ("#d9792b", "#f0a05c"), "3": ("#3a9a62", "#5fc48a"), "4": ("#8d5cb4", "#bb90e0"),
+          "5": ("#c0446a", "#ee7fa0"), "6": ("#1d8c99", "#4fc3d0"), "7": ("#8a6f3c", "#c9ab70"),
+          "8": ("#5f6fc4", "#93a1f0")}
+
+
 class Wrong(Exception):
     """What is said or drawn isn't so."""
 
@@ -263,7 +271,8 @@ class Picture:
         shades = [it for _, it in found]
         same("no colours", [it for it in shades if shade_of(it) is None], [])
         for letters, it in found:
-            is_chosen = letters in ("p", "r") or int(letters) <= 8
+            is_chosen = letters in CHOSEN
+            same("a colour", it, CHOSEN[letters][sheet == DARK] if is_chosen else it)
             least = 3 if is_chosen else 1.8
             claim(contrast(it, sheet) >= least, f"{it} isn't seen on {sheet}")
             if not is_chosen:
