@@ -16,7 +16,7 @@ from failing_allocation import CALL, RAX, RDI, RIP, RSP, SETREGS, SYSCALL, Trace
 
 RDX, RSI = 12, 13
 # The numbers of calls of the system.
-READ, WRITE, POLL, SENDTO, FLOCK, GETDENTS = 0, 1, 7, 44, 73, 217
+READ, WRITE, POLL, SENDTO, FLOCK, FSYNC, FTRUNCATE, GETDENTS = 0, 1, 7, 44, 73, 74, 77, 217
 CLOCK_NANOSLEEP, OPENAT, STATX = 230, 257, 332
 # What stands in place of the call that is asked for, so that none is made.
 NO_CALL = 2**64 - 1
