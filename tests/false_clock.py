@@ -16,7 +16,7 @@ from failing_allocation import CALL, RAX, RDI, RIP, RSP, SETREGS, SYSCALL, Trace
 
 RDX, RSI = 12, 13
 # The numbers of calls of the system.
-READ, WRITE, POLL, SENDTO, FLOCK, GETDENTS = 0, 1, 7, 44, 73, 217
+READ, WRITE, POLL, SENDTO, FLOCK, FSYNC, FTRUNCATE, GETDENTS = 0, 1, 7, 44, 73, 74, 77, 217
 CLOCK_NANOSLEEP, OPENAT, STATX = 230, 257, 332
 # What stands in place of the call that is asked for, so that none is made.
 NO_CALL = 2**64 - 1
@@ -47,9 +47,11 @@ class FalseClock:
     def __init__(self, words, input=os.devnull, output=os.devnull, error=os.devnull):
         self.traced = Traced([str(it) for it in words], str(input), str(output), str(error))
         self.words, self.now, self.events, self.loaded = words, 0, [], float("inf")
-        # Whether clocks can be read, and what the one that is set says at the beginning; and how
-        # many bytes a read gives at most, if that is limited.
+        # Whether clocks can be read, and what the one that is set says at the beginning; how many
+        # bytes a read gives at most, if that is limited; and the error of a call, by its number and
+        # its first argument, if it fails.
         self.can_tell, self.since, self.most = True, SINCE_1970, None
+        self.fails = lambda call, first: 0
 
     def run(self, costs=lambda event: 0, meanwhile=lambda event: None):
         """Runs it to its end, and gives the status. `costs(event)` says how many nanoseconds a call
@@ -124,11 +126,18 @@ class FalseClock:
             bytes = os.pread(self.traced.memory, given[2], given[1])
         elif call in (OPENAT, STATX):
             bytes = os.pread(self.traced.memory, 4096, given[1]).partition(b"\0")[0]
-        return call, given, wait, bytes
+        error = self.fails(call, given[0])
+        if error:
+            registers[CALL] = NO_CALL
+            ptrace(SETREGS, self.traced.process, addressof(registers))
+        return call, given, wait, bytes, error
 
     def ends(self, begun, costs, meanwhile):
         """The call has ended, or its wait is over."""
-        (call, given, wait, bytes), registers = begun, self.traced.registers
+        (call, given, wait, bytes, error), registers = begun, self.traced.registers
+        if error:
+            registers[RAX] = 2**64 - error
+            ptrace(SETREGS, self.traced.process, addressof(registers))
         answer = registers[RAX] - 2**64 if registers[RAX] >> 63 else registers[RAX]
         if wait is not None:
             registers[RAX], answer = 0, wait
