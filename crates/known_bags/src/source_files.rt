@@ -29,7 +29,8 @@ pub struct DiskSources<'a> {
 }
 
 impl SourceFiles for DiskSources<'_> {
-    // What isn't a file is refused before it is opened: opening a pipe would wait.
+    // What is neither a file nor a pipe that is open already is refused before it is opened: opening
+    // a pipe with a name would wait.
     fn source_bytes(&self, path: &str) -> Result<Vec<u8>, SourceFault> {
         bytes_of(self.rt.alloc(), LiveCell::open(self.rt, path))
     }
