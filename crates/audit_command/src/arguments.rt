@@ -1,6 +1,7 @@
 //! The arguments of the command `audit`.
 
 use clap::{Arg, ArgAction, ArgMatches, Command};
+use json_lines::json_argument;
 use site_commands::members_argument;
 use std::alloc::{AllocError, Global};
 
@@ -37,6 +38,9 @@ For each version, in the order in which the cells name them:
                          altered
 and finally how many of each there are: C chosen, K known, O open, X conflicts.
 
+With --json each line is a line of JSON: an object whose member `line` says what
+kind of line it is, and which has a member for each word after that.
+
 With --words standard error says of each cell whether it is in use, or why it
 can't be opened or used; and of each conflict which cells know either bag, or
 have a vote for it.
@@ -55,6 +59,8 @@ pub struct AuditTask<'a> {
     pub members: &'a str,
     /// The paths of the cells.
     pub cells: Vec<&'a str>,
+    /// Whether to print lines of JSON.
+    pub json: bool,
     /// Whether to say in words how each cell was opened, and which name the bags of a conflict.
     pub words: bool,
 }
@@ -68,11 +74,13 @@ pub fn audit_task<'a>(
     if let Some(paths) = matches.get_strs("CELL") {
         cells.extend_from_slice(paths)?;
     }
+    let json = matches.get_flag("json");
     let words = matches.get_flag("words");
     match matches.get_str("members") {
         Some(members) => Ok(Some(AuditTask {
             members,
             cells,
+            json,
             words,
         })),
         None => Ok(None),
@@ -93,6 +101,7 @@ pub fn audit_command<'a>(alloc: Global) -> Result<Command<'a>, AllocError> {
         .about(ABOUT)
         .after_help(EXAMPLE)
         .arg(members_argument(alloc))?
+        .arg(json_argument(alloc))?
         .arg(words)?
         .arg(cells)
 }

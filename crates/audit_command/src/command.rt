@@ -6,6 +6,7 @@ use crate::cells_audit::audit_on;
 use crate::disk_cells::DiskCells;
 use counted_writes::CountedWriter;
 use file_words::SpokenLines;
+use json_lines::JsonLines;
 use outcomes::ProgramFault;
 use site_commands::{Stop, members_at, write_stop};
 use site_words::{Asked, SpokenOutput};
@@ -29,7 +30,8 @@ pub fn print_audit(rt: &HostRuntime, task: &AuditTask<'_>) -> Result<u8, Program
                 hashing,
             };
             let speaker = AuditSpeaker::if_asked(rt, task);
-            let output = SpokenLines::new(rt.alloc(), speaker, io::writer(rt));
+            let output = JsonLines::new(rt.alloc(), task.json, io::writer(rt));
+            let output = SpokenLines::new(rt.alloc(), speaker, output);
             let mut output = CountedWriter::new(output);
             audit_on(rt.alloc(), &members, &files, &task.cells, &mut output)
         }
@@ -50,9 +52,6 @@ fn refuse(rt: &HostRuntime, task: &AuditTask<'_>, stop: Stop) -> Result<u8, Prog
         until_known: None,
     };
     let asked = if task.words { Some(asked) } else { None };
-    write_stop(
-        rt.alloc(),
-        &mut SpokenOutput::new(rt, asked, io::writer(rt)),
-        stop,
-    )
+    let output = JsonLines::new(rt.alloc(), task.json, io::writer(rt));
+    write_stop(rt.alloc(), &mut SpokenOutput::new(rt, asked, output), stop)
 }

@@ -56,10 +56,10 @@ static USAGES: [Usage; 9] = [
     },
     Usage {
         command: "members",
-        forms: "bagpaxos members [--listed] <FILE>
+        forms: "bagpaxos members [--json] [--listed] <FILE>
        bagpaxos members --new <PLACE>...
-       bagpaxos members --key <FILE>
-       bagpaxos members --new-key <FILE>",
+       bagpaxos members [--json] --key <FILE>
+       bagpaxos members [--json] --new-key <FILE>",
         missing: "  <FILE>",
         choices: "  <FILE>, --new <PLACE>..., --key <FILE> or --new-key <FILE>",
     },

@@ -2,6 +2,7 @@
 
 use clap::{Arg, ArgAction, ArgMatches, Command, value_parser};
 use fed_types::SiteNo;
+use json_lines::json_argument;
 use site_commands::{key_argument, members_argument, to_argument, wait_argument};
 use std::alloc::{AllocError, Global};
 
@@ -22,6 +23,9 @@ and finally `K of N`: of K of the N versions it knows the bag that the file
 knows.
 
 With --key what is sent has a tag, as with bagpaxos send.
+
+With --json each line is a line of JSON: an object whose member `line` says what
+kind of line it is, and which has a member for each word after that.
 
 With --words standard error says in words what lines `other` and `open` say, and
 why nobody was asked.
@@ -55,6 +59,8 @@ pub struct CatchUpTask<'a> {
     /// How many milliseconds an answer may take.
     pub wait: u32,
     pub seconds: u32,
+    /// Whether to print lines of JSON.
+    pub json: bool,
     /// Whether to say in words what lines say.
     pub words: bool,
     /// The paths of cells and lists.
@@ -80,6 +86,7 @@ fn task_of<'a>(matches: &ArgMatches<'a>, files: Vec<&'a str>) -> Option<CatchUpT
         to: SiteNo::new(matches.get_one::<u8>("to")?).ok()?,
         wait: matches.get_one::<u32>("wait")?,
         seconds: matches.get_one::<u32>("for")?,
+        json: matches.get_flag("json"),
         words: matches.get_flag("words"),
         files,
     })
@@ -93,6 +100,7 @@ pub fn catch_up_command<'a>(alloc: Global) -> Result<Command<'a>, AllocError> {
     let command = with_site(alloc, command)?;
     command
         .arg(for_argument(alloc))?
+        .arg(json_argument(alloc))?
         .arg(words_argument(alloc))?
         .arg(files_argument(alloc))
 }

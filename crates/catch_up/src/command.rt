@@ -7,6 +7,7 @@ use crate::version_speaker::VersionSpeaker;
 use addresses::Address;
 use counted_writes::CountedWriter;
 use file_words::SpokenLines;
+use json_lines::JsonLines;
 use known_bags::{KnownBag, push_source, write_fault};
 use outcomes::ProgramFault;
 use site_commands::{
@@ -21,7 +22,8 @@ use udp_site::{UdpPort, Waits};
 /// standard error, if that is asked for.
 pub fn catch_up_site(rt: &HostRuntime, task: &CatchUpTask<'_>) -> Result<u8, ProgramFault> {
     let speaker = VersionSpeaker::if_asked(rt, task);
-    let output = SpokenLines::new(rt.alloc(), speaker, io::writer(rt));
+    let output = JsonLines::new(rt.alloc(), task.json, io::writer(rt));
+    let output = SpokenLines::new(rt.alloc(), speaker, output);
     let mut versions = Vec::new(rt.alloc());
     for path in &task.files {
         match push_source(rt, &mut versions, path) {
@@ -48,11 +50,8 @@ fn refuse(rt: &HostRuntime, task: &CatchUpTask<'_>, stop: Stop) -> Result<u8, Pr
         until_known: None,
     };
     let asked = if task.words { Some(asked) } else { None };
-    write_stop(
-        rt.alloc(),
-        &mut SpokenOutput::new(rt, asked, io::writer(rt)),
-        stop,
-    )
+    let output = JsonLines::new(rt.alloc(), task.json, io::writer(rt));
+    write_stop(rt.alloc(), &mut SpokenOutput::new(rt, asked, output), stop)
 }
 
 /// The federation, the address of the site that is asked, those of all sites, and the socket from

@@ -3,7 +3,8 @@
 //!
 //! ```
 //! let speaker = FileSpeaker::if_asked(rt, task.words, task.cell);
-//! let mut output = SpokenLines::new(rt.alloc(), speaker, io::writer(rt));
+//! let output = JsonLines::new(rt.alloc(), task.json, io::writer(rt));
+//! let mut output = SpokenLines::new(rt.alloc(), speaker, output);
 //! ```
 #![tactic(auto)]
 

@@ -2,6 +2,7 @@
 
 use crate::words_argument::words_argument;
 use clap::{Arg, ArgMatches, Command};
+use json_lines::json_argument;
 use std::alloc::{AllocError, Global};
 
 const ABOUT: &str = "Prints what a site's cell says, record by record";
@@ -26,6 +27,9 @@ and finally, unless the cell ends with a whole record:
   damaged OFFSET          from this byte on there is neither a record nor a part
                           of one
 
+With --json each line is a line of JSON: an object whose member `line` says what
+kind of line it is, and which has a member for each word after that.
+
 With --words standard error says in words why a cell can't be read, and what the
 last line says.
 
@@ -41,6 +45,8 @@ Example:
 pub struct JournalTask<'a> {
     /// The path of its file.
     pub cell: &'a str,
+    /// Whether to print lines of JSON.
+    pub json: bool,
     /// Whether to say in words what is amiss with it.
     pub words: bool,
 }
@@ -49,6 +55,7 @@ pub struct JournalTask<'a> {
 pub fn journal_task<'a>(matches: &ArgMatches<'a>) -> Option<JournalTask<'a>> {
     Some(JournalTask {
         cell: matches.get_str("CELL")?,
+        json: matches.get_flag("json"),
         words: matches.get_flag("words"),
     })
 }
@@ -62,5 +69,6 @@ pub fn journal_command<'a>(alloc: Global) -> Result<Command<'a>, AllocError> {
         .about(ABOUT)
         .after_help(EXAMPLE)
         .arg(cell)?
+        .arg(json_argument(alloc))?
         .arg(words_argument(alloc))
 }

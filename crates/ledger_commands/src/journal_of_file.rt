@@ -3,6 +3,7 @@
 use crate::journal::journal_on;
 use crate::journal_arguments::JournalTask;
 use file_words::{FileSpeaker, SpokenLines};
+use json_lines::JsonLines;
 use ledger::LiveCell;
 use outcomes::{ProgramFault, write_output};
 use std::io;
@@ -14,7 +15,8 @@ const UNREAD: &str = "open 4\n";
 /// words, if they are asked for, standard error says what is amiss.
 pub fn print_journal(rt: &HostRuntime, task: &JournalTask<'_>) -> Result<u8, ProgramFault> {
     let speaker = FileSpeaker::if_asked(rt, task.words, task.cell);
-    let mut output = SpokenLines::new(rt.alloc(), speaker, io::writer(rt));
+    let output = JsonLines::new(rt.alloc(), task.json, io::writer(rt));
+    let mut output = SpokenLines::new(rt.alloc(), speaker, output);
     match LiveCell::open(rt, task.cell) {
         Ok(mut cell) => match journal_on(rt.alloc(), &mut cell, &mut output) {
             Err(ProgramFault::Input) => write_output(&mut output, 1, UNREAD),

@@ -2,6 +2,7 @@
 
 use crate::words_argument::words_argument;
 use clap::{Arg, ArgAction, ArgMatches, Command};
+use json_lines::json_argument;
 use ledger::VersionFilter;
 use std::alloc::{AllocError, Global};
 
@@ -31,6 +32,9 @@ The versions are then those of the records before that. With `--known`,
 `--pending` or both, only the lines of these kinds are printed, and the last
 one. `comm` of two sorted lists shows what a site lacks.
 
+With --json each line is a line of JSON: an object whose member `line` says what
+kind of line it is, and which has a member for each word after that.
+
 With --words standard error says in words why a cell can't be read, and what a
 line `torn` or `damaged` says.
 
@@ -48,6 +52,8 @@ pub struct LedgerTask<'a> {
     pub cell: &'a str,
     /// Which of them.
     pub wanted: VersionFilter,
+    /// Whether to print lines of JSON.
+    pub json: bool,
     /// Whether to say in words what is amiss with it.
     pub words: bool,
 }
@@ -60,6 +66,7 @@ pub fn ledger_task<'a>(matches: &ArgMatches<'a>) -> Option<LedgerTask<'a>> {
             known: matches.get_flag("known"),
             pending: matches.get_flag("pending"),
         },
+        json: matches.get_flag("json"),
         words: matches.get_flag("words"),
     })
 }
@@ -72,6 +79,7 @@ pub fn ledger_command<'a>(alloc: Global) -> Result<Command<'a>, AllocError> {
         .arg(cell_argument(alloc))?
         .arg(known_argument(alloc))?
         .arg(pending_argument(alloc))?
+        .arg(json_argument(alloc))?
         .arg(words_argument(alloc))
 }
 

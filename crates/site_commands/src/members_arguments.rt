@@ -3,6 +3,7 @@
 use crate::member_words::list_fault;
 use crate::site_arguments::key_argument;
 use clap::{Arg, ArgAction, ArgMatches, Command};
+use json_lines::json_argument;
 use std::alloc::{AllocError, Global};
 
 const ABOUT: &str = "Reads a members file or a key file, or writes one";
@@ -29,6 +30,9 @@ With --key it prints a line for each key of a key file, `key sites NAME` or
 `key clients NAME`. A name says which key it is, and doesn't give it away:
 compare names, and never keys. With --new-key it writes a key file, for its
 owner alone, with random keys, and prints their names.
+
+With --json each line is a line of JSON: an object whose member `line` says what
+kind of line it is, and which has a member for each word after that.
 
 The exit status is 0; 1 if the last line says what is amiss:
   members unread        the members file can't be read
@@ -65,6 +69,8 @@ pub struct MembersTask<'a> {
     pub key: Option<&'a str>,
     /// The path of the key file that is to be made, if one is.
     pub new_key: Option<&'a str>,
+    /// Whether to print lines of JSON.
+    pub json: bool,
 }
 
 impl MembersTask<'_> {
@@ -89,6 +95,7 @@ pub fn members_task<'a>(
         sites,
         key: matches.get_str("key"),
         new_key: matches.get_str("new-key"),
+        json: matches.get_flag("json"),
     })
 }
 
@@ -101,6 +108,7 @@ pub fn members_command<'a>(alloc: Global) -> Result<Command<'a>, AllocError> {
         .arg(listed_argument(alloc)?)?
         .arg(names_argument(alloc)?)?
         .arg(new_key_argument(alloc)?)?
+        .arg(lines_argument(alloc)?)?
         .arg(file_argument(alloc)?)
 }
 
@@ -138,6 +146,11 @@ fn new_key_argument<'a>(alloc: Global) -> Result<Arg<'a>, AllocError> {
         .help("Write a key file here, where no file is")
         .conflicts_with("FILE")?
         .conflicts_with("new")
+}
+
+// A new members file is no lines of JSON.
+fn lines_argument<'a>(alloc: Global) -> Result<Arg<'a>, AllocError> {
+    json_argument(alloc).conflicts_with("new")
 }
 
 fn file_argument<'a>(alloc: Global) -> Result<Arg<'a>, AllocError> {

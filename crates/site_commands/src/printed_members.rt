@@ -5,6 +5,7 @@ use crate::member_words::sites_in;
 use crate::members_arguments::MembersTask;
 use crate::printed_keys::{make_keys, print_keys};
 use crate::stop::{Stop, write_stop};
+use json_lines::JsonLines;
 use members_file::{MemberSites, digest_of, new_list};
 use outcomes::{ProgramFault, write_output};
 use std::alloc::{AllocError, Global};
@@ -14,13 +15,13 @@ use std::random::RandomSource;
 /// Prints what a members file or a key file says, or makes one.
 pub fn print_members(rt: &HostRuntime, task: &MembersTask<'_>) -> Result<u8, ProgramFault> {
     if let Some(path) = task.key {
-        return print_keys(rt, path);
+        return print_keys(rt, path, task.json);
     }
     if let Some(path) = task.new_key {
-        return make_keys(rt, path);
+        return make_keys(rt, path, task.json);
     }
     match task.file {
-        Some(path) => print_summary(rt, path, task.listed),
+        Some(path) => print_text(rt, task.json, summary(rt, path, task.listed)),
         None => print_new(rt, task.sites.as_slice()),
     }
 }
@@ -30,7 +31,7 @@ pub fn print_members(rt: &HostRuntime, task: &MembersTask<'_>) -> Result<u8, Pro
 fn print_new(rt: &HostRuntime, words: &[&str]) -> Result<u8, ProgramFault> {
     let mut random = [0; 4];
     match rt.fill_bytes(&mut random) {
-        Ok(()) => print_text(rt, new_text(rt.alloc(), random, words)),
+        Ok(()) => print_text(rt, false, new_text(rt.alloc(), random, words)),
         Err(_) => no_random_numbers(rt),
     }
 }
@@ -53,11 +54,7 @@ fn try_new_text(alloc: Global, random: [u8; 4], words: &[&str]) -> Result<String
     new_list(alloc, random, sites.as_slice())
 }
 
-// Prints what the file of this path says, in short.
-fn print_summary(rt: &HostRuntime, path: &str, listed: bool) -> Result<u8, ProgramFault> {
-    print_text(rt, summary(rt, path, listed))
-}
-
+// What the file of this path says, in short.
 fn summary(rt: &HostRuntime, path: &str, listed: bool) -> Result<String, Stop> {
     let members = members_at(rt, path)?;
     if listed {
@@ -78,9 +75,13 @@ fn summary_of(alloc: Global, file: &MemberSites) -> Result<String, AllocError> {
     format!(in alloc; "ok {federation} {count} {quorum} {digest:016x}\n")
 }
 
-/// Prints this text, or why there is none.
-pub(crate) fn print_text(rt: &HostRuntime, text: Result<String, Stop>) -> Result<u8, ProgramFault> {
-    let mut output = io::writer(rt);
+/// Prints this text, or why there is none; in lines of JSON, if they are asked for.
+pub(crate) fn print_text(
+    rt: &HostRuntime,
+    json: bool,
+    text: Result<String, Stop>,
+) -> Result<u8, ProgramFault> {
+    let mut output = JsonLines::new(rt.alloc(), json, io::writer(rt));
     match text {
         Ok(text) => write_output(&mut output, 0, text.as_str()),
         Err(stop) => write_stop(rt.alloc(), &mut output, stop),

@@ -1,0 +1,4 @@
+pub mod FormLemmas
+pub mod Values
+pub mod LineText
+pub mod Laws
