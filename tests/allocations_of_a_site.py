@@ -10,8 +10,8 @@ import hashlib
 import subprocess
 
 from failing_allocation import run
-from messages import ACCEPT, ACCEPTED, ASK, DEPOSIT, DEPOSITED, DEPOSIT_REPLY, KNOWN, LEARNED, PREPARE
-from messages import PROMISE, PROMISED, QUERY, QUERY_REPLY, REFUSED, ROUND, VOTED
+from messages import ACCEPT, ACCEPTED, ASK, DEPOSIT, DEPOSITED, DEPOSIT_REPLY, KNOWN, LEARNED
+from messages import PREPARE, PROMISE, PROMISED, QUERY, QUERY_REPLY, REFUSED, ROUND, VOTED
 from messages import Message, ballot, deposit, message, records
 from sites import PROGRAM, free_ports, make_bag, socket_at, write_members
 

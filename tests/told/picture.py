@@ -13,9 +13,9 @@ NEAR, ROW = 12, 26
 # How many letters of words beside an event are seen; and how wide a letter of Helvetica is, in
 # thousandths of the height, by its published metrics. A box is no narrower.
 LETTERS, HIGH = 60, 12
-WIDTHS = {191: "'", 222: "ijl", 260: "|", 278: " !,./:;I[]\\ft\u00b7", 333: "()-`r", 334: "{}", 355: '"',
-          389: "*", 469: "^", 500: "Jckxsvyz", 584: "+<=>~", 611: "FTZ", 667: "&ABEKPSVXY", 722: "CDHNRUw",
-          778: "GOQ", 833: "Mm", 889: "%", 944: "W", 1000: "\u2026", 1015: "@"}
+WIDTHS = {191: "'", 222: "ijl", 260: "|", 278: " !,./:;I[]\\ft\u00b7", 333: "()-`r", 334: "{}",
+          355: '"', 389: "*", 469: "^", 500: "Jckxsvyz", 584: "+<=>~", 611: "FTZ", 667: "&ABEKPSVXY",
+          722: "CDHNRUw", 778: "GOQ", 833: "Mm", 889: "%", 944: "W", 1000: "\u2026", 1015: "@"}
 WIDTHS = {it: wide for wide, letters in WIDTHS.items() for it in letters}
 # Sites are named again after about so many rows' height; and so far from any row, at least.
 SCREENFUL, ASIDE = 25 * 26, 18
