@@ -3,21 +3,18 @@ run: they are sent when it waits for the first, and sites 2 and 3 are sockets, o
 site 2 promises and votes as it is asked. The site has to go on, with all lines of the whole run but
 two at most, or of a call that found no memory; or it ends with status 1 and a word for it. Whatever
 it said, in a datagram or a line, is in its cell then, which opens again; and its log has lines of
-these alone. After each refusal the log has one of the requests that came, in words, or nothing where
-none came or memory ran out for it; each kind of request comes up. Imported by `allocations`."""
+these alone. Imported by `allocations`."""
 import collections
 import hashlib
 import subprocess
 
 from failing_allocation import run
-from messages import ACCEPT, ACCEPTED, ASK, DEPOSIT, DEPOSITED, DEPOSIT_REPLY, KNOWN, LEARNED
-from messages import PREPARE, PROMISE, PROMISED, QUERY, QUERY_REPLY, REFUSED, ROUND, VOTED
+from messages import ACCEPT, ACCEPTED, ASK, DEPOSITED, DEPOSIT_REPLY, KNOWN, LEARNED, PREPARE
+from messages import PROMISE, PROMISED, QUERY, QUERY_REPLY, REFUSED, ROUND, VOTED
 from messages import Message, ballot, deposit, message, records
 from sites import PROGRAM, free_ports, make_bag, socket_at, write_members
 
 TURNS, TOO_MANY = 40, 5000
-# The kinds of requests that need memory.
-REFUSABLE = sorted("accept accepted ask deposit known prepare promise query refused".split())
 STOPPED = ("memory", "open 5", "stopped 3")
 PAYLOAD = b"abc"
 BAG = hashlib.sha512(f"{hashlib.sha512(PAYLOAD).hexdigest()}  data/a.txt\n".encode()).hexdigest()
@@ -54,21 +51,6 @@ WHOLE = [
 REPORTS = [it for it in WHOLE if it.startswith(("registered", "known"))]
 # What a site says of a call without memory, and of a query that follows one.
 OTHERWISE = ["refused 1 14", "reply 1 a 1 nothing", f"reply 1 a 1 pending {BAG}"]
-
-
-def words_of(it):
-    """A request in words, by docs/OPERATING.md: its kind, the object and the version; then the ballot
-    that it is about, and the bag or the folder."""
-    body, name = it.body, f"{KINDS[it.kind]} {it.object} {it.version}"
-    has_ballot = it.kind in (PREPARE, PROMISE, ACCEPT, ACCEPTED, REFUSED)
-    ballot = f" {int.from_bytes(body[:4], 'big')} {body[4]}" if has_ballot else ""
-    bag = {ACCEPT: body[5:], ACCEPTED: body[5:], KNOWN: body}.get(it.kind)
-    path = f" {body[2:].decode()}" if it.kind == DEPOSIT else ""
-    return name + ballot + (f" {bag.hex()}" if bag else path)
-
-
-KINDS = {PREPARE: "prepare", PROMISE: "promise", ACCEPT: "accept", ACCEPTED: "accepted", ASK: "ask",
-         REFUSED: "refused", KNOWN: "known", DEPOSIT: "deposit", QUERY: "query"}
 
 
 def received(socket):
@@ -136,10 +118,9 @@ class Site:
         self.cell, self.said, self.log = (room / it for it in names)
         self.words = f"site --members {members} --number 1 --cell {self.cell} --log {self.log} "
         self.words += f"--bags {room} --wait 1 --wait-most 1 --turns "
-        self.is_first, self.heard, self.sent, self.refused = True, [], set(), set()
+        self.is_first, self.heard = True, []
 
     def sends(self, sender, it):
-        self.sent.add(words_of(it))
         self.sockets[sender].sendto(it.bytes(), ("127.0.0.1", self.port))
 
     def waits(self):
@@ -186,13 +167,6 @@ class Site:
             known = " ".join(said.split()[:3]) if said.startswith("refused") else said
             if known not in lines and not said.startswith(("serves ", "unread 1 27 ", "why: ")):
                 return f"a line of the log: {line}"
-            request = said.split(" ", 3)[3:] if said.startswith(("refused", "unread")) else []
-            # Behind that of a folder that can't be read comes the place.
-            came = request[0] if said.startswith("refused") and request else " ".join(
-                "".join(request).split()[:4])
-            if request and came not in self.sent:
-                return f"no request that came: {line}"
-            self.refused |= {it.split()[0] for it in request}
         return None
 
     def why_not_open(self):
@@ -241,5 +215,4 @@ def each_fails(count, room):
     counts = ", ".join(f"{word}: {number}" for word, number in ends.items())
     print(f"allocations of bagpaxos site that failed: {failing - 1}; {counts}", flush=True)
     count.expect("site: a run in which none fails", has_failed, False)
-    count.expect("site: each kind of request is refused", sorted(site.refused), REFUSABLE)
     count.expect("site: each end is reached", sorted(ends), sorted([*STOPPED, "went on"]))

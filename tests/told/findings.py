@@ -382,7 +382,8 @@ class Words:
         """Another Payload-Oxum than that of the payload."""
         if "bag-info.txt" not in self.files:
             return
-        lines = [it.decode() for it in lines_of(self.files["bag-info.txt"])]
+        # Of its first MiB.
+        lines = [it.decode() for it in lines_of(self.files["bag-info.txt"][: 1 << 20])]
         said = [it[13:].strip() for it in lines if it[:13].lower() == "payload-oxum:"]
         count, payload = sum(len(self.files[it]) for it in self.folder.payload), self.folder.payload
         found = f"{count}.{len(payload)}"

@@ -163,6 +163,9 @@ function others(view, count) {
   made.get('at').value = '1'; made.get('at').heard.input(); note();
   view.context.location.hash = `#${count}`; view.told.window.hashchange(); note();
   view.context.location.hash = '#-7'; view.told.window.hashchange(); note();
+  for (const hash of ['#1', '#', '#x', '#1', '', `#${count + 9}`, '#1', '#0']) {
+    view.context.location.hash = hash; view.told.window.hashchange(); note();
+  }
   view.press(' '); if (view.told.clock) view.told.clock(); view.press(' '); note();
   all.push(String(view.told.clock));
   // Keys that are the browser's, or a button's, and none of the page.
