@@ -3,13 +3,15 @@ run: they are sent when it waits for the first, and sites 2 and 3 are sockets, o
 site 2 promises and votes as it is asked. The site has to go on, with all lines of the whole run but
 two at most, or of a call that found no memory; or it ends with status 1 and a word for it. Whatever
 it said, in a datagram or a line, is in its cell then, which opens again; and its log has lines of
-these alone. Imported by `allocations`."""
+these alone. A refusal has in the log what was asked for, in words that are made here anew from what
+was sent. Imported by `allocations`."""
 import collections
 import hashlib
+import itertools
 import subprocess
 
 from failing_allocation import run
-from messages import ACCEPT, ACCEPTED, ASK, DEPOSITED, DEPOSIT_REPLY, KNOWN, LEARNED, PREPARE
+from messages import ACCEPT, ACCEPTED, ASK, DEPOSIT, DEPOSITED, DEPOSIT_REPLY, KNOWN, LEARNED, PREPARE
 from messages import PROMISE, PROMISED, QUERY, QUERY_REPLY, REFUSED, ROUND, VOTED
 from messages import Message, ballot, deposit, message, records
 from sites import PROGRAM, free_ports, make_bag, socket_at, write_members
@@ -20,6 +22,17 @@ PAYLOAD = b"abc"
 BAG = hashlib.sha512(f"{hashlib.sha512(PAYLOAD).hexdigest()}  data/a.txt\n".encode()).hexdigest()
 VALUE = bytes.fromhex(BAG)
 CLIENT = 0
+KINDS = {
+    PREPARE: "prepare",
+    PROMISE: "promise",
+    ACCEPT: "accept",
+    ACCEPTED: "accepted",
+    REFUSED: "refused",
+    ASK: "ask",
+    KNOWN: "known",
+    DEPOSIT: "deposit",
+    QUERY: "query",
+}
 # What comes to the site, and from whom: a client, or a site. The last deposit is the one that it
 # proposes when idle.
 OLD, NEW = ballot(1, 3), ballot(5, 2)
@@ -88,6 +101,20 @@ def record_of(said):
     return None
 
 
+def in_words(asked):
+    """What a message asks for, as the log has it: its kind, the object and the version; then the
+    ballot's round and site, the bag or the folder."""
+    said = [KINDS[asked.kind], asked.object, str(asked.version)]
+    if asked.kind == DEPOSIT:
+        return [*said, asked.body[2:].decode()]
+    has_ballot = asked.kind in (PREPARE, PROMISE, ACCEPT, ACCEPTED, REFUSED)
+    if has_ballot:
+        said += [str(int.from_bytes(asked.body[:4], "big")), str(asked.body[4])]
+    if asked.kind in (ACCEPT, ACCEPTED):
+        said.append(asked.body[5:].hex())
+    return [*said, asked.body.hex()] if asked.kind == KNOWN else said
+
+
 def why_wrong_lines(status, lines, has_failed):
     """What is wrong with the lines and the status."""
     if not has_failed:
@@ -119,8 +146,11 @@ class Site:
         self.words = f"site --members {members} --number 1 --cell {self.cell} --log {self.log} "
         self.words += f"--bags {room} --wait 1 --wait-most 1 --turns "
         self.is_first, self.heard = True, []
+        # Who has sent what, and the kinds that the log told of.
+        self.came, self.told = [], set()
 
     def sends(self, sender, it):
+        self.came.append((self.sockets[sender].getsockname()[1], " ".join(in_words(it))))
         self.sockets[sender].sendto(it.bytes(), ("127.0.0.1", self.port))
 
     def waits(self):
@@ -163,11 +193,29 @@ class Site:
             return "the log ends within a line"
         for line in text.splitlines():
             said = line.split(" ", 2)[2]
-            # After a refusal comes the request. A folder may find no memory to be read.
+            # A folder may find no memory to be read.
+            is_request = said.startswith(("refused 1 14 ", "unread 1 27 "))
+            if is_request and not self.is_asked(line.split(" ", 2)[1], said.split(" ", 3)[3]):
+                return f"a request in the log that nobody has sent: {line}"
             known = " ".join(said.split()[:3]) if said.startswith("refused") else said
             if known not in lines and not said.startswith(("serves ", "unread 1 27 ", "why: ")):
                 return f"a line of the log: {line}"
         return None
+
+    def own(self):
+        """What it may send to itself for its deposits: a site is one of those that it asks."""
+        kinds = (PREPARE, PROMISE, ACCEPT, ACCEPTED)
+        for name, round, kind in itertools.product("ab", range(1, TURNS), kinds):
+            body = ballot(round, 1) + VALUE
+            yield self.port, " ".join(in_words(Message(kind, 1, name, 1, body)))
+
+    def is_asked(self, address, request):
+        """Whether this was sent from there. After a folder that can't be read may come a place."""
+        for port, words in [*self.came, *self.own()]:
+            if address == str(port) and f"{request} ".startswith(f"{words} "):
+                self.told.add(words.split()[0])
+                return words == request or words.startswith("deposit")
+        return False
 
     def why_not_open(self):
         """What is wrong with the cell, opened again for a turn."""
@@ -185,7 +233,7 @@ class Site:
             it.unlink(missing_ok=True)
         for it in self.sockets.values():
             list(received(it))
-        self.is_first, self.heard = True, []
+        self.is_first, self.heard, self.came = True, [], []
         ran = run(PROGRAM, f"{self.words} {TURNS}", self.said, failing, waiting=self.waits)
         self.hear()
         lines = ran.said.decode().splitlines()
@@ -205,9 +253,10 @@ class Site:
 
 def each_fails(count, room):
     """Tries each allocation in turn, up to the run in which none fails."""
-    site, ends = Site(room), collections.Counter()
+    site, ends, told = Site(room), collections.Counter(), set()
     for failing in range(1, TOO_MANY + 1):
         has_failed, lines, why = site.tried(failing)
+        told |= site.told
         ends[lines[-1] if lines and lines[-1] in STOPPED else "went on"] += 1
         count.expect(f"site where allocation {failing} fails", why, None)
         if not has_failed:
@@ -216,3 +265,5 @@ def each_fails(count, room):
     print(f"allocations of bagpaxos site that failed: {failing - 1}; {counts}", flush=True)
     count.expect("site: a run in which none fails", has_failed, False)
     count.expect("site: each end is reached", sorted(ends), sorted([*STOPPED, "went on"]))
+    wanted = {word for kind, word in KINDS.items() if kind != REFUSED}
+    count.expect("site: a request of each kind is refused in the log", wanted - told, set())
