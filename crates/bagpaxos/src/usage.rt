@@ -72,7 +72,9 @@ static USAGES: [Usage; 9] = [
     Usage {
         command: "send",
         forms: "bagpaxos send [OPTIONS] --members <FILE> --to <N> --wait <MS>
-                     <OBJ> <V> [PATH]",
+                     <OBJ> <V> [PATH]
+       bagpaxos send [OPTIONS] --members <FILE> --to <N> --wait <MS>
+                     --deposits <FILE>",
         missing: NONE,
         choices: NONE,
     },

@@ -21,7 +21,7 @@ check: a folder that can't be read. For a deposit send, and the log of site, add
 ";
 
 const REFUSALS: &str = "
-run, send, site: what site S refused
+run, send, site: what site S refused. With --deposits send adds OBJ V
 ";
 
 const CELLS: &str = "

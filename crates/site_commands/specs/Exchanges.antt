@@ -50,3 +50,16 @@ IsAskedForBag q before after result =
     (moves : List Move) × Grows before after moves
     × Asks (q.target, datagram_to q None) (recovery_of q) moves
     × IfOk result (λ answer. option_map ToQuery answer ≡ first_reply q wanted.ToQuery moves)
+
+-- The replies that count: to a deposit; or to a query, and those to an earlier deposit, which may
+-- come late.
+abbrev pub wanted_about : (path : Option (List ℕ)) → Wanted
+wanted_about (Some path) = wanted.ToDeposit
+wanted_about None = wanted.Any
+
+-- a folder is deposited at a site, or it is asked for the slot's bag, and the first reply that
+-- counts is its answer
+abbrev pub IsAskedAbout : Question → (path : Option (List ℕ)) → (before after : Option (List Move))
+    → Result (Option ClientReply) AllocError → Type 0
+IsAskedAbout q path before after result =
+    IsAsked q (wanted_about path) (datagram_to q path) before after result
