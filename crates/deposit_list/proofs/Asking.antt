@@ -11,7 +11,7 @@ use Rattle.std.specs.Global.{Global}
 use Rattle.std.specs.declared.alloc.AllocError.{AllocError}
 use Rattle.site_commands.specs.declared.reply.ClientReply.{ClientReply}
 use Rattle.site_commands.specs.Replies.{datagram_to, first_reply}
-use Rattle.site_commands.specs.Exchanges.{Asks, wanted_about, IsAskedAbout}
+use Rattle.site_commands.specs.Exchanges.{Asks, HasAsked, wanted_about, IsAskedAbout}
 use Rattle.site_commands.specs.Recoveries.{recovery_of}
 use Rattle.udp_site.specs.Traffic.{Move, Grows}
 use Rattle.udp_site.proofs.Growth.{Grows-trans, Grows-none}
@@ -168,7 +168,7 @@ module _ (asked : Target) (old : Entry) (a : Option (List Move)) where
         inr (
           not,
           (
-            subst (λ (p : Option (List ℕ)). Asks (asked.target, datagram_to q p) (recovery_of q)
+            subst (λ (p : Option (List ℕ)). HasAsked (asked.target, datagram_to q p) (recovery_of q)
                 moves) is asks,
             ap (λ (x : Standing). record old { standing = x })
                 (stands
@@ -180,11 +180,11 @@ module _ (asked : Target) (old : Entry) (a : Option (List Move)) where
       )
 
   -- memory ran out for its reply
-  pub went : (path : Option (List ℕ)) (b : Option (List Move))
-      (result : Result (Option ClientReply) AllocError) → path ≡ path_to_send old
-      → IsAskedAbout (question asked old.deposit.now.slot) path a b result
+  pub went : (path : Option (List ℕ)) (b : Option (List Move)) (fault : AllocError)
+      → path ≡ path_to_send old
+      → IsAskedAbout (question asked old.deposit.now.slot) path a b (Err fault)
       → (moves : List Move) × Grows a b moves × AsksAbout asked old moves
-  went path b result is (moves, grows, asks, first) =
+  went path b fault is (moves, grows, asks) =
       let q = question asked old.deposit.now.slot in (
         moves,
         grows,

@@ -27,9 +27,14 @@ deposit_in (object ∷ version ∷ word ∷ []) = do
   Some (record { slot = s; path = p })
 deposit_in words = None
 
+-- it begins with a byte order mark
+abbrev pub has_mark : List ℕ → Bool
+has_mark (239 ∷ 187 ∷ 191 ∷ rest) = true
+has_mark line = false
+
 -- the deposit of a line, if it has one
 abbrev pub deposit_of : List ℕ → Option Deposit
-deposit_of line = deposit_in (words_of line)
+deposit_of line = if has_mark line then None else deposit_in (words_of line)
 
 -- it has one, or no word
 abbrev pub is_line : List ℕ → Bool

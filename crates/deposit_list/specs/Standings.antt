@@ -36,18 +36,19 @@ abbrev pub where_known : Standing → BagId → Standing
 where_known (Registered bag) known = Known known bag
 where_known standing known = Unsent
 
--- where it knows none, and has a deposit
+-- where it has a deposit, or doesn't say
 abbrev pub where_pending : Standing → Standing
 where_pending (Registered bag) = Registered bag
 where_pending standing = Unsent
 
 -- By the answer to a query. Where the site answers and hasn't said that it has registered the
--- deposit, or says that it has nothing, it has to be sent again.
+-- deposit, or says that it has nothing, it has to be sent again: also to a site that has to be
+-- opened again, which then refuses it.
 abbrev pub by_query : Standing → QueryAnswer → Standing
 by_query standing (query.Known known) = where_known standing known
 by_query standing (query.Pending own) = where_pending standing
+by_query standing query.NeedsOpen = where_pending standing
 by_query standing query.Nothing = Unsent
-by_query standing query.NeedsOpen = standing
 
 -- by a reply, or by none
 abbrev pub after : Standing → Option ClientReply → Standing

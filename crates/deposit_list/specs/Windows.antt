@@ -4,7 +4,7 @@ use Rattle.std.specs.Prelude.{List, [], ◌∷◌, ◌++◌, length, map, Option
 use Rattle.std.specs.List.{list_all}
 use Rattle.udp_site.specs.Traffic.{Move}
 use Rattle.site_commands.specs.Replies.{datagram_to, first_reply}
-use Rattle.site_commands.specs.Exchanges.{Asks, wanted_about}
+use Rattle.site_commands.specs.Exchanges.{Asks, HasAsked, wanted_about}
 use Rattle.site_commands.specs.Recoveries.{recovery_of}
 use Rattle.catch_up.specs.declared.rounds.Target.{Target}
 use Rattle.catch_up.specs.Rounds.{question, in_round}
@@ -28,15 +28,21 @@ abbrev pub path_to_send : Entry → Option (List ℕ)
 path_to_send entry = path_by entry.standing entry.deposit.now.path
 
 -- the site is sent the deposit, or asked for its bag; after enough rounds each brings a Recover
+abbrev pub HasAskedAbout : Target → Entry → List Move → Type 0
+HasAskedAbout asked entry moves =
+    let q = question asked entry.deposit.now.slot in
+    HasAsked (asked.target, datagram_to q (path_to_send entry)) (recovery_of q) moves
+
+-- the same, as far as there is memory for its datagrams
 abbrev pub AsksAbout : Target → Entry → List Move → Type 0
 AsksAbout asked entry moves =
     let q = question asked entry.deposit.now.slot in
     Asks (asked.target, datagram_to q (path_to_send entry)) (recovery_of q) moves
 
--- the same, and how it stands by the first reply to that
+-- the first of these, and how it stands by the first reply to that
 abbrev pub IsAnswered : Target → (old new : Entry) → List Move → Type 0
 IsAnswered asked old new moves =
-    AsksAbout asked old moves
+    HasAskedAbout asked old moves
     × (new ≡ record old {
       standing = after old.standing
           (first_reply (question asked old.deposit.now.slot) (wanted_about (path_to_send old))

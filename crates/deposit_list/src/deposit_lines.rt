@@ -1,9 +1,11 @@
 //! A list of deposits: a line `OBJ V PATH` for each.
 
-ghost use Rattle.std.specs.Prelude.{◌≡◌, ◌++◌, map, IfOk, true};
+ghost use Rattle.std.specs.Prelude.{◌≡◌, ◌++◌, map, IfOk, true, None};
+ghost use Rattle.std.specs.Prelude.{if◌then◌else◌};
 ghost use Rattle.std.specs.Option.{option_to_list};
 ghost use Rattle.deposit_list.specs.declared.deposit_lines.ListFault.TheVariants.{Memory};
-ghost use Rattle.deposit_list.specs.Lists.{deposit_in, deposit_of, path_of, may_follow, IsListOf};
+ghost use Rattle.deposit_list.specs.Lists.{has_mark, deposit_in, deposit_of, path_of};
+ghost use Rattle.deposit_list.specs.Lists.{may_follow, IsListOf};
 
 use crate::deposit::Deposit;
 use crate::listed_deposits::ListedDeposits;
@@ -28,7 +30,8 @@ impl From<AllocError> for ListFault {
 }
 
 /// The deposits of a list's lines `OBJ V PATH`, in which names are percent-encoded as in all texts
-/// of the program. Lines without a word are passed over. A line that is something else is a fault,
+/// of the program. Lines without a word are passed over. None begins with a byte order mark, which
+/// would become part of a name. A line that is something else is a fault,
 /// and so is one of a version that an earlier line has: a site's replies to the two couldn't be
 /// told apart. The first fault is named.
 pub fn deposits_in(alloc: Global, text: &[u8]) -> Result<Vec<Deposit>, ListFault>
@@ -54,10 +57,28 @@ fn push_line(alloc: Global, listed: &mut ListedDeposits, line: &[u8]) -> Result<
         → listed.new ≡ listed.old ++ option_to_list (deposit_of line.now)) }
 {
     let words = split_words(alloc, line)?;
-    match deposit_in(alloc, words.as_slice())? {
+    match deposit_at(alloc, line, words.as_slice())? {
         Some(deposit) => listed.push(deposit),
         None => Ok(words.is_empty()),
     }
+}
+
+// The deposit of a line of these words, if it has one.
+fn deposit_at(alloc: Global, line: &[u8], words: &[&[u8]]) -> Result<Option<Deposit>, AllocError>
+    ensures { IfOk result (λ deposit. deposit
+        ≡ (if has_mark line.now then None else deposit_in (map (λ word. word.now) words.now))) }
+{
+    if has_mark(line) {
+        return Ok(None);
+    }
+    deposit_in(alloc, words)
+}
+
+// Whether it begins with a byte order mark.
+fn has_mark(line: &[u8]) -> bool
+    ensures { result ≡ has_mark line.now }
+{
+    matches!(line, [0xef, 0xbb, 0xbf, ..])
 }
 
 // The deposit of these words.

@@ -60,8 +60,8 @@ impl Standing {
         match answer {
             QueryAnswer::Known(known) => self.where_known(known),
             QueryAnswer::Pending(_) => self.where_pending(),
+            QueryAnswer::NeedsOpen => self.where_pending(),
             QueryAnswer::Nothing => Standing::Unsent,
-            QueryAnswer::NeedsOpen => self,
         }
     }
 

@@ -7,7 +7,7 @@ ghost use Rattle.site_commands.specs.Answers.{IsSent, IsWritten, outcome_of};
 ghost use Rattle.site_commands.specs.inner.Written.{outcome_to, outcome_in, IsAnswered};
 
 use crate::client_answer::{deposit_text, query_text};
-use crate::exchange::{PortUse, ask, datagram};
+use crate::exchange::{ask, ask_again, datagram};
 use crate::reply::{ClientReply, Wanted, query_in, wanted_about, wanted_for};
 use crate::request::Request;
 use dgram::{FolderPath, QueryAnswer};
@@ -62,7 +62,7 @@ fn answer<P: Port>(
 {
     let wanted = wanted_for(&path);
     let bytes = datagram(alloc, request, path)?;
-    match ask(alloc, port, PortUse::New, request, wanted, bytes.as_slice())? {
+    match ask(alloc, port, request, wanted, bytes.as_slice())? {
         Some(reply) => Ok(Some(answer_of(alloc, request, reply)?)),
         None => Ok(None),
     }
@@ -79,14 +79,7 @@ pub fn ask_for_bag<P: Port>(
 {
     let bytes = datagram(alloc, request, None)?;
     let wanted = Wanted::ToQuery;
-    let reply = ask(
-        alloc,
-        port,
-        PortUse::Used,
-        request,
-        wanted,
-        bytes.as_slice(),
-    )?;
+    let reply = ask_again(alloc, port, request, wanted, bytes.as_slice())?;
     Ok(query_in(reply))
 }
 
@@ -103,14 +96,7 @@ pub fn ask_about<P: Port>(
 {
     let wanted = wanted_about(&path);
     let bytes = datagram(alloc, request, path)?;
-    ask(
-        alloc,
-        port,
-        PortUse::Used,
-        request,
-        wanted,
-        bytes.as_slice(),
-    )
+    ask_again(alloc, port, request, wanted, bytes.as_slice())
 }
 
 /// What a reply says.

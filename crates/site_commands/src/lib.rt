@@ -16,6 +16,7 @@ mod exchange;
 mod file_members;
 mod first_start;
 mod folders_below;
+mod handing;
 mod key_files;
 mod member_words;
 mod members_arguments;

@@ -47,12 +47,12 @@ is read first, and in these cases nothing is sent:
 For each line it prints one, in their order:
   registered N OBJ V HEX       the bag is deposited
   refused N CODE OBJ V         the deposit is refused, for a CODE as above
-  open OBJ V                   the site didn't answer the deposit
+  open OBJ V                   the site hasn't said that it is deposited
 and with --until-known, by which up to 32 deposits are under way at a time:
   known OBJ V HEX              the bag that was deposited is known
   other OBJ V HEX HEX          the first is known, and the second was deposited
-  registered N OBJ V HEX       it is deposited, and nothing was known after
-                               SECONDS, which begin anew with each 32
+  registered N OBJ V HEX       it is deposited; no more was heard in SECONDS,
+                               which begin anew with each 32
 The last line is `K of N`: K of the N deposits are `registered`, or with
 --until-known `known`. The status is 0 if K is N.
 
@@ -60,11 +60,12 @@ With --key what is sent has a tag by the first `clients` key of the file, and an
 answer counts only with a tag by one of them. A file with no more than one line
 `clients HEX` is enough.
 
-With --words standard error says in words what a line says that isn't
-`registered` or `reply`. `bagpaxos help codes` lists what each says.
+With --words standard error says in words what a line says that isn't what was
+asked for. `bagpaxos help codes` lists what each says.
 
 The exit status is 0 for `registered` and `reply`, with --until-known for
-`reply .. known` alone; 1 for all else; and 2 for a mistake in the arguments.
+`reply .. known` alone, and with --deposits if K is N; 1 for all else; and 2 for
+a mistake in the arguments.
 
 Examples:
   bagpaxos send --members members --to 1 --wait 1000 --until-known 30 \\
