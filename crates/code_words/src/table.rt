@@ -16,7 +16,7 @@ use crate::schedule_codes::SKIPPED;
 use std::alloc::AllocError;
 
 const HEADING: &str = "What bagpaxos prints by a number or a word, what it says, and what to do.
-With --words, check, run, send and site say it on standard error, with names and places.
+With --words each command says it on standard error, with names and places.
 ";
 
 const CHECKS: &str = "
