@@ -10,9 +10,9 @@ use outcomes::ProgramFault;
 use std::alloc::AllocError;
 use std::io;
 
-/// Checks the folders as without the list, and then says on standard error which of them are bags
-/// that the list or cell of this path knows. The status is 0 if all folders are valid bags, each of
-/// them is known, and each known one is among them.
+/// Checks the folders as without the list, and then says on standard error, or prints if that is
+/// asked for, which of them are bags that the list or cell of this path knows. The status is 0 if
+/// all folders are valid bags, each of them is known, and each known one is among them.
 pub fn check_registered(
     rt: &HostRuntime,
     task: &CheckTask<'_>,
@@ -27,14 +27,31 @@ pub fn check_registered(
     };
     let paths = task.paths.as_slice();
     let output = &mut CountedWriter::new(io::writer(rt));
-    let errors = &mut CountedWriter::new(rt.stderr());
-    check_source_on(
+    if !task.versions {
+        let errors = &mut CountedWriter::new(rt.stderr());
+        return check_source_on(
+            rt.alloc(),
+            source,
+            folders,
+            paths,
+            task.report,
+            output,
+            errors,
+        );
+    }
+    let said = &mut CountedWriter::new(io::writer(rt));
+    let status = check_source_on(
         rt.alloc(),
         source,
         folders,
         paths,
         task.report,
         output,
-        errors,
-    )
+        said,
+    )?;
+    if said.has_failed() {
+        Err(ProgramFault::Output)
+    } else {
+        Ok(status)
+    }
 }
