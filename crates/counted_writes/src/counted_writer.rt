@@ -10,7 +10,7 @@ pub struct CountedWriter<W: Write + Drop> {
 }
 
 impl<W: Write + Drop> CountedWriter<W> {
-    ghost use Rattle.std.specs.Prelude.{◌≡◌, nat_lt};
+    ghost use Rattle.std.specs.Prelude.{◌≡◌};
 
     /// This writer, which hasn't failed yet.
     pub fn new(writer: W) -> CountedWriter<W>
@@ -21,13 +21,6 @@ impl<W: Write + Drop> CountedWriter<W> {
             writer,
             failures: 0,
         }
-    }
-
-    /// Whether it has ever failed.
-    pub fn has_failed(&self) -> bool
-        ensures { result ≡ nat_lt 0 self.now.failures }
-    {
-        self.failures > 0
     }
 }
 

@@ -27,31 +27,12 @@ pub fn check_registered(
     };
     let paths = task.paths.as_slice();
     let output = &mut CountedWriter::new(io::writer(rt));
-    if !task.versions {
-        let errors = &mut CountedWriter::new(rt.stderr());
-        return check_source_on(
-            rt.alloc(),
-            source,
-            folders,
-            paths,
-            task.report,
-            output,
-            errors,
-        );
-    }
-    let said = &mut CountedWriter::new(io::writer(rt));
-    let status = check_source_on(
-        rt.alloc(),
-        source,
-        folders,
-        paths,
-        task.report,
-        output,
-        said,
-    )?;
-    if said.has_failed() {
-        Err(ProgramFault::Output)
+    let (alloc, report) = (rt.alloc(), task.report);
+    if task.versions {
+        let printed = &mut CountedWriter::new(io::writer(rt));
+        check_source_on(alloc, source, folders, paths, report, output, printed)
     } else {
-        Ok(status)
+        let said = &mut CountedWriter::new(rt.stderr());
+        check_source_on(alloc, source, folders, paths, report, output, said)
     }
 }
