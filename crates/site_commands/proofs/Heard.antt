@@ -193,10 +193,16 @@ module _ (q : Question) (bytes : List ℕ) where
     tt,
   )
 
+  -- all is handed out
+  abbrev pub HandsAll : (before after : Option (List Move)) → Type 0
+  HandsAll before after =
+      Grows before after (Handed (q.target, bytes) ∷ handed_if (recovery_of q))
+
   -- both were, if it was time for a Recover
   pub hands_both : (a b c : Option (List Move)) → Grows a b (Handed (q.target, bytes) ∷ [])
-      → Grows b c (handed_if (recovery_of q)) → (took : Bool) → IsHandedOut q bytes a c (Ok took)
-  hands_both a b c handed more took = Grows-trans a b c _ _ handed more
+      → Grows b c (handed_if (recovery_of q)) → HandsAll a c
+  hands_both a b c handed more =
+      Grows-trans a b c (Handed (q.target, bytes) ∷ []) (handed_if (recovery_of q)) handed more
 
   module _ (kind : Wanted) where
     in_all : (moves : List Move) (r : Result (Option ClientReply) AllocError)
@@ -206,11 +212,10 @@ module _ (q : Question) (bytes : List ℕ) where
     in_all moves (Err fault) is = tt
 
     -- all was handed out, and then some are taken in
-    pub asks_then : (a b c : Option (List Move)) (took : Bool)
-        → IsHandedOut q bytes a b (Ok took)
+    pub asks_then : (a b c : Option (List Move)) → HandsAll a b
         → (result : Result (Option ClientReply) AllocError) → Hears q kind b c result
         → IsAsked q kind bytes a c result
-    asks_then a b c took handed result (moves, grows, takes, reply) = (
+    asks_then a b c handed result (moves, grows, takes, reply) = (
       Handed (q.target, bytes) ∷ (handed_if (recovery_of q) ++ moves),
       Grows-trans a b c _ moves handed grows,
       (refl, hands_then (recovery_of q) moves takes),
@@ -230,26 +235,25 @@ module _ (q : Question) (bytes : List ℕ) where
         (moves, grows, asks, none_in_only_handed q kind moves hands)
 
     -- the same where there is memory for all
-    pub again_then : (a b c : Option (List Move)) (took : Bool)
-        → IsHandedOut q bytes a b (Ok took)
+    pub again_then : (a b c : Option (List Move)) → HandsAll a b
         → (result : Result (Option ClientReply) AllocError) → Hears q kind b c result
         → IsAskedAgain q kind bytes a c result
-    again_then a b c took handed (Ok given) (moves, grows, takes, reply) = (
+    again_then a b c handed (Ok given) (moves, grows, takes, reply) = (
       Handed (q.target, bytes) ∷ (handed_if (recovery_of q) ++ moves),
       Grows-trans a b c _ moves handed grows,
       (moves, refl, takes),
       reply ∙ none_in_handed q kind (recovery_of q) moves,
     )
-    again_then a b c took handed (Err fault) (moves, grows, takes, reply) = (
+    again_then a b c handed (Err fault) (moves, grows, takes, reply) = (
       Handed (q.target, bytes) ∷ (handed_if (recovery_of q) ++ moves),
       Grows-trans a b c _ moves handed grows,
       (refl, hands_then (recovery_of q) moves takes),
     )
 
-    pub again_no_more : (a b : Option (List Move)) (took : Bool)
-        → IsHandedOut q bytes a b (Ok took) → IsAskedAgain q kind bytes a b (Ok None)
-    again_no_more a b took handed =
-        again_then a b b took handed (Ok None) ([], Grows-none b, tt, refl)
+    pub again_no_more : (a b : Option (List Move)) → HandsAll a b
+        → IsAskedAgain q kind bytes a b (Ok None)
+    again_no_more a b handed =
+        again_then a b b handed (Ok None) ([], Grows-none b, tt, refl)
 
     -- there wasn't
     pub again_cut : (a b : Option (List Move)) (fault : AllocError)

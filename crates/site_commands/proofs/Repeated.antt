@@ -49,7 +49,7 @@ some_then [] reply is = absurd (cc is)
 some_then (r ∷ replies) reply is = absurd (cc is)
 
 -- the site was asked once more
-HasAskedNext : Question → (path : Option (List ℕ)) → List Move → Type 0
+abbrev HasAskedNext : Question → (path : Option (List ℕ)) → List Move → Type 0
 HasAskedNext q path moves = HasAsked (q.target, datagram_to q path) (recovery_of q) moves
 
 replies_then : (q : Question) (path next : Option (List ℕ)) (replies : List (Option ClientReply))
@@ -126,8 +126,10 @@ module _ (q : Question) (path : Option (List ℕ)) (a : Option (List Move)) wher
       (bytes : List ℕ) → at ≡ question_after q replies
       → bytes ≡ datagram_to q (path_after path path replies)
       → A (at.target, bytes) (recovery_of at)
-      → A ((question_after q replies).target,
-      datagram_to (question_after q replies) (path_after path path replies))
+      → A (
+        (question_after q replies).target,
+        datagram_to (question_after q replies) (path_after path path replies),
+      )
       (recovery_of (question_after q replies))
   asks_next A at replies bytes is sent asks =
       subst (λ (l : List ℕ). A ((question_after q replies).target, l)

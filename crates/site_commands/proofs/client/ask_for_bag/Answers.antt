@@ -12,7 +12,7 @@ pub returns-in_err-reply : goal.returns-in_err-reply
 returns-in_err-reply g c =
     bag_unasked (question_of c.args.request.now) c.as_slice.result.now
     (c.as_slice.ensures.value ∙ c.in_ok-bytes.ensures) (g.P.Port.traffic c.args.port.now)
-    (g.P.Port.traffic c.ask_again.new.port) c.in_err-reply.field-0 c.in_err-reply.ensures
+    (g.P.Port.traffic c.ask_again.new.port) c.in_err-reply.field-0.0 c.in_err-reply.ensures
     c.from_residual-in_err-reply.result c.from_residual-in_err-reply.ensures.0
 
 pub returns : goal.returns

@@ -6,7 +6,7 @@ pub returns-in-Ok-true : goal.returns-in-Ok-true
 returns-in-Ok-true g c =
     asks_then (question_of c.args.request.now) c.args.bytes.now c.args.wanted
     (g.P.Port.traffic c.args.port.now) (g.P.Port.traffic c.hand_out.new.port)
-    (g.P.Port.traffic c.receive_reply.new.port) _ c.in-Ok-true.ensures
+    (g.P.Port.traffic c.receive_reply.new.port) c.in-Ok-true.ensures
     c.receive_reply.result c.receive_reply.ensures
 
 -- not all were sent

@@ -12,7 +12,7 @@ loop-count-init g c path kind are =
 pub loop-count-preserved : goal.loop-count-preserved
 loop-count-preserved g c path kind are =
     then_more (question_of c.args.request.now) path (g.P.Port.traffic c.args.port.now)
-    (g.P.Port.traffic c.loop-count.port) (g.P.Port.traffic c.ask_again.new.port) c.loop-count.count
+    (g.P.Port.traffic c.loop-count.port) (g.P.Port.traffic c.ask_again.new.port) c.loop-count._count
     c.loop-count.last
     (question_of c.loop-count.question) c.loop-count.bytes.now (c.loop-count.invariant path kind are)
     c.in_ok-reply.reply c.args.wanted kind
@@ -24,7 +24,7 @@ loop-count-preserved g c path kind are =
 pub returns-then-ends : goal.returns-then-ends
 returns-then-ends g c path kind are =
     then_last (question_of c.args.request.now) path (g.P.Port.traffic c.args.port.now)
-    (g.P.Port.traffic c.loop-count.port) (g.P.Port.traffic c.ask_again.new.port) c.loop-count.count
+    (g.P.Port.traffic c.loop-count.port) (g.P.Port.traffic c.ask_again.new.port) c.loop-count._count
     c.loop-count.last
     (question_of c.loop-count.question) c.loop-count.bytes.now (c.loop-count.invariant path kind are)
     c.in_ok-reply.reply c.args.wanted kind
@@ -34,7 +34,7 @@ returns-then-ends g c path kind are =
 pub returns-in_err-reply : goal.returns-in_err-reply
 returns-in_err-reply g c path kind are =
     then_stopped (question_of c.args.request.now) path (g.P.Port.traffic c.args.port.now)
-    (g.P.Port.traffic c.loop-count.port) (g.P.Port.traffic c.ask_again.new.port) c.loop-count.count
+    (g.P.Port.traffic c.loop-count.port) (g.P.Port.traffic c.ask_again.new.port) c.loop-count._count
     c.loop-count.last
     (question_of c.loop-count.question) c.loop-count.bytes.now c.in_err-reply.field-0.0 c.from_residual.result
     (c.loop-count.invariant path kind are) c.args.wanted c.in_err-reply.ensures c.from_residual.ensures.0
@@ -42,6 +42,6 @@ returns-in_err-reply g c path kind are =
 pub returns : goal.returns
 returns g c path kind are =
     no_more (question_of c.args.request.now) path (g.P.Port.traffic c.args.port.now)
-    (g.P.Port.traffic c.loop-count.port) c.loop-count.count c.loop-count.last
+    (g.P.Port.traffic c.loop-count.port) c.loop-count._count c.loop-count.last
     (question_of c.loop-count.question) c.loop-count.bytes.now (omega arith)
     (c.loop-count.invariant path kind are)

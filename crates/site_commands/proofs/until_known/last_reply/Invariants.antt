@@ -11,4 +11,4 @@ invariant-loop-count g l =
     (path : Option (List ℕ)) → l.wanted ≡ wanted_until path
     → AreQuestions (question_of l.request) path l.questions
     → SoFar (question_of l.request) path (g.P.Port.traffic l.fn.port) (g.P.Port.traffic l.port)
-    l.count l.last (question_of l.question) l.bytes
+    l._count l.last (question_of l.question) l.bytes
