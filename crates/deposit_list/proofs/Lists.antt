@@ -8,10 +8,12 @@ use Rattle.std.proofs.lemmas.List.Elements.{filter_map-append}
 use Rattle.std.proofs.lemmas.List.Folds.{list_all-append, list_any-append}
 use Rattle.std.specs.Option.{option_to_list}
 use Rattle.std.specs.List.{cons_option, list_all, list_any}
-use Rattle.std.specs.Prelude.{filter_map, ◌&&◌}
+use Rattle.std.specs.Prelude.{filter_map, is_some, ◌&&◌}
 use Rattle.std.specs.Str.Lines.{lines}
 use Rattle.fed_types.specs.Slots.{SlotName, same_slot}
 use Rattle.fed_types.specs.Laws.Slots.{same_slot_equivalence}
+use Rattle.slot_table.specs.Listings.{AreListed}
+use Rattle.slot_table.specs.Rows.{Rows, row_at}
 use Rattle.deposit_list.specs.declared.deposit.Deposit.{Deposit}
 use Rattle.deposit_list.specs.Lists.{deposit_of, is_line, are_lines, slots_of, has_slot, repeats}
 use Rattle.deposit_list.specs.Lists.{is_of_one, may_follow, ListHas, HasOtherLine}
@@ -32,6 +34,12 @@ one_more done line =
 
 pub slots_both : (xs ys : List Deposit) → slots_of (xs ++ ys) ≡ slots_of xs ++ slots_of ys
 slots_both xs ys = map-append (λ (d : Deposit). d.slot) xs ys
+
+-- the table of the versions knows which one is there
+pub has_by : (deposits : List Deposit) (rows : Rows Bool) (slot : SlotName)
+    → AreListed (slots_of deposits) rows → is_some (row_at rows slot) ≡ has_slot deposits slot
+unfolding has_slot
+has_by deposits rows slot all = all slot
 
 has_more : (xs : List Deposit) (y : Deposit) (slot : SlotName)
     → has_slot (xs ++ y ∷ []) slot ≡ (has_slot xs slot || (same_slot slot y.slot || false))

@@ -4,6 +4,7 @@ use Rattle.std.specs.Prelude.{if◌then◌else◌, List, [], ◌∷◌, length, 
 use Rattle.std.specs.Prelude.{Option, Some, None, is_some, Result, Ok, Err, Vec}
 use Rattle.std.specs.Global.{Global}
 use Rattle.std.specs.List.{list_all, list_any}
+use Rattle.std.specs.Str.{bytes_eq}
 use Rattle.std.specs.Str.Lines.{lines}
 use Rattle.dgram.specs.Numbers.{LONGEST_PATH}
 use Rattle.fed_types.specs.Slots.{SlotName, same_slot}
@@ -29,8 +30,7 @@ deposit_in words = None
 
 -- it begins with a byte order mark
 abbrev pub has_mark : List ℕ → Bool
-has_mark (239 ∷ 187 ∷ 191 ∷ rest) = true
-has_mark line = false
+has_mark line = bytes_eq (take 3 line) (239 ∷ 187 ∷ 191 ∷ [])
 
 -- the deposit of a line, if it has one
 abbrev pub deposit_of : List ℕ → Option Deposit

@@ -78,7 +78,7 @@ fn deposit_at(alloc: Global, line: &[u8], words: &[&[u8]]) -> Result<Option<Depo
 fn has_mark(line: &[u8]) -> bool
     ensures { result ≡ has_mark line.now }
 {
-    matches!(line, [0xef, 0xbb, 0xbf, ..])
+    line.starts_with(&[0xef, 0xbb, 0xbf])
 }
 
 // The deposit of these words.

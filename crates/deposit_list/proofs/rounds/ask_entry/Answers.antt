@@ -20,7 +20,7 @@ returns-in_err-reply g c =
     (g.P.Port.traffic c.ask_about.new.port) c.from_residual-in_err-reply.result
     c.in_err-reply.field-0.0 c.from_residual-in_err-reply.ensures.1
     (went c.args.asked.now c.args.entry.now (g.P.Port.traffic c.args.port.now) c.in_ok-path.path
-    (g.P.Port.traffic c.ask_about.new.port) c.in_err-reply.field-0 c.in_ok-path.ensures
+    (g.P.Port.traffic c.ask_about.new.port) c.in_err-reply.field-0.0 c.in_ok-path.ensures
     c.in_err-reply.ensures)
 
 pub returns : goal.returns
